@@ -1,0 +1,86 @@
+-- What a frozen book tells of a number and of a depth.
+use Rattle.std.proofs.Common.{ℕ, ◌+◌, ◌<◌, ◌≤◌, ◌≡◌, ⊎_elim, arith, refl, sym, ap, ◌∙◌, Bool, false, List, [], ◌∷◌, Some, None, length, slice_get, map, ◌==◌, position}
+use Rattle.std.specs.Prelude.{is_some}
+use Rattle.std.specs.Str.{bytes_eq}
+use Rattle.std.specs.Map.{keys_of}
+use Rattle.std.specs.List.{filter, range_with_len}
+use Rattle.std.proofs.lemmas.Option.{slice_get-get_or, slice_get_within, get_or_from_slice_get}
+use Rattle.std.proofs.lemmas.Bool.{cases_lt, ne_eqb}
+use Rattle.std.proofs.lemmas.List.{length-map, get_or-map, get_or_past}
+use Rattle.std.proofs.lemmas.List.FromFn.{length-map-range_with_len, get_or-map-range_with_len}
+use Rattle.std.proofs.lemmas.List.Quantifiers.{position-Some}
+use Rattle.indexmap.proofs.MapLemmas.{some_index}
+use Rattle.herd_pedigree.specs.declared.frozen.Row.{Row}
+use Rattle.herd_pedigree.specs.Book.{is_there}
+use Rattle.herd_pedigree.specs.Frozen.{IsFrozen, book_of, numbers_of, depth_at, level_of, levels_of}
+use Rattle.herd_pedigree.proofs.BookFacts.{same_bytes, there}
+use Rattle.herd_pedigree.proofs.FrozenDepthFacts.{IsDepthOf-le}
+
+-- the numbers of the book are those of the rows
+pub keys-book_of : (rows : List Row) → keys_of (book_of rows) ≡ numbers_of rows
+keys-book_of [] = refl
+keys-book_of (row ∷ rows) = ap (λ numbers. row.number ∷ numbers) (keys-book_of rows)
+
+-- a place that is found is that of the number
+pub found_at : (numbers : List (List ℕ)) (x : List ℕ) (place : ℕ) → position (bytes_eq x) numbers ≡ Some place → slice_get numbers place ≡ Some x
+found_at numbers x place e =
+    let found = position-Some (bytes_eq x) numbers place x e in
+    slice_get-get_or numbers place x found.0 ∙ ap Some (sym (same_bytes x _ found.1))
+
+-- a number that isn't found isn't in the book
+pub not_found : (rows : List Row) (x : List ℕ) → position (bytes_eq x) (numbers_of rows) ≡ None → is_there (book_of rows) x ≡ false
+not_found rows x e =
+    sym (some_index (bytes_eq x) (book_of rows))
+    ∙ ap (λ numbers. is_some (position (bytes_eq x) numbers)) (keys-book_of rows)
+    ∙ ap is_some e
+
+-- the depth of a row is within the limit
+pub depth-le : (l most : ℕ) (rows : List Row) → IsFrozen l most rows → (place : ℕ) (row : Row) → slice_get rows place ≡ Some row → row.depth ≤ l
+depth-le l most rows frozen place row at =
+    IsDepthOf-le l (book_of rows) frozen.lawful.shallow row.number row.depth (frozen.each place row at).depth
+
+-- a list in which no element passes a test
+filter_none : (p : ℕ → Bool) (xs : List ℕ) → ((x : ℕ) → p x ≡ false) → filter p xs ≡ []
+filter_none p [] none = refl
+filter_none p (x ∷ xs) none = rw (none x) (filter_none p xs none)
+
+module _ (l most : ℕ) (rows : List Row) (frozen : IsFrozen l most rows) where
+  depth_at-le : (place : ℕ) → depth_at rows place ≤ l
+  depth_at-le place =
+      ⊎_elim
+      (λ (within : place < length rows).
+      let row = there rows place within in
+      let is : depth_at rows place ≡ row.0.depth =
+      get_or-map (λ r. r.depth) rows place row.0 0 within ∙ ap (λ r. r.depth) (get_or_from_slice_get rows place row.0 row.0 row.1) in
+      let le : row.0.depth ≤ l = depth-le l most rows frozen place row.0 row.1 in
+      omega arith)
+      (λ (past : length rows ≤ place).
+      let none : depth_at rows place ≡ 0 = get_or_past (map (λ r. r.depth) rows) place 0 (rw length-map past) in
+      omega arith)
+      (cases_lt place (length rows))
+
+  -- no animal has a depth beyond the limit
+  level_of-none : (depth : ℕ) → l < depth → level_of depth rows ≡ []
+  unfolding level_of
+  level_of-none depth beyond =
+      filter_none (λ place. depth_at rows place == depth) (range_with_len 0 (length rows))
+      (λ place. ne_eqb (depth_at rows place) depth (λ e. let le = depth_at-le place in omega arith))
+
+-- a list of levels has that of each depth at its place
+pub level-at : (l : ℕ) (rows : List Row) (levels : List (List ℕ)) → levels ≡ levels_of l rows → (depth : ℕ) (level : List ℕ) → slice_get levels depth ≡ Some level → level ≡ level_of depth rows
+unfolding levels_of
+level-at l rows levels e depth level at =
+    let f : ℕ → List ℕ = λ d. level_of d rows in
+    let long : length (levels_of l rows) ≡ l + 1 = length-map-range_with_len f 0 (l + 1) in
+    let here : slice_get (levels_of l rows) depth ≡ Some level = sym (ap (λ ls. slice_get ls depth) e) ∙ at in
+    let within : depth < length (levels_of l rows) = slice_get_within (levels_of l rows) depth level here in
+    sym (get_or_from_slice_get (levels_of l rows) depth level [] here)
+    ∙ get_or-map-range_with_len f 0 (l + 1) depth depth [] (omega arith) (omega arith)
+
+-- and none beyond the limit
+pub level-beyond : (l most : ℕ) (rows : List Row) (levels : List (List ℕ)) → IsFrozen l most rows → levels ≡ levels_of l rows → (depth : ℕ) → length levels ≤ depth → level_of depth rows ≡ []
+unfolding levels_of
+level-beyond l most rows levels frozen e depth beyond =
+    let f : ℕ → List ℕ = λ d. level_of d rows in
+    let long : length levels ≡ l + 1 = ap length e ∙ length-map-range_with_len f 0 (l + 1) in
+    level_of-none l most rows frozen depth (omega arith)

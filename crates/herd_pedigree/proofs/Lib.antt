@@ -1,0 +1,19 @@
+mod LineFacts
+pub mod BookFacts
+pub mod FrozenDepthFacts
+pub mod FrozenFacts
+pub mod AgeOrderFacts
+pub mod PermutedFacts
+pub mod RankFacts
+pub mod RowFacts
+pub mod LevelFacts
+pub mod FreezeFacts
+pub mod LinkFacts
+mod PlaceFacts
+mod DepthFacts
+mod FaultFacts
+mod WrittenFacts
+mod KeptFacts
+mod SetFacts
+mod CheckFacts
+mod UndoFacts

@@ -1,0 +1,68 @@
+-- The links of a book, from the places of its numbers.
+use Rattle.std.proofs.Common.{ℕ, ◌+◌, ◌<◌, ◌≤◌, ◌≡◌, ⊎_elim, arith, refl, sym, ap, ◌∙◌, subst, true, false, cond, List, Option, Some, None, slice_get, map}
+use Rattle.std.specs.List.{IsDistinct}
+use Rattle.std.specs.Map.{keys_of}
+use Rattle.std.specs.Option.{option_and_then}
+use Rattle.std.specs.Str.{bytes_eq}
+use Rattle.std.proofs.lemmas.Bool.{cases_lt}
+use Rattle.std.proofs.lemmas.Cmp.{nat_list_eq_equiv}
+use Rattle.std.proofs.lemmas.List.{length-map}
+use Rattle.std.proofs.lemmas.Map.Keys.{apart_from_distinct}
+use Rattle.std.proofs.lemmas.Option.{get_or_from_slice_get, same_Some, slice_get-map, slice_get_within}
+use Rattle.herd_pedigree.specs.declared.animal.Animal.{Animal}
+use Rattle.herd_pedigree.specs.declared.links.Link.{Link}
+use Rattle.herd_pedigree.specs.Book.{Book, record_of}
+use Rattle.herd_pedigree.specs.Freeze.{FindsPlaces, link_by}
+use Rattle.herd_pedigree.specs.Lawful.{IsLawful, IsLawfulRecord}
+use Rattle.herd_pedigree.specs.Places.{IsPlaceIn}
+use Rattle.herd_pedigree.specs.Links.{AreLinks}
+use Rattle.herd_pedigree.proofs.BookFacts.{bytes_itself, key_from_entry, lookup_at, place_of}
+
+-- what is found under the numbers before i is their places
+abbrev pub FindsPlacesBelow : List (List ℕ) → (List ℕ → Option ℕ) → ℕ → Type 0
+FindsPlacesBelow numbers find i = (place : ℕ) (number : List ℕ) → place < i → slice_get numbers place ≡ Some number → find number ≡ Some place
+
+-- one more place
+pub places-more : (numbers : List (List ℕ)) → IsDistinct bytes_eq numbers → (old new : List ℕ → Option ℕ) (i : ℕ) (number : List ℕ) → slice_get numbers i ≡ Some number →
+    ((q : List ℕ) → new q ≡ cond (bytes_eq number q) (Some i) (old q)) → FindsPlacesBelow numbers old i → FindsPlacesBelow numbers new (i + 1)
+places-more numbers once old new i number at update below place other le here =
+    ⊎_elim
+    (λ (earlier : place < i).
+    let apart : bytes_eq other number ≡ false =
+    rw (get_or_from_slice_get numbers place other other here, get_or_from_slice_get numbers i number other at) at (apart_from_distinct bytes_eq numbers place i other once earlier (slice_get_within numbers i number at)) in
+    let turned : bytes_eq number other ≡ false = nat_list_eq_equiv.symm number other ∙ apart in
+    update other ∙ rw turned (below place other earlier here))
+    (λ (last : i ≤ place).
+    let same_place : place ≡ i = omega arith in
+    let same : number ≡ other = same_Some number other (sym at ∙ ap (λ n. slice_get numbers n) (sym same_place) ∙ here) in
+    let itself : bytes_eq number other ≡ true = subst (λ (x : List ℕ). bytes_eq number x ≡ true) same (bytes_itself number) in
+    update other ∙ rw itself (ap Some (sym same_place)))
+    (cases_lt place i)
+
+-- the place that is found for a parent of the book is its place
+parent-placed : (book : Book) (find : List ℕ → Option ℕ) → FindsPlaces (keys_of book) find → (parent : Option (List ℕ)) → ((p : List ℕ) → parent ≡ Some p → (animal : Animal) × (record_of book p ≡ Some animal)) →
+    IsPlaceIn (keys_of book) (option_and_then find parent) parent
+parent-placed book find finds None known = tt
+parent-placed book find finds (Some p) known =
+    let record_known = known p refl in
+    let at = place_of book p record_known.0 record_known.1 in
+    let numbered : slice_get (keys_of book) at.0 ≡ Some p = key_from_entry book at.0 p record_known.0 at.1 in
+    rw (finds at.0 p numbered) numbered
+
+-- the links that are made of the places found are the book's
+pub links-found : (l most : ℕ) (book : Book) (find : List ℕ → Option ℕ) → IsLawful l most book → FindsPlaces (keys_of book) find → AreLinks book (map (λ entry. link_by find entry.1) book)
+links-found l most book find lawful finds =
+    let link_of : List ℕ × Animal → Link = λ entry. link_by find entry.1 in
+    let lawful_at : (c : ℕ) (entry : List ℕ × Animal) → slice_get book c ≡ Some entry → IsLawfulRecord book entry.1 =
+    λ c entry at. lawful.records entry.0 entry.1 (lookup_at book lawful.once c entry.0 entry.1 at) in
+    let same : (c : ℕ) (entry : List ℕ × Animal) (link : Link) → slice_get book c ≡ Some entry → slice_get (map link_of book) c ≡ Some link → link_of entry ≡ link =
+    λ c entry link at at_link. same_Some (link_of entry) link (sym (slice_get-map link_of book c ∙ rw at refl) ∙ at_link) in
+    record {
+      long = length-map book link_of;
+      sires = λ c entry link at at_link.
+          subst (λ (k : Link). IsPlaceIn (keys_of book) k.sire entry.1.sire) (same c entry link at at_link)
+          (parent-placed book find finds entry.1.sire (λ p e. let sire = (lawful_at c entry at).sire p e in (sire.sire, sire.there)));
+      dams = λ c entry link at at_link.
+          subst (λ (k : Link). IsPlaceIn (keys_of book) k.dam entry.1.dam) (same c entry link at at_link)
+          (parent-placed book find finds entry.1.dam (λ p e. let dam = (lawful_at c entry at).dam p e in (dam.dam, dam.there)));
+    }

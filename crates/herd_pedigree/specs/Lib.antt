@@ -1,0 +1,14 @@
+pub mod Lines
+pub mod Book
+pub mod ParentFault
+pub mod Lawful
+pub mod Pedigree
+pub mod Places
+pub mod Links
+pub mod Frozen
+pub mod Freeze
+pub mod Depths
+pub mod Kept
+pub mod Undo
+pub mod Progeny
+pub mod RecordFault

@@ -1,0 +1,141 @@
+ghost use Rattle.std.specs.Prelude.{◌≡◌, ◌<◌, false, length, map, position, slice_get, Some, IfOk, IfSome, IfNone};
+ghost use Rattle.std.specs.Str.{bytes_eq};
+ghost use Rattle.herd_pedigree.specs.Book.{is_there};
+ghost use Rattle.herd_pedigree.specs.Frozen.{IsFrozen, book_of, level_of, numbers_of, parents_of};
+ghost use Rattle.herd_pedigree.specs.declared.TheConstants.{DEPTH_LIMIT, MOST_ANIMALS};
+
+use crate::animal::Animal;
+use crate::levels::levels_of;
+use herd_animal::AnimalNumber;
+use std::alloc::{AllocError, Allocator};
+use std::marker::Model;
+
+/// An animal of a frozen book. Places count from 0.
+#[derive(Clone, Copy, Debug, PartialEq, Eq)]
+pub struct Row {
+    pub number: AnimalNumber,
+    pub animal: Animal,
+    /// The place of the sire, where it is known.
+    pub sire: Option<u32>,
+    /// The place of the dam, where it is known.
+    pub dam: Option<u32>,
+    /// The number of parent steps on the longest known line.
+    pub depth: u8,
+}
+
+/// Of a row what following its lines takes.
+#[derive(Clone, Copy, Debug, PartialEq, Eq)]
+pub struct Parents {
+    /// The place of the sire, where it is known.
+    pub sire: Option<u32>,
+    /// The place of the dam, where it is known.
+    pub dam: Option<u32>,
+    /// The number of parent steps on the longest known line.
+    pub depth: u8,
+}
+
+/// A book in age order, which doesn't change any more.
+#[derive(Drop)]
+pub struct Frozen<A: Allocator> {
+    rows: Vec<Row, A>,
+    parents: Vec<Parents, A>,
+    levels: Vec<Vec<u32, A>, A>,
+}
+
+impl<A: Allocator> Model for Frozen<A> {
+    ghost use Rattle.std.specs.Prelude.{List, ◌≡◌, map};
+    ghost use Rattle.herd_pedigree.specs.declared.frozen.Row.{Row};
+    ghost use Rattle.herd_pedigree.specs.Frozen.{IsFrozen, levels_of, parents_of};
+    ghost use Rattle.herd_pedigree.specs.declared.TheConstants.{DEPTH_LIMIT, MOST_ANIMALS};
+
+    ghost Value = { List Row };
+
+    ghost view = { λ f. f.rows.items };
+
+    ghost invariant = { λ f. IsFrozen DEPTH_LIMIT MOST_ANIMALS f.rows.items
+        × (f.parents.items ≡ map parents_of f.rows.items)
+        × (map (λ level. level.items) f.levels.items ≡ levels_of DEPTH_LIMIT f.rows.items) };
+}
+
+impl<A: Allocator> Frozen<A> {
+    /// How many animals there are.
+    pub fn len(&self) -> u32
+        ensures value { result ≡ length self.now }
+        ensures frozen { IsFrozen DEPTH_LIMIT MOST_ANIMALS self.now }
+    {
+        self.rows.len() as u32
+    }
+
+    /// The row at a place.
+    pub fn row(&self, place: u32) -> &Row
+        requires { place < length self.now }
+        ensures { slice_get self.now place ≡ Some result.now }
+    {
+        &self.rows[place as usize]
+    }
+
+    /// The place of an animal.
+    pub fn place(&self, number: &AnimalNumber) -> Option<u32>
+        ensures place { IfSome result (λ place. slice_get (numbers_of self.now) place ≡ Some number.now) }
+        ensures within { IfSome result (λ place. place < length self.now) }
+        ensures absent { IfNone result (is_there (book_of self.now) number.now ≡ false) }
+    {
+        Some(place_in(&self.rows, number)? as u32)
+    }
+
+    /// The parents and the depth of the row at a place. It reads less memory than `row`.
+    pub fn parents(&self, place: u32) -> Parents
+        requires { place < length self.now }
+        ensures { slice_get (map parents_of self.now) place ≡ Some result }
+    {
+        self.parents[place as usize]
+    }
+
+    /// The places of the animals of a depth, ascending; none beyond the limit.
+    pub fn level(&self, depth: u8) -> &[u32]
+        ensures { result.now ≡ level_of depth self.now }
+    {
+        match self.levels.get(depth as usize) {
+            Some(level) => level.as_slice(),
+            None => &[],
+        }
+    }
+}
+
+impl<A: Allocator + Clone> Frozen<A> {
+    /// The frozen book of these rows.
+    pub(crate) fn from_rows(alloc: A, rows: Vec<Row, A>) -> Result<Frozen<A>, AllocError>
+        requires { IsFrozen DEPTH_LIMIT MOST_ANIMALS rows.items }
+        ensures { IfOk result (λ frozen. frozen ≡ rows.items) }
+    {
+        let parents = parents_column(alloc.clone()?, &rows)?;
+        let levels = levels_of(alloc, &rows)?;
+        Ok(Frozen {
+            rows,
+            parents,
+            levels,
+        })
+    }
+}
+
+// The rows without their records.
+fn parents_column<A: Allocator>(alloc: A, rows: &[Row]) -> Result<Vec<Parents, A>, AllocError>
+    ensures { IfOk result (λ parents. parents.items ≡ map parents_of rows.now) }
+{
+    rows.iter()
+        .map(|row| Parents {
+            sire: row.sire,
+            dam: row.dam,
+            depth: row.depth,
+        })
+        .collect(alloc)
+}
+
+// The first place at which the number stands.
+fn place_in(rows: &[Row], number: &AnimalNumber) -> Option<usize>
+    ensures { result ≡ position (bytes_eq number.now) (numbers_of rows.now) }
+{
+    rows.iter()
+        .map(|row| row.number)
+        .position(|other| *number == other)
+}

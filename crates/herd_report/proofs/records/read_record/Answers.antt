@@ -1,0 +1,14 @@
+use Rattle.herd_report.proofs.UpcomingFacts.{ok_through, set_up_after, takes_after}
+use Rattle.herd_report.proofs.records.read_record.Goals as goal
+
+pub returns-clause-set_up : goal.returns-clause-set_up
+returns-clause-set_up g c =
+    let read = c.read_byte_record in
+    ok_through read.result c.map_err.result _ _ c.map_err.ensures.cases c.map_err.ensures.variant
+    (set_up_after read.result c.args.reader.now read.new.self c.requires read.ensures.reads_on read.ensures.goes)
+
+pub returns-clause-takes : goal.returns-clause-takes
+returns-clause-takes g c =
+    let read = c.read_byte_record in
+    ok_through read.result c.map_err.result _ _ c.map_err.ensures.cases c.map_err.ensures.variant
+    (takes_after g.R.Read.remaining read.result c.args.reader.now read.new.self _ c.requires read.ensures.reads)

@@ -1,0 +1,83 @@
+-- What a command file says: its commands before the first fault, and that fault.
+use Rattle.std.specs.Prelude.{◌≡◌, ◌⊎◌, ℕ, ◌+◌, List, [], ◌∷◌, ◌++◌, Bool, true, false, if◌then◌else◌, nat_lt, MatchBool, ⊤, IfSome, Option, Some, None, Result, Ok, Err, length}
+use Rattle.std.specs.Option.{option_map_or}
+use Rattle.csv.specs.Reading.{default_config, records, strip_bom}
+use Rattle.herd_register.specs.declared.command.Command.{Command}
+use Rattle.herd_report.specs.Grammar.{Fields, command_of, version_of}
+use Rattle.herd_report.specs.LineCause.{is_interruption}
+use Rattle.herd_report.specs.declared.line_fault.LineCause.{LineCause}
+use Rattle.herd_report.specs.declared.line_fault.LineCause.TheVariants as cause
+use Rattle.herd_report.specs.declared.line_fault.LineFault.{LineFault}
+use Rattle.herd_report.specs.declared.version.Version.{Version}
+
+-- the commands before the first fault, and that fault
+pub record CommandFile : Type 0 where
+  pub commands : List Command
+  pub fault : Option LineFault
+
+abbrev pub fault_at : ℕ → LineCause → CommandFile
+fault_at entry cause = record { commands = []; fault = Some (record { entry = entry; cause = cause }) }
+
+-- commands, and what comes after them
+abbrev pub followed_by : List Command → CommandFile → CommandFile
+followed_by commands rest = record { commands = commands ++ rest.commands; fault = rest.fault }
+
+-- a record at an entry that is one command or a fault, and what comes after it
+abbrev pub one_then : ℕ → Result Command LineCause → CommandFile → CommandFile
+one_then entry (Ok command) rest = followed_by (command ∷ []) rest
+one_then entry (Err cause) rest = fault_at entry cause
+
+-- the commands of the records from an entry on, of which `most` is the last that may be a command
+abbrev pub commands_from : Version → ℕ → ℕ → List Fields → CommandFile
+commands_from version most entry [] = record { commands = []; fault = None }
+commands_from version most entry (fields ∷ rest) =
+    if nat_lt most entry then fault_at entry cause.TooMany
+    else one_then entry (command_of version fields) (commands_from version most (entry + 1) rest)
+
+-- the commands under the header
+abbrev pub commands_under_header : ℕ → List Fields → CommandFile
+commands_under_header most [] = fault_at 0 cause.Header
+commands_under_header most (first ∷ rest) =
+    option_map_or (λ version. commands_from version most 1 rest) (version_of first) (fault_at 0 cause.Header)
+
+-- the command file in some bytes, with at most `most` commands
+abbrev pub commands : List ℕ → ℕ → CommandFile
+commands bytes most = commands_under_header most (records default_config (strip_bom bytes))
+
+-- the entry of the record after those that were read: the header's at first, and then one more than there are commands
+abbrev pub IsNextEntry : List Command → ℕ → Type 0
+IsNextEntry list entry = ((entry ≡ 0) × (list ≡ [])) ⊎ (entry ≡ length list + 1)
+
+-- commands are those before an entry: none before the header, or else those before the records from that entry on
+abbrev pub IsReadBefore : ℕ → ℕ → List Command → CommandFile → Type 0
+IsReadBefore most entry list file =
+    ((entry ≡ 0) × (list ≡ []))
+    ⊎ ((entry ≡ length list + 1) × (version : Version) × (rest : List Fields) × (file ≡ followed_by list (commands_from version most entry rest)))
+
+-- commands that were read, and a fault, are what the file says, or the commands before an interruption
+abbrev pub IsRead : ℕ → CommandFile → List Command → Option LineFault → Type 0
+IsRead most file list None = (list ≡ file.commands) × (file.fault ≡ None)
+IsRead most file list (Some fault) =
+    MatchBool (is_interruption fault.cause)
+    (IsReadBefore most fault.entry list file)
+    ((list ≡ file.commands) × (file.fault ≡ Some fault))
+
+-- where the records to come are known, the first gives this command or fault, and the others are still to come
+abbrev pub FirstGives : Version → Option (List Fields) → Option (List Fields) → Result Command LineCause → Type 0
+FirstGives version None new outcome = ⊤
+FirstGives version (Some []) new outcome = ⊥
+FirstGives version (Some (first ∷ rest)) new outcome = (command_of version first ≡ outcome) × (new ≡ Some rest)
+
+-- the next record's command was stored, or nothing was, at the end, at its fault or at an interruption
+abbrev pub StoresNext : Version → Option (List Fields) → Option (List Fields) → List Command → List Command → Result Bool LineCause → Type 0
+StoresNext version old new before after (Ok true) =
+    (command : Command) × (after ≡ before ++ command ∷ []) × FirstGives version old new (Ok command)
+StoresNext version old new before after (Ok false) = (after ≡ before) × IfSome old (λ records. records ≡ [])
+StoresNext version old new before after (Err cause) =
+    (after ≡ before) × MatchBool (is_interruption cause) ⊤ (FirstGives version old new (Err cause))
+
+-- where the records to come are known, the version whose header the first is, after which the others are still to come
+abbrev pub TakesHeader : Option (List Fields) → Option (List Fields) → Option Version → Type 0
+TakesHeader None new version = ⊤
+TakesHeader (Some []) new version = version ≡ None
+TakesHeader (Some (first ∷ rest)) new version = (version ≡ version_of first) × IfSome version (λ _. new ≡ Some rest)

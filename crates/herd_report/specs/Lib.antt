@@ -1,0 +1,10 @@
+pub mod LineCause
+pub mod Field
+pub mod Grammar
+pub mod Columns
+pub mod CommandFile
+pub mod Upcoming
+pub mod Output
+pub mod Replies
+pub mod RunFault
+pub mod Run

@@ -1,0 +1,38 @@
+-- The causes of line faults.
+use Rattle.std.specs.Prelude.{ℕ, Bool, true, false}
+use Rattle.herd_report.specs.declared.line_fault.LineCause.{LineCause}
+use Rattle.herd_report.specs.declared.line_fault.LineCause.TheVariants.{Header, Fields, Kind, Animal, Day, Sire, Dam, FromHerd, ToHerd, FieldNotUsed, Read, TooMany, Memory, Embryo}
+
+-- the number that the program prints
+abbrev pub number_of : LineCause → ℕ
+number_of Header = 1
+number_of Fields = 2
+number_of Kind = 3
+number_of Animal = 4
+number_of Day = 5
+number_of Sire = 6
+number_of Dam = 7
+number_of FromHerd = 8
+number_of ToHerd = 9
+number_of FieldNotUsed = 10
+number_of Read = 11
+number_of TooMany = 12
+number_of Memory = 13
+number_of Embryo = 14
+
+-- a cause that the bytes don't show: the reader failed, or memory ran out
+abbrev pub is_interruption : LineCause → Bool
+is_interruption Header = false
+is_interruption Fields = false
+is_interruption Kind = false
+is_interruption Animal = false
+is_interruption Day = false
+is_interruption Sire = false
+is_interruption Dam = false
+is_interruption FromHerd = false
+is_interruption ToHerd = false
+is_interruption FieldNotUsed = false
+is_interruption Read = true
+is_interruption TooMany = false
+is_interruption Memory = true
+is_interruption Embryo = false

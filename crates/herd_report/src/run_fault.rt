@@ -1,0 +1,36 @@
+ghost use Rattle.std.specs.Prelude.{◌≡◌};
+
+use crate::line_fault::LineFault;
+use crate::report_fault::ReportFault;
+use thiserror::Error;
+
+/// Why a run ended early.
+#[derive(Clone, Copy, Debug, PartialEq, Eq, Error)]
+pub enum RunFault {
+    /// The command file has a fault. The replies to the commands before it were written.
+    #[error("{0}")]
+    Line(LineFault),
+    /// The animal that a certificate was asked for isn't in the book. Nothing was written.
+    #[error("not registered")]
+    NotRegistered,
+    /// A growth of memory was refused.
+    #[error("no memory")]
+    Memory,
+    /// A write failed or took no byte.
+    #[error("write fault")]
+    Write,
+}
+
+impl From<ReportFault> for RunFault {
+    ghost use Rattle.herd_report.specs.RunFault.{run_fault_of};
+
+    ghost from_gives = { λ fault told. told ≡ run_fault_of fault };
+
+    fn from(fault: ReportFault) -> RunFault {
+        match fault {
+            ReportFault::Write => RunFault::Write,
+            ReportFault::Memory => RunFault::Memory,
+            ReportFault::NotRegistered => RunFault::NotRegistered,
+        }
+    }
+}

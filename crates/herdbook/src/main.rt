@@ -1,0 +1,39 @@
+//! The herd book of a breed society, as a program over standard input and output.
+#![tactic(auto)]
+
+mod arguments;
+mod faults;
+
+use arguments::read_words;
+use faults::tell_run_fault;
+use herd_register::Limits;
+use herd_report::run;
+use std::io;
+use std::process::ExitCode;
+
+/// What the book and its journal may hold.
+const LIMITS: Limits = Limits {
+    animals: 60_000,
+    steps: 1_000_000,
+};
+
+fn main(rt: HostRuntime) -> io::Result<ExitCode> {
+    let words: Vec<String> = std::env::args(&rt)?.collect(rt.alloc())?;
+    let order = match read_words(rt.alloc(), words.as_slice()) {
+        Ok(order) => order,
+        Err(error) => {
+            error.print(&rt)?;
+            return Ok(ExitCode::from(error.exit_code() as u8));
+        }
+    };
+    match run(rt.alloc(), LIMITS, order, rt.reader(), &mut io::writer(&rt)) {
+        Ok(()) => Ok(ExitCode::SUCCESS),
+        Err(fault) => {
+            tell_run_fault(&rt, fault)?;
+            Ok(ExitCode::FAILURE)
+        }
+    }
+}
+
+#[cfg(test)]
+mod tests;
