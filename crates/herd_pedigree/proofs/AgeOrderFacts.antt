@@ -15,7 +15,7 @@ use Rattle.std.proofs.lemmas.List.Elements.{All-get_or, All-map}
 use Rattle.std.proofs.lemmas.List.Sorted.{All-permutation, IsPermutation-map, length_permutation, ranks_by, sorted_far}
 use Rattle.std.proofs.lemmas.List.FromFn.{length-enumerate_from, get_or-enumerate_from}
 use Rattle.herd_pedigree.specs.declared.animal.Animal.{Animal}
-use Rattle.herd_pedigree.specs.declared.freeze.AgeKey.{AgeKey}
+use Rattle.herd_pedigree.specs.declared.age_order.AgeKey.{AgeKey}
 use Rattle.herd_pedigree.specs.Book.{Book}
 use Rattle.herd_pedigree.specs.Freeze.{IsAgeOrder, age_key, places_of}
 use Rattle.herd_pedigree.proofs.BookFacts.{there}

@@ -13,7 +13,7 @@ use Rattle.std.proofs.lemmas.List.FromFn.{length-enumerate_from, get_or-enumerat
 use Rattle.std.proofs.lemmas.List.Sorted.{IsPermutation-map}
 use Rattle.std.proofs.lemmas.Option.{get_or_from_slice_get, same_Some, slice_get_within}
 use Rattle.herd_pedigree.specs.declared.animal.Animal.{Animal}
-use Rattle.herd_pedigree.specs.declared.freeze.AgeKey.{AgeKey}
+use Rattle.herd_pedigree.specs.declared.age_order.AgeKey.{AgeKey}
 use Rattle.herd_pedigree.specs.declared.frozen.Row.{Row}
 use Rattle.herd_pedigree.specs.Book.{Book}
 use Rattle.herd_pedigree.specs.Frozen.{IsFrozenFrom, IsFrozenRow, age_cmp, book_of, numbers_of}

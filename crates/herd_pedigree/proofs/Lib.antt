@@ -9,6 +9,7 @@ pub mod RowFacts
 pub mod LevelFacts
 pub mod FreezeFacts
 pub mod LinkFacts
+pub mod ListedFacts
 mod PlaceFacts
 mod DepthFacts
 mod FaultFacts
@@ -17,3 +18,4 @@ mod KeptFacts
 mod SetFacts
 mod CheckFacts
 mod UndoFacts
+pub mod FamilyFacts

@@ -6,7 +6,7 @@ use Rattle.std.specs.List.{enumerate_from}
 use Rattle.std.specs.Option.{option_and_then}
 use Rattle.std.specs.Ordering.{int_cmp, nat_cmp, ordering_then}
 use Rattle.herd_pedigree.specs.declared.animal.Animal.{Animal}
-use Rattle.herd_pedigree.specs.declared.freeze.AgeKey.{AgeKey}
+use Rattle.herd_pedigree.specs.declared.age_order.AgeKey.{AgeKey}
 use Rattle.herd_pedigree.specs.declared.frozen.Row.{Row}
 use Rattle.herd_pedigree.specs.declared.links.Link.{Link}
 use Rattle.herd_pedigree.specs.Book.{Book, IsDepthOf}

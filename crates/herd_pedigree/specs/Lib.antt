@@ -5,6 +5,7 @@ pub mod Lawful
 pub mod Pedigree
 pub mod Places
 pub mod Links
+pub mod Listed
 pub mod Frozen
 pub mod Freeze
 pub mod Depths

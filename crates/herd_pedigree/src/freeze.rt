@@ -10,23 +10,20 @@ ghost use Rattle.herd_pedigree.specs.Lawful.{IsLawful};
 ghost use Rattle.herd_pedigree.specs.Links.{AreLinks};
 ghost use Rattle.herd_pedigree.specs.declared.TheConstants.{DEPTH_LIMIT, MOST_ANIMALS};
 
+#[cfg(test)]
+mod tests;
+
+use crate::age_order::{AgeKey, by_age, ranks_of};
 use crate::animal::Animal;
 use crate::frozen::{Frozen, Row};
 use crate::links::Link;
-use herd_animal::{AnimalNumber, Day};
+use herd_animal::AnimalNumber;
+use indexmap::IndexMap;
 use std::alloc::{AllocError, Allocator};
 use std::collections::HashMap;
 use std::hash::{BuildHasherDefault, FoldHasher};
 
 type Places<A> = HashMap<AnimalNumber, u32, BuildHasherDefault<FoldHasher>, A>;
-
-/// What the age of an animal is compared by, with its place of registration.
-#[derive(Clone, Copy, Debug, PartialEq, Eq, PartialOrd, Ord)]
-pub(crate) struct AgeKey {
-    birth: Day,
-    number: AnimalNumber,
-    place: u32,
-}
 
 /// The book of a list of records, in age order.
 pub fn freeze_list<A: Allocator + Clone>(
@@ -39,6 +36,33 @@ pub fn freeze_list<A: Allocator + Clone>(
     let places = places_by_number(alloc.clone()?, records)?;
     let links = links_of(alloc.clone()?, records, &places)?;
     frozen_from(alloc, records, &links)
+}
+
+/// The book of a pedigree's records, in age order. The links are the places of their parents.
+pub(crate) fn freeze_map<A: Allocator, B: Allocator + Clone>(
+    alloc: B,
+    records: &IndexMap<AnimalNumber, Animal, BuildHasherDefault<FoldHasher>, A>,
+    links: &[Link],
+) -> Result<Frozen<B>, AllocError>
+    requires lawful { IsLawful DEPTH_LIMIT MOST_ANIMALS records.now.entries }
+    requires links { AreLinks records.now.entries links.now }
+    ensures { IfOk result (IsFrozenFrom DEPTH_LIMIT MOST_ANIMALS records.now.entries) }
+{
+    let entries = entries_of(alloc.clone()?, records)?;
+    frozen_from(alloc, &entries, links)
+}
+
+// The entries of a map, side by side.
+fn entries_of<A: Allocator, B: Allocator>(
+    alloc: B,
+    records: &IndexMap<AnimalNumber, Animal, BuildHasherDefault<FoldHasher>, A>,
+) -> Result<Vec<(AnimalNumber, Animal), B>, AllocError>
+    ensures { IfOk result (λ entries. entries.items ≡ records.now.entries) }
+{
+    records
+        .iter()
+        .map(|(number, animal)| (*number, *animal))
+        .collect(alloc)
 }
 
 /// The book of records in order of registration, frozen. The links are the places of their parents.
@@ -66,7 +90,7 @@ fn places_by_number<A: Allocator + Clone>(
     requires few { length records.now ≤ MOST_ANIMALS }
     ensures { IfOk result (λ places. FindsPlaces (keys_of records.now) (get bytes_eq places)) }
 {
-    let mut places = HashMap::new(alloc);
+    let mut places = HashMap::with_capacity(alloc, records.len())?;
     for (place, (number, _)) in records.iter().enumerate() {
         places.insert(*number, place as u32)?;
     }
@@ -101,39 +125,6 @@ fn place_of<A: Allocator>(places: &Places<A>, parent: Option<AnimalNumber>) -> O
 {
     let parent = parent?;
     places.get(&parent).copied()
-}
-
-// The keys of the records, in age order.
-fn by_age<A: Allocator>(
-    alloc: A,
-    records: &[(AnimalNumber, Animal)],
-) -> Result<Vec<AgeKey, A>, AllocError>
-    requires { length records.now ≤ MOST_ANIMALS }
-    ensures { IfOk result (λ keys. IsAgeOrder records.now keys.items) }
-{
-    let mut keys = Vec::with_capacity(alloc, records.len())?;
-    for (place, (number, animal)) in records.iter().enumerate() {
-        keys.push(AgeKey {
-            birth: animal.birth,
-            number: *number,
-            place: place as u32,
-        })?;
-    }
-    keys.sort_unstable();
-    Ok(keys)
-}
-
-// Where each place of registration stands in age order.
-fn ranks_of<A: Allocator>(alloc: A, keys: &[AgeKey]) -> Result<Vec<u32, A>, AllocError>
-    requires few { length keys.now ≤ MOST_ANIMALS }
-    requires places { IsPermutation (range_with_len 0 (length keys.now)) (places_of keys.now) }
-    ensures { IfOk result (λ ranks. AreRanks keys.now ranks.items) }
-{
-    let mut ranks = vec![in alloc; 0u32; keys.len()]?;
-    for (rank, key) in keys.iter().enumerate() {
-        ranks[key.place as usize] = rank as u32;
-    }
-    Ok(ranks)
 }
 
 // The rank of a parent that is known.

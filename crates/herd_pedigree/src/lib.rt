@@ -1,12 +1,14 @@
 //! The book of a breed society: one record for each number, and what a change of it may be.
 #![tactic(auto)]
 
+mod age_order;
 mod animal;
 mod depth;
 mod freeze;
 mod frozen;
 mod levels;
 mod links;
+mod listed;
 mod named;
 mod parent_fault;
 mod pedigree;

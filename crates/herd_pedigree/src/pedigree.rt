@@ -1,6 +1,7 @@
 ghost use Rattle.std.specs.Prelude.{◌≡◌, ◌<◌, ◌≤◌, [], ◌++◌, ◌∷◌, ℕ, List, length, Option, None, Some, IfNone, IfOk, IfSome, OnOk, OnErr, IsSome, is_some};
 ghost use Rattle.std.specs.Map.{keys_of};
 ghost use Rattle.herd_pedigree.specs.Book.{IsDepthOf, changed, has_calved_after, is_calf_after, record_of, with_left, with_owner, with_parents};
+ghost use Rattle.herd_pedigree.specs.Frozen.{IsFrozenFrom};
 ghost use Rattle.herd_pedigree.specs.ParentFault.{is_too_deep, parent_fault};
 ghost use Rattle.herd_pedigree.specs.Places.{IsPlaceIn};
 ghost use Rattle.herd_pedigree.specs.Pedigree.{IsBirth, IsCorrection, IsExit, IsPresentOn, changed_to};
@@ -9,6 +10,9 @@ ghost use Rattle.herd_pedigree.specs.declared.TheConstants.{DEPTH_LIMIT, MOST_AN
 use crate::DEPTH_LIMIT;
 use crate::animal::Animal;
 use crate::depth::{depth_with, undo_writes};
+use crate::freeze::frozen_from;
+use crate::frozen::Frozen;
+use crate::listed::{links_in_order, records_in_order};
 use crate::named::{Records, find, record_fault};
 use crate::parent_fault::ParentFault;
 use crate::progeny::Progeny;
@@ -258,6 +262,15 @@ impl<A: Allocator> Pedigree<A> {
                 undo_writes(&mut self.depths, &mut self.old_depths);
             }
         }
+    }
+
+    /// The book in age order.
+    pub fn freeze<B: Allocator + Clone>(&self, alloc: B) -> Result<Frozen<B>, AllocError>
+        ensures { IfOk result (IsFrozenFrom DEPTH_LIMIT MOST_ANIMALS self.now.book) }
+    {
+        let records = records_in_order(alloc.clone()?, &self.records)?;
+        let links = links_in_order(alloc.clone()?, &self.sires, &self.dams, self.len())?;
+        frozen_from(alloc, &records, &links)
     }
 }
 

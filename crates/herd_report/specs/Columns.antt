@@ -5,6 +5,7 @@ use Rattle.std.specs.Str.{bytes_eq}
 use Rattle.herd_report.specs.Grammar.{Texts, first_columns}
 use Rattle.herd_report.specs.declared.columns.Columns.{Columns}
 
+-- the columns of a record as texts
 abbrev pub texts_of : Columns → Texts
 texts_of c = record {
   kind = c.kind.now;

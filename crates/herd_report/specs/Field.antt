@@ -1,4 +1,4 @@
--- What may stand in a field of a command file, and what it means.
+-- What may stand in a field of a command file, and what it means. The tests decide the grammars of `herd_animal`.
 use Rattle.std.specs.Prelude.{ℕ, ◌+◌, List, [], ◌∷◌, length, slice_index, codes, Bool, true, not, ◌&&◌, ◌||◌, ◌==◌, nat_lt, if◌then◌else◌, Option, Some, None, ℤ, pos}
 use Rattle.std.specs.Char.{is_ascii_digit, is_ascii_uppercase}
 use Rattle.std.specs.Int.{is_in_range}

@@ -22,6 +22,8 @@ pub struct Commands {
 }
 
 /// Reads a command file of either version, and no record after its first fault.
+///
+/// The faults `Read` and `Memory` don't stand in the file: they tell the entry that was being read.
 pub fn read_commands<R: Read + Drop>(alloc: Global, reader: R, most: u32) -> Commands
     requires { most ≤ 1_000_000 }
     ensures file { IfSome (R.remaining reader)

@@ -1,6 +1,6 @@
 use Rattle.std.proofs.Common.{subst, sym, List}
 use Rattle.std.proofs.lemmas.Result.{IfOk-weaker}
-use Rattle.herd_pedigree.specs.declared.freeze.AgeKey.{AgeKey}
+use Rattle.herd_pedigree.specs.declared.age_order.AgeKey.{AgeKey}
 use Rattle.herd_pedigree.specs.declared.frozen.Row.{Row}
 use Rattle.herd_pedigree.specs.Freeze.{IsAgeOrder}
 use Rattle.herd_pedigree.specs.Frozen.{IsFrozenFrom}

@@ -1,0 +1,7 @@
+use Rattle.herd_pedigree.proofs.ListedFacts.{taken_more}
+use Rattle.herd_pedigree.proofs.listed.records_in_order.Goals as goal
+
+pub loop-place-preserved : goal.loop-place-preserved
+loop-place-preserved g c =
+    taken_more c.args.records.now.entries c.loop-place.list.items c.push.new.self.items c.loop-place.place (c.in-Some.number.now, c.in-Some.animal.now)
+    c.loop-place.invariant c.in-Some.ensures.entry c.in_ok-push.ensures.items
