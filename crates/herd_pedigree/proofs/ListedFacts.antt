@@ -24,11 +24,11 @@ pub are_links : (book : Book) (sires dams : List (Option ℕ)) (links : List Lin
 are_links book sires dams links s d by =
     let long : length links ≡ length book = ap length by ∙ length-map-range_with_len (link_at sires dams) 0 (length book) in
     let at : (c : ℕ) (link : Link) → slice_get links c ≡ Some link → link ≡ link_at sires dams c =
-        λ c link here.
-        let within : c < length links = slice_get_within links c link here in
-        let read = get_or_from_slice_get links c link link here in
-        let made = get_or-map-range_with_len (link_at sires dams) 0 (length book) c c link (omega arith) (omega arith) in
-        sym read ∙ ap (λ l. get_or l c link) by ∙ made in
+    λ c link here.
+    let within : c < length links = slice_get_within links c link here in
+    let read = get_or_from_slice_get links c link link here in
+    let made = get_or-map-range_with_len (link_at sires dams) 0 (length book) c c link (omega arith) (omega arith) in
+    sym read ∙ ap (λ l. get_or l c link) by ∙ made in
     record {
       long = long;
       sires = λ c entry link there here. subst (λ (p : Option ℕ). IsPlaceIn (keys_of book) p entry.1.sire) (sym (ap (λ l. l.sire) (at c link here))) (s.each c entry there);

@@ -58,7 +58,7 @@ filed-next limits commands i command reply old new el ej within item er e =
     let r : reply ≡ answer limits (book_after limits [] (take i commands)) command = er ∙ ap (λ l. answer l (book_of old) command) el ∙ ap (λ k. answer limits k command) b in
     let j : new.journal ≡ old.journal ++ step_of 0 command reply ∷ [] = ap (λ v. v.journal) e in
     let t : old.journal ++ step_of 0 command reply ∷ [] ≡ filed_from limits [] (take i commands) ++ step_of 0 command (answer limits (book_after limits [] (take i commands)) command) ∷ [] =
-        ap (λ k. k ++ step_of 0 command reply ∷ []) ej ∙ ap (λ k. filed_from limits [] (take i commands) ++ step_of 0 command k ∷ []) r in
+    ap (λ k. k ++ step_of 0 command reply ∷ []) ej ∙ ap (λ k. filed_from limits [] (take i commands) ++ step_of 0 command k ∷ []) r in
     let u = ap (λ k. filed_from limits [] (take i commands) ++ step_of 0 k (answer limits (book_after limits [] (take i commands)) k) ∷ []) item in
     j ∙ t ∙ u ∙ sym (filed_from-more limits [] commands i command within)
 
@@ -90,8 +90,8 @@ pub first_commands : (most : ℕ) (file : CommandFile) (list : List Command) (fa
 first_commands most file list None read = ([], sym read.0 ∙ sym (append-nil list))
 first_commands most file list (Some fault) read =
     elim (is_interruption fault.cause) as (λ b. MatchBool b (IsReadBefore most fault.entry list file) ((list ≡ file.commands) × (file.fault ≡ Some fault)) → (rest : List Command) × (file.commands ≡ list ++ rest)) [
-    | true ↦ λ before. ⊎_elim (λ none. (file.commands, sym (ap (λ l. l ++ file.commands) none.1))) (λ some. ((commands_from some.1 most fault.entry some.2).commands, ap (λ f. f.commands) some.3)) before
-    | false ↦ λ all. ([], sym all.0 ∙ sym (append-nil list))
+      | true ↦ λ before. ⊎_elim (λ none. (file.commands, sym (ap (λ l. l ++ file.commands) none.1))) (λ some. ((commands_from some.1 most fault.entry some.2).commands, ap (λ f. f.commands) some.3)) before
+      | false ↦ λ all. ([], sym all.0 ∙ sym (append-nil list))
     ] read
 
 -- a front of the replies to what was read is one of the replies to the file
@@ -115,8 +115,8 @@ pub ends_by_line : (limits : Limits) (file : CommandFile) (list : List Command) 
 ends_by_line limits file list fault old new read written =
     elim (is_interruption fault.cause) as (λ b. MatchBool b (IsReadBefore limits.steps fault.entry list file) ((list ≡ file.commands) × (file.fault ≡ Some fault)) →
     MatchBool b (IsInterrupted limits file fault old new) (IsAnsweredBefore limits file fault old new)) [
-    | true ↦ λ before. record { commands = list; before = before; written = written }
-    | false ↦ λ all. record { told = all.1; written = subst (λ l. Appends old new (replies_to limits l)) all.0 written }
+      | true ↦ λ before. record { commands = list; before = before; written = written }
+      | false ↦ λ all. record { told = all.1; written = subst (λ l. Appends old new (replies_to limits l)) all.0 written }
     ] read
 
 -- the same over a reader that may tell its bytes

@@ -65,7 +65,11 @@ fn write_answers<W: Write>(
 }
 
 // A register in which the commands are filed at desk 0.
-fn filed(alloc: Global, limits: Limits, commands: &[Command]) -> Result<Register<Global>, AllocError>
+fn filed(
+    alloc: Global,
+    limits: Limits,
+    commands: &[Command],
+) -> Result<Register<Global>, AllocError>
     requires limits { AreLimits limits }
     requires room { length commands.now ≤ limits.steps }
     ensures journal { IfOk result (λ register. register.journal ≡ filed_from limits [] commands.now) }

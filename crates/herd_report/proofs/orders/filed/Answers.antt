@@ -10,7 +10,7 @@ unreachable-requires c =
     let full : c.file.result ≡ Err JournalFull = c.in-Err-JournalFull.is ∙ ap Err c.in-Err-JournalFull.field-0-is in
     let steps : length c.loop-command.register.journal ≡ c.loop-command.register.limits.steps = c.file.ensures.full.0 full in
     let filed : length c.loop-command.register.journal ≡ length (take c.loop-command.command-index c.args.commands.now) =
-        ap length c.loop-command.invariant.journal ∙ length-filed_from c.args.limits _ (take c.loop-command.command-index c.args.commands.now) in
+    ap length c.loop-command.invariant.journal ∙ length-filed_from c.args.limits _ (take c.loop-command.command-index c.args.commands.now) in
     let same : c.loop-command.register.limits.steps ≡ c.args.limits.steps = ap (λ l. l.steps) c.loop-command.invariant.limits in
     let first = length-take c.loop-command.command-index c.args.commands.now in
     absurd (omega (arith, first))
