@@ -13,7 +13,7 @@ parity : (n : ℕ) → (n % 2 ≡ 0) ⊎ (n % 2 ≡ 1)
 parity n = ⊎_elim (λ (l : n % 2 < 1). inl (omega arith)) (λ (l : 1 ≤ n % 2). inr (omega arith)) (cases_lt (n % 2) 1)
 
 -- two to the trailing zeros divides
-split_trailing : (k n : ℕ) → 2 ^ count_trailing_zeros k n * (n / 2 ^ count_trailing_zeros k n) ≡ n
+pub split_trailing : (k n : ℕ) → 2 ^ count_trailing_zeros k n * (n / 2 ^ count_trailing_zeros k n) ≡ n
 unfolding count_trailing_zeros
 split_trailing zero n = omega arith
 split_trailing (suc k) n =

@@ -24,3 +24,5 @@ pub mod TermSums
 pub mod FractionFacts
 pub mod MatingFacts
 pub mod ContributionFacts
+pub mod PendingFacts
+pub mod UnderWayFacts

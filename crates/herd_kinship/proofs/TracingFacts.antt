@@ -1,5 +1,5 @@
 -- A tracing over a frozen book: its start, its steps, and what is met.
-use Rattle.std.proofs.Common.{ℕ, ◌+◌, ◌*◌, ◌-◌, ◌/◌, ◌%◌, ◌^◌, ◌<◌, ◌≤◌, ◌≡◌, inl, inr, ⊎_elim, List, length, slice_get, get_or, set, Some, None, Option, replicate, arith, refl, sym, ap, subst, ◌∙◌}
+use Rattle.std.proofs.Common.{ℕ, zero, suc, ◌+◌, ◌*◌, ◌-◌, ◌/◌, ◌%◌, ◌^◌, ◌<◌, ◌≤◌, ◌≡◌, inl, inr, ⊎_elim, List, length, slice_get, get_or, set, Some, None, Option, replicate, arith, refl, sym, ap, subst, ◌∙◌}
 use Rattle.std.proofs.Math.Nat.{mod-eq_of_lt, mul-le-mul_left}
 use Rattle.std.proofs.Math.Pow.{pow_pos}
 use Rattle.std.proofs.lemmas.Bool.{cases_eq}
@@ -353,52 +353,65 @@ module _ (l : ℕ) (rows : List Row) (f : IsFrozen l MOST_ANIMALS rows) where
   none-is x b shares t none bx j jb =
       sym (t.met j (omega arith) (omega arith)) ∙ (ap (λ v. v * 2 ^ (l - depth_at rows x + depth_at rows j)) (none j jb) ∙ omega arith)
 
--- what a tracing's step finds at the place below the border
-pub record IsStep (l : ℕ) (rows : List Row) (x b : ℕ) (shares : List ℕ) (own : ℕ) : Type 0 where
-  pub tracing : IsTracing l rows x b shares
-  pub some : 0 < b
-  pub own_is : own ≡ get_or shares (x - (b - 1)) 0
+-- what a tracing's step finds at the youngest pending place
+pub record IsStep (l : ℕ) (rows : List Row) (x y : ℕ) (shares : List ℕ) (own : ℕ) : Type 0 where
+  pub tracing : IsTracing l rows x (y + 1) shares
+  pub own_is : own ≡ get_or shares (x - y) 0
 
-module _ (l : ℕ) (rows : List Row) (x b : ℕ) (shares : List ℕ) (own : ℕ) (step : IsStep l rows x b shares own) where
+module _ (l : ℕ) (rows : List Row) (x y : ℕ) (shares : List ℕ) (own : ℕ) (step : IsStep l rows x y shares own) where
   f : IsFrozen l MOST_ANIMALS rows
   f = step.tracing.book
 
-  at : IsTracing l rows x (b - 1 + 1) shares
-  at = subst (λ v. IsTracing l rows x v shares) (let pos = step.some in let e : b ≡ b - 1 + 1 = omega arith in e) step.tracing
-
-  -- a border that goes down where nothing is kept
-  pub step-lower : own ≡ 0 → IsTracing l rows x (b - 1) shares
-  step-lower none = tracing-lower l rows f x (b - 1) shares at (sym step.own_is ∙ none)
-
-  pub step-room_sire : (row : Row) → slice_get rows (b - 1) ≡ Some row → (p : ℕ) → row.sire ≡ Some p → HasRoom l rows x shares (b - 1) own p
+  pub step-room_sire : (row : Row) → slice_get rows y ≡ Some row → (p : ℕ) → row.sire ≡ Some p → HasRoom l rows x shares y own p
   step-room_sire row e p is =
-      subst (λ v. HasRoom l rows x shares (b - 1) v p) (sym step.own_is)
-      (room-sire l rows f x (b - 1) shares at p ((let s : sire_place rows (b - 1) ≡ row.sire = rw e refl in s) ∙ is))
+      subst (λ v. HasRoom l rows x shares y v p) (sym step.own_is)
+      (room-sire l rows f x y shares step.tracing p ((let s : sire_place rows y ≡ row.sire = rw e refl in s) ∙ is))
 
-  pub step-room_dam : (row : Row) → slice_get rows (b - 1) ≡ Some row → (p : ℕ) → row.dam ≡ Some p →
-      HasRoom l rows x (given rows x shares (b - 1) own row.sire) (b - 1) own p
+  pub step-room_dam : (row : Row) → slice_get rows y ≡ Some row → (p : ℕ) → row.dam ≡ Some p →
+      HasRoom l rows x (given rows x shares y own row.sire) y own p
   step-room_dam row e p is =
-      let s : sire_place rows (b - 1) ≡ row.sire = rw e refl in
-      let d : dam_place rows (b - 1) ≡ row.dam = rw e refl in
-      subst (λ o. HasRoom l rows x (given rows x shares (b - 1) own o) (b - 1) own p) s
-      (subst (λ v. HasRoom l rows x (given rows x shares (b - 1) v (sire_place rows (b - 1))) (b - 1) v p) (sym step.own_is)
-      (room-dam l rows f x (b - 1) shares at p (d ∙ is)))
+      let s : sire_place rows y ≡ row.sire = rw e refl in
+      let d : dam_place rows y ≡ row.dam = rw e refl in
+      subst (λ o. HasRoom l rows x (given rows x shares y own o) y own p) s
+      (subst (λ v. HasRoom l rows x (given rows x shares y v (sire_place rows y)) y v p) (sym step.own_is)
+      (room-dam l rows f x y shares step.tracing p (d ∙ is)))
 
-  -- a share that is passed on
-  pub step-next : (row : Row) → slice_get rows (b - 1) ≡ Some row →
-      IsTracing l rows x (b - 1) (given rows x (given rows x shares (b - 1) own row.sire) (b - 1) own row.dam)
+  -- its share is passed on
+  pub step-next : (row : Row) → slice_get rows y ≡ Some row →
+      IsTracing l rows x y (given rows x (given rows x shares y own row.sire) y own row.dam)
   step-next row e =
-      let s : sire_place rows (b - 1) ≡ row.sire = rw e refl in
-      let d : dam_place rows (b - 1) ≡ row.dam = rw e refl in
-      subst (λ o. IsTracing l rows x (b - 1) (given rows x (given rows x shares (b - 1) own row.sire) (b - 1) own o)) d
-      (subst (λ o. IsTracing l rows x (b - 1) (given rows x (given rows x shares (b - 1) own o) (b - 1) own (dam_place rows (b - 1)))) s
-      (subst (λ v. IsTracing l rows x (b - 1) (given rows x (given rows x shares (b - 1) v (sire_place rows (b - 1))) (b - 1) v (dam_place rows (b - 1)))) (sym step.own_is)
-      (tracing-next l rows f x (b - 1) shares at)))
+      let s : sire_place rows y ≡ row.sire = rw e refl in
+      let d : dam_place rows y ≡ row.dam = rw e refl in
+      subst (λ o. IsTracing l rows x y (given rows x (given rows x shares y own row.sire) y own o)) d
+      (subst (λ o. IsTracing l rows x y (given rows x (given rows x shares y own o) y own (dam_place rows y))) s
+      (subst (λ v. IsTracing l rows x y (given rows x (given rows x shares y v (sire_place rows y)) y v (dam_place rows y))) (sym step.own_is)
+      (tracing-next l rows f x y shares step.tracing)))
 
-  -- an ancestor that is met, where nothing is kept for the places passed since the border was top
-  pub step-is : (top : ℕ) → ((j : ℕ) → b ≤ j → j < top → get_or shares (x - j) 0 ≡ 0) → b ≤ top → top ≤ x + 1 → 0 < own → IsNext l rows x top (b - 1) own
-  step-is top none low high pos =
-      let some = step.some in
+  -- it is the next ancestor, where nothing is kept for the places between it and the border
+  pub step-is : (top : ℕ) → ((j : ℕ) → y < j → j < top → get_or shares (x - j) 0 ≡ 0) → y < top → top ≤ x + 1 → 0 < own → IsNext l rows x top y own
+  step-is top none low high some =
       let is = step.own_is in
-      subst (λ v. IsNext l rows x top (b - 1) v) (sym is)
-      (next-is l rows f x (b - 1) top shares at (λ j yj jb. none j (omega arith) jb) (omega arith) high (let q : 0 < get_or shares (x - (b - 1)) 0 = omega arith in q))
+      subst (λ v. IsNext l rows x top y v) (sym is)
+      (next-is l rows f x y top shares step.tracing none low high (let q : 0 < get_or shares (x - y) 0 = omega arith in q))
+
+  pub step-lower_sire : (row : Row) → slice_get rows y ≡ Some row → IsLower rows y row.sire
+  step-lower_sire row e =
+      let lx : x < length rows = step.tracing.place in
+      let high : y + 1 ≤ x + 1 = step.tracing.border_in in
+      subst (λ o. IsLower rows y o) (let s : sire_place rows y ≡ row.sire = rw e refl in s) (lower-sire l rows f y (omega arith))
+
+  pub step-lower_dam : (row : Row) → slice_get rows y ≡ Some row → IsLower rows y row.dam
+  step-lower_dam row e =
+      let lx : x < length rows = step.tracing.place in
+      let high : y + 1 ≤ x + 1 = step.tracing.border_in in
+      subst (λ o. IsLower rows y o) (let d : dam_place rows y ≡ row.dam = rw e refl in d) (lower-dam l rows f y (omega arith))
+
+-- the border goes down past places for which nothing is kept
+pub lowered-to : (l : ℕ) (rows : List Row) (x b n : ℕ) (shares : List ℕ) → IsTracing l rows x (n + b) shares →
+    ((j : ℕ) → b ≤ j → j < n + b → get_or shares (x - j) 0 ≡ 0) → IsTracing l rows x b shares
+lowered-to l rows x b zero shares t none = subst (λ v. IsTracing l rows x v shares) (let e : zero + b ≡ b = omega arith in e) t
+lowered-to l rows x b (suc n) shares t none =
+    let e : suc n + b ≡ n + b + 1 = omega arith in
+    let t' : IsTracing l rows x (n + b + 1) shares = subst (λ v. IsTracing l rows x v shares) e t in
+    lowered-to l rows x b n shares (tracing-lower l rows t'.book x (n + b) shares t' (none (n + b) (omega arith) (omega arith)))
+    (λ j bj jb. none j bj (omega arith))

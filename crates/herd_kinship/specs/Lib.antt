@@ -6,6 +6,7 @@ pub mod FrozenAncestry
 pub mod Laws
 pub mod Coefficients
 pub mod Places
+pub mod Pending
 pub mod Tracing
 pub mod Fraction
 pub mod Mating

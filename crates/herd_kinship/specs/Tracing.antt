@@ -6,6 +6,7 @@ use Rattle.herd_pedigree.specs.declared.frozen.Row.{Row}
 use Rattle.herd_pedigree.specs.declared.TheConstants.{MOST_ANIMALS}
 use Rattle.herd_pedigree.specs.Frozen.{IsFrozen, depth_at}
 use Rattle.herd_kinship.specs.Shares.{share}
+use Rattle.herd_kinship.specs.Pending.{mark, Marks}
 use Rattle.herd_kinship.specs.Places.{placed}
 
 -- the share kept for the place p, brought to unit 2^-l; the list of shares goes by the distance from x
@@ -64,3 +65,25 @@ pub record AreShares (l : ℕ) (rows : List Row) (x : ℕ) (shares : List ℕ) :
 -- the share in a list that goes by the distance from x, 0 for a later place
 abbrev pub share_at : List ℕ → ℕ → ℕ → ℕ
 share_at shares x place = if nat_le place x then slice_index shares (x - place) else 0
+
+-- the distance is that of a place below the border, and a share is kept there
+pub record IsPendingAt (x border : ℕ) (shares : List ℕ) (distance : ℕ) : Type 0 where
+  pub near : distance ≤ x
+  pub below : x - distance < border
+  pub some : 0 < slice_index shares distance
+
+-- what is pending is marked, and nothing else
+pub record IsMarked (x border : ℕ) (shares words : List ℕ) : Type 0 where
+  pub room : x < 64 * length words
+  pub marked : (p : ℕ) → p < border → 0 < slice_index shares (x - p) → mark words (x - p) ≡ 1
+  pub pending : (distance : ℕ) → mark words distance ≡ 1 → IsPendingAt x border shares distance
+
+-- the marks once a parent is given a share
+abbrev pub GivesMark : ℕ → List ℕ → List ℕ → Option ℕ → Type 0
+GivesMark x old new None = new ≡ old
+GivesMark x old new (Some p) = Marks old new (x - p) 1
+
+-- a tracing whose pending ancestors are marked
+pub record IsUnderWay (l : ℕ) (rows : List Row) (x border : ℕ) (shares words : List ℕ) : Type 0 where
+  pub tracing : IsTracing l rows x border shares
+  pub marks : IsMarked x border shares words

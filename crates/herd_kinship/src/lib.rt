@@ -8,6 +8,7 @@ mod inverse;
 pub mod laws;
 mod mating_advice;
 mod numerators;
+mod pending;
 mod tracing;
 
 pub use coefficients::{Coefficients, coefficients_plain};

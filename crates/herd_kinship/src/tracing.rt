@@ -6,9 +6,10 @@ ghost use Rattle.herd_kinship.specs.FrozenAncestry.{ancestry_of, number_at};
 ghost use Rattle.herd_kinship.specs.Places.{placed};
 ghost use Rattle.herd_kinship.specs.Shares.{share};
 ghost use Rattle.herd_kinship.specs.Table.{entry, mendelian as mendelian_part};
-ghost use Rattle.herd_kinship.specs.Tracing.{AreShares, given, HasRoom, IsNext, IsTracing};
+ghost use Rattle.herd_kinship.specs.Tracing.{AreShares, given, GivesMark, HasRoom, IsNext, IsUnderWay};
 
 use crate::ONE;
+use crate::pending::Pending;
 use herd_pedigree::{Frozen, Row};
 use std::alloc::{AllocError, Allocator};
 
@@ -27,9 +28,10 @@ pub struct Tracing<A: Allocator> {
     border: u32,
     /// By distance from the animal, in units of their own.
     shares: Vec<u64, A>,
+    pending: Pending<A>,
 }
 
-impl<A: Allocator> Tracing<A> {
+impl<A: Allocator + Clone> Tracing<A> {
     /// Nobody is met yet.
     pub fn of<F: Allocator>(
         alloc: A,
@@ -39,56 +41,63 @@ impl<A: Allocator> Tracing<A> {
         requires { place < length frozen.now }
         ensures place { IfOk result (λ tracing. tracing.place ≡ place) }
         ensures border { IfOk result (λ tracing. tracing.border ≡ place + 1) }
-        ensures tracing { IfOk result (λ tracing. IsTracing DEPTH_LIMIT frozen.now place (place + 1) tracing.shares.items) }
+        ensures tracing { IfOk result (λ tracing. IsUnderWay DEPTH_LIMIT frozen.now place (place + 1) tracing.shares.items tracing.pending.words.items) }
     {
         frozen.len();
-        let mut shares = vec![in alloc; 0u64; place as usize + 1]?;
+        let mut shares = vec![in alloc.clone()?; 0u64; place as usize + 1]?;
         shares[0] = 1;
+        let mut pending = Pending::with_room(alloc, place + 1)?;
+        pending.insert(0);
         Ok(Tracing {
             place,
             border: place + 1,
             shares,
+            pending,
         })
     }
+}
 
+impl<A: Allocator> Tracing<A> {
     /// Meets the next ancestor, and passes its share on to its parents.
     pub fn meet_next<F: Allocator>(&mut self, frozen: &Frozen<F>) -> Option<Met>
-        requires { IsTracing DEPTH_LIMIT frozen.now self.old.place self.old.border self.old.shares.items }
+        requires { IsUnderWay DEPTH_LIMIT frozen.now self.old.place self.old.border self.old.shares.items self.old.pending.words.items }
         ensures same { self.new.place ≡ self.old.place }
-        ensures tracing { IsTracing DEPTH_LIMIT frozen.now self.new.place self.new.border self.new.shares.items }
+        ensures tracing { IsUnderWay DEPTH_LIMIT frozen.now self.new.place self.new.border self.new.shares.items self.new.pending.words.items }
         ensures next { IfSome result (λ met. IsNext DEPTH_LIMIT frozen.now self.old.place self.old.border met.place met.share) }
         ensures border { IfSome result (λ met. self.new.border ≡ met.place) }
         ensures ended { IfNone result (self.new.border ≡ 0) }
         ensures all { IfNone result ((j : ℕ) → j < self.old.border → share (placed frozen.now) DEPTH_LIMIT (Some self.old.place) j ≡ 0) }
     {
-        while self.border > 0 {
-            self.border -= 1;
-            let share = self.shares[(self.place - self.border) as usize];
-            if share > 0 {
-                let met = Met {
-                    place: self.border,
-                    share,
-                };
-                let row = frozen.row(met.place);
-                self.give(frozen, row, met, row.sire);
-                self.give(frozen, row, met, row.dam);
-                return Some(met);
-            }
-        }
-        None
+        let Some(distance) = self.pending.take_nearest() else {
+            self.border = 0;
+            return None;
+        };
+        let met = Met {
+            place: self.place - distance as u32,
+            share: self.shares[distance],
+        };
+        self.border = met.place;
+        let row = frozen.row(met.place);
+        self.give(frozen, row, met, row.sire);
+        self.give(frozen, row, met, row.dam);
+        Some(met)
     }
 
     /// Gives half of an animal's share to its parent, in the parent's unit.
     fn give<F: Allocator>(&mut self, frozen: &Frozen<F>, row: &Row, met: Met, parent: Option<u32>)
         requires row { slice_get frozen.now met.place ≡ Some row.now }
         requires room { ForSome parent (HasRoom DEPTH_LIMIT frozen.now self.old.place self.old.shares.items met.place met.share) }
+        requires marks { self.old.place < 64 * length self.old.pending.words.items }
         ensures place { self.new.place ≡ self.old.place }
         ensures border { self.new.border ≡ self.old.border }
         ensures shares { self.new.shares.items ≡ given frozen.now self.old.place self.old.shares.items met.place met.share parent }
+        ensures marks { GivesMark self.old.place self.old.pending.words.items self.new.pending.words.items parent }
     {
         if let Some(place) = parent {
             let steps = row.depth - frozen.row(place).depth;
-            self.shares[(self.place - place) as usize] += met.share << (steps - 1);
+            let distance = (self.place - place) as usize;
+            self.shares[distance] += met.share << (steps - 1);
+            self.pending.insert(distance);
         }
     }
 }
@@ -133,7 +142,7 @@ fn has_both_parents(row: &Row) -> bool
 }
 
 /// The squared shares in its ancestors times their Mendelian parts, added up.
-fn trace_ancestors<F: Allocator, A: Allocator>(
+fn trace_ancestors<F: Allocator, A: Allocator + Clone>(
     alloc: A,
     frozen: &Frozen<F>,
     known: &[u128],
@@ -161,7 +170,7 @@ fn trace_ancestors<F: Allocator, A: Allocator>(
 /// The relationship of the animal at a place with itself, by the coefficients of its ancestors.
 ///
 /// No memory is taken where a parent is unknown.
-pub fn trace<F: Allocator, A: Allocator>(
+pub fn trace<F: Allocator, A: Allocator + Clone>(
     alloc: A,
     frozen: &Frozen<F>,
     known: &[u128],
@@ -189,7 +198,7 @@ pub fn inbred(value: u128) -> u128
 }
 
 /// The shares that the animal at a place has of all older ones, by distance, in units of their own.
-pub fn shares_of<F: Allocator, A: Allocator>(
+pub fn shares_of<F: Allocator, A: Allocator + Clone>(
     alloc: A,
     frozen: &Frozen<F>,
     place: u32,

@@ -139,3 +139,23 @@ pub value_at : (es : Book) (i : ℕ) (a : Animal) (d : List ℕ × Animal) → s
 value_at [] i a d h = absurd (cc)
 value_at (e ∷ es) zero a d h = (omega arith, same_Some _ _ h)
 value_at (e ∷ es) (suc i) a d h = let r = value_at es i a d h in (omega (arith, r.0), r.1)
+
+all_at : {X : Type 0} (P : X → Type 0) (xs : List X) (c : ℕ) (x : X) → AllByRecursion P xs → slice_get xs c ≡ Some x → P x
+all_at P [] c x h at = absurd (cc)
+all_at P (y ∷ ys) zero x h at = subst P (same_Some _ _ at) h.0
+all_at P (y ∷ ys) (suc c) x h at = all_at P ys c x h.1 at
+
+-- a number stands at one place
+pub stands_once : (ks : List (List ℕ)) → IsDistinct bytes_eq ks → (i j : ℕ) (x : List ℕ) → slice_get ks i ≡ Some x → slice_get ks j ≡ Some x → i ≡ j
+unfolding IsDistinct
+stands_once [] d i j x a b = absurd (cc)
+stands_once (k ∷ ks) d zero zero x a b = refl
+stands_once (k ∷ ks) d zero (suc j) x a b =
+    let e : k ≡ x = same_Some _ _ a in
+    let f : bytes_eq k x ≡ false = all_at (λ z. bytes_eq k z ≡ false) ks j x d.0 b in
+    let t : bytes_eq k x ≡ true = subst (λ z. bytes_eq k z ≡ true) e (bytes_itself k) in absurd (cc)
+stands_once (k ∷ ks) d (suc i) zero x a b =
+    let e : k ≡ x = same_Some _ _ b in
+    let f : bytes_eq k x ≡ false = all_at (λ z. bytes_eq k z ≡ false) ks i x d.0 a in
+    let t : bytes_eq k x ≡ true = subst (λ z. bytes_eq k z ≡ true) e (bytes_itself k) in absurd (cc)
+stands_once (k ∷ ks) d (suc i) (suc j) x a b = ap suc (stands_once ks d.1 i j x a b)

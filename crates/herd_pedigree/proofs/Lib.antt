@@ -19,3 +19,9 @@ mod SetFacts
 mod CheckFacts
 mod UndoFacts
 pub mod FamilyFacts
+mod ListFacts
+mod ProgenyFacts
+mod CarryFacts
+mod CorrectionFacts
+mod HeldFacts
+mod CalvedFacts

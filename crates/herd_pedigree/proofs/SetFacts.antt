@@ -123,7 +123,7 @@ any_not test (y ∷ ys) zero x h at = let e : y ≡ x = same_Some _ _ at in ap t
 any_not test (y ∷ ys) (suc c) x h at = any_not test ys c x (or_parts (test y) (list_any test ys) h).1 at
 
 -- the dam has the leaving day that she had
-stayed-same : (l most : ℕ) (book : Book) (number : List ℕ) (was b : Animal) → record_of book number ≡ Some was → b.left ≡ was.left → (birth : ℤ) (embryo : Bool) → IsDamOf book birth embryo number → embryo ≡ false → IsFalse (has_left_before birth b)
+pub stayed-same : (l most : ℕ) (book : Book) (number : List ℕ) (was b : Animal) → record_of book number ≡ Some was → b.left ≡ was.left → (birth : ℤ) (embryo : Bool) → IsDamOf book birth embryo number → embryo ≡ false → IsFalse (has_left_before birth b)
 stayed-same l most book number was b there left birth embryo d fresh =
     let same : d.dam ≡ was = same_Some _ _ (sym d.there ∙ there) in
     ap (λ o. option_map_or (λ left. int_lt left birth) o false) (left ∙ ap (λ a. a.left) (sym same)) ∙ d.stayed fresh

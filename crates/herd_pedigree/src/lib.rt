@@ -3,6 +3,7 @@
 
 mod age_order;
 mod animal;
+mod correction;
 mod depth;
 mod freeze;
 mod frozen;

@@ -1,6 +1,6 @@
-ghost use Rattle.std.specs.Prelude.{◌≡◌, ◌<◌, ◌≤◌, [], ◌++◌, ◌∷◌, ℕ, List, length, Option, None, Some, IfNone, IfOk, IfSome, OnOk, OnErr, IsSome, is_some};
+ghost use Rattle.std.specs.Prelude.{◌≡◌, ◌<◌, ◌≤◌, [], ◌++◌, ◌∷◌, ℕ, List, length, slice_index, Option, None, Some, IfNone, IfOk, IfSome, OnOk, OnErr, IsSome, is_some};
 ghost use Rattle.std.specs.Map.{keys_of};
-ghost use Rattle.herd_pedigree.specs.Book.{IsDepthOf, changed, has_calved_after, is_calf_after, record_of, with_left, with_owner, with_parents};
+ghost use Rattle.herd_pedigree.specs.Book.{IsDepthOf, changed, has_calved_after, record_of, with_left, with_owner, with_parents};
 ghost use Rattle.herd_pedigree.specs.Frozen.{IsFrozenFrom};
 ghost use Rattle.herd_pedigree.specs.ParentFault.{is_too_deep, parent_fault};
 ghost use Rattle.herd_pedigree.specs.Places.{IsPlaceIn};
@@ -9,6 +9,7 @@ ghost use Rattle.herd_pedigree.specs.declared.TheConstants.{DEPTH_LIMIT, MOST_AN
 
 use crate::DEPTH_LIMIT;
 use crate::animal::Animal;
+use crate::correction::Correction;
 use crate::depth::{depth_with, undo_writes};
 use crate::freeze::frozen_from;
 use crate::frozen::Frozen;
@@ -37,14 +38,15 @@ pub struct Pedigree<A: Allocator> {
 
 impl<A: Allocator> Model for Pedigree<A> {
     ghost use Rattle.herd_pedigree.specs.Pedigree.{Pedigree};
-    ghost use Rattle.herd_pedigree.specs.Undo.{IsHeld, undone_book};
+    ghost use Rattle.herd_pedigree.specs.Undo.{undone_book};
+    ghost use Rattle.herd_pedigree.specs.Whole.{IsWhole};
     ghost use Rattle.herd_pedigree.specs.declared.TheConstants.{DEPTH_LIMIT, MOST_ANIMALS};
 
     ghost Value = { Pedigree };
 
     ghost view = { λ p. record { book = p.records.entries; before = undone_book p.undo p.records.entries } };
 
-    ghost invariant = { λ p. IsHeld DEPTH_LIMIT MOST_ANIMALS p.records.entries p.sires.parents p.dams.parents p.depths.items p.old_depths.items p.undo };
+    ghost invariant = { λ p. IsWhole DEPTH_LIMIT MOST_ANIMALS p.records.entries p.sires p.dams p.depths.items p.old_depths.items p.undo };
 }
 
 impl<A: Allocator + Copy> Pedigree<A> {
@@ -61,44 +63,6 @@ impl<A: Allocator + Copy> Pedigree<A> {
             undo: Undo::Nothing,
             old_depths: Vec::new(alloc),
         }
-    }
-}
-
-impl<A: Allocator> Pedigree<A> {
-    /// The record of an animal.
-    pub fn get(&self, number: &AnimalNumber) -> Option<Animal>
-        ensures { result ≡ record_of self.now.book number.now }
-    {
-        self.records.get(number).copied()
-    }
-
-    /// How many animals are in the book.
-    pub fn len(&self) -> u32
-        ensures { result ≡ length self.now.book }
-    {
-        self.records.len() as u32
-    }
-
-    /// The number of parent steps on an animal's longest known line.
-    pub fn depth(&self, number: &AnimalNumber) -> Option<u8>
-        ensures absent { IfNone result (record_of self.now.book number.now ≡ None) }
-        ensures there { IfSome result (λ _. IsSome (record_of self.now.book number.now)) }
-        ensures depth { IfSome result (IsDepthOf self.now.book number.now) }
-    {
-        let place = self.records.get_index_of(number)?;
-        Some(self.depths[place])
-    }
-
-    /// Whether an animal is the dam of one born after the day. Calves from stored embryos don't count.
-    pub fn calved_after(&self, number: &AnimalNumber, day: Day) -> bool
-        ensures { result ≡ has_calved_after self.now.book number.now day }
-    {
-        for place in 0..self.records.len() {
-            if is_calf_after(number, day, &self.records[place]) {
-                return true;
-            }
-        }
-        false
     }
 
     /// The first fault that an animal with this number, birth day and parents would have, whether it is in the
@@ -137,15 +101,23 @@ impl<A: Allocator> Pedigree<A> {
         ensures { IfOk result (λ deep. (s d : Option (List ℕ)) → IsPlaceIn (keys_of self.now.book) sire s → IsPlaceIn (keys_of self.now.book) dam d → deep ≡ is_too_deep DEPTH_LIMIT self.now.book number.now s d) }
     {
         let depth = depth_with(&self.depths, sire, dam);
-        match self.records.get_index_of(number) {
-            None => Ok(depth > u16::from(DEPTH_LIMIT)),
-            Some(place) => {
-                if depth > u16::from(self.depths[place]) {
-                    return Err(AllocError);
-                }
-                Ok(false)
-            }
+        let Some(place) = self.records.get_index_of(number) else {
+            return Ok(depth > u16::from(DEPTH_LIMIT));
+        };
+        if depth <= u16::from(self.depths[place]) {
+            return Ok(false);
         }
+        let correction = Correction {
+            sires: &self.sires,
+            dams: &self.dams,
+            place: place as u32,
+            sire,
+            dam,
+        };
+        if correction.has_no_calves() {
+            return Ok(depth > u16::from(DEPTH_LIMIT));
+        }
+        correction.is_too_deep(*self.records.allocator(), &self.depths)
     }
 
     /// Adds an animal that isn't in the book.
@@ -159,13 +131,16 @@ impl<A: Allocator> Pedigree<A> {
         let depth = depth_with(&self.depths, sire, dam) as u8;
         self.records.reserve(1)?;
         self.depths.reserve(1)?;
-        push_parents(&mut self.sires, &mut self.dams, sire, dam)?;
+        reserve(&mut self.sires, sire)?;
+        reserve(&mut self.dams, dam)?;
         if self.records.insert(number, animal).is_err() {
             unreachable!();
         }
         if self.depths.push(depth).is_err() {
             unreachable!();
         }
+        self.sires.push(sire);
+        self.dams.push(dam);
         self.undo = Undo::Birth;
         Ok(())
     }
@@ -181,7 +156,79 @@ impl<A: Allocator> Pedigree<A> {
         ensures set { OnOk result (self.new ≡ changed_to self.old (changed self.old.book number (with_parents sire dam))) }
         ensures err { OnErr result (self.new ≡ self.old) }
     {
-        Err(AllocError)
+        let sire = find(&self.records, sire);
+        let dam = find(&self.records, dam);
+        let Some(index) = self.records.get_index_of(&number) else {
+            unreachable!();
+        };
+        let place = index as u32;
+        self.sires.reserve_calf(sire.place)?;
+        self.dams.reserve_calf(dam.place)?;
+        let correction = Correction {
+            sires: &self.sires,
+            dams: &self.dams,
+            place,
+            sire: sire.place,
+            dam: dam.place,
+        };
+        let alloc = *self.records.allocator();
+        let log = correction.carry_or_undo(alloc, &mut self.depths)?;
+        let animal = self.records[index];
+        self.old_depths = log;
+        self.undo = Undo::Record {
+            place,
+            animal,
+            sire: self.sires.parent(place),
+            dam: self.dams.parent(place),
+        };
+        self.sires.set(place, sire.place);
+        self.dams.set(place, dam.place);
+        let record = &mut self.records[index];
+        record.sire = sire.number;
+        record.dam = dam.number;
+        Ok(())
+    }
+}
+
+impl<A: Allocator> Pedigree<A> {
+    /// The record of an animal.
+    pub fn get(&self, number: &AnimalNumber) -> Option<Animal>
+        ensures { result ≡ record_of self.now.book number.now }
+    {
+        self.records.get(number).copied()
+    }
+
+    /// How many animals are in the book.
+    pub fn len(&self) -> u32
+        ensures { result ≡ length self.now.book }
+    {
+        self.records.len() as u32
+    }
+
+    /// The number of parent steps on an animal's longest known line.
+    pub fn depth(&self, number: &AnimalNumber) -> Option<u8>
+        ensures absent { IfNone result (record_of self.now.book number.now ≡ None) }
+        ensures there { IfSome result (λ _. IsSome (record_of self.now.book number.now)) }
+        ensures depth { IfSome result (IsDepthOf self.now.book number.now) }
+    {
+        let place = self.records.get_index_of(number)?;
+        Some(self.depths[place])
+    }
+
+    /// Whether an animal is the dam of one born after the day. Calves from stored embryos don't count.
+    pub fn calved_after(&self, number: &AnimalNumber, day: Day) -> bool
+        ensures { result ≡ has_calved_after self.now.book number.now day }
+    {
+        let Some(place) = self.records.get_index_of(number) else {
+            return false;
+        };
+        for calf in self.dams.calves(place as u32) {
+            let calf = &self.records[*calf as usize];
+            if !calf.embryo && day < calf.birth {
+                return true;
+            }
+        }
+        false
     }
 
     /// Sets the herd that owns an animal, and the day from which it does. It takes no memory.
@@ -274,31 +321,14 @@ impl<A: Allocator> Pedigree<A> {
     }
 }
 
-// Adds the parents of one animal, or nothing.
-fn push_parents<A: Allocator>(
-    sires: &mut Progeny<A>,
-    dams: &mut Progeny<A>,
-    sire: Option<u32>,
-    dam: Option<u32>,
-) -> Result<(), AllocError>
-    ensures sires { OnOk result (sires.new.parents ≡ sires.old.parents ++ sire ∷ []) }
-    ensures dams { OnOk result (dams.new.parents ≡ dams.old.parents ++ dam ∷ []) }
-    ensures sires_err { OnErr result (sires.new.parents ≡ sires.old.parents) }
-    ensures dams_err { OnErr result (dams.new.parents ≡ dams.old.parents) }
+// Makes room for one more animal with this parent.
+fn reserve<A: Allocator>(progeny: &mut Progeny<A>, parent: Option<u32>) -> Result<(), AllocError>
+    requires within { (p : ℕ) → parent ≡ Some p → p < length progeny.old.parents }
+    ensures parents { progeny.new.parents ≡ progeny.old.parents }
+    ensures spare { (p : ℕ) → slice_index progeny.old.spare p ≤ slice_index progeny.new.spare p }
+    ensures room { OnOk result (0 < progeny.new.room) }
+    ensures reserved { OnOk result ((p : ℕ) → parent ≡ Some p → 0 < slice_index progeny.new.spare p) }
 {
-    sires.push(sire)?;
-    if dams.push(dam).is_err() {
-        sires.pop();
-        return Err(AllocError);
-    }
-    Ok(())
-}
-
-fn is_calf_after(dam: &AnimalNumber, day: Day, animal: &Animal) -> bool
-    ensures { result ≡ is_calf_after dam.now day animal.now }
-{
-    match animal.dam {
-        Some(number) => number == *dam && !animal.embryo && day < animal.birth,
-        None => false,
-    }
+    progeny.reserve_animal()?;
+    progeny.reserve_calf(parent)
 }

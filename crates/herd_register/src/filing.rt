@@ -16,7 +16,7 @@ use std::alloc::{AllocError, Allocator};
 impl Command {
     /// Answers the command, and sets the record of its animal where nothing refuses it.
     #[tactic(auto, using(crate::proofs::FaultFacts::allowed_of_no_fault))]
-    pub(crate) fn carry_out<A: Allocator>(
+    pub(crate) fn carry_out<A: Allocator + Copy>(
         &self,
         limits: Limits,
         pedigree: &mut Pedigree<A>,
@@ -35,7 +35,7 @@ impl Command {
     }
 
     /// The first refusal that holds, if one does.
-    pub(crate) fn refusal<A: Allocator>(
+    pub(crate) fn refusal<A: Allocator + Copy>(
         &self,
         limits: Limits,
         pedigree: &Pedigree<A>,
@@ -65,7 +65,10 @@ impl Command {
     }
 
     /// Sets the record of its animal.
-    pub(crate) fn apply<A: Allocator>(&self, pedigree: &mut Pedigree<A>) -> Result<(), AllocError>
+    pub(crate) fn apply<A: Allocator + Copy>(
+        &self,
+        pedigree: &mut Pedigree<A>,
+    ) -> Result<(), AllocError>
         requires { IsAllowed pedigree.old.book self.now }
         ensures ok { OnOk result (pedigree.new ≡ changed_to pedigree.old (set pedigree.old.book self.now)) }
         ensures err { OnErr result (pedigree.new ≡ pedigree.old) }
@@ -108,7 +111,7 @@ impl Command {
     }
 }
 
-fn birth_refusal<A: Allocator>(
+fn birth_refusal<A: Allocator + Copy>(
     limits: Limits,
     pedigree: &Pedigree<A>,
     animal: AnimalNumber,
@@ -128,7 +131,7 @@ fn birth_refusal<A: Allocator>(
     parent_refusal(pedigree, animal, day, sire, dam, embryo)
 }
 
-fn correction_refusal<A: Allocator>(
+fn correction_refusal<A: Allocator + Copy>(
     pedigree: &Pedigree<A>,
     animal: AnimalNumber,
     sire: Option<AnimalNumber>,
@@ -143,7 +146,7 @@ fn correction_refusal<A: Allocator>(
 }
 
 #[tactic(auto, using(crate::proofs::FaultFacts::first_of_parent_refusals))]
-fn parent_refusal<A: Allocator>(
+fn parent_refusal<A: Allocator + Copy>(
     pedigree: &Pedigree<A>,
     number: AnimalNumber,
     birth: Day,
@@ -157,7 +160,7 @@ fn parent_refusal<A: Allocator>(
     Ok(fault.map(Refusal::from))
 }
 
-fn transfer_refusal<A: Allocator>(
+fn transfer_refusal<A: Allocator + Copy>(
     pedigree: &Pedigree<A>,
     animal: AnimalNumber,
     day: Day,
@@ -182,7 +185,7 @@ fn transfer_refusal<A: Allocator>(
     }
 }
 
-fn exit_refusal<A: Allocator>(
+fn exit_refusal<A: Allocator + Copy>(
     pedigree: &Pedigree<A>,
     animal: AnimalNumber,
     day: Day,

@@ -47,6 +47,31 @@ impl<A: Allocator + Copy> Register<A> {
             can_withdraw: false,
         }
     }
+
+    /// Answers a command, and adds the answer to the journal.
+    pub fn file(&mut self, desk: u16, command: Command) -> Result<Reply, FileFault>
+        ensures reply { IfOk result (λ reply. reply ≡ answer self.old.limits (book_of self.old) command) }
+        ensures stored { IfOk result (λ reply. self.new ≡ with_step self.old (step_of desk command reply)) }
+        ensures book { OnOk result (book_of self.new ≡ next self.old.limits (book_of self.old) command) }
+        ensures refused { (refusal : Refusal) → result ≡ Ok (Reply.Refused refusal) → book_of self.new ≡ book_of self.old }
+
+        // The journal's end is asked first. A command that isn't answered changes nothing.
+        ensures full { (result ≡ Err FileFault.JournalFull) ↔ (length self.old.journal ≡ self.old.limits.steps) }
+        ensures fault { OnErr result (self.new ≡ self.old) }
+    {
+        if self.is_full() {
+            return Err(FileFault::JournalFull);
+        }
+        self.journal.reserve(1)?;
+        let reply = command.carry_out(self.limits, &mut self.pedigree)?;
+        self.journal.push_reserved(Step {
+            desk,
+            command,
+            reply,
+        });
+        self.can_withdraw = true;
+        Ok(reply)
+    }
 }
 
 impl<A: Allocator> Register<A> {
@@ -87,31 +112,6 @@ impl<A: Allocator> Register<A> {
         ensures { IsTrue result ↔ (length self.now.journal ≡ self.now.limits.steps) }
     {
         self.journal.len() >= self.limits.steps as usize
-    }
-
-    /// Answers a command, and adds the answer to the journal.
-    pub fn file(&mut self, desk: u16, command: Command) -> Result<Reply, FileFault>
-        ensures reply { IfOk result (λ reply. reply ≡ answer self.old.limits (book_of self.old) command) }
-        ensures stored { IfOk result (λ reply. self.new ≡ with_step self.old (step_of desk command reply)) }
-        ensures book { OnOk result (book_of self.new ≡ next self.old.limits (book_of self.old) command) }
-        ensures refused { (refusal : Refusal) → result ≡ Ok (Reply.Refused refusal) → book_of self.new ≡ book_of self.old }
-
-        // The journal's end is asked first. A command that isn't answered changes nothing.
-        ensures full { (result ≡ Err FileFault.JournalFull) ↔ (length self.old.journal ≡ self.old.limits.steps) }
-        ensures fault { OnErr result (self.new ≡ self.old) }
-    {
-        if self.is_full() {
-            return Err(FileFault::JournalFull);
-        }
-        self.journal.reserve(1)?;
-        let reply = command.carry_out(self.limits, &mut self.pedigree)?;
-        self.journal.push_reserved(Step {
-            desk,
-            command,
-            reply,
-        });
-        self.can_withdraw = true;
-        Ok(reply)
     }
 
     /// Whether the last step can be taken out again: so it is after `file` answered, until `withdraw`.

@@ -40,6 +40,21 @@ fn parents_are_older_and_of_their_sex(rt: HostRuntime) -> Result<(), Fail> {
 }
 
 #[test]
+fn parents_are_corrected(rt: HostRuntime) -> Result<(), Fail> {
+    expect_replies(
+        &rt,
+        Header::Plain,
+        &[
+            ("birth,M1,2000-01-01,0,0,,1", "a"),
+            ("birth,M3,2004-01-01,M1,0,,1", "a"),
+            ("birth,F2,2002-01-01,M1,0,,1", "a"),
+            ("parents,M3,,M1,F2,,", "a"),
+            ("parents,M3,,M1,0,,", "a"),
+        ],
+    )
+}
+
+#[test]
 fn a_dam_is_born_at_least_a_day_before_her_calf(rt: HostRuntime) -> Result<(), Fail> {
     expect_replies(
         &rt,
@@ -86,6 +101,25 @@ fn owners_give_what_they_own(rt: HostRuntime) -> Result<(), Fail> {
             ("exit,M1,2002-01-01,,,,", "a"),
             ("transfer,M1,2002-02-01,,,2,3", "12"),
             ("exit,M9,2002-01-01,,,,", "11"),
+        ],
+    )
+}
+
+#[test]
+fn a_calf_of_a_stored_embryo_may_be_born_after_its_dam_left(rt: HostRuntime) -> Result<(), Fail> {
+    expect_replies(
+        &rt,
+        Header::WithEmbryo,
+        &[
+            ("birth,F1,2000-01-01,0,0,,1,", "a"),
+            ("birth,M9,2000-01-01,0,0,,1,", "a"),
+            ("exit,F1,2003-03-01,,,,,", "a"),
+            ("birth,F2,2004-01-01,M9,F1,,1,1", "a"),
+            ("birth,F3,2004-01-01,M9,F1,,1,", "9"),
+            ("birth,F3,2004-01-01,M9,0,,1,", "a"),
+            ("parents,F3,,M9,F1,,,", "9"),
+            ("parents,F2,,M9,F1,,,", "a"),
+            ("birth,F4,1999-01-01,0,F1,,1,1", "8"),
         ],
     )
 }

@@ -85,6 +85,18 @@ pub fn expect<R: Abort + AllocGlobal>(rt: &R, ran: Ran, wanted: &[&str]) -> Resu
     Ok(())
 }
 
+/// The run ended well, and what it wrote ends with these lines.
+pub fn expect_last<R: Abort + AllocGlobal>(rt: &R, ran: Ran, wanted: &[&str]) -> Result<(), Fail> {
+    let (outcome, written) = ran;
+    assert_eq!(rt; outcome, Ok(()));
+    let wanted = lines(rt.alloc(), wanted)?;
+    assert!(rt;
+        written.as_slice().ends_with(wanted.as_bytes()),
+        "the last lines are others"
+    );
+    Ok(())
+}
+
 /// The run wrote these lines, and ended with the fault.
 pub fn expect_fault<R: Abort + AllocGlobal>(
     rt: &R,

@@ -13,7 +13,7 @@ pub loop-met-init : goal.loop-met-init
 loop-met-init g c =
     let rows = c.args.frozen.now in
     let start : IsSummed DEPTH_LIMIT rows c.args.place c.args.place (c.args.place + 1) 0 =
-    summed-start DEPTH_LIMIT MOST_ANIMALS rows c.in_ok-tracing.ensures.tracing.book c.args.place c.args.place c.requires.place c.requires.place in
+    summed-start DEPTH_LIMIT MOST_ANIMALS rows c.in_ok-tracing.ensures.tracing.tracing.book c.args.place c.args.place c.requires.place c.requires.place in
     record {
       same = c.in_ok-tracing.ensures.place;
       tracing = rw (c.in_ok-tracing.ensures.place, c.in_ok-tracing.ensures.border) c.in_ok-tracing.ensures.tracing;
@@ -24,25 +24,25 @@ pub overflow_mul-steps : goal.overflow_mul-steps
 overflow_mul-steps g c =
     let rows = c.args.frozen.now in
     let x : ℕ = c.loop-met.tracing.place in
-    let lx = c.loop-met.invariant.tracing.place in
+    let lx = c.loop-met.invariant.tracing.tracing.place in
     let same : x ≡ c.args.place = c.loop-met.invariant.same in
     let own_row : slice_get rows x ≡ Some c.row.result.now = rw same c.row.ensures in
     let next : IsNext DEPTH_LIMIT rows x c.loop-met.tracing.border c.in-Some.met.place c.in-Some.met.share = c.in-Some.ensures.next in
     let dx = depth_at-row rows x c.row.result.now own_row in
-    let limit = depth-at_most DEPTH_LIMIT MOST_ANIMALS rows c.loop-met.invariant.tracing.book x lx in
+    let limit = depth-at_most DEPTH_LIMIT MOST_ANIMALS rows c.loop-met.invariant.tracing.tracing.book x lx in
     omega (arith, dx, limit)
 
 pub overflow_mul-steps-in-Some : goal.overflow_mul-steps-in-Some
 overflow_mul-steps-in-Some g c =
     let rows = c.args.frozen.now in
     let x : ℕ = c.loop-met.tracing.place in
-    let lx = c.loop-met.invariant.tracing.place in
+    let lx = c.loop-met.invariant.tracing.tracing.place in
     let same : x ≡ c.args.place = c.loop-met.invariant.same in
     let own_row : slice_get rows x ≡ Some c.row.result.now = rw same c.row.ensures in
     let next : IsNext DEPTH_LIMIT rows x c.loop-met.tracing.border c.in-Some.met.place c.in-Some.met.share = c.in-Some.ensures.next in
     let dx = depth_at-row rows x c.row.result.now own_row in
     let dy = depth_at-row rows c.in-Some.met.place c.row-in-Some.result.now c.row-in-Some.ensures in
-    let limit = depth-at_most DEPTH_LIMIT MOST_ANIMALS rows c.loop-met.invariant.tracing.book x lx in
+    let limit = depth-at_most DEPTH_LIMIT MOST_ANIMALS rows c.loop-met.invariant.tracing.tracing.book x lx in
     let less = next.share_is.less_deep in
     omega (arith, dx, dy, less, limit)
 
@@ -50,7 +50,7 @@ pub overflow_sub-steps : goal.overflow_sub-steps
 overflow_sub-steps g c =
     let rows = c.args.frozen.now in
     let x : ℕ = c.loop-met.tracing.place in
-    let lx = c.loop-met.invariant.tracing.place in
+    let lx = c.loop-met.invariant.tracing.tracing.place in
     let same : x ≡ c.args.place = c.loop-met.invariant.same in
     let own_row : slice_get rows x ≡ Some c.row.result.now = rw same c.row.ensures in
     let next : IsNext DEPTH_LIMIT rows x c.loop-met.tracing.border c.in-Some.met.place c.in-Some.met.share = c.in-Some.ensures.next in
@@ -63,27 +63,27 @@ pub mendelian-requires-clause-known : goal.mendelian-requires-clause-known
 mendelian-requires-clause-known g c =
     let rows = c.args.frozen.now in
     let x : ℕ = c.loop-met.tracing.place in
-    let lx = c.loop-met.invariant.tracing.place in
+    let lx = c.loop-met.invariant.tracing.tracing.place in
     let same : x ≡ c.args.place = c.loop-met.invariant.same in
     let own_row : slice_get rows x ≡ Some c.row.result.now = rw same c.row.ensures in
     let next : IsNext DEPTH_LIMIT rows x c.loop-met.tracing.border c.in-Some.met.place c.in-Some.met.share = c.in-Some.ensures.next in
     let known : KnowsAncestors DEPTH_LIMIT rows c.args.known.now x = rw same c.requires.known in
-    known-next DEPTH_LIMIT MOST_ANIMALS rows c.loop-met.invariant.tracing.book c.args.known.now x c.loop-met.tracing.border c.in-Some.met.place
+    known-next DEPTH_LIMIT MOST_ANIMALS rows c.loop-met.invariant.tracing.tracing.book c.args.known.now x c.loop-met.tracing.border c.in-Some.met.place
     c.in-Some.met.share lx known next
 
 pub term-sum-requires-clause-shift : goal.term-sum-requires-clause-shift
 term-sum-requires-clause-shift g c =
     let rows = c.args.frozen.now in
     let x : ℕ = c.loop-met.tracing.place in
-    let lx = c.loop-met.invariant.tracing.place in
+    let lx = c.loop-met.invariant.tracing.tracing.place in
     let same : x ≡ c.args.place = c.loop-met.invariant.same in
     let own_row : slice_get rows x ≡ Some c.row.result.now = rw same c.row.ensures in
     let next : IsNext DEPTH_LIMIT rows x c.loop-met.tracing.border c.in-Some.met.place c.in-Some.met.share = c.in-Some.ensures.next in
-    let high : c.loop-met.tracing.border ≤ x + 1 = c.loop-met.invariant.tracing.border_in in
+    let high : c.loop-met.tracing.border ≤ x + 1 = c.loop-met.invariant.tracing.tracing.border_in in
     let low : c.in-Some.met.place < c.loop-met.tracing.border = next.below in
     let part : c.mendelian.result ≡ mendelian (ancestry_of rows) DEPTH_LIMIT (number_at rows c.in-Some.met.place) = c.mendelian.ensures in
     let own : IsShareOf rows x c.in-Some.met.place c.in-Some.met.share = next.share_is in
-    let sum = added DEPTH_LIMIT MOST_ANIMALS rows c.loop-met.invariant.tracing.book x x lx lx c.loop-met.tracing.border c.in-Some.met.place c.in-Some.met.share
+    let sum = added DEPTH_LIMIT MOST_ANIMALS rows c.loop-met.invariant.tracing.tracing.book x x lx lx c.loop-met.tracing.border c.in-Some.met.place c.in-Some.met.share
     c.in-Some.met.share c.loop-met.sum c.row.result.now c.row.result.now c.row-in-Some.result.now c.mendelian.result (lit< tt) low (omega arith)
     (λ i a b. let z = next.between i a b in rw z (omega arith)) own own c.loop-met.invariant.summed own_row own_row c.row-in-Some.ensures part in
     let steps : 2 * c.row.result.now.depth - 2 * c.row-in-Some.result.now.depth ≡ c.row.result.now.depth + c.row.result.now.depth - 2 * c.row-in-Some.result.now.depth =
@@ -94,15 +94,15 @@ pub term-sum-requires-clause-fits : goal.term-sum-requires-clause-fits
 term-sum-requires-clause-fits g c =
     let rows = c.args.frozen.now in
     let x : ℕ = c.loop-met.tracing.place in
-    let lx = c.loop-met.invariant.tracing.place in
+    let lx = c.loop-met.invariant.tracing.tracing.place in
     let same : x ≡ c.args.place = c.loop-met.invariant.same in
     let own_row : slice_get rows x ≡ Some c.row.result.now = rw same c.row.ensures in
     let next : IsNext DEPTH_LIMIT rows x c.loop-met.tracing.border c.in-Some.met.place c.in-Some.met.share = c.in-Some.ensures.next in
-    let high : c.loop-met.tracing.border ≤ x + 1 = c.loop-met.invariant.tracing.border_in in
+    let high : c.loop-met.tracing.border ≤ x + 1 = c.loop-met.invariant.tracing.tracing.border_in in
     let low : c.in-Some.met.place < c.loop-met.tracing.border = next.below in
     let part : c.mendelian.result ≡ mendelian (ancestry_of rows) DEPTH_LIMIT (number_at rows c.in-Some.met.place) = c.mendelian.ensures in
     let own : IsShareOf rows x c.in-Some.met.place c.in-Some.met.share = next.share_is in
-    let sum = added DEPTH_LIMIT MOST_ANIMALS rows c.loop-met.invariant.tracing.book x x lx lx c.loop-met.tracing.border c.in-Some.met.place c.in-Some.met.share
+    let sum = added DEPTH_LIMIT MOST_ANIMALS rows c.loop-met.invariant.tracing.tracing.book x x lx lx c.loop-met.tracing.border c.in-Some.met.place c.in-Some.met.share
     c.in-Some.met.share c.loop-met.sum c.row.result.now c.row.result.now c.row-in-Some.result.now c.mendelian.result (lit< tt) low (omega arith)
     (λ i a b. let z = next.between i a b in rw z (omega arith)) own own c.loop-met.invariant.summed own_row own_row c.row-in-Some.ensures part in
     let steps : 2 * c.row.result.now.depth - 2 * c.row-in-Some.result.now.depth ≡ c.row.result.now.depth + c.row.result.now.depth - 2 * c.row-in-Some.result.now.depth =
@@ -113,15 +113,15 @@ pub overflow_add-sum : goal.overflow_add-sum
 overflow_add-sum g c =
     let rows = c.args.frozen.now in
     let x : ℕ = c.loop-met.tracing.place in
-    let lx = c.loop-met.invariant.tracing.place in
+    let lx = c.loop-met.invariant.tracing.tracing.place in
     let same : x ≡ c.args.place = c.loop-met.invariant.same in
     let own_row : slice_get rows x ≡ Some c.row.result.now = rw same c.row.ensures in
     let next : IsNext DEPTH_LIMIT rows x c.loop-met.tracing.border c.in-Some.met.place c.in-Some.met.share = c.in-Some.ensures.next in
-    let high : c.loop-met.tracing.border ≤ x + 1 = c.loop-met.invariant.tracing.border_in in
+    let high : c.loop-met.tracing.border ≤ x + 1 = c.loop-met.invariant.tracing.tracing.border_in in
     let low : c.in-Some.met.place < c.loop-met.tracing.border = next.below in
     let part : c.mendelian.result ≡ mendelian (ancestry_of rows) DEPTH_LIMIT (number_at rows c.in-Some.met.place) = c.mendelian.ensures in
     let own : IsShareOf rows x c.in-Some.met.place c.in-Some.met.share = next.share_is in
-    let sum = added DEPTH_LIMIT MOST_ANIMALS rows c.loop-met.invariant.tracing.book x x lx lx c.loop-met.tracing.border c.in-Some.met.place c.in-Some.met.share
+    let sum = added DEPTH_LIMIT MOST_ANIMALS rows c.loop-met.invariant.tracing.tracing.book x x lx lx c.loop-met.tracing.border c.in-Some.met.place c.in-Some.met.share
     c.in-Some.met.share c.loop-met.sum c.row.result.now c.row.result.now c.row-in-Some.result.now c.mendelian.result (lit< tt) low (omega arith)
     (λ i a b. let z = next.between i a b in rw z (omega arith)) own own c.loop-met.invariant.summed own_row own_row c.row-in-Some.ensures part in
     let steps : 2 * c.row.result.now.depth - 2 * c.row-in-Some.result.now.depth ≡ c.row.result.now.depth + c.row.result.now.depth - 2 * c.row-in-Some.result.now.depth =
@@ -132,15 +132,15 @@ pub loop-met-preserved : goal.loop-met-preserved
 loop-met-preserved g c =
     let rows = c.args.frozen.now in
     let x : ℕ = c.loop-met.tracing.place in
-    let lx = c.loop-met.invariant.tracing.place in
+    let lx = c.loop-met.invariant.tracing.tracing.place in
     let same : x ≡ c.args.place = c.loop-met.invariant.same in
     let own_row : slice_get rows x ≡ Some c.row.result.now = rw same c.row.ensures in
     let next : IsNext DEPTH_LIMIT rows x c.loop-met.tracing.border c.in-Some.met.place c.in-Some.met.share = c.in-Some.ensures.next in
-    let high : c.loop-met.tracing.border ≤ x + 1 = c.loop-met.invariant.tracing.border_in in
+    let high : c.loop-met.tracing.border ≤ x + 1 = c.loop-met.invariant.tracing.tracing.border_in in
     let low : c.in-Some.met.place < c.loop-met.tracing.border = next.below in
     let part : c.mendelian.result ≡ mendelian (ancestry_of rows) DEPTH_LIMIT (number_at rows c.in-Some.met.place) = c.mendelian.ensures in
     let own : IsShareOf rows x c.in-Some.met.place c.in-Some.met.share = next.share_is in
-    let sum = added DEPTH_LIMIT MOST_ANIMALS rows c.loop-met.invariant.tracing.book x x lx lx c.loop-met.tracing.border c.in-Some.met.place c.in-Some.met.share
+    let sum = added DEPTH_LIMIT MOST_ANIMALS rows c.loop-met.invariant.tracing.tracing.book x x lx lx c.loop-met.tracing.border c.in-Some.met.place c.in-Some.met.share
     c.in-Some.met.share c.loop-met.sum c.row.result.now c.row.result.now c.row-in-Some.result.now c.mendelian.result (lit< tt) low (omega arith)
     (λ i a b. let z = next.between i a b in rw z (omega arith)) own own c.loop-met.invariant.summed own_row own_row c.row-in-Some.ensures part in
     let steps : 2 * c.row.result.now.depth - 2 * c.row-in-Some.result.now.depth ≡ c.row.result.now.depth + c.row.result.now.depth - 2 * c.row-in-Some.result.now.depth =
@@ -158,5 +158,5 @@ returns g c =
     let rows = c.args.frozen.now in
     let x : ℕ = c.loop-met.tracing.place in
     rw (← c.loop-met.invariant.same)
-    (summed-end DEPTH_LIMIT MOST_ANIMALS rows c.loop-met.invariant.tracing.book x x c.loop-met.invariant.tracing.place c.loop-met.invariant.tracing.place
+    (summed-end DEPTH_LIMIT MOST_ANIMALS rows c.loop-met.invariant.tracing.tracing.book x x c.loop-met.invariant.tracing.tracing.place c.loop-met.invariant.tracing.tracing.place
     c.loop-met.tracing.border c.loop-met.sum c.in_default.ensures.all c.loop-met.invariant.summed)

@@ -1,6 +1,6 @@
 use Rattle.std.proofs.Common.{◌≡◌}
 use Rattle.herd_pedigree.specs.declared.TheConstants.{DEPTH_LIMIT}
-use Rattle.herd_kinship.specs.Tracing.{IsTracing}
+use Rattle.herd_kinship.specs.Tracing.{IsUnderWay}
 use Rattle.herd_kinship.proofs.TermSums.{IsSummed}
 use Rattle.herd_kinship.proofs.tracing.trace_ancestors.Given as goal
 
@@ -8,7 +8,7 @@ use Rattle.herd_kinship.proofs.tracing.trace_ancestors.Given as goal
 abbrev pub invariant-loop-met : goal.invariant-loop-met
 invariant-loop-met g l = record {
   same : l.tracing.place ≡ l.fn.place;
-  tracing : IsTracing DEPTH_LIMIT l.frozen l.tracing.place l.tracing.border l.tracing.shares.items;
+  tracing : IsUnderWay DEPTH_LIMIT l.frozen l.tracing.place l.tracing.border l.tracing.shares.items l.tracing.pending.words.items;
   summed : IsSummed DEPTH_LIMIT l.frozen l.tracing.place l.tracing.place l.tracing.border l.sum;
 }
 

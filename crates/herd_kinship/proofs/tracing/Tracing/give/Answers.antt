@@ -27,8 +27,8 @@ overflow_shl-met g c =
     (lit< tt) (lit< tt) (c.requires.room c.in-Some.place c.in-Some.is) c.requires.row c.row.ensures in
     gift.steps
 
-pub overflow_sub-self : goal.overflow_sub-self
-overflow_sub-self g c =
+pub overflow_sub-distance : goal.overflow_sub-distance
+overflow_sub-distance g c =
     let gift = gift-is DEPTH_LIMIT c.args.frozen.now c.args.self.now.place c.args.self.now.shares.items c.args.met.place c.args.met.share c.in-Some.place c.args.row.now c.row.result.now
     (lit< tt) (lit< tt) (c.requires.room c.in-Some.place c.in-Some.is) c.requires.row c.row.ensures in
     gift.distance
