@@ -18,7 +18,6 @@ use crate::animal::Animal;
 use crate::frozen::{Frozen, Row};
 use crate::links::Link;
 use herd_animal::AnimalNumber;
-use indexmap::IndexMap;
 use std::alloc::{AllocError, Allocator};
 use std::collections::HashMap;
 use std::hash::{BuildHasherDefault, FoldHasher};
@@ -36,33 +35,6 @@ pub fn freeze_list<A: Allocator + Clone>(
     let places = places_by_number(alloc.clone()?, records)?;
     let links = links_of(alloc.clone()?, records, &places)?;
     frozen_from(alloc, records, &links)
-}
-
-/// The book of a pedigree's records, in age order. The links are the places of their parents.
-pub(crate) fn freeze_map<A: Allocator, B: Allocator + Clone>(
-    alloc: B,
-    records: &IndexMap<AnimalNumber, Animal, BuildHasherDefault<FoldHasher>, A>,
-    links: &[Link],
-) -> Result<Frozen<B>, AllocError>
-    requires lawful { IsLawful DEPTH_LIMIT MOST_ANIMALS records.now.entries }
-    requires links { AreLinks records.now.entries links.now }
-    ensures { IfOk result (IsFrozenFrom DEPTH_LIMIT MOST_ANIMALS records.now.entries) }
-{
-    let entries = entries_of(alloc.clone()?, records)?;
-    frozen_from(alloc, &entries, links)
-}
-
-// The entries of a map, side by side.
-fn entries_of<A: Allocator, B: Allocator>(
-    alloc: B,
-    records: &IndexMap<AnimalNumber, Animal, BuildHasherDefault<FoldHasher>, A>,
-) -> Result<Vec<(AnimalNumber, Animal), B>, AllocError>
-    ensures { IfOk result (λ entries. entries.items ≡ records.now.entries) }
-{
-    records
-        .iter()
-        .map(|(number, animal)| (*number, *animal))
-        .collect(alloc)
 }
 
 /// The book of records in order of registration, frozen. The links are the places of their parents.
