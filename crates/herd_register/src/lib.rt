@@ -18,3 +18,6 @@ pub use limits::{Limits, MOST_STEPS};
 pub use register::Register;
 pub use reply::{Refusal, Reply};
 pub use step::Step;
+
+#[cfg(test)]
+mod tests;
