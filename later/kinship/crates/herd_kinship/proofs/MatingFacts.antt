@@ -1,0 +1,146 @@
+-- The relationship of two animals by the shares of the first and a tracing of the second, and the faults of a mating.
+use Rattle.std.proofs.Common.{ℕ, suc, ◌+◌, ◌*◌, ◌-◌, ◌/◌, ◌^◌, ◌<◌, ◌≤◌, ◌≡◌, ◌||◌, ⊎_elim, List, [], length, slice_get, get_or, Some, None, true, false, arith, refl, sym, ap, subst, ◌∙◌}
+use Rattle.std.proofs.lemmas.Bool.{cases_lt, false_from_ne_true, le-leb, lt-leb}
+use Rattle.std.proofs.lemmas.Option.{get_or_from_slice_get, slice_get_within}
+use Rattle.herd_animal.specs.Sex.{is_male}
+use Rattle.herd_pedigree.specs.declared.TheConstants.{MOST_ANIMALS}
+use Rattle.herd_pedigree.specs.declared.frozen.Row.{Row}
+use Rattle.herd_pedigree.specs.Book.{Book, is_there, parentage_of, record_of, IsDepthOf}
+use Rattle.herd_pedigree.specs.Frozen.{IsFrozen, book_of, depth_at, numbers_of}
+use Rattle.herd_pedigree.specs.Lines.{has_line}
+use Rattle.herd_kinship.specs.FrozenAncestry.{ancestry_of, number_at}
+use Rattle.herd_kinship.specs.Mating.{ArePair, is_deepest, mating_fault}
+use Rattle.herd_kinship.specs.declared.mating_advice.MatingFault.TheVariants.{SireMissing, DamMissing, SireNotMale, DamNotFemale, TooDeep}
+use Rattle.herd_kinship.specs.Places.{sire_place, dam_place, placed}
+use Rattle.herd_kinship.specs.Shares.{share}
+use Rattle.herd_kinship.specs.Table.{entry}
+use Rattle.herd_kinship.specs.Tracing.{AreShares, IsNext, IsShareOf, share_at}
+use Rattle.herd_kinship.proofs.Brought.{later_none}
+use Rattle.herd_kinship.proofs.FrozenFacts.{frozen-placed, length-numbers_of, number_at-row, placed-lawful, record_at-row, row_at, placed-shallow}
+use Rattle.herd_kinship.proofs.FrozenDepths.{depth_at-row, depth-at_most, placed-below_depth}
+use Rattle.herd_kinship.proofs.Depth.{unit}
+use Rattle.herd_kinship.proofs.KnownFacts.{entry-place}
+use Rattle.herd_kinship.proofs.TermSums.{term_of}
+use Rattle.herd_kinship.proofs.TracingFacts.{kept-share_of}
+
+share_at-older : (shares : List ℕ) (x j : ℕ) → j ≤ x → share_at shares x j ≡ get_or shares (x - j) 0
+share_at-older shares x j le = rw (le-leb j x le) refl
+
+share_at-later : (shares : List ℕ) (x j : ℕ) → x < j → share_at shares x j ≡ 0
+share_at-later shares x j lt = rw (lt-leb j x lt) refl
+
+module _ (l : ℕ) (rows : List Row) (f : IsFrozen l MOST_ANIMALS rows) (x : ℕ) (lx : x < length rows) (shares : List ℕ) (are : AreShares l rows x shares) where
+  -- a share that isn't 0 is x's in its own unit
+  pub share_at-some : (j own : ℕ) → j < length rows → own ≡ share_at shares x j → 0 < own → IsShareOf rows x j own
+  share_at-some j own lj is pos =
+      ⊎_elim
+      (λ (later : x < j). let none = share_at-later shares x j later in absurd (omega (arith, none, is)))
+      (λ (older : j ≤ x).
+      let at : own ≡ get_or shares (x - j) 0 = is ∙ share_at-older shares x j older in
+      kept-share_of l rows f x j own lx lj (ap (λ v. v * 2 ^ (l - depth_at rows x + depth_at rows j)) at ∙ are.right j older) pos)
+      (cases_lt x j)
+
+  -- where it is 0, x has nothing of the animal
+  pub share_at-none : (j own : ℕ) → j < length rows → own ≡ share_at shares x j → own ≡ 0 → share (placed rows) l (Some x) j ≡ 0
+  share_at-none j own lj is none =
+      ⊎_elim
+      (λ (later : x < j).
+      later_none (length rows) (sire_place rows) (dam_place rows) (frozen-placed l MOST_ANIMALS rows f) l (placed-shallow l MOST_ANIMALS rows f) x j later lj)
+      (λ (older : j ≤ x).
+      let at : get_or shares (x - j) 0 ≡ 0 = sym (share_at-older shares x j older) ∙ (sym is ∙ none) in
+      sym (are.right j older) ∙ (ap (λ v. v * 2 ^ (l - depth_at rows x + depth_at rows j)) at ∙ omega arith))
+      (cases_lt x j)
+
+  -- nothing is added between
+  pub terms-between : (y b j own : ℕ) → IsNext l rows y b j own → (i : ℕ) → j < i → i < b → term_of l rows x y i ≡ 0
+  terms-between y b j own next i ji ib = let z = next.between i ji ib in rw z (omega arith)
+
+  -- nor for an ancestor of y of which x has nothing
+  pub terms-skipped : (y b j own other : ℕ) → j < length rows → IsNext l rows y b j own → other ≡ share_at shares x j → other ≡ 0 →
+      (i : ℕ) → j ≤ i → i < b → term_of l rows x y i ≡ 0
+  terms-skipped y b j own other lj next is none i ji ib =
+      ⊎_elim
+      (λ (above : j < i). terms-between y b j own next i above ib)
+      (λ (at : i ≤ j).
+      let same : j ≡ i = omega arith in
+      let z : share (placed rows) l (Some x) i ≡ 0 = subst (λ v. share (placed rows) l (Some x) v ≡ 0) same (share_at-none j other lj is none) in
+      rw z (omega arith))
+      (cases_lt j i)
+
+-- the first fault, by the tests
+module _ (l : ℕ) (book : Book) (s d : List ℕ) where
+  pub sire-missing : is_there book s ≡ false → mating_fault l book s d ≡ Some SireMissing
+  unfolding mating_fault
+  sire-missing a = rw a refl
+
+  pub dam-missing : is_there book s ≡ true → is_there book d ≡ false → mating_fault l book s d ≡ Some DamMissing
+  unfolding mating_fault
+  dam-missing a b = rw (a, b) refl
+
+  pub sire-not_male : is_there book s ≡ true → is_there book d ≡ true → is_male s ≡ false → mating_fault l book s d ≡ Some SireNotMale
+  unfolding mating_fault
+  sire-not_male a b e = rw (a, b, e) refl
+
+  pub dam-not_female : is_there book s ≡ true → is_there book d ≡ true → is_male s ≡ true → is_male d ≡ true → mating_fault l book s d ≡ Some DamNotFemale
+  unfolding mating_fault
+  dam-not_female a b e f = rw (a, b, e, f) refl
+
+  pub too-deep : is_there book s ≡ true → is_there book d ≡ true → is_male s ≡ true → is_male d ≡ false → (is_deepest l book s || is_deepest l book d) ≡ true →
+      mating_fault l book s d ≡ Some TooDeep
+  unfolding mating_fault
+  too-deep a b e f g = rw (a, b, e, f, g) refl
+
+  pub no-fault : is_there book s ≡ true → is_there book d ≡ true → is_male s ≡ true → is_male d ≡ false → (is_deepest l book s || is_deepest l book d) ≡ false →
+      mating_fault l book s d ≡ None
+  unfolding mating_fault
+  no-fault a b e f g = rw (a, b, e, f, g) refl
+
+module _ (l : ℕ) (rows : List Row) (f : IsFrozen l MOST_ANIMALS rows) (n : List ℕ) (i : ℕ) (at : slice_get (numbers_of rows) i ≡ Some n) where
+  -- what is found at a place is in the book
+  pub place-within : i < length rows
+  place-within = let a = slice_get_within (numbers_of rows) i n at in let b = length-numbers_of rows in omega arith
+
+  pub place-number : number_at rows i ≡ n
+  place-number = get_or_from_slice_get (numbers_of rows) i n [] at
+
+  pub place-there : is_there (book_of rows) n ≡ true
+  place-there =
+      let r = row_at rows i place-within in
+      let same : r.0.number ≡ n = sym (number_at-row rows i r.0 r.1) ∙ place-number in
+      let found : record_of (book_of rows) n ≡ Some r.0.animal = subst (λ v. record_of (book_of rows) v ≡ Some r.0.animal) same (record_at-row l MOST_ANIMALS rows f i r.0 r.1) in
+      rw found refl
+
+  depth-of : IsDepthOf (book_of rows) n (depth_at rows i)
+  depth-of =
+      let r = row_at rows i place-within in
+      let same : r.0.number ≡ n = sym (number_at-row rows i r.0 r.1) ∙ place-number in
+      rw (depth_at-row rows i r.0 r.1) (subst (λ v. IsDepthOf (book_of rows) v r.0.depth) same (f.each i r.0 r.1).depth)
+
+  -- an animal of the greatest depth has a line of that length
+  pub deepest-true : l ≤ depth_at rows i → is_deepest l (book_of rows) n ≡ true
+  deepest-true high =
+      let limit = depth-at_most l MOST_ANIMALS rows f i place-within in
+      let same : depth_at rows i ≡ l = omega arith in
+      subst (λ v. has_line (parentage_of (book_of rows)) v n ≡ true) same depth-of.reached
+
+  pub deepest-false : depth_at rows i < l → is_deepest l (book_of rows) n ≡ false
+  deepest-false low =
+      false_from_ne_true (is_deepest l (book_of rows) n) (λ t. let longest : l ≤ depth_at rows i = depth-of.longest l t in omega arith)
+
+-- the coefficient of a calf is half its parents' relationship, exactly
+pub mating-half : (l : ℕ) (rows : List Row) (s d : List ℕ) (i j v : ℕ) → 0 < l → ArePair l rows s d i j →
+    v ≡ entry (ancestry_of rows) (2 * l) (Some (number_at rows i)) (Some (number_at rows j)) → v / 2 ≡ entry (ancestry_of rows) (2 * l - 1) (Some s) (Some d)
+mating-half l rows s d i j v pos pair is =
+    let li = pair.sire_in in
+    let lj = pair.dam_in in
+    let f = pair.book in
+    let low = pair.sire_less_deep in
+    let low' = pair.dam_less_deep in
+    let k : ℕ = 2 * l - 1 in
+    let next : 2 * l ≡ suc k = omega arith in
+    let step = unit (placed rows) (placed-lawful l MOST_ANIMALS rows f) k (Some i) (Some j) (suc (depth_at rows i)) (suc (depth_at rows j))
+    (placed-below_depth l MOST_ANIMALS rows f i li) (placed-below_depth l MOST_ANIMALS rows f j lj) (omega arith) in
+    let whole : v ≡ 2 * entry (placed rows) k (Some i) (Some j) =
+    is ∙ (sym (entry-place l MOST_ANIMALS rows f (2 * l) i j li lj) ∙ (ap (λ n. entry (placed rows) n (Some i) (Some j)) next ∙ step)) in
+    let half : v / 2 ≡ entry (placed rows) k (Some i) (Some j) = omega (arith, whole) in
+    half ∙ (entry-place l MOST_ANIMALS rows f k i j li lj ∙ rw (pair.sire_is, pair.dam_is) refl)

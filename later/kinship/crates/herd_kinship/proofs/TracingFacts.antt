@@ -1,0 +1,417 @@
+-- A tracing over a frozen book: its start, its steps, and what is met.
+use Rattle.std.proofs.Common.{ℕ, zero, suc, ◌+◌, ◌*◌, ◌-◌, ◌/◌, ◌%◌, ◌^◌, ◌<◌, ◌≤◌, ◌≡◌, inl, inr, ⊎_elim, List, length, slice_get, get_or, set, Some, None, Option, replicate, arith, refl, sym, ap, subst, ◌∙◌}
+use Rattle.std.proofs.Math.Nat.{mod-eq_of_lt, mul-le-mul_left}
+use Rattle.std.proofs.Math.Pow.{pow_pos}
+use Rattle.std.proofs.lemmas.Bool.{cases_eq}
+use Rattle.std.proofs.lemmas.List.{get_or-set_same, get_or-set_other, get_or-replicate, length-set, length-replicate}
+use Rattle.herd_pedigree.specs.declared.frozen.Row.{Row}
+use Rattle.herd_pedigree.specs.declared.TheConstants.{MOST_ANIMALS}
+use Rattle.herd_pedigree.specs.Frozen.{IsFrozen, depth_at}
+use Rattle.herd_kinship.specs.Ancestry.{LineTo}
+use Rattle.herd_kinship.specs.Shares.{share}
+use Rattle.herd_kinship.specs.Places.{sire_place, dam_place, placed}
+use Rattle.herd_kinship.specs.Tracing.{brought, given, kept_share, HasRoom, IsTracing, IsNext, IsShareOf}
+use Rattle.herd_kinship.proofs.Ancestors.{share-reached, line-joined}
+use Rattle.herd_kinship.proofs.Brought.{brought-more, brought-none, brought-add, share-within, of_known, cancel, own-share, lowered, passed_on}
+use Rattle.herd_kinship.proofs.FrozenDepths.{depth_at-row, placed-depth, placed-below_depth, depth-at_most, parent-less_deep}
+use Rattle.herd_kinship.proofs.FrozenFacts.{frozen-placed, placed-lawful, placed-shallow}
+use Rattle.herd_kinship.proofs.OwnUnits.{half-own, share-own}
+use Rattle.herd_kinship.proofs.Places.{place-in}
+
+pub length-given : (rows : List Row) (x : ℕ) (shares : List ℕ) (y own : ℕ) (o : Option ℕ) → length (given rows x shares y own o) ≡ length shares
+length-given rows x shares y own None = refl
+length-given rows x shares y own (Some p) = length-set shares (x - p) _
+
+-- what the rows of y and of its parent p say of the share that p gets
+pub record IsGift (l : ℕ) (rows : List Row) (x : ℕ) (shares : List ℕ) (y own p : ℕ) (row parent : Row) : Type 0 where
+  pub within : p < length rows
+  pub distance : p ≤ x
+  pub less_deep : parent.depth < row.depth
+  pub steps : row.depth - parent.depth - 1 < 64
+  pub exact : own * 2 ^ (row.depth - parent.depth - 1) % 2 ^ 64 ≡ own * 2 ^ (depth_at rows y - depth_at rows p - 1)
+  pub fits : get_or shares (x - p) 0 + own * 2 ^ (row.depth - parent.depth - 1) % 2 ^ 64 < 2 ^ 64
+
+pub gift-is : (l : ℕ) (rows : List Row) (x : ℕ) (shares : List ℕ) (y own p : ℕ) (row parent : Row) → l < 64 → 2 ^ l < 2 ^ 64 → HasRoom l rows x shares y own p →
+    slice_get rows y ≡ Some row → slice_get rows p ≡ Some parent → IsGift l rows x shares y own p row parent
+gift-is l rows x shares y own p row parent small power h ey ep =
+    let dy : depth_at rows y ≡ row.depth = depth_at-row rows y row ey in
+    let dp : depth_at rows p ≡ parent.depth = depth_at-row rows p parent ep in
+    let lower : p < y = h.lower in
+    let met : y ≤ x = h.met in
+    let place : x < length rows = h.place in
+    let less : depth_at rows p < depth_at rows y = h.less_deep in
+    let shallow : depth_at rows y ≤ l = h.shallow in
+    let room = h.room in
+    let steps : row.depth - parent.depth - 1 ≡ depth_at rows y - depth_at rows p - 1 = rw (dy, dp) refl in
+    let more : ℕ = own * 2 ^ (depth_at rows y - depth_at rows p - 1) in
+    let fits : more < 2 ^ 64 = omega arith in
+    let exact : own * 2 ^ (row.depth - parent.depth - 1) % 2 ^ 64 ≡ more = rw steps (mod-eq_of_lt fits) in
+    record {
+      within = omega arith;
+      distance = omega arith;
+      less_deep = omega arith;
+      steps = omega arith;
+      exact = exact;
+      fits = omega (arith, exact);
+    }
+
+-- a known parent of y: below it, and less deep
+abbrev pub IsLower : List Row → ℕ → Option ℕ → Type 0
+IsLower rows y o = (p : ℕ) → o ≡ Some p → (p < y) × (depth_at rows p < depth_at rows y)
+
+module _ (l : ℕ) (rows : List Row) (x : ℕ) (limit : depth_at rows x ≤ l) where
+  -- what is kept for the parent grows by half of y's share
+  given-parent : (shares : List ℕ) (y own p : ℕ) → p < y → y ≤ x → length shares ≡ x + 1 → depth_at rows p < depth_at rows y →
+      kept_share l rows x (given rows x shares y own (Some p)) p
+      ≡ kept_share l rows x shares p + own * 2 ^ (l - depth_at rows x + depth_at rows y) / 2
+  given-parent shares y own p lp ly long less =
+      let unit : ℕ = 2 ^ (l - depth_at rows x + depth_at rows p) in
+      let more : ℕ = own * 2 ^ (depth_at rows y - depth_at rows p - 1) in
+      let here : get_or (given rows x shares y own (Some p)) (x - p) 0 ≡ get_or shares (x - p) 0 + more =
+      get_or-set_same shares (x - p) (get_or shares (x - p) 0 + more) 0 (omega arith) in
+      let half = half-own l (depth_at rows x) (depth_at rows y) (depth_at rows p) own limit less in
+      ap (λ v. v * unit) here ∙ (let e : (get_or shares (x - p) 0 + more) * unit ≡ get_or shares (x - p) 0 * unit + more * unit = omega arith in e ∙ ap (λ v. get_or shares (x - p) 0 * unit + v) (sym half))
+
+  given-other : (shares : List ℕ) (y own p q : ℕ) → p ≤ x → q ≤ x → (q ≡ p → ⊥) →
+      kept_share l rows x (given rows x shares y own (Some p)) q ≡ kept_share l rows x shares q
+  given-other shares y own p q lp lq other =
+      ap (λ v. v * 2 ^ (l - depth_at rows x + depth_at rows q))
+      (get_or-set_other shares (x - p) (x - q) _ 0 (λ e. other (omega arith)))
+
+  -- what is kept from y on stays
+  pub given-above : (shares : List ℕ) (y own : ℕ) (o : Option ℕ) → y ≤ x → IsLower rows y o → (q : ℕ) → y ≤ q → q ≤ x →
+      kept_share l rows x (given rows x shares y own o) q ≡ kept_share l rows x shares q
+  given-above shares y own None ly lower q yq lq = refl
+  given-above shares y own (Some p) ly lower q yq lq =
+      let low : p < y = (lower p refl).0 in
+      given-other shares y own p q (omega arith) lq (λ e. omega arith)
+
+  pub brought-given : (shares : List ℕ) (y own : ℕ) (o : Option ℕ) (has : ℕ → ℕ) → y ≤ x → length shares ≡ x + 1 → IsLower rows y o →
+      brought (kept_share l rows x (given rows x shares y own o)) y has
+      ≡ brought (kept_share l rows x shares) y has + own * 2 ^ (l - depth_at rows x + depth_at rows y) / 2 * of_known has o
+  brought-given shares y own None has ly long lower = omega arith
+  brought-given shares y own (Some p) has ly long lower =
+      let low = lower p refl in
+      let lp : p < y = low.0 in
+      brought-add (kept_share l rows x shares) (kept_share l rows x (given rows x shares y own (Some p))) y p
+      (own * 2 ^ (l - depth_at rows x + depth_at rows y) / 2) has lp (given-parent shares y own p lp ly long low.1)
+      (λ q lq other. given-other shares y own p q (omega arith) (omega arith) other)
+
+known_one : (o : Option ℕ) → of_known (λ _. 1) o ≤ 1
+known_one None = omega arith
+known_one (Some p) = omega arith
+
+le_halves : (s a b : ℕ) → a ≤ 1 → b ≤ 1 → s / 2 * a + s / 2 * b ≤ s
+le_halves s a b la lb =
+    let x : s / 2 * a ≤ s / 2 * 1 = mul-le-mul_left (s / 2) la in
+    let y : s / 2 * b ≤ s / 2 * 1 = mul-le-mul_left (s / 2) lb in
+    omega arith
+
+module _ (l : ℕ) (rows : List Row) (f : IsFrozen l MOST_ANIMALS rows) where
+  pub lower-sire : (y : ℕ) → y < length rows → IsLower rows y (sire_place rows y)
+  lower-sire y ly p e =
+      let low : p < y = (frozen-placed l MOST_ANIMALS rows f).below y p ly (inl e) in
+      (low, parent-less_deep l MOST_ANIMALS rows f y p ly (omega arith) (inl e))
+
+  pub lower-dam : (y : ℕ) → y < length rows → IsLower rows y (dam_place rows y)
+  lower-dam y ly p e =
+      let low : p < y = (frozen-placed l MOST_ANIMALS rows f).below y p ly (inr e) in
+      (low, parent-less_deep l MOST_ANIMALS rows f y p ly (omega arith) (inr e))
+
+  -- the share that is kept for the youngest pending place is all that x has of it
+  pub kept-is : (x y : ℕ) (shares : List ℕ) → IsTracing l rows x (y + 1) shares →
+      kept_share l rows x shares y ≡ share (placed rows) l (Some x) y
+  kept-is x y shares t =
+      let lx : x < length rows = t.place in
+      let b : y + 1 ≤ x + 1 = t.border_in in
+      own-share (length rows) (sire_place rows) (dam_place rows) (frozen-placed l MOST_ANIMALS rows f) l (placed-shallow l MOST_ANIMALS rows f) x y
+      (kept_share l rows x shares) (omega arith) t.pending
+
+  -- where nothing is kept for it the border goes down
+  pub tracing-lower : (x y : ℕ) (shares : List ℕ) → IsTracing l rows x (y + 1) shares → get_or shares (x - y) 0 ≡ 0 → IsTracing l rows x y shares
+  tracing-lower x y shares t none =
+      let kept : ℕ → ℕ = kept_share l rows x shares in
+      let b : y + 1 ≤ x + 1 = t.border_in in
+      let zero : kept y ≡ 0 = ap (λ v. v * 2 ^ (l - depth_at rows x + depth_at rows y)) none ∙ omega arith in
+      let own = kept-is x y shares t in
+      let more = brought-more kept y (λ _. 1) in
+      let all = t.whole in
+      record {
+        book = f;
+        place = t.place;
+        border_in = omega arith;
+        long = t.long;
+        whole = omega (arith, more, all);
+        pending = lowered (length rows) (sire_place rows) (dam_place rows) (frozen-placed l MOST_ANIMALS rows f) l (placed-shallow l MOST_ANIMALS rows f) x y kept zero t.pending;
+        met = λ j lj jx.
+            ⊎_elim
+            (λ (e : y ≡ j). subst (λ v. kept v ≡ share (placed rows) l (Some x) v) e own)
+            (λ (n : y ≡ j → ⊥). t.met j (omega arith) jx)
+            (cases_eq y j);
+      }
+
+  abbrev pub passed : ℕ → ℕ → List ℕ → List ℕ
+  passed x y shares =
+      given rows x (given rows x shares y (get_or shares (x - y) 0) (sire_place rows y)) y (get_or shares (x - y) 0) (dam_place rows y)
+
+  grown : (x y : ℕ) (shares : List ℕ) → IsTracing l rows x (y + 1) shares → (has : ℕ → ℕ) →
+      brought (kept_share l rows x (passed x y shares)) y has
+      ≡ brought (kept_share l rows x shares) y has
+      + (kept_share l rows x shares y / 2 * of_known has (sire_place rows y) + kept_share l rows x shares y / 2 * of_known has (dam_place rows y))
+  grown x y shares t has =
+      let own : ℕ = get_or shares (x - y) 0 in
+      let lx : x < length rows = t.place in
+      let b : y + 1 ≤ x + 1 = t.border_in in
+      let ly : y < length rows = omega arith in
+      let limit = depth-at_most l MOST_ANIMALS rows f x lx in
+      let first = given rows x shares y own (sire_place rows y) in
+      let a = brought-given l rows x limit shares y own (sire_place rows y) has (omega arith) t.long (lower-sire y ly) in
+      let c = brought-given l rows x limit first y own (dam_place rows y) has (omega arith) (length-given rows x shares y own (sire_place rows y) ∙ t.long) (lower-dam y ly) in
+      omega (arith, a, c)
+
+  -- and else its share is passed on to its parents
+  pub tracing-next : (x y : ℕ) (shares : List ℕ) → IsTracing l rows x (y + 1) shares → IsTracing l rows x y (passed x y shares)
+  tracing-next x y shares t =
+      let own : ℕ = get_or shares (x - y) 0 in
+      let kept : ℕ → ℕ = kept_share l rows x shares in
+      let first = given rows x shares y own (sire_place rows y) in
+      let lx : x < length rows = t.place in
+      let b : y + 1 ≤ x + 1 = t.border_in in
+      let ly : y < length rows = omega arith in
+      let limit = depth-at_most l MOST_ANIMALS rows f x lx in
+      let more = brought-more kept y (λ _. 1) in
+      let all = t.whole in
+      let g = grown x y shares t (λ _. 1) in
+      let h = le_halves (kept y) _ _ (known_one (sire_place rows y)) (known_one (dam_place rows y)) in
+      record {
+        book = f;
+        place = lx;
+        border_in = omega arith;
+        long = length-given rows x first y own (dam_place rows y) ∙ (length-given rows x shares y own (sire_place rows y) ∙ t.long);
+        whole = omega (arith, more, all, g, h);
+        pending = passed_on (length rows) (sire_place rows) (dam_place rows) (frozen-placed l MOST_ANIMALS rows f) l (placed-shallow l MOST_ANIMALS rows f) x y
+            kept (kept_share l rows x (passed x y shares)) lx ly t.pending (grown x y shares t);
+        met = λ j lj jx.
+            given-above l rows x limit first y own (dam_place rows y) (omega arith) (lower-dam y ly) j lj jx
+            ∙ (given-above l rows x limit shares y own (sire_place rows y) (omega arith) (lower-sire y ly) j lj jx
+            ∙ ⊎_elim
+            (λ (e : y ≡ j). subst (λ v. kept v ≡ share (placed rows) l (Some x) v) e (kept-is x y shares t))
+            (λ (n : y ≡ j → ⊥). t.met j (omega arith) jx)
+            (cases_eq y j));
+      }
+
+  -- a share in its own unit is at most the whole
+  within-whole : (x p : ℕ) (shares : List ℕ) (b : ℕ) → p < b → brought (kept_share l rows x shares) b (λ _. 1) ≤ 2 ^ l → get_or shares (x - p) 0 ≤ 2 ^ l
+  within-whole x p shares b low whole =
+      let s : ℕ = get_or shares (x - p) 0 in
+      let unit : ℕ = 2 ^ (l - depth_at rows x + depth_at rows p) in
+      let one : 1 ≤ unit = pow_pos (l - depth_at rows x + depth_at rows p) in
+      let grows : s * 1 ≤ s * unit = mul-le-mul_left s one in
+      let part = share-within (kept_share l rows x shares) b p low in
+      omega arith
+
+  given-whole : (x y : ℕ) (shares : List ℕ) (o : Option ℕ) → x < length rows → y ≤ x → length shares ≡ x + 1 → IsLower rows y o → (own left : ℕ) →
+      brought (kept_share l rows x shares) y (λ _. 1) + left ≤ 2 ^ l → own * 2 ^ (l - depth_at rows x + depth_at rows y) / 2 ≤ left →
+      brought (kept_share l rows x (given rows x shares y own o)) y (λ _. 1) ≤ 2 ^ l
+  given-whole x y shares o lx ly long lower own left room half =
+      let a = brought-given l rows x (depth-at_most l MOST_ANIMALS rows f x lx) shares y own o (λ _. 1) ly long lower in
+      let k = known_one o in
+      let h : own * 2 ^ (l - depth_at rows x + depth_at rows y) / 2 * of_known (λ _. 1) o ≤ own * 2 ^ (l - depth_at rows x + depth_at rows y) / 2 * 1 =
+      mul-le-mul_left (own * 2 ^ (l - depth_at rows x + depth_at rows y) / 2) k in
+      omega (arith, a, h)
+
+  room-given : (x y : ℕ) (shares : List ℕ) (o : Option ℕ) → x < length rows → y ≤ x → length shares ≡ x + 1 → IsLower rows y o → (own left : ℕ) →
+      brought (kept_share l rows x shares) y (λ _. 1) + left ≤ 2 ^ l → own * 2 ^ (l - depth_at rows x + depth_at rows y) / 2 ≤ left →
+      (p : ℕ) → o ≡ Some p → HasRoom l rows x shares y own p
+  room-given x y shares o lx ly long lower own left room half p e =
+      let low = lower p e in
+      let lp : p < y = low.0 in
+      let whole : brought (kept_share l rows x (given rows x shares y own (Some p))) y (λ _. 1) ≤ 2 ^ l =
+      subst (λ v. brought (kept_share l rows x (given rows x shares y own v)) y (λ _. 1) ≤ 2 ^ l) e
+      (given-whole x y shares o lx ly long lower own left room half) in
+      let here : get_or (given rows x shares y own (Some p)) (x - p) 0 ≡ get_or shares (x - p) 0 + own * 2 ^ (depth_at rows y - depth_at rows p - 1) =
+      get_or-set_same shares (x - p) (get_or shares (x - p) 0 + own * 2 ^ (depth_at rows y - depth_at rows p - 1)) 0 (omega arith) in
+      let fits = within-whole x p (given rows x shares y own (Some p)) y lp whole in
+      record {
+        place = lx;
+        met = ly;
+        lower = lp;
+        long = long;
+        less_deep = low.1;
+        shallow = depth-at_most l MOST_ANIMALS rows f y (omega arith);
+        room = omega (arith, fits, here);
+      }
+
+  -- there is room for what the sire gets
+  pub room-sire : (x y : ℕ) (shares : List ℕ) → IsTracing l rows x (y + 1) shares → (p : ℕ) → sire_place rows y ≡ Some p →
+      HasRoom l rows x shares y (get_or shares (x - y) 0) p
+  room-sire x y shares t p e =
+      let lx : x < length rows = t.place in
+      let b : y + 1 ≤ x + 1 = t.border_in in
+      let ly : y < length rows = omega arith in
+      let kept : ℕ → ℕ = kept_share l rows x shares in
+      let more = brought-more kept y (λ _. 1) in
+      let all = t.whole in
+      room-given x y shares (sire_place rows y) lx (omega arith) t.long (lower-sire y ly) (get_or shares (x - y) 0) (kept y)
+      (omega (arith, more, all)) (omega arith) p e
+
+  -- and for what the dam gets then
+  pub room-dam : (x y : ℕ) (shares : List ℕ) → IsTracing l rows x (y + 1) shares → (p : ℕ) → dam_place rows y ≡ Some p →
+      HasRoom l rows x (given rows x shares y (get_or shares (x - y) 0) (sire_place rows y)) y (get_or shares (x - y) 0) p
+  room-dam x y shares t p e =
+      let lx : x < length rows = t.place in
+      let b : y + 1 ≤ x + 1 = t.border_in in
+      let ly : y < length rows = omega arith in
+      let own : ℕ = get_or shares (x - y) 0 in
+      let kept : ℕ → ℕ = kept_share l rows x shares in
+      let more = brought-more kept y (λ _. 1) in
+      let all = t.whole in
+      let a = brought-given l rows x (depth-at_most l MOST_ANIMALS rows f x lx) shares y own (sire_place rows y) (λ _. 1) (omega arith) t.long (lower-sire y ly) in
+      let k = known_one (sire_place rows y) in
+      let h : kept y / 2 * of_known (λ _. 1) (sire_place rows y) ≤ kept y / 2 * 1 = mul-le-mul_left (kept y / 2) k in
+      room-given x y (given rows x shares y own (sire_place rows y)) (dam_place rows y) lx (omega arith)
+      (length-given rows x shares y own (sire_place rows y) ∙ t.long) (lower-dam y ly) own (kept y / 2)
+      (omega (arith, more, all, a, h)) (omega arith) p e
+
+  -- the whole of x is pending at first
+  pub tracing-start : (x : ℕ) → x < length rows → IsTracing l rows x (x + 1) (set (replicate (x + 1) 0) 0 1)
+  tracing-start x lx =
+      let kin = placed rows in
+      let shares : List ℕ = set (replicate (x + 1) 0) 0 1 in
+      let kept : ℕ → ℕ = kept_share l rows x shares in
+      let limit = depth-at_most l MOST_ANIMALS rows f x lx in
+      let first : get_or shares 0 0 ≡ 1 = get_or-set_same (replicate (x + 1) 0) 0 1 0 (rw length-replicate (omega arith)) in
+      let own : kept x ≡ 2 ^ l =
+      (let e : x - x ≡ 0 = omega arith in
+      let g : l - depth_at rows x + depth_at rows x ≡ l = omega arith in
+      rw (e, g, first) (omega arith)) in
+      let others : (p : ℕ) → p < x → kept p ≡ 0 = λ p low.
+      (let e : get_or shares (x - p) 0 ≡ 0 =
+      get_or-set_other (replicate (x + 1) 0) 0 (x - p) 1 0 (λ z. omega arith) ∙ get_or-replicate (x + 1) (x - p) 0 0 (omega arith) in
+      ap (λ v. v * 2 ^ (l - depth_at rows x + depth_at rows p)) e ∙ omega arith) in
+      let brings : (has : ℕ → ℕ) → brought kept (x + 1) has ≡ 2 ^ l * has x = λ has.
+      (let more = brought-more kept x has in
+      let none = brought-none kept x has (λ p low. let z = others p low in rw z (omega arith)) in
+      let last : kept x * has x ≡ 2 ^ l * has x = ap (λ v. v * has x) own in
+      omega (arith, more, none, last)) in
+      record {
+        book = f;
+        place = lx;
+        border_in = omega arith;
+        long = length-set (replicate (x + 1) 0) 0 1 ∙ length-replicate (x + 1) 0;
+        whole = let b = brings (λ _. 1) in omega (arith, b);
+        pending = λ j lj. brings (λ p. share kin l (Some p) j);
+        met = λ j lj jx. absurd (omega arith);
+      }
+
+  -- a kept share that isn't 0 is that of an ancestor which isn't deeper
+  pub kept-share_of : (x j own : ℕ) → x < length rows → j < length rows → own * 2 ^ (l - depth_at rows x + depth_at rows j) ≡ share (placed rows) l (Some x) j →
+      0 < own → IsShareOf rows x j own
+  kept-share_of x j own lx lj is pos =
+      let kin = placed rows in
+      let w = placed-lawful l MOST_ANIMALS rows f in
+      let dx = placed-depth l MOST_ANIMALS rows f x lx in
+      let dj = placed-depth l MOST_ANIMALS rows f j lj in
+      let limit = depth-at_most l MOST_ANIMALS rows f x lx in
+      let unit : ℕ = 2 ^ (l - depth_at rows x + depth_at rows j) in
+      let not_deeper : depth_at rows j ≤ depth_at rows x =
+      ⊎_elim
+      (λ (z : share kin l (Some x) j ≡ 0).
+      let none : unit * own ≡ unit * 0 = omega (arith, is, z) in
+      let zero : own ≡ 0 = cancel unit own 0 (pow_pos (l - depth_at rows x + depth_at rows j)) none in
+      absurd (omega arith))
+      (λ r.
+      let same : r.0 ≡ x = cc (r.1) in
+      let k : ℕ = r.2.0 in
+      let to : LineTo kin k x j = subst (λ v. LineTo kin k v j) same r.2.1 in
+      let long : k + depth_at rows j ≤ depth_at rows x =
+      dx.1 (k + depth_at rows j) (line-joined kin w k (depth_at rows j) x j (place-in (length rows) x lx) to dj.0) in
+      omega arith)
+      (share-reached kin w l (Some x) j) in
+      record {
+        some = pos;
+        less_deep = not_deeper;
+        own_is = share-own kin w l (depth_at rows x) (depth_at rows j) own x j limit not_deeper (placed-below_depth l MOST_ANIMALS rows f x lx) dj.0 is;
+      }
+
+  -- of a place with a share that isn't 0, below which the border goes next
+  pub next-is : (x y b : ℕ) (shares : List ℕ) → IsTracing l rows x (y + 1) shares → ((j : ℕ) → y < j → j < b → get_or shares (x - j) 0 ≡ 0) →
+      y < b → b ≤ x + 1 → 0 < get_or shares (x - y) 0 → IsNext l rows x b y (get_or shares (x - y) 0)
+  next-is x y b shares t none lb bx pos =
+      let lx : x < length rows = t.place in
+      let by' : y + 1 ≤ x + 1 = t.border_in in
+      record {
+        below = lb;
+        share_is = kept-share_of x y (get_or shares (x - y) 0) lx (omega arith) (kept-is x y shares t) pos;
+        between = λ j yj jb.
+            sym (t.met j (omega arith) (omega arith)) ∙ (ap (λ v. v * 2 ^ (l - depth_at rows x + depth_at rows j)) (none j yj jb) ∙ omega arith);
+      }
+
+  -- once all is met, x has nothing of those for which nothing is kept
+  pub none-is : (x b : ℕ) (shares : List ℕ) → IsTracing l rows x 0 shares → ((j : ℕ) → j < b → get_or shares (x - j) 0 ≡ 0) → b ≤ x + 1 →
+      (j : ℕ) → j < b → share (placed rows) l (Some x) j ≡ 0
+  none-is x b shares t none bx j jb =
+      sym (t.met j (omega arith) (omega arith)) ∙ (ap (λ v. v * 2 ^ (l - depth_at rows x + depth_at rows j)) (none j jb) ∙ omega arith)
+
+-- what a tracing's step finds at the youngest pending place
+pub record IsStep (l : ℕ) (rows : List Row) (x y : ℕ) (shares : List ℕ) (own : ℕ) : Type 0 where
+  pub tracing : IsTracing l rows x (y + 1) shares
+  pub own_is : own ≡ get_or shares (x - y) 0
+
+module _ (l : ℕ) (rows : List Row) (x y : ℕ) (shares : List ℕ) (own : ℕ) (step : IsStep l rows x y shares own) where
+  f : IsFrozen l MOST_ANIMALS rows
+  f = step.tracing.book
+
+  pub step-room_sire : (row : Row) → slice_get rows y ≡ Some row → (p : ℕ) → row.sire ≡ Some p → HasRoom l rows x shares y own p
+  step-room_sire row e p is =
+      subst (λ v. HasRoom l rows x shares y v p) (sym step.own_is)
+      (room-sire l rows f x y shares step.tracing p ((let s : sire_place rows y ≡ row.sire = rw e refl in s) ∙ is))
+
+  pub step-room_dam : (row : Row) → slice_get rows y ≡ Some row → (p : ℕ) → row.dam ≡ Some p →
+      HasRoom l rows x (given rows x shares y own row.sire) y own p
+  step-room_dam row e p is =
+      let s : sire_place rows y ≡ row.sire = rw e refl in
+      let d : dam_place rows y ≡ row.dam = rw e refl in
+      subst (λ o. HasRoom l rows x (given rows x shares y own o) y own p) s
+      (subst (λ v. HasRoom l rows x (given rows x shares y v (sire_place rows y)) y v p) (sym step.own_is)
+      (room-dam l rows f x y shares step.tracing p (d ∙ is)))
+
+  -- its share is passed on
+  pub step-next : (row : Row) → slice_get rows y ≡ Some row →
+      IsTracing l rows x y (given rows x (given rows x shares y own row.sire) y own row.dam)
+  step-next row e =
+      let s : sire_place rows y ≡ row.sire = rw e refl in
+      let d : dam_place rows y ≡ row.dam = rw e refl in
+      subst (λ o. IsTracing l rows x y (given rows x (given rows x shares y own row.sire) y own o)) d
+      (subst (λ o. IsTracing l rows x y (given rows x (given rows x shares y own o) y own (dam_place rows y))) s
+      (subst (λ v. IsTracing l rows x y (given rows x (given rows x shares y v (sire_place rows y)) y v (dam_place rows y))) (sym step.own_is)
+      (tracing-next l rows f x y shares step.tracing)))
+
+  -- it is the next ancestor, where nothing is kept for the places between it and the border
+  pub step-is : (top : ℕ) → ((j : ℕ) → y < j → j < top → get_or shares (x - j) 0 ≡ 0) → y < top → top ≤ x + 1 → 0 < own → IsNext l rows x top y own
+  step-is top none low high some =
+      let is = step.own_is in
+      subst (λ v. IsNext l rows x top y v) (sym is)
+      (next-is l rows f x y top shares step.tracing none low high (let q : 0 < get_or shares (x - y) 0 = omega arith in q))
+
+  pub step-lower_sire : (row : Row) → slice_get rows y ≡ Some row → IsLower rows y row.sire
+  step-lower_sire row e =
+      let lx : x < length rows = step.tracing.place in
+      let high : y + 1 ≤ x + 1 = step.tracing.border_in in
+      subst (λ o. IsLower rows y o) (let s : sire_place rows y ≡ row.sire = rw e refl in s) (lower-sire l rows f y (omega arith))
+
+  pub step-lower_dam : (row : Row) → slice_get rows y ≡ Some row → IsLower rows y row.dam
+  step-lower_dam row e =
+      let lx : x < length rows = step.tracing.place in
+      let high : y + 1 ≤ x + 1 = step.tracing.border_in in
+      subst (λ o. IsLower rows y o) (let d : dam_place rows y ≡ row.dam = rw e refl in d) (lower-dam l rows f y (omega arith))
+
+-- the border goes down past places for which nothing is kept
+pub lowered-to : (l : ℕ) (rows : List Row) (x b n : ℕ) (shares : List ℕ) → IsTracing l rows x (n + b) shares →
+    ((j : ℕ) → b ≤ j → j < n + b → get_or shares (x - j) 0 ≡ 0) → IsTracing l rows x b shares
+lowered-to l rows x b zero shares t none = subst (λ v. IsTracing l rows x v shares) (let e : zero + b ≡ b = omega arith in e) t
+lowered-to l rows x b (suc n) shares t none =
+    let e : suc n + b ≡ n + b + 1 = omega arith in
+    let t' : IsTracing l rows x (n + b + 1) shares = subst (λ v. IsTracing l rows x v shares) e t in
+    lowered-to l rows x b n shares (tracing-lower l rows t'.book x (n + b) shares t' (none (n + b) (omega arith) (omega arith)))
+    (λ j bj jb. none j bj (omega arith))

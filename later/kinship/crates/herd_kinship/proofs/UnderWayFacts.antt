@@ -1,0 +1,188 @@
+-- A tracing whose pending ancestors are marked: its start, the nearest one taken, and shares given.
+use Rattle.std.proofs.Common.{ℕ, ◌+◌, ◌*◌, ◌-◌, ◌^◌, ◌<◌, ◌≤◌, ◌≡◌, ⊎_elim, List, length, get_or, set, replicate, slice_get, Some, None, Option, arith, refl, sym, ap, subst, ◌∙◌}
+use Rattle.std.proofs.Math.Nat.{mul-le-mul_left}
+use Rattle.std.proofs.Math.Pow.{pow_pos}
+use Rattle.std.proofs.lemmas.Bool.{cases_eq, cases_lt}
+use Rattle.std.proofs.lemmas.List.{get_or-set_same, get_or-set_other, get_or-replicate, length-replicate}
+use Rattle.herd_pedigree.specs.declared.TheConstants.{MOST_ANIMALS}
+use Rattle.herd_pedigree.specs.declared.frozen.Row.{Row}
+use Rattle.herd_pedigree.specs.Frozen.{IsFrozen, depth_at}
+use Rattle.herd_kinship.specs.Pending.{mark, Marks}
+use Rattle.herd_kinship.specs.Places.{placed}
+use Rattle.herd_kinship.specs.Shares.{share}
+use Rattle.herd_kinship.specs.Tracing.{given, GivesMark, IsMarked, IsNext, IsPendingAt, IsTracing, IsUnderWay}
+use Rattle.herd_kinship.proofs.TracingFacts.{IsLower, IsStep, length-given, lowered-to, none-is, step-is, step-lower_sire, step-lower_dam, step-next, tracing-start}
+
+-- the animal itself alone is pending at first
+pub under_way-start : (l : ℕ) (rows : List Row) (x : ℕ) (empty words : List ℕ) → IsFrozen l MOST_ANIMALS rows → x < length rows → x < 64 * length empty →
+    ((d : ℕ) → mark empty d ≡ 0) → Marks empty words 0 1 → IsUnderWay l rows x (x + 1) (set (replicate (x + 1) 0) 0 1) words
+under_way-start l rows x empty words f lx room none marks =
+    let start : List ℕ = set (replicate (x + 1) 0) 0 1 in
+    let first : get_or start 0 0 ≡ 1 = get_or-set_same (replicate (x + 1) 0) 0 1 0 (rw length-replicate (omega arith)) in
+    record {
+      tracing = tracing-start l rows f x lx;
+      marks = record {
+        room = let e = marks.room in omega (arith, e);
+        marked = λ p low some.
+            ⊎_elim
+            (λ (here : x - p ≡ 0). rw here marks.here)
+            (λ (other : x - p ≡ 0 → ⊥).
+            let e : get_or start (x - p) 0 ≡ 0 =
+            get_or-set_other (replicate (x + 1) 0) 0 (x - p) 1 0 other ∙ get_or-replicate (x + 1) (x - p) 0 0 (omega arith) in
+            let kept : 0 < get_or start (x - p) 0 = some in
+            let nothing : 0 < 0 = subst (λ v. 0 < v) e kept in
+            absurd (omega arith))
+            (cases_eq (x - p) 0);
+        pending = λ d is.
+            ⊎_elim
+            (λ (here : d ≡ 0).
+            record {
+              near = omega arith;
+              below = omega arith;
+              some = rw (here, first) (omega arith);
+            })
+            (λ (other : d ≡ 0 → ⊥). let z = marks.others d other in let n = none d in absurd (omega arith))
+            (cases_eq d 0);
+      };
+    }
+
+-- what is taken: the nearest distance that is marked
+pub record IsTaken (words words' : List ℕ) (d : ℕ) : Type 0 where
+  pub found : mark words d ≡ 1
+  pub nearest : (e : ℕ) → e < d → mark words e ≡ 0
+  pub taken : Marks words words' d 0
+
+module _ (l : ℕ) (rows : List Row) (x b : ℕ) (shares words : List ℕ) (way : IsUnderWay l rows x b shares words) where
+  -- nothing is kept for a place below the border that isn't marked
+  none-kept : (j : ℕ) → j < b → mark words (x - j) ≡ 0 → get_or shares (x - j) 0 ≡ 0
+  none-kept j low none =
+      ⊎_elim
+      (λ (some : 0 < get_or shares (x - j) 0). let m = way.marks.marked j low some in absurd (omega arith))
+      (λ (z : get_or shares (x - j) 0 ≤ 0). omega arith)
+      (cases_lt 0 (get_or shares (x - j) 0))
+
+  -- where nothing is marked all is met
+  pub under_way-end : ((d : ℕ) → mark words d ≡ 0) → IsUnderWay l rows x 0 shares words
+  under_way-end none = record {
+    tracing =
+        lowered-to l rows x 0 b shares (subst (λ v. IsTracing l rows x v shares) (let e : b ≡ b + 0 = omega arith in e) way.tracing)
+        (λ j _ jb. none-kept j (omega arith) (none (x - j)));
+    marks = record {
+      room = way.marks.room;
+      marked = λ p low some. absurd (omega arith);
+      pending = λ d is. let z = none d in absurd (omega arith);
+    };
+  }
+
+  pub none-left : ((d : ℕ) → mark words d ≡ 0) → (j : ℕ) → j < b → share (placed rows) l (Some x) j ≡ 0
+  none-left none =
+      none-is l rows way.tracing.book x b shares (under_way-end none).tracing (λ j jb. none-kept j jb (none (x - j))) way.tracing.border_in
+
+  module _ (words' : List ℕ) (d : ℕ) (taken : IsTaken words words' d) where
+    pub taken-at : IsPendingAt x b shares d
+    taken-at = way.marks.pending d taken.found
+
+    between : (j : ℕ) → x - d < j → j < b → get_or shares (x - j) 0 ≡ 0
+    between j low high =
+        let near : d ≤ x = taken-at.near in
+        let border : b ≤ x + 1 = way.tracing.border_in in
+        none-kept j high (taken.nearest (x - j) (omega arith))
+
+    pub taken-step : (own : ℕ) → own ≡ get_or shares d 0 → IsStep l rows x (x - d) shares own
+    taken-step own is =
+        let near : d ≤ x = taken-at.near in
+        let below : x - d < b = taken-at.below in
+        let n : ℕ = b - (x - d + 1) in
+        let e : b ≡ n + (x - d + 1) = omega arith in
+        record {
+          tracing =
+              lowered-to l rows x (x - d + 1) n shares (subst (λ v. IsTracing l rows x v shares) e way.tracing)
+              (λ j low high. between j (omega arith) (omega arith));
+          own_is = is ∙ ap (λ v. get_or shares v 0) (let q : d ≡ x - (x - d) = omega arith in q);
+        }
+
+    pub taken-next : (own : ℕ) → own ≡ get_or shares d 0 → IsNext l rows x b (x - d) own
+    taken-next own is =
+        let at = taken-at in
+        let some = at.some in
+        step-is l rows x (x - d) shares own (taken-step own is) b between at.below way.tracing.border_in (omega (arith, is, some))
+
+    -- the other marks stay
+    taken-marks : IsMarked x (x - d) shares words'
+    taken-marks =
+        let near : d ≤ x = taken-at.near in
+        let below : x - d < b = taken-at.below in
+        record {
+          room = let r = way.marks.room in let e = taken.taken.room in omega (arith, e);
+          marked = λ p low some.
+              taken.taken.others (x - p) (λ e. omega arith) ∙ way.marks.marked p (omega arith) some;
+          pending = λ e is.
+              let other : e ≡ d → ⊥ = λ same. (let z : mark words' e ≡ 0 = subst (λ v. mark words' v ≡ 0) (sym same) taken.taken.here in let q : 1 ≡ 0 = sym is ∙ z in omega arith) in
+              let was : mark words e ≡ 1 = sym (taken.taken.others e other) ∙ is in
+              let at = way.marks.pending e was in
+              let far : d < e =
+              ⊎_elim (λ (less : e < d). let z = taken.nearest e less in absurd (omega arith)) (λ (more : d ≤ e). let o = other in omega arith) (cases_lt e d) in
+              let close : e ≤ x = at.near in
+              record { near = close; below = omega arith; some = at.some };
+        }
+
+-- a share that is given to a parent is marked
+given-marks : (rows : List Row) (x y own : ℕ) (shares words words' : List ℕ) (o : Option ℕ) → IsMarked x y shares words → 0 < own → y ≤ x → length shares ≡ x + 1 →
+    IsLower rows y o → GivesMark x words words' o → IsMarked x y (given rows x shares y own o) words'
+given-marks rows x y own shares words words' None m some high long lower gives = subst (λ v. IsMarked x y shares v) (sym gives) m
+given-marks rows x y own shares words words' (Some p) m some high long lower gives =
+    let low : p < y = (lower p refl).0 in
+    let unit : ℕ = 2 ^ (depth_at rows y - depth_at rows p - 1) in
+    let more : ℕ = own * unit in
+    let one : 1 ≤ unit = pow_pos (depth_at rows y - depth_at rows p - 1) in
+    let grows : own * 1 ≤ own * unit = mul-le-mul_left own one in
+    let here : get_or (given rows x shares y own (Some p)) (x - p) 0 ≡ get_or shares (x - p) 0 + more =
+    get_or-set_same shares (x - p) (get_or shares (x - p) 0 + more) 0 (omega arith) in
+    let others : (e : ℕ) → (e ≡ x - p → ⊥) → get_or (given rows x shares y own (Some p)) e 0 ≡ get_or shares e 0 =
+    λ e apart. get_or-set_other shares (x - p) e (get_or shares (x - p) 0 + more) 0 apart in
+    record {
+      room = let r = m.room in let e = gives.room in omega (arith, e);
+      marked = λ q lq s.
+          ⊎_elim
+          (λ (same : x - q ≡ x - p). rw same gives.here)
+          (λ (apart : x - q ≡ x - p → ⊥).
+          let old : 0 < get_or shares (x - q) 0 = (let e = others (x - q) apart in omega arith) in
+          gives.others (x - q) apart ∙ m.marked q lq old)
+          (cases_eq (x - q) (x - p));
+      pending = λ e is.
+          ⊎_elim
+          (λ (same : e ≡ x - p).
+          record {
+            near = omega arith;
+            below = omega arith;
+            some = rw (same, here) (omega (arith, grows));
+          })
+          (λ (apart : e ≡ x - p → ⊥).
+          let at = m.pending e (sym (gives.others e apart) ∙ is) in
+          record {
+            near = at.near;
+            below = at.below;
+            some = rw (others e apart) at.some;
+          })
+          (cases_eq e (x - p));
+    }
+
+-- the distance taken, and the shares given to both parents
+pub under_way-next : (l : ℕ) (rows : List Row) (x b : ℕ) (shares words words' : List ℕ) (way : IsUnderWay l rows x b shares words) (d : ℕ) (taken : IsTaken words words' d)
+    (own : ℕ) (is : own ≡ get_or shares d 0) (row : Row) → slice_get rows (x - d) ≡ Some row → (after last : List ℕ) →
+    GivesMark x words' after row.sire → GivesMark x after last row.dam →
+    IsUnderWay l rows x (x - d) (given rows x (given rows x shares (x - d) own row.sire) (x - d) own row.dam) last
+under_way-next l rows x b shares words words' way d taken own is row e after last first second =
+    let step = taken-step l rows x b shares words way words' d taken own is in
+    let at = taken-at l rows x b shares words way words' d taken in
+    let kept = at.some in
+    let some : 0 < own = omega (arith, is, kept) in
+    let long = way.tracing.long in
+    let sire = given-marks rows x (x - d) own shares words' after row.sire (taken-marks l rows x b shares words way words' d taken) some (omega arith) long
+    (step-lower_sire l rows x (x - d) shares own step row e) first in
+    record {
+      tracing = step-next l rows x (x - d) shares own step row e;
+      marks =
+          given-marks rows x (x - d) own (given rows x shares (x - d) own row.sire) after last row.dam sire some (omega arith)
+          (length-given rows x shares (x - d) own row.sire ∙ long) (step-lower_dam l rows x (x - d) shares own step row e) second;
+    }

@@ -1,0 +1,11 @@
+use Rattle.std.proofs.Common.{inl, refl}
+use Rattle.herd_kinship.proofs.inverse.Weights.of.Goals as goal
+
+pub lowest-requires-clause-power : goal.lowest-requires-clause-power
+lowest-requires-clause-power c = inl (120, refl)
+
+pub lowest-requires-2-clause-power : goal.lowest-requires-2-clause-power
+lowest-requires-2-clause-power c = inl (119, refl)
+
+pub lowest-requires-3-clause-power : goal.lowest-requires-3-clause-power
+lowest-requires-3-clause-power c = inl (118, refl)

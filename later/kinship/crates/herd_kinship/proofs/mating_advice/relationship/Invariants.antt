@@ -1,0 +1,16 @@
+use Rattle.std.proofs.Common.{◌≡◌}
+use Rattle.herd_pedigree.specs.declared.TheConstants.{DEPTH_LIMIT}
+use Rattle.herd_kinship.specs.Tracing.{IsUnderWay}
+use Rattle.herd_kinship.proofs.TermSums.{IsSummed}
+use Rattle.herd_kinship.proofs.mating_advice.relationship.Given as goal
+
+-- the terms of all that are met are added up
+abbrev pub invariant-loop-met : goal.invariant-loop-met
+invariant-loop-met g l = record {
+  same : l.tracing.place ≡ l.fn.second;
+  tracing : IsUnderWay DEPTH_LIMIT l.frozen l.tracing.place l.tracing.border l.tracing.shares.items l.tracing.pending.words.items;
+  summed : IsSummed DEPTH_LIMIT l.frozen l.first l.tracing.place l.tracing.border l.sum;
+}
+
+abbrev pub decreases-loop-met : goal.decreases-loop-met
+decreases-loop-met g l = l.tracing.border

@@ -1,0 +1,14 @@
+use Rattle.herd_pedigree.specs.declared.TheConstants.{DEPTH_LIMIT, MOST_ANIMALS}
+use Rattle.herd_kinship.proofs.KnownFacts.{sire-known, dam-known, mendelian-row}
+use Rattle.herd_kinship.proofs.tracing.mendelian.Goals as goal
+
+pub quarter-requires : goal.quarter-requires
+quarter-requires g c = sire-known DEPTH_LIMIT MOST_ANIMALS c.args.frozen.now c.len.ensures.frozen c.args.known.now c.args.place c.row-row.result.now c.requires.place c.requires.known c.row-row.ensures
+
+pub quarter-requires-2 : goal.quarter-requires-2
+quarter-requires-2 g c = dam-known DEPTH_LIMIT MOST_ANIMALS c.args.frozen.now c.len.ensures.frozen c.args.known.now c.args.place c.row-row.result.now c.requires.place c.requires.known c.row-row.ensures
+
+pub returns : goal.returns
+returns g c =
+    rw (c.quarter.ensures.value, c.quarter-2.ensures.value)
+    (mendelian-row DEPTH_LIMIT MOST_ANIMALS c.args.frozen.now c.len.ensures.frozen c.args.known.now c.args.place c.row-row.result.now c.requires.place c.requires.known c.row-row.ensures)

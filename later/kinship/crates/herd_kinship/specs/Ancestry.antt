@@ -1,0 +1,23 @@
+-- From whom animals come: what relationships are made from.
+use Rattle.std.specs.Prelude.{◌≡◌, ℕ, zero, suc, ◌⊎◌, Bool, List, Option, Some}
+
+-- the animals, whether two are one, whether one is before another in age order, and the known parents of each
+pub record Ancestry (A : Type 0) : Type 0 where
+  pub animals : List A
+  pub same : A → A → Bool
+  pub before : A → A → Bool
+  pub sire : A → Option A
+  pub dam : A → Option A
+
+-- p is a known parent of x
+abbrev pub IsParent : {A : Type 0} → Ancestry A → A → A → Type 0
+IsParent kin p x = (kin.sire x ≡ Some p) ⊎ (kin.dam x ≡ Some p)
+
+-- from x to p there is a line of n steps, each to a known parent
+unfoldable pub LineTo : {A : Type 0} → Ancestry A → ℕ → A → A → Type 0
+LineTo kin zero x p = x ≡ p
+LineTo {A} kin (suc n) x p = (q : A) × IsParent kin q x × LineTo kin n q p
+
+-- p is an ancestor of x
+abbrev pub IsAncestor : {A : Type 0} → Ancestry A → A → A → Type 0
+IsAncestor kin p x = (n : ℕ) × LineTo kin (suc n) x p

@@ -1,0 +1,13 @@
+pub mod Ancestry
+pub mod Table
+pub mod Shares
+pub mod InverseRows
+pub mod FrozenAncestry
+pub mod Laws
+pub mod Coefficients
+pub mod Places
+pub mod Pending
+pub mod Tracing
+pub mod Fraction
+pub mod Mating
+pub mod Contributions

@@ -1,0 +1,50 @@
+-- Mating advice: why it can't be given for two animals of a book. l is the limit of depths.
+use Rattle.std.specs.Prelude.{◌≡◌, ℕ, ◌<◌, Bool, ◌||◌, not, List, [], ◌∷◌, length, Option, None}
+use Rattle.herd_animal.specs.Sex.{is_male}
+use Rattle.herd_pedigree.specs.Book.{Book, is_there, parentage_of}
+use Rattle.herd_pedigree.specs.declared.TheConstants.{MOST_ANIMALS}
+use Rattle.herd_pedigree.specs.declared.frozen.Row.{Row}
+use Rattle.herd_pedigree.specs.Frozen.{IsFrozen, book_of, depth_at}
+use Rattle.herd_pedigree.specs.Lines.{has_line}
+use Rattle.herd_pedigree.specs.ParentFault.{first_that_holds}
+use Rattle.herd_kinship.specs.FrozenAncestry.{number_at}
+use Rattle.herd_kinship.specs.declared.mating_advice.MatingFault.{MatingFault}
+use Rattle.herd_kinship.specs.declared.mating_advice.MatingFault.TheVariants.{SireMissing, DamMissing, SireNotMale, DamNotFemale, TooDeep, Memory}
+
+-- the animal is as deep as a book allows, so that a calf of it would be too deep
+abbrev pub is_deepest : ℕ → Book → List ℕ → Bool
+is_deepest l book number = has_line (parentage_of book) l number
+
+-- the faults of a mating in the order in which they are asked, each with its test
+abbrev pub mating_faults : ℕ → Book → List ℕ → List ℕ → List (Bool × MatingFault)
+mating_faults l book sire dam =
+    (not (is_there book sire), SireMissing)
+    ∷ (not (is_there book dam), DamMissing)
+    ∷ (not (is_male sire), SireNotMale)
+    ∷ (is_male dam, DamNotFemale)
+    ∷ (is_deepest l book sire || is_deepest l book dam, TooDeep)
+    ∷ []
+
+-- the first fault of a mating
+unfoldable pub mating_fault : ℕ → Book → List ℕ → List ℕ → Option MatingFault
+mating_fault l book sire dam = first_that_holds (mating_faults l book sire dam)
+
+-- the number by which a fault is told
+abbrev pub number_of : MatingFault → ℕ
+number_of SireMissing = 1
+number_of DamMissing = 2
+number_of SireNotMale = 3
+number_of DamNotFemale = 4
+number_of TooDeep = 5
+number_of Memory = 6
+
+-- the animals at the two places can be mated, and a calf of them may be in the book
+pub record ArePair (l : ℕ) (rows : List Row) (sire dam : List ℕ) (sire_place dam_place : ℕ) : Type 0 where
+  pub book : IsFrozen l MOST_ANIMALS rows
+  pub allowed : mating_fault l (book_of rows) sire dam ≡ None
+  pub sire_in : sire_place < length rows
+  pub sire_is : number_at rows sire_place ≡ sire
+  pub sire_less_deep : depth_at rows sire_place < l
+  pub dam_in : dam_place < length rows
+  pub dam_is : number_at rows dam_place ≡ dam
+  pub dam_less_deep : depth_at rows dam_place < l

@@ -1,0 +1,89 @@
+-- Tracing the ancestors of an animal from the youngest to the oldest (Meuwissen and Luo 1992). Animals are named
+-- by their places; the share kept for an ancestor p of x is in unit 2^-(g x - g p), where g is the depth.
+use Rattle.std.specs.Prelude.{◌≡◌, ℕ, ◌+◌, ◌*◌, ◌-◌, ◌^◌, ◌<◌, ◌≤◌, List, length, slice_index, slice_set, sum_by, Option, None, Some, nat_le, if◌then◌else◌}
+use Rattle.std.specs.List.{range_with_len}
+use Rattle.herd_pedigree.specs.declared.frozen.Row.{Row}
+use Rattle.herd_pedigree.specs.declared.TheConstants.{MOST_ANIMALS}
+use Rattle.herd_pedigree.specs.Frozen.{IsFrozen, depth_at}
+use Rattle.herd_kinship.specs.Shares.{share}
+use Rattle.herd_kinship.specs.Pending.{mark, Marks}
+use Rattle.herd_kinship.specs.Places.{placed}
+
+-- the share kept for the place p, brought to unit 2^-l; the list of shares goes by the distance from x
+abbrev pub kept_share : ℕ → List Row → ℕ → List ℕ → ℕ → ℕ
+kept_share l rows x shares p = slice_index shares (x - p) * 2 ^ (l - depth_at rows x + depth_at rows p)
+
+-- what the shares of the places below a border bring, each multiplied by what its place has
+abbrev pub brought : (ℕ → ℕ) → ℕ → (ℕ → ℕ) → ℕ
+brought shares border has = sum_by (λ p. shares p * has p) (range_with_len 0 border)
+
+-- the shares once y's share is given to its parent: half of it, brought to the parent's unit
+abbrev pub given : List Row → ℕ → List ℕ → ℕ → ℕ → Option ℕ → List ℕ
+given rows x shares y own None = shares
+given rows x shares y own (Some p) =
+    slice_set shares (x - p) (slice_index shares (x - p) + own * 2 ^ (depth_at rows y - depth_at rows p - 1))
+
+-- the parent p of y is older and less deep than y, and has room for y's share
+pub record HasRoom (l : ℕ) (rows : List Row) (x : ℕ) (shares : List ℕ) (y own p : ℕ) : Type 0 where
+  pub place : x < length rows
+  pub met : y ≤ x
+  pub lower : p < y
+  pub long : length shares ≡ x + 1
+  pub less_deep : depth_at rows p < depth_at rows y
+  pub shallow : depth_at rows y ≤ l
+  pub room : slice_index shares (x - p) + own * 2 ^ (depth_at rows y - depth_at rows p - 1) ≤ 2 ^ l
+
+-- The ancestors of x from the border on are met, with the shares that x has of them. The shares below the border
+-- are pending: to each animal there they bring just what x has of it, and together they are at most the whole.
+pub record IsTracing (l : ℕ) (rows : List Row) (x border : ℕ) (shares : List ℕ) : Type 0 where
+  pub book : IsFrozen l MOST_ANIMALS rows
+  pub place : x < length rows
+  pub border_in : border ≤ x + 1
+  pub long : length shares ≡ x + 1
+  pub whole : brought (kept_share l rows x shares) border (λ _. 1) ≤ 2 ^ l
+  pub pending : (j : ℕ) → j < border →
+      brought (kept_share l rows x shares) border (λ p. share (placed rows) l (Some p) j) ≡ 2 ^ l * share (placed rows) l (Some x) j
+  pub met : (j : ℕ) → border ≤ j → j ≤ x → kept_share l rows x shares j ≡ share (placed rows) l (Some x) j
+
+-- x has this share of its ancestor j, in the unit of the two depths' difference, and it isn't 0
+pub record IsShareOf (rows : List Row) (x j own : ℕ) : Type 0 where
+  pub some : 0 < own
+  pub less_deep : depth_at rows j ≤ depth_at rows x
+  pub own_is : own ≡ share (placed rows) (depth_at rows x - depth_at rows j) (Some x) j
+
+-- y is the first ancestor below the border, and x has this share of it
+pub record IsNext (l : ℕ) (rows : List Row) (x border y own : ℕ) : Type 0 where
+  pub below : y < border
+  pub share_is : IsShareOf rows x y own
+  pub between : (j : ℕ) → y < j → j < border → share (placed rows) l (Some x) j ≡ 0
+
+-- to each place up to x there is the share that x has of the animal there
+pub record AreShares (l : ℕ) (rows : List Row) (x : ℕ) (shares : List ℕ) : Type 0 where
+  pub long : length shares ≡ x + 1
+  pub right : (j : ℕ) → j ≤ x → kept_share l rows x shares j ≡ share (placed rows) l (Some x) j
+
+-- the share in a list that goes by the distance from x, 0 for a later place
+abbrev pub share_at : List ℕ → ℕ → ℕ → ℕ
+share_at shares x place = if nat_le place x then slice_index shares (x - place) else 0
+
+-- the distance is that of a place below the border, and a share is kept there
+pub record IsPendingAt (x border : ℕ) (shares : List ℕ) (distance : ℕ) : Type 0 where
+  pub near : distance ≤ x
+  pub below : x - distance < border
+  pub some : 0 < slice_index shares distance
+
+-- what is pending is marked, and nothing else
+pub record IsMarked (x border : ℕ) (shares words : List ℕ) : Type 0 where
+  pub room : x < 64 * length words
+  pub marked : (p : ℕ) → p < border → 0 < slice_index shares (x - p) → mark words (x - p) ≡ 1
+  pub pending : (distance : ℕ) → mark words distance ≡ 1 → IsPendingAt x border shares distance
+
+-- the marks once a parent is given a share
+abbrev pub GivesMark : ℕ → List ℕ → List ℕ → Option ℕ → Type 0
+GivesMark x old new None = new ≡ old
+GivesMark x old new (Some p) = Marks old new (x - p) 1
+
+-- a tracing whose pending ancestors are marked
+pub record IsUnderWay (l : ℕ) (rows : List Row) (x border : ℕ) (shares words : List ℕ) : Type 0 where
+  pub tracing : IsTracing l rows x border shares
+  pub marks : IsMarked x border shares words

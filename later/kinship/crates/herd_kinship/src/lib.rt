@@ -1,0 +1,27 @@
+//! Relationships of a frozen book's animals: the laws of their table, tracing, mating and contributions.
+#![tactic(auto)]
+
+mod coefficients;
+mod entries;
+mod fractions;
+mod inverse;
+pub mod laws;
+mod mating_advice;
+mod numerators;
+mod pending;
+mod tracing;
+
+#[cfg(test)]
+mod tests;
+
+pub use coefficients::{Coefficients, coefficients_plain};
+pub use entries::{Contributions, Entry};
+pub use fractions::Fraction;
+use herd_pedigree::DEPTH_LIMIT;
+pub use inverse::contributions;
+pub use mating_advice::{MatingFault, mating};
+pub use numerators::{fraction, hundredths};
+pub use tracing::{inbred, mendelian, trace};
+
+/// The whole, in the unit of all numerators.
+pub const ONE: u128 = 1 << (2 * DEPTH_LIMIT);

@@ -1,0 +1,160 @@
+ghost use Rattle.std.specs.Prelude.{◌≡◌, ◌+◌, ◌*◌, ◌-◌, ◌<◌, ◌≤◌, length, slice_index, IfOk, IfErr, IfSome, Some, None};
+ghost use Rattle.herd_animal.specs.Sex.{is_male as is_male_number};
+ghost use Rattle.herd_pedigree.specs.declared.TheConstants.{DEPTH_LIMIT};
+ghost use Rattle.herd_pedigree.specs.Frozen.{book_of};
+ghost use Rattle.herd_kinship.specs.Coefficients.{AreCoefficients};
+ghost use Rattle.herd_kinship.specs.FrozenAncestry.{ancestry_of, number_at};
+ghost use Rattle.herd_kinship.specs.Mating.{ArePair, mating_fault, number_of};
+ghost use Rattle.herd_kinship.specs.Table.{entry};
+ghost use Rattle.herd_kinship.specs.Tracing.{share_at};
+
+use crate::coefficients::Coefficients;
+use crate::tracing::{Tracing, mendelian, shares_of, term};
+use herd_animal::{AnimalNumber, Sex};
+use herd_pedigree::{DEPTH_LIMIT, Frozen};
+use std::alloc::{AllocError, Allocator};
+use thiserror::Error;
+
+/// Why a mating gets no coefficient. The first that holds, in the order of the variants, is told.
+#[derive(Clone, Copy, Debug, PartialEq, Eq, Error)]
+pub enum MatingFault {
+    #[error("the sire isn't in the book")]
+    SireMissing,
+    #[error("the dam isn't in the book")]
+    DamMissing,
+    #[error("the sire isn't male")]
+    SireNotMale,
+    #[error("the dam isn't female")]
+    DamNotFemale,
+    #[error("a calf would be too deep")]
+    TooDeep,
+    #[error("no memory")]
+    Memory,
+}
+
+impl MatingFault {
+    /// The number by which it is told, from 1 on.
+    pub fn number(self) -> u8
+        ensures { result ≡ number_of self }
+    {
+        match self {
+            MatingFault::SireMissing => 1,
+            MatingFault::DamMissing => 2,
+            MatingFault::SireNotMale => 3,
+            MatingFault::DamNotFemale => 4,
+            MatingFault::TooDeep => 5,
+            MatingFault::Memory => 6,
+        }
+    }
+}
+
+/// The places of two animals that can be mated.
+#[derive(Clone, Copy)]
+struct Pair {
+    sire: u32,
+    dam: u32,
+}
+
+fn is_male(number: &AnimalNumber) -> bool
+    ensures { result ≡ is_male_number number.now }
+{
+    match number.sex() {
+        Sex::Male => true,
+        Sex::Female => false,
+    }
+}
+
+fn pair_of<F: Allocator>(
+    frozen: &Frozen<F>,
+    sire: &AnimalNumber,
+    dam: &AnimalNumber,
+) -> Result<Pair, MatingFault>
+    ensures pair { IfOk result (λ pair. ArePair DEPTH_LIMIT frozen.now sire.now dam.now pair.sire pair.dam) }
+    ensures fault { IfErr result (λ fault. mating_fault DEPTH_LIMIT (book_of frozen.now) sire.now dam.now ≡ Some fault) }
+{
+    frozen.len();
+    let Some(sire_place) = frozen.place(sire) else {
+        return Err(MatingFault::SireMissing);
+    };
+    let Some(dam_place) = frozen.place(dam) else {
+        return Err(MatingFault::DamMissing);
+    };
+    if !is_male(sire) {
+        return Err(MatingFault::SireNotMale);
+    }
+    if is_male(dam) {
+        return Err(MatingFault::DamNotFemale);
+    }
+    let deeper = frozen
+        .row(sire_place)
+        .depth
+        .max(frozen.row(dam_place).depth);
+    if deeper >= DEPTH_LIMIT {
+        return Err(MatingFault::TooDeep);
+    }
+    Ok(Pair {
+        sire: sire_place,
+        dam: dam_place,
+    })
+}
+
+/// The share that is kept for a place, and 0 for a later one.
+fn share_in(shares: &[u64], first: u32, place: u32) -> u64
+    requires { length shares.now ≡ first + 1 }
+    ensures { result ≡ share_at shares.now first place }
+{
+    if place <= first {
+        shares[(first - place) as usize]
+    } else {
+        0
+    }
+}
+
+/// The relationship of the animals at two places.
+fn relationship<F: Allocator, A: Allocator + Clone>(
+    alloc: A,
+    frozen: &Frozen<F>,
+    known: &[u128],
+    first: u32,
+    second: u32,
+) -> Result<u128, AllocError>
+    requires first { first < length frozen.now }
+    requires second { second < length frozen.now }
+    requires known { AreCoefficients DEPTH_LIMIT frozen.now known.now }
+    ensures { IfOk result (λ value. value ≡ entry (ancestry_of frozen.now) (2 * DEPTH_LIMIT) (Some (number_at frozen.now first)) (Some (number_at frozen.now second))) }
+{
+    let shares = shares_of(alloc.clone()?, frozen, first)?;
+    let mut tracing = Tracing::of(alloc, frozen, second)?;
+    let depths = frozen.row(first).depth + frozen.row(second).depth;
+    let mut sum = 0;
+    while let Some(met) = tracing.meet_next(frozen) {
+        let share = share_in(&shares, first, met.place);
+        if share > 0 {
+            let steps = depths - 2 * frozen.row(met.place).depth;
+            sum += term(mendelian(frozen, known, met.place), steps, share, met.share);
+        }
+    }
+    Ok(sum)
+}
+
+/// The coefficient that a calf of the two would have.
+///
+/// Ages and exits aren't asked.
+pub fn mating<F: Allocator, C: Allocator, A: Allocator + Clone>(
+    alloc: A,
+    frozen: &Frozen<F>,
+    coefficients: &Coefficients<C>,
+    sire: &AnimalNumber,
+    dam: &AnimalNumber,
+) -> Result<u128, MatingFault>
+    requires { AreCoefficients DEPTH_LIMIT frozen.now coefficients.now }
+    ensures value { IfOk result (λ value. value ≡ entry (ancestry_of frozen.now) (2 * DEPTH_LIMIT - 1) (Some sire.now) (Some dam.now)) }
+    ensures refused { IfSome (mating_fault DEPTH_LIMIT (book_of frozen.now) sire.now dam.now) (λ fault. result ≡ Err fault) }
+    ensures memory { IfErr result (λ fault. mating_fault DEPTH_LIMIT (book_of frozen.now) sire.now dam.now ≡ None → fault ≡ MatingFault.Memory) }
+{
+    let pair = pair_of(frozen, sire, dam)?;
+    match relationship(alloc, frozen, coefficients.list(), pair.sire, pair.dam) {
+        Ok(value) => Ok(value / 2),
+        Err(AllocError) => Err(MatingFault::Memory),
+    }
+}

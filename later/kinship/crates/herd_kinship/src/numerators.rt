@@ -1,0 +1,26 @@
+ghost use Rattle.std.specs.Prelude.{◌≡◌, ◌*◌, ◌^◌, ◌<◌, ◌≤◌, false};
+ghost use Rattle.herd_pedigree.specs.declared.TheConstants.{DEPTH_LIMIT};
+ghost use Rattle.herd_kinship.specs.Fraction.{halved, hundredths_of, IsLowest};
+
+use crate::ONE;
+use crate::fractions::{Fraction, lowest};
+
+/// A coefficient as a fraction.
+pub fn fraction(numerator: u128) -> Fraction
+    requires { numerator < 2 ^ (2 * DEPTH_LIMIT) }
+    ensures value { result ≡ halved false numerator (2 ^ (2 * DEPTH_LIMIT)) }
+    ensures lowest { IsLowest false numerator (2 ^ (2 * DEPTH_LIMIT)) result }
+{
+    lowest(false, numerator, ONE)
+}
+
+/// A coefficient in hundredths of a percent, rounded.
+pub fn hundredths(numerator: u128) -> u32
+    requires { numerator < 2 ^ (2 * DEPTH_LIMIT) }
+    ensures value { result ≡ hundredths_of DEPTH_LIMIT numerator }
+    ensures at_most { result ≤ 10000 }
+{
+    let percents = numerator * 100;
+    let rest = percents % ONE * 100 + ONE / 2;
+    (percents / ONE * 100 + rest / ONE) as u32
+}

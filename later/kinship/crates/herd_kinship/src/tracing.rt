@@ -1,0 +1,212 @@
+ghost use Rattle.std.specs.Prelude.{◌≡◌, ℕ, ◌+◌, ◌*◌, ◌-◌, ◌/◌, ◌^◌, ◌<◌, ◌≤◌, ◌&&◌, is_some, length, min, slice_get, slice_index, IfOk, IfSome, IfNone, Some};
+ghost use Rattle.std.specs.Option.{ForSome};
+ghost use Rattle.herd_pedigree.specs.declared.TheConstants.{DEPTH_LIMIT};
+ghost use Rattle.herd_kinship.specs.Coefficients.{IsKnownParent, KnowsAncestors, quarter_of};
+ghost use Rattle.herd_kinship.specs.FrozenAncestry.{ancestry_of, number_at};
+ghost use Rattle.herd_kinship.specs.Places.{placed};
+ghost use Rattle.herd_kinship.specs.Shares.{share};
+ghost use Rattle.herd_kinship.specs.Table.{entry, mendelian as mendelian_part};
+ghost use Rattle.herd_kinship.specs.Tracing.{AreShares, given, GivesMark, HasRoom, IsNext, IsUnderWay};
+
+use crate::ONE;
+use crate::pending::Pending;
+use herd_pedigree::{Frozen, Row};
+use std::alloc::{AllocError, Allocator};
+
+/// An ancestor that is met, and the share that the traced animal has of it.
+#[derive(Clone, Copy)]
+pub struct Met {
+    pub place: u32,
+    pub share: u64,
+}
+
+/// The ancestors of an animal, itself among them, as they are met from the youngest to the oldest.
+#[derive(Drop)]
+pub struct Tracing<A: Allocator> {
+    place: u32,
+    /// All ancestors from this place on are met.
+    border: u32,
+    /// By distance from the animal, in units of their own.
+    shares: Vec<u64, A>,
+    pending: Pending<A>,
+}
+
+impl<A: Allocator + Clone> Tracing<A> {
+    /// Nobody is met yet.
+    pub fn of<F: Allocator>(
+        alloc: A,
+        frozen: &Frozen<F>,
+        place: u32,
+    ) -> Result<Tracing<A>, AllocError>
+        requires { place < length frozen.now }
+        ensures place { IfOk result (λ tracing. tracing.place ≡ place) }
+        ensures border { IfOk result (λ tracing. tracing.border ≡ place + 1) }
+        ensures tracing { IfOk result (λ tracing. IsUnderWay DEPTH_LIMIT frozen.now place (place + 1) tracing.shares.items tracing.pending.words.items) }
+    {
+        frozen.len();
+        let mut shares = vec![in alloc.clone()?; 0u64; place as usize + 1]?;
+        shares[0] = 1;
+        let mut pending = Pending::with_room(alloc, place + 1)?;
+        pending.insert(0);
+        Ok(Tracing {
+            place,
+            border: place + 1,
+            shares,
+            pending,
+        })
+    }
+}
+
+impl<A: Allocator> Tracing<A> {
+    /// Meets the next ancestor, and passes its share on to its parents.
+    pub fn meet_next<F: Allocator>(&mut self, frozen: &Frozen<F>) -> Option<Met>
+        requires { IsUnderWay DEPTH_LIMIT frozen.now self.old.place self.old.border self.old.shares.items self.old.pending.words.items }
+        ensures same { self.new.place ≡ self.old.place }
+        ensures tracing { IsUnderWay DEPTH_LIMIT frozen.now self.new.place self.new.border self.new.shares.items self.new.pending.words.items }
+        ensures next { IfSome result (λ met. IsNext DEPTH_LIMIT frozen.now self.old.place self.old.border met.place met.share) }
+        ensures border { IfSome result (λ met. self.new.border ≡ met.place) }
+        ensures ended { IfNone result (self.new.border ≡ 0) }
+        ensures all { IfNone result ((j : ℕ) → j < self.old.border → share (placed frozen.now) DEPTH_LIMIT (Some self.old.place) j ≡ 0) }
+    {
+        let Some(distance) = self.pending.take_nearest() else {
+            self.border = 0;
+            return None;
+        };
+        let met = Met {
+            place: self.place - distance as u32,
+            share: self.shares[distance],
+        };
+        self.border = met.place;
+        let row = frozen.row(met.place);
+        self.give(frozen, row, met, row.sire);
+        self.give(frozen, row, met, row.dam);
+        Some(met)
+    }
+
+    /// Gives half of an animal's share to its parent, in the parent's unit.
+    fn give<F: Allocator>(&mut self, frozen: &Frozen<F>, row: &Row, met: Met, parent: Option<u32>)
+        requires row { slice_get frozen.now met.place ≡ Some row.now }
+        requires room { ForSome parent (HasRoom DEPTH_LIMIT frozen.now self.old.place self.old.shares.items met.place met.share) }
+        requires marks { self.old.place < 64 * length self.old.pending.words.items }
+        ensures place { self.new.place ≡ self.old.place }
+        ensures border { self.new.border ≡ self.old.border }
+        ensures shares { self.new.shares.items ≡ given frozen.now self.old.place self.old.shares.items met.place met.share parent }
+        ensures marks { GivesMark self.old.place self.old.pending.words.items self.new.pending.words.items parent }
+    {
+        if let Some(place) = parent {
+            let steps = row.depth - frozen.row(place).depth;
+            let distance = (self.place - place) as usize;
+            self.shares[distance] += met.share << (steps - 1);
+            self.pending.insert(distance);
+        }
+    }
+}
+
+/// A quarter of a parent's relationship with itself.
+fn quarter(known: &[u128], parent: Option<u32>) -> u128
+    requires { ForSome parent (IsKnownParent DEPTH_LIMIT known.now) }
+    ensures value { result ≡ quarter_of DEPTH_LIMIT known.now parent }
+    ensures half { result ≤ 2 ^ (2 * DEPTH_LIMIT - 1) }
+{
+    match parent {
+        Some(place) => (ONE + known[place as usize]) / 4,
+        None => 0,
+    }
+}
+
+/// The Mendelian part of the animal at a place, by the coefficients of its parents.
+pub fn mendelian<F: Allocator>(frozen: &Frozen<F>, known: &[u128], place: u32) -> u128
+    requires place { place < length frozen.now }
+    requires known { KnowsAncestors DEPTH_LIMIT frozen.now known.now place }
+    ensures { result ≡ mendelian_part (ancestry_of frozen.now) DEPTH_LIMIT (number_at frozen.now place) }
+{
+    frozen.len();
+    let row = frozen.row(place);
+    ONE - quarter(known, row.sire) - quarter(known, row.dam)
+}
+
+/// What an ancestor adds to a relationship: its Mendelian part times the two shares, which are in units that
+/// leave so many steps to take.
+pub fn term(part: u128, steps: u8, share: u64, other: u64) -> u128
+    requires shift { steps < 128 }
+    requires fits { part / 2 ^ steps * (share * other) < 2 ^ 128 }
+    ensures { result ≡ part / 2 ^ steps * (share * other) }
+{
+    (part >> steps) * (u128::from(share) * u128::from(other))
+}
+
+fn has_both_parents(row: &Row) -> bool
+    ensures { result ≡ (is_some row.now.sire && is_some row.now.dam) }
+{
+    row.sire.is_some() && row.dam.is_some()
+}
+
+/// The squared shares in its ancestors times their Mendelian parts, added up.
+fn trace_ancestors<F: Allocator, A: Allocator + Clone>(
+    alloc: A,
+    frozen: &Frozen<F>,
+    known: &[u128],
+    place: u32,
+) -> Result<u128, AllocError>
+    requires place { place < length frozen.now }
+    requires known { KnowsAncestors DEPTH_LIMIT frozen.now known.now place }
+    ensures { IfOk result (λ value. value ≡ entry (ancestry_of frozen.now) (2 * DEPTH_LIMIT) (Some (number_at frozen.now place)) (Some (number_at frozen.now place))) }
+{
+    let depth = frozen.row(place).depth;
+    let mut tracing = Tracing::of(alloc, frozen, place)?;
+    let mut sum = 0;
+    while let Some(met) = tracing.meet_next(frozen) {
+        let steps = 2 * depth - 2 * frozen.row(met.place).depth;
+        sum += term(
+            mendelian(frozen, known, met.place),
+            steps,
+            met.share,
+            met.share,
+        );
+    }
+    Ok(sum)
+}
+
+/// The relationship of the animal at a place with itself, by the coefficients of its ancestors.
+///
+/// No memory is taken where a parent is unknown.
+pub fn trace<F: Allocator, A: Allocator + Clone>(
+    alloc: A,
+    frozen: &Frozen<F>,
+    known: &[u128],
+    place: u32,
+) -> Result<u128, AllocError>
+    requires place { place < length frozen.now }
+    requires known { KnowsAncestors DEPTH_LIMIT frozen.now known.now place }
+    ensures { IfOk result (λ value. value ≡ entry (ancestry_of frozen.now) (2 * DEPTH_LIMIT) (Some (number_at frozen.now place)) (Some (number_at frozen.now place))) }
+{
+    frozen.len();
+    let row = frozen.row(place);
+    if has_both_parents(row) {
+        trace_ancestors(alloc, frozen, known, place)
+    } else {
+        Ok(ONE)
+    }
+}
+
+/// The coefficient of an animal, by its relationship with itself.
+pub fn inbred(value: u128) -> u128
+    ensures value { result ≡ min (value - 2 ^ (2 * DEPTH_LIMIT)) (2 ^ (2 * DEPTH_LIMIT) - 1) }
+    ensures below_one { result < 2 ^ (2 * DEPTH_LIMIT) }
+{
+    value.saturating_sub(ONE).min(ONE - 1)
+}
+
+/// The shares that the animal at a place has of all older ones, by distance, in units of their own.
+pub fn shares_of<F: Allocator, A: Allocator + Clone>(
+    alloc: A,
+    frozen: &Frozen<F>,
+    place: u32,
+) -> Result<Vec<u64, A>, AllocError>
+    requires { place < length frozen.now }
+    ensures { IfOk result (λ shares. AreShares DEPTH_LIMIT frozen.now place shares.items) }
+{
+    let mut tracing = Tracing::of(alloc, frozen, place)?;
+    while tracing.meet_next(frozen).is_some() {}
+    Ok(tracing.shares)
+}

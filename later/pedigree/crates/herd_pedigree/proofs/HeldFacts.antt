@@ -1,0 +1,193 @@
+-- What is held after a correction, and what taking a change back needs.
+use Rattle.std.proofs.Common.{ℕ, ◌+◌, ◌-◌, ◌<◌, ◌≤◌, ◌≡◌, ⊎_elim, inl, inr, arith, refl, sym, ap, ◌∙◌, subst, true, false, IsTrue, List, [], Option, Some, None, length, slice_get, slice_index, slice_set, All}
+use Rattle.std.specs.Map.{keys_of}
+use Rattle.std.proofs.lemmas.Bool.{cases_lt, lt-ltb}
+use Rattle.std.proofs.lemmas.Option.{same_Some, slice_get_within}
+use Rattle.std.proofs.lemmas.List.{get_or-take, get_or-set_same, length-set, length-take-le, set-set, set-get_or}
+use Rattle.indexmap.specs.IndexMap.{set_value_at}
+use Rattle.herd_pedigree.specs.declared.animal.Animal.{Animal}
+use Rattle.herd_pedigree.specs.declared.undo.Undo.{Undo}
+use Rattle.herd_pedigree.specs.declared.undo.Undo.TheVariants.{Nothing, Birth, Record}
+use Rattle.herd_pedigree.specs.Lines.{Parentage, has_line}
+use Rattle.herd_pedigree.specs.Book.{Book, record_of, changed, with_parents}
+use Rattle.herd_pedigree.specs.Pedigree.{IsCorrection}
+use Rattle.herd_pedigree.specs.Depths.{IsParent, AreDepths}
+use Rattle.herd_pedigree.specs.Parents.{parent_at, parentage_at, IsPlaceIn}
+use Rattle.herd_pedigree.specs.Progeny.{Progeny}
+use Rattle.herd_pedigree.specs.Whole.{HasRoom, IsWhole}
+use Rattle.herd_pedigree.specs.Carry.{IsSettled}
+use Rattle.herd_pedigree.specs.Kept.{IsKept}
+use Rattle.herd_pedigree.specs.Undo.{IsHeld, without_last, undone_writes}
+use Rattle.herd_pedigree.proofs.LineFacts.{depths-fall}
+use Rattle.herd_pedigree.proofs.RecordFacts.{lookup_at}
+use Rattle.herd_pedigree.proofs.FaultFacts.{HasNoFault, no_fault, sire-may_be, dam-may_be}
+use Rattle.herd_pedigree.proofs.KeptFacts.{shallow-kept}
+use Rattle.herd_pedigree.proofs.WrittenFacts.{written-changed, lawful-written}
+use Rattle.herd_pedigree.proofs.SetFacts.{set-changed, set-back, length-set-at, stayed-same}
+use Rattle.herd_pedigree.proofs.CarryFacts.{settled-depths, settled-deep}
+use Rattle.herd_pedigree.proofs.ProgenyFacts.{parent-within}
+use Rattle.herd_pedigree.proofs.CheckFacts.{parents-within, sires-corrected, dams-corrected, once-corrected, closed-after, shallow-by_place}
+
+-- more room is room
+pub HasRoom-more : (undo : Undo) (sires dams sires' dams' : Progeny) → sires'.parents ≡ sires.parents → dams'.parents ≡ dams.parents → ((p : ℕ) → slice_index sires.spare p ≤ slice_index sires'.spare p) → ((p : ℕ) → slice_index dams.spare p ≤ slice_index dams'.spare p) →
+    HasRoom undo sires dams → HasRoom undo sires' dams'
+HasRoom-more Nothing sires dams sires' dams' s d more more' room = tt
+HasRoom-more Birth sires dams sires' dams' s d more more' room = tt
+HasRoom-more (Record place animal sire dam) sires dams sires' dams' s d more more' room = (
+  λ p e n. let a = room.0 p e (λ h. n (ap (λ ps. parent_at ps place) s ∙ h)) in let b = more p in omega (arith, a, b),
+  λ p e n. let a = room.1 p e (λ h. n (ap (λ ps. parent_at ps place) d ∙ h)) in let b = more' p in omega (arith, a, b),
+)
+
+-- no room is needed where the parents stay
+pub HasRoom-same : (place : ℕ) (animal : Animal) (sire dam : Option ℕ) (sires dams : Progeny) → sire ≡ parent_at sires.parents place → dam ≡ parent_at dams.parents place → HasRoom (Record place animal sire dam) sires dams
+HasRoom-same place animal sire dam sires dams s d = (λ p e n. absurd (n (sym s ∙ e)), λ p e n. absurd (n (sym d ∙ e)))
+
+-- the last animal, which was added last, has no calves
+module _ (l most : ℕ) (book : Book) (sires dams : List (Option ℕ)) (depths : List ℕ) (log : List (ℕ × ℕ)) (h : IsHeld l most book sires dams depths log Birth) where
+  old : IsKept l most (without_last book) (without_last sires) (without_last dams) (without_last depths)
+  old = h.before (without_last book) refl
+
+  last_there : (n : ℕ) → n + 1 ≡ length sires → (c : ℕ) → IsParent (parentage_at sires dams) n c → c < n → (length (without_last book) ≡ n) → ⊥
+  last_there n e c is low long =
+      let m = h.kept.sires_are.long in
+      let k = h.kept.dams_are.long in
+      ⊎_elim
+      (λ (s : parent_at sires c ≡ Some n).
+      let w = parents-within (without_last book) (λ animal. animal.sire) (without_last sires) old.sires_are c n (get_or-take (length sires - 1) sires c None (omega (arith, low, e)) ∙ s) in
+      absurd (omega (arith, w, long)))
+      (λ (d : parent_at dams c ≡ Some n).
+      let w = parents-within (without_last book) (λ animal. animal.dam) (without_last dams) old.dams_are c n (get_or-take (length dams - 1) dams c None (omega (arith, low, e, m, k)) ∙ d) in
+      absurd (omega (arith, w, long)))
+      is
+
+  none-of_last : (c : ℕ) → IsParent (parentage_at sires dams) (length sires - 1) c → ⊥
+  none-of_last c is =
+      let n : ℕ = length sires - 1 in
+      let m = h.kept.sires_are.long in
+      let k = h.kept.dams_are.long in
+      let some = h.within in
+      let e : n + 1 ≡ length sires = omega (arith, m, some) in
+      let long : length (without_last book) ≡ n = length-take-le (length book - 1) book (omega arith) ∙ ap (λ v. v - 1) (sym m) in
+      let here : c < length sires = ⊎_elim (λ s. parent-within sires c n s) (λ d. let w = parent-within dams c n d in omega (arith, w, m, k)) is in
+      let fall = depths-fall l (parentage_at sires dams) (slice_index depths) h.kept.depths_are n c (lt-ltb c (length sires) here) is in
+      ⊎_elim
+      (λ (low : c < n). last_there n e c is low long)
+      (λ (high : n ≤ c).
+      let same : c ≡ n = omega (arith, high, here, e) in
+      let bad : slice_index depths n < slice_index depths n = subst (λ v. slice_index depths n < slice_index depths v) same fall in
+      absurd (omega (arith, bad)))
+      (cases_lt c n)
+
+  pub childless-sire : (c : ℕ) → parent_at sires c ≡ Some (length sires - 1) → ⊥
+  childless-sire c e = none-of_last c (inl e)
+
+  pub childless-dam : (c : ℕ) → parent_at dams c ≡ Some (length dams - 1) → ⊥
+  childless-dam c e =
+      let m = h.kept.sires_are.long in
+      let k = h.kept.dams_are.long in
+      let same : length dams - 1 ≡ length sires - 1 = omega (arith, m, k) in
+      none-of_last c (inr (e ∙ ap Some same))
+
+-- the parents that taking back sets are there
+module _ (l most : ℕ) (book : Book) (sires dams : List (Option ℕ)) (depths : List ℕ) (log : List (ℕ × ℕ)) (place : ℕ) (animal : Animal) (sire dam : Option ℕ) (h : IsHeld l most book sires dams depths log (Record place animal sire dam)) where
+  was : IsKept l most (set_value_at book place animal) (slice_set sires place sire) (slice_set dams place dam) (undone_writes log depths)
+  was = h.before (set_value_at book place animal) refl
+
+  pub undo-sire : (p : ℕ) → sire ≡ Some p → p < length sires
+  undo-sire p e =
+      let m = h.kept.sires_are.long in
+      let n = length-set-at book place animal in
+      let here : place < length sires = let w = h.within.0 in omega (arith, w, m) in
+      let w = parents-within (set_value_at book place animal) (λ animal. animal.sire) (slice_set sires place sire) was.sires_are place p (get_or-set_same sires place sire None here ∙ e) in
+      omega (arith, w, n, m)
+
+  pub undo-dam : (p : ℕ) → dam ≡ Some p → p < length dams
+  undo-dam p e =
+      let m = h.kept.dams_are.long in
+      let n = length-set-at book place animal in
+      let here : place < length dams = let w = h.within.0 in omega (arith, w, m) in
+      let w = parents-within (set_value_at book place animal) (λ animal. animal.dam) (slice_set dams place dam) was.dams_are place p (get_or-set_same dams place dam None here ∙ e) in
+      omega (arith, w, n, m)
+
+-- a correction with no fault
+module _ (l most : ℕ) (book : Book) (sires dams : List (Option ℕ)) (depths : List ℕ) (k : IsKept l most book sires dams depths)
+    (number : List ℕ) (a : ℕ) (at : slice_get (keys_of book) a ≡ Some number) (animal : Animal) (entry : slice_get book a ≡ Some (number, animal))
+    (sire dam : Option ℕ) (s d : Option (List ℕ)) (sire_is : IsPlaceIn (keys_of book) sire s) (dam_is : IsPlaceIn (keys_of book) dam d)
+    (asked : IsCorrection l book number s d) where
+  there : record_of book number ≡ Some animal
+  there = lookup_at book k.lawful.once a number animal entry
+
+  fine : HasNoFault l book number animal.birth s d animal.embryo
+  fine =
+      let same : asked.animal ≡ animal = same_Some _ _ (sym asked.there ∙ there) in
+      subst (λ a. HasNoFault l book number a.birth s d a.embryo) same (no_fault l book number asked.animal.birth s d asked.animal.embryo asked.parents)
+
+  pub shallow-asked : (c : ℕ) → has_line (parentage_at (slice_set sires a sire) (slice_set dams a dam)) (l + 1) c ≡ false
+  shallow-asked = shallow-by_place l most book sires dams depths k number a at sire dam s d sire_is dam_is fine.shallow
+
+  module _ (after : List ℕ) (long : length after ≡ length depths) (settled : IsSettled l (parentage_at (slice_set sires a sire) (slice_set dams a dam)) (slice_index after) []) where
+    depths-asked : AreDepths l (parentage_at (slice_set sires a sire) (slice_set dams a dam)) (slice_index after)
+    depths-asked =
+        let new : Parentage ℕ = parentage_at (slice_set sires a sire) (slice_set dams a dam) in
+        let closed : (p x : ℕ) → IsTrue (new.is_there x) → IsParent new p x → IsTrue (new.is_there p) = λ p x there is.
+        lt-ltb p (length (slice_set sires a sire)) (let w = closed-after l most book sires dams depths k number a at sire dam s d sire_is dam_is p x is in let n = length-set sires a sire in omega (arith, w, n)) in
+        settled-depths l new (slice_index after) closed settled
+        (λ x there.
+        ⊎_elim
+        (λ (high : l < slice_index after x).
+        let t : true ≡ false = sym (settled-deep l new (slice_index after) closed settled x there high) ∙ shallow-asked x in absurd (cc))
+        (λ (low : slice_index after x ≤ l). low)
+        (cases_lt l (slice_index after x)))
+
+    IsKept-corrected : IsKept l most (changed book number (with_parents s d)) (slice_set sires a sire) (slice_set dams a dam) after
+    IsKept-corrected =
+        let new : Book = changed book number (with_parents s d) in
+        let same : set_value_at book a (with_parents s d animal) ≡ changed book number (with_parents s d) = set-changed book k.lawful.once a number animal (with_parents s d) entry in
+        let once = once-corrected l most book sires dams depths k number a at sire dam s d sire_is dam_is in
+        let sires_are = sires-corrected l most book sires dams depths k number a at sire dam s d sire_is dam_is in
+        let dams_are = dams-corrected l most book sires dams depths k number a at sire dam s d sire_is dam_is in
+        let n : length new ≡ length book = ap (λ es. length es) (sym same) ∙ length-set-at book a (with_parents s d animal) in
+        let own = k.lawful.records number animal there in
+        record {
+          lawful =
+              lawful-written book new number (with_parents s d animal) (written-changed book number (with_parents s d) animal there)
+              (λ was e. ap (λ a. a.birth) (same_Some _ _ (sym there ∙ e)))
+              l most k.lawful once (let f = k.lawful.few in omega (arith, n, f))
+              (shallow-kept l new (slice_set sires a sire) (slice_set dams a dam) once sires_are dams_are (slice_index after) depths-asked)
+              (sire-may_be l book number animal.birth s d animal.embryo fine)
+              (dam-may_be l book number animal.birth s d animal.embryo fine)
+              own.since own.left
+              (λ y calf e is p fresh. stayed-same l most book number animal (with_parents s d animal) there refl calf.birth calf.embryo p fresh);
+          sires_are = sires_are;
+          dams_are = dams_are;
+          long = long ∙ k.long ∙ sym n;
+          depths_are = depths-asked;
+        }
+
+    -- what is held once the correction is noted
+    pub IsHeld-corrected : (log : List (ℕ × ℕ)) → All (λ write. write.0 < length depths) log → undone_writes log after ≡ depths → (was_sire was_dam : Option ℕ) → was_sire ≡ parent_at sires a → was_dam ≡ parent_at dams a →
+        IsHeld l most (set_value_at book a (with_parents s d animal)) (slice_set sires a sire) (slice_set dams a dam) after log (Record a animal was_sire was_dam)
+    IsHeld-corrected log logged undone was_sire was_dam e f =
+        let same : set_value_at book a (with_parents s d animal) ≡ changed book number (with_parents s d) = set-changed book k.lawful.once a number animal (with_parents s d) entry in
+        let n = length-set-at book a (with_parents s d animal) in
+        let w = slice_get_within book a (number, animal) entry in
+        record {
+          kept = subst (λ es. IsKept l most es (slice_set sires a sire) (slice_set dams a dam) after) (sym same) IsKept-corrected;
+          within = (
+            omega (arith, w, n),
+            subst (λ m. All (λ (write : ℕ × ℕ). write.0 < m) log) (k.long ∙ sym n) logged,
+          );
+          before = λ old is.
+              let back : book ≡ old = sym (set-back book a number animal (with_parents s d animal) entry) ∙ same_Some _ _ is in
+              let sires_same : slice_set (slice_set sires a sire) a was_sire ≡ sires = set-set sires a sire was_sire ∙ ap (λ o. slice_set sires a o) e ∙ set-get_or sires a None in
+              let dams_same : slice_set (slice_set dams a dam) a was_dam ≡ dams = set-set dams a dam was_dam ∙ ap (λ o. slice_set dams a o) f ∙ set-get_or dams a None in
+              rw (sires_same, dams_same, undone) (subst (λ old. IsKept l most old sires dams depths) back k);
+        }
+
+-- all that is kept, where only room was made
+pub IsWhole-more : (l most : ℕ) (book : Book) (sires dams sires' dams' : Progeny) (depths depths' : List ℕ) (log : List (ℕ × ℕ)) (undo : Undo) → IsWhole l most book sires dams depths log undo → sires'.parents ≡ sires.parents → dams'.parents ≡ dams.parents → depths' ≡ depths →
+    ((p : ℕ) → slice_index sires.spare p ≤ slice_index sires'.spare p) → ((p : ℕ) → slice_index dams.spare p ≤ slice_index dams'.spare p) → IsWhole l most book sires' dams' depths' log undo
+IsWhole-more l most book sires dams sires' dams' depths depths' log undo w s d e more more' = record {
+  held = rw (s, d, e) w.held;
+  room = HasRoom-more undo sires dams sires' dams' s d more more' w.room;
+}

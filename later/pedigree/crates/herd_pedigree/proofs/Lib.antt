@@ -1,0 +1,16 @@
+mod LineFacts
+mod RecordFacts
+mod PlaceFacts
+mod DepthFacts
+mod FaultFacts
+mod WrittenFacts
+mod KeptFacts
+mod SetFacts
+mod CheckFacts
+mod UndoFacts
+mod ListFacts
+mod ProgenyFacts
+mod CarryFacts
+mod CorrectionFacts
+mod HeldFacts
+mod CalvedFacts

@@ -1,0 +1,40 @@
+-- What a log of writes takes back.
+use Rattle.std.proofs.Common.{ℕ, zero, suc, ◌-◌, ◌<◌, ◌≡◌, arith, refl, sym, ap, ◌∙◌, subst, true, false, is_some, List, [], ◌∷◌, ◌++◌, Option, Some, None, length, slice_set, option_to_list}
+use Rattle.std.proofs.lemmas.List.{length_push, take_at, append-nil, nil_from_length}
+use Rattle.herd_pedigree.specs.declared.animal.Animal.{Animal}
+use Rattle.herd_pedigree.specs.Book.{Book}
+use Rattle.herd_pedigree.specs.Pedigree.{Pedigree, changed_to}
+use Rattle.indexmap.specs.IndexMap.{set_value_at}
+use Rattle.herd_pedigree.specs.declared.undo.Undo.{Undo}
+use Rattle.herd_pedigree.specs.declared.undo.Undo.TheVariants.{Nothing, Record}
+use Rattle.herd_pedigree.specs.Undo.{IsHeld, undone_writes, without_last}
+
+-- the last write is taken back first
+pub undone-last : (log : List (ℕ × ℕ)) (write : ℕ × ℕ) (depths : List ℕ) → undone_writes (log ++ write ∷ []) depths ≡ undone_writes log (slice_set depths write.0 write.1)
+undone-last [] write depths = refl
+undone-last (first ∷ log) write depths = ap (λ ds. slice_set ds first.0 first.1) (undone-last log write depths)
+
+-- without the last element that was pushed
+pub without_last-push : {X : Type 0} (xs : List X) (x : X) → without_last (xs ++ x ∷ []) ≡ xs
+without_last-push xs x = let n = length_push xs x in take_at xs (x ∷ []) (length (xs ++ x ∷ []) - 1) (omega (arith, n))
+
+pub last_popped : {X : Type 0} (xs ys : List X) (o : Option X) → xs ≡ ys ++ option_to_list o → (0 < length xs → is_some o ≡ true) → ys ≡ without_last xs
+last_popped xs ys None e some = by (length xs) refl
+  where
+    by : (n : ℕ) → length xs ≡ n → ys ≡ without_last xs
+    by zero h = sym (append-nil ys) ∙ sym e ∙ nil_from_length xs h ∙ sym (ap (λ l. without_last l) (nil_from_length xs h))
+    by (suc n) h = let t : false ≡ true = some (omega (arith, h)) in absurd (cc)
+last_popped xs ys (Some x) e some = sym (without_last-push ys x) ∙ sym (ap (λ l. without_last l) e)
+
+-- the view after a birth
+pub birth-view : (was : Pedigree) (book entries : Book) (entry : List ℕ × Animal) → entries ≡ book ++ entry ∷ [] → book ≡ was.book → record { book = entries; before = Some (without_last entries) } ≡ changed_to was (was.book ++ entry ∷ [])
+birth-view was book entries entry e w =
+    λ i. record { book = (e ∙ ap (λ b. b ++ entry ∷ []) w) i; before = (ap (λ es. Some (without_last es)) e ∙ ap Some (without_last-push book entry ∙ w)) i }
+
+-- what is held once a write of a record is taken back
+pub IsHeld-undone : (l most : ℕ) (book : Book) (sires dams : List (Option ℕ)) (depths : List ℕ) (log : List (ℕ × ℕ)) (undo : Undo) → IsHeld l most book sires dams depths log undo →
+    (place : ℕ) (animal : Animal) (sire dam : Option ℕ) → undo ≡ Record place animal sire dam → (left : List (ℕ × ℕ)) →
+    IsHeld l most (set_value_at book place animal) (slice_set sires place sire) (slice_set dams place dam) (undone_writes log depths) left Nothing
+IsHeld-undone l most book sires dams depths log undo h place animal sire dam is left =
+    let held : IsHeld l most book sires dams depths log (Record place animal sire dam) = subst (λ u. IsHeld l most book sires dams depths log u) is h in
+    record { kept = held.before (set_value_at book place animal) refl; within = tt; before = λ old e. absurd (cc) }

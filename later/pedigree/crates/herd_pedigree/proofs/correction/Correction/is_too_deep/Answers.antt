@@ -1,0 +1,33 @@
+use Rattle.std.proofs.Common.{sym, ap, ◌∙◌, subst, arith, ℕ, List, Option, [], ◌≡◌, ◌<◌, ◌≤◌, IsTrue, length, slice_index, slice_set}
+use Rattle.std.proofs.lemmas.Bool.{lt-ltb}
+use Rattle.std.proofs.lemmas.List.{length-set, with_items_is}
+use Rattle.herd_pedigree.specs.Correction.{corrected}
+use Rattle.herd_pedigree.specs.Depths.{IsParent}
+use Rattle.herd_pedigree.specs.Carry.{IsSettled}
+use Rattle.herd_pedigree.proofs.CarryFacts.{settled-deep, settled-shallow}
+use Rattle.herd_pedigree.proofs.correction.Correction.is_too_deep.Goals as goal
+
+pub returns : goal.returns
+returns g c =
+    let x = c.args.self.now in
+    let sires : List (Option ℕ) = slice_set x.sires.now.parents x.place x.sire in
+    let n : length sires ≡ length x.sires.now.parents = length-set x.sires.now.parents x.place x.sire in
+    let depths : List ℕ = c.carry.new.depths in
+    let same : length depths ≡ c.in_ok-depths.depths.len = c.carry.auto.depths ∙ c.deref_mut.ensures.len in
+    let read : c.deref.result.now ≡ depths = c.deref.ensures.value ∙ with_items_is c.in_ok-depths.depths depths same in
+    let long : length depths ≡ length sires = same ∙ c.in_ok-depths.ensures.len ∙ c.requires.long ∙ sym n in
+    let closed : (p y : ℕ) → IsTrue ((corrected x).is_there y) → IsParent (corrected x) p y → IsTrue ((corrected x).is_there p) =
+    λ p y there is. lt-ltb p (length sires) (let w = c.requires.sound.closed p y is in omega (arith, w, n)) in
+    let settled : IsSettled 60 (corrected x) (slice_index depths) [] = c.in_ok-carry.ensures.settled c.if-not-branch.false in
+    record {
+      deep = λ t.
+          let high = c.has_greater.ensures.greater t in (
+            high.0,
+            settled-deep 60 (corrected x) (slice_index depths) closed settled high.0
+                (lt-ltb high.0 (length sires) (let w = high.1 in let e = ap (λ ds. length ds) read in omega (arith, w, e, long)))
+                (subst (λ ds. 60 < slice_index ds high.0) read high.2),
+          );
+      shallow = λ no.
+          settled-shallow 60 (corrected x) (slice_index depths) closed settled
+          (λ y there. subst (λ ds. slice_index ds y ≤ 60) read (c.has_greater.ensures.most no y));
+    }

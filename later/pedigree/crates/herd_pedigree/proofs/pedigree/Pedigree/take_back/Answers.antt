@@ -1,0 +1,53 @@
+use Rattle.std.proofs.Common.{ap, ◌∙◌, subst, ◌≡◌, ℕ, List, length}
+use Rattle.std.proofs.lemmas.List.{with_items_is}
+use Rattle.herd_pedigree.specs.Book.{Book}
+use Rattle.herd_pedigree.specs.declared.undo.Undo.TheVariants.{Birth, Record}
+use Rattle.herd_pedigree.specs.Undo.{IsHeld, undone_writes}
+use Rattle.herd_pedigree.proofs.HeldFacts.{childless-sire, childless-dam, undo-sire, undo-dam}
+use Rattle.herd_pedigree.proofs.UndoFacts.{IsHeld-undone}
+use Rattle.herd_pedigree.proofs.pedigree.Pedigree.take_back.Goals as goal
+
+pub pop-requires-in-Birth-clause-childless : goal.pop-requires-in-Birth-clause-childless
+pop-requires-in-Birth-clause-childless g c =
+    let inside = c.self.inside in
+    let held : IsHeld 60 60_000 inside.records.entries inside.sires.parents inside.dams.parents inside.depths.items inside.old_depths.items Birth =
+    subst (λ u. IsHeld 60 60_000 inside.records.entries inside.sires.parents inside.dams.parents inside.depths.items inside.old_depths.items u) c.in-Birth.is c.self.invariant.held in
+    childless-sire 60 60_000 inside.records.entries inside.sires.parents inside.dams.parents inside.depths.items inside.old_depths.items held
+
+pub pop-requires-in-Birth-2-clause-childless : goal.pop-requires-in-Birth-2-clause-childless
+pop-requires-in-Birth-2-clause-childless g c =
+    let inside = c.self.inside in
+    let held : IsHeld 60 60_000 inside.records.entries inside.sires.parents inside.dams.parents inside.depths.items inside.old_depths.items Birth =
+    subst (λ u. IsHeld 60 60_000 inside.records.entries inside.sires.parents inside.dams.parents inside.depths.items inside.old_depths.items u) c.in-Birth.is c.self.invariant.held in
+    childless-dam 60 60_000 inside.records.entries inside.sires.parents inside.dams.parents inside.depths.items inside.old_depths.items held
+
+pub set-requires-clause-within : goal.set-requires-clause-within
+set-requires-clause-within g c =
+    let inside = c.self.inside in
+    let undo = Record c.in-Record.place c.in-Record.animal c.in-Record.sire c.in-Record.dam in
+    let held : IsHeld 60 60_000 inside.records.entries inside.sires.parents inside.dams.parents inside.depths.items inside.old_depths.items undo =
+    subst (λ u. IsHeld 60 60_000 inside.records.entries inside.sires.parents inside.dams.parents inside.depths.items inside.old_depths.items u) c.in-Record.is c.self.invariant.held in
+    undo-sire 60 60_000 inside.records.entries inside.sires.parents inside.dams.parents inside.depths.items inside.old_depths.items c.in-Record.place c.in-Record.animal c.in-Record.sire c.in-Record.dam held
+
+pub set-requires-in-Record-clause-within : goal.set-requires-in-Record-clause-within
+set-requires-in-Record-clause-within g c =
+    let inside = c.self.inside in
+    let undo = Record c.in-Record.place c.in-Record.animal c.in-Record.sire c.in-Record.dam in
+    let held : IsHeld 60 60_000 inside.records.entries inside.sires.parents inside.dams.parents inside.depths.items inside.old_depths.items undo =
+    subst (λ u. IsHeld 60 60_000 inside.records.entries inside.sires.parents inside.dams.parents inside.depths.items inside.old_depths.items u) c.in-Record.is c.self.invariant.held in
+    undo-dam 60 60_000 inside.records.entries inside.sires.parents inside.dams.parents inside.depths.items inside.old_depths.items c.in-Record.place c.in-Record.animal c.in-Record.sire c.in-Record.dam held
+
+pub invariant_of-self-in-Record : goal.invariant_of-self-in-Record
+invariant_of-self-in-Record g c =
+    let book : Book = c.self.inside.records.entries in
+    let depths : List ℕ = c.self.inside.depths.items in
+    let log : List (ℕ × ℕ) = c.self.inside.old_depths.items in
+    let place : ℕ = c.in-Record.place in
+    let undone : c.undo_writes.new.depths ≡ undone_writes log depths = c.undo_writes.ensures.undone ∙ ap (λ ds. undone_writes log ds) c.deref_mut.ensures.value in
+    let held = IsHeld-undone 60 60_000 book c.self.inside.sires.parents c.self.inside.dams.parents depths log c.self.inside.undo c.self.invariant.held place c.in-Record.animal c.in-Record.sire c.in-Record.dam c.in-Record.is c.undo_writes.new.log.items in
+    let long : length c.undo_writes.new.depths ≡ c.self.inside.depths.len = c.undo_writes.auto.depths ∙ c.deref_mut.ensures.len in
+    let back = with_items_is c.self.inside.depths c.undo_writes.new.depths long ∙ undone in
+    record {
+      held = rw (c.set.ensures.parents, c.set-in-Record.ensures.parents, back) held;
+      room = tt;
+    }

@@ -1,0 +1,16 @@
+pub mod Lines
+pub mod Book
+pub mod ParentFault
+pub mod Lawful
+pub mod Pedigree
+pub mod Frozen
+pub mod Depths
+pub mod Parents
+pub mod Kept
+pub mod Undo
+pub mod Progeny
+pub mod RecordFault
+pub mod Calves
+pub mod Correction
+pub mod Carry
+pub mod Whole

@@ -1,0 +1,40 @@
+-- A pedigree as contracts see it, and what a change of one record asks for.
+use Rattle.std.specs.Prelude.{◌≡◌, ℕ, ◌<◌, ◌≤ℤ◌, IsFalse, ℤ, List, length, Option, Some, None}
+use Rattle.herd_pedigree.specs.declared.animal.Animal.{Animal}
+use Rattle.herd_pedigree.specs.Book.{Book, record_of, has_calved_after}
+use Rattle.herd_pedigree.specs.ParentFault.{parent_fault}
+
+-- the book, and the book before the last change that can be taken back
+pub record Pedigree : Type 0 where
+  pub book : Book
+  pub before : Option Book
+
+-- the pedigree with another book, from which the change can be taken back
+abbrev pub changed_to : Pedigree → Book → Pedigree
+changed_to pedigree book = record { book = book; before = Some pedigree.book }
+
+-- the record may be added under the number
+pub record IsBirth (l most : ℕ) (book : Book) (number : List ℕ) (animal : Animal) : Type 0 where
+  pub absent : record_of book number ≡ None
+  pub room : length book < most
+  pub parents : parent_fault l book number animal.birth animal.sire animal.dam animal.embryo ≡ None
+  pub since : animal.since ≡ animal.birth
+  pub left : animal.left ≡ None
+
+-- the animal of the number may have these parents
+pub record IsCorrection (l : ℕ) (book : Book) (number : List ℕ) (sire dam : Option (List ℕ)) : Type 0 where
+  pub animal : Animal
+  pub there : record_of book number ≡ Some animal
+  pub parents : parent_fault l book number animal.birth sire dam animal.embryo ≡ None
+
+-- the animal is in the book and hasn't left, and the day isn't before that from which its herd owns it
+pub record IsPresentOn (book : Book) (number : List ℕ) (day : ℤ) : Type 0 where
+  pub animal : Animal
+  pub there : record_of book number ≡ Some animal
+  pub stayed : animal.left ≡ None
+  pub since : animal.since ≤ℤ day
+
+-- the animal may leave on the day
+pub record IsExit (book : Book) (number : List ℕ) (day : ℤ) : Type 0 where
+  pub present : IsPresentOn book number day
+  pub last : IsFalse (has_calved_after book number day)

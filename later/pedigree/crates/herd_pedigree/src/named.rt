@@ -1,0 +1,110 @@
+//! Parents that are named, with what the book has of them, and the faults that this shows.
+ghost use Rattle.std.specs.Prelude.{◌≡◌, ◌<◌, ◌≤◌, false, length, IfSome};
+ghost use Rattle.std.specs.Map.{keys_of};
+ghost use Rattle.herd_pedigree.specs.ParentFault.{first_that_holds, is_named, record_named};
+ghost use Rattle.herd_pedigree.specs.Parents.{IsPlaceIn};
+ghost use Rattle.herd_pedigree.specs.RecordFault.{has_sex, is_found_gone, is_found_not_older, is_missing, record_faults};
+ghost use Rattle.herd_pedigree.specs.declared.TheConstants.{MOST_ANIMALS};
+
+use crate::animal::Animal;
+use crate::parent_fault::ParentFault;
+use herd_animal::{AnimalNumber, Day, Sex};
+use indexmap::IndexMap;
+use std::alloc::Allocator;
+use std::hash::{BuildHasherDefault, FoldHasher};
+
+/// The records of a book.
+pub type Records<A> = IndexMap<AnimalNumber, Animal, BuildHasherDefault<FoldHasher>, A>;
+
+/// A parent that is named, or none, with its place and its record where the book has it.
+#[derive(Clone, Copy)]
+pub struct Named {
+    pub number: Option<AnimalNumber>,
+    pub place: Option<u32>,
+    pub record: Option<Animal>,
+}
+
+/// What the book has of a parent.
+pub fn find<A: Allocator>(records: &Records<A>, parent: Option<AnimalNumber>) -> Named
+    requires { length records.now.entries ≤ MOST_ANIMALS }
+    ensures number { result.number ≡ parent }
+    ensures record { result.record ≡ record_named records.now.entries parent }
+    ensures within { IfSome result.place (λ place. place < length records.now.entries) }
+    ensures place { is_missing parent result.record ≡ false → IsPlaceIn (keys_of records.now.entries) result.place parent }
+{
+    if let Some(number) = parent {
+        if let Some((place, _, animal)) = records.get_full(&number) {
+            return Named {
+                number: parent,
+                place: Some(place as u32),
+                record: Some(*animal),
+            };
+        }
+    }
+    Named {
+        number: parent,
+        place: None,
+        record: None,
+    }
+}
+
+impl Named {
+    fn is_missing(&self) -> bool
+        ensures { result ≡ is_missing self.now.number self.now.record }
+    {
+        self.number.is_some() && self.record.is_none()
+    }
+
+    fn has_sex(&self, sex: Sex) -> bool
+        ensures { result ≡ is_named self.now.number (has_sex sex) }
+    {
+        match self.number {
+            Some(number) => number.sex() == sex,
+            None => false,
+        }
+    }
+
+    fn is_not_older(&self, birth: Day) -> bool
+        ensures { result ≡ is_found_not_older birth self.now.record }
+    {
+        match self.record {
+            Some(animal) => birth <= animal.birth,
+            None => false,
+        }
+    }
+
+    fn has_left_before(&self, day: Day) -> bool
+        ensures { result ≡ is_found_gone day self.now.record }
+    {
+        let Some(animal) = self.record else {
+            return false;
+        };
+        match animal.left {
+            Some(left) => left < day,
+            None => false,
+        }
+    }
+}
+
+/// The first fault of an animal with this birth day and these parents that their records show.
+pub fn record_fault(birth: Day, sire: &Named, dam: &Named, embryo: bool) -> Option<ParentFault>
+    ensures { result ≡ first_that_holds (record_faults birth sire.now.number sire.now.record dam.now.number dam.now.record embryo) }
+{
+    if sire.is_missing() {
+        Some(ParentFault::SireMissing)
+    } else if dam.is_missing() {
+        Some(ParentFault::DamMissing)
+    } else if sire.has_sex(Sex::Female) {
+        Some(ParentFault::SireNotMale)
+    } else if dam.has_sex(Sex::Male) {
+        Some(ParentFault::DamNotFemale)
+    } else if sire.is_not_older(birth) {
+        Some(ParentFault::SireNotOlder)
+    } else if dam.is_not_older(birth) {
+        Some(ParentFault::DamNotOlder)
+    } else if !embryo && dam.has_left_before(birth) {
+        Some(ParentFault::DamGone)
+    } else {
+        None
+    }
+}

@@ -1,0 +1,332 @@
+ghost use Rattle.std.specs.Prelude.{◌≡◌, ◌<◌, ◌≤◌, [], ◌++◌, ◌∷◌, ℕ, List, length, slice_index, Option, None, Some, IfNone, IfOk, IfSome, OnOk, OnErr, IsSome, is_some};
+ghost use Rattle.std.specs.Map.{keys_of};
+ghost use Rattle.herd_pedigree.specs.Book.{IsDepthOf, changed, has_calved_after, record_of, with_left, with_owner, with_parents};
+ghost use Rattle.herd_pedigree.specs.Frozen.{IsFrozenFrom};
+ghost use Rattle.herd_pedigree.specs.ParentFault.{is_too_deep, parent_fault};
+ghost use Rattle.herd_pedigree.specs.Parents.{IsPlaceIn};
+ghost use Rattle.herd_pedigree.specs.Pedigree.{IsBirth, IsCorrection, IsExit, IsPresentOn, changed_to};
+ghost use Rattle.herd_pedigree.specs.declared.TheConstants.{DEPTH_LIMIT, MOST_ANIMALS};
+
+use crate::DEPTH_LIMIT;
+use crate::animal::Animal;
+use crate::correction::Correction;
+use crate::depth::{depth_with, undo_writes};
+use crate::frozen::Frozen;
+use crate::named::{Records, find, record_fault};
+use crate::parent_fault::ParentFault;
+use crate::progeny::Progeny;
+use crate::undo::Undo;
+use herd_animal::{AnimalNumber, Day, Herd};
+use indexmap::IndexMap;
+use std::alloc::{AllocError, Allocator};
+use std::marker::Model;
+
+/// The book of a society. It is always lawful.
+#[derive(Drop)]
+pub struct Pedigree<A: Allocator> {
+    // The book itself. A place is an index of it.
+    records: Records<A>,
+    sires: Progeny<A>,
+    dams: Progeny<A>,
+    depths: Vec<u8, A>,
+    undo: Undo,
+    // The places whose depths the last correction wrote over, with what they were.
+    old_depths: Vec<(u32, u8), A>,
+}
+
+impl<A: Allocator> Model for Pedigree<A> {
+    ghost use Rattle.herd_pedigree.specs.Pedigree.{Pedigree};
+    ghost use Rattle.herd_pedigree.specs.Undo.{undone_book};
+    ghost use Rattle.herd_pedigree.specs.Whole.{IsWhole};
+    ghost use Rattle.herd_pedigree.specs.declared.TheConstants.{DEPTH_LIMIT, MOST_ANIMALS};
+
+    ghost Value = { Pedigree };
+
+    ghost view = { λ p. record { book = p.records.entries; before = undone_book p.undo p.records.entries } };
+
+    ghost invariant = { λ p. IsWhole DEPTH_LIMIT MOST_ANIMALS p.records.entries p.sires p.dams p.depths.items p.old_depths.items p.undo };
+}
+
+impl<A: Allocator + Copy> Pedigree<A> {
+    /// The empty book. It takes no memory.
+    pub fn new(alloc: A) -> Self
+        ensures empty { result.book ≡ [] }
+        ensures before { result.before ≡ None }
+    {
+        Pedigree {
+            records: IndexMap::new(alloc),
+            sires: Progeny::new(alloc),
+            dams: Progeny::new(alloc),
+            depths: Vec::new(alloc),
+            undo: Undo::Nothing,
+            old_depths: Vec::new(alloc),
+        }
+    }
+
+    /// The first fault that an animal with this number, birth day and parents would have, whether it is in the
+    /// book or not.
+    pub fn check_parents(
+        &self,
+        number: AnimalNumber,
+        birth: Day,
+        sire: Option<AnimalNumber>,
+        dam: Option<AnimalNumber>,
+        embryo: bool,
+    ) -> Result<Option<ParentFault>, AllocError>
+        ensures { IfOk result (λ fault. fault ≡ parent_fault DEPTH_LIMIT self.now.book number birth sire dam embryo) }
+    {
+        let sire = find(&self.records, sire);
+        let dam = find(&self.records, dam);
+        if let Some(fault) = record_fault(birth, &sire, &dam, embryo) {
+            return Ok(Some(fault));
+        }
+        if self.is_too_deep(&number, sire.place, dam.place)? {
+            Ok(Some(ParentFault::TooDeep))
+        } else {
+            Ok(None)
+        }
+    }
+
+    // Whether some line would be too long, once the animal of the number has the parents at these places.
+    fn is_too_deep(
+        &self,
+        number: &AnimalNumber,
+        sire: Option<u32>,
+        dam: Option<u32>,
+    ) -> Result<bool, AllocError>
+        requires sire { IfSome sire (λ place. place < length self.now.book) }
+        requires dam { IfSome dam (λ place. place < length self.now.book) }
+        ensures { IfOk result (λ deep. (s d : Option (List ℕ)) → IsPlaceIn (keys_of self.now.book) sire s → IsPlaceIn (keys_of self.now.book) dam d → deep ≡ is_too_deep DEPTH_LIMIT self.now.book number.now s d) }
+    {
+        let depth = depth_with(&self.depths, sire, dam);
+        let own_is_too_deep = depth > u16::from(DEPTH_LIMIT);
+        let Some(place) = self.records.get_index_of(number) else {
+            return Ok(own_is_too_deep);
+        };
+        if depth <= u16::from(self.depths[place]) {
+            return Ok(false);
+        }
+        let correction = Correction {
+            sires: &self.sires,
+            dams: &self.dams,
+            place: place as u32,
+            sire,
+            dam,
+        };
+        if correction.has_no_calves() {
+            return Ok(own_is_too_deep);
+        }
+        correction.is_too_deep(*self.records.allocator(), &self.depths)
+    }
+
+    /// Adds an animal that isn't in the book.
+    pub fn add(&mut self, number: AnimalNumber, animal: Animal) -> Result<(), AllocError>
+        requires { IsBirth DEPTH_LIMIT MOST_ANIMALS self.old.book number animal }
+        ensures added { OnOk result (self.new ≡ changed_to self.old (self.old.book ++ (number, animal) ∷ [])) }
+        ensures err { OnErr result (self.new ≡ self.old) }
+    {
+        let sire = find(&self.records, animal.sire).place;
+        let dam = find(&self.records, animal.dam).place;
+        let depth = depth_with(&self.depths, sire, dam) as u8;
+        self.records.reserve(1)?;
+        self.depths.reserve(1)?;
+        reserve(&mut self.sires, sire)?;
+        reserve(&mut self.dams, dam)?;
+        if self.records.insert(number, animal).is_err() {
+            unreachable!();
+        }
+        if self.depths.push(depth).is_err() {
+            unreachable!();
+        }
+        self.sires.push(sire);
+        self.dams.push(dam);
+        self.undo = Undo::Birth;
+        Ok(())
+    }
+
+    /// Sets both parents of an animal, also to unknown, and carries depths on to its descendants.
+    pub fn set_parents(
+        &mut self,
+        number: AnimalNumber,
+        sire: Option<AnimalNumber>,
+        dam: Option<AnimalNumber>,
+    ) -> Result<(), AllocError>
+        requires { IsCorrection DEPTH_LIMIT self.old.book number sire dam }
+        ensures set { OnOk result (self.new ≡ changed_to self.old (changed self.old.book number (with_parents sire dam))) }
+        ensures err { OnErr result (self.new ≡ self.old) }
+    {
+        let sire = find(&self.records, sire);
+        let dam = find(&self.records, dam);
+        let Some(index) = self.records.get_index_of(&number) else {
+            unreachable!();
+        };
+        let place = index as u32;
+        self.sires.reserve_calf(sire.place)?;
+        self.dams.reserve_calf(dam.place)?;
+        let correction = Correction {
+            sires: &self.sires,
+            dams: &self.dams,
+            place,
+            sire: sire.place,
+            dam: dam.place,
+        };
+        let alloc = *self.records.allocator();
+        let log = correction.carry_or_undo(alloc, &mut self.depths)?;
+        let animal = self.records[index];
+        self.old_depths = log;
+        self.undo = Undo::Record {
+            place,
+            animal,
+            sire: self.sires.parent(place),
+            dam: self.dams.parent(place),
+        };
+        self.sires.set(place, sire.place);
+        self.dams.set(place, dam.place);
+        let record = &mut self.records[index];
+        record.sire = sire.number;
+        record.dam = dam.number;
+        Ok(())
+    }
+}
+
+impl<A: Allocator> Pedigree<A> {
+    /// The record of an animal.
+    pub fn get(&self, number: &AnimalNumber) -> Option<Animal>
+        ensures { result ≡ record_of self.now.book number.now }
+    {
+        self.records.get(number).copied()
+    }
+
+    /// How many animals are in the book.
+    pub fn len(&self) -> u32
+        ensures { result ≡ length self.now.book }
+    {
+        self.records.len() as u32
+    }
+
+    /// The number of parent steps on an animal's longest known line.
+    pub fn depth(&self, number: &AnimalNumber) -> Option<u8>
+        ensures absent { IfNone result (record_of self.now.book number.now ≡ None) }
+        ensures there { IfSome result (λ _. IsSome (record_of self.now.book number.now)) }
+        ensures depth { IfSome result (IsDepthOf self.now.book number.now) }
+    {
+        let place = self.records.get_index_of(number)?;
+        Some(self.depths[place])
+    }
+
+    /// Whether an animal is the dam of one born after the day. Calves from stored embryos don't count.
+    pub fn calved_after(&self, number: &AnimalNumber, day: Day) -> bool
+        ensures { result ≡ has_calved_after self.now.book number.now day }
+    {
+        let Some(place) = self.records.get_index_of(number) else {
+            return false;
+        };
+        for calf in self.dams.calves(place as u32) {
+            let calf = &self.records[*calf as usize];
+            if !calf.embryo && day < calf.birth {
+                return true;
+            }
+        }
+        false
+    }
+
+    /// Sets the herd that owns an animal, and the day from which it does. It takes no memory.
+    pub fn set_owner(&mut self, number: AnimalNumber, herd: Herd, day: Day)
+        requires { IsPresentOn self.old.book number day }
+        ensures { self.new ≡ changed_to self.old (changed self.old.book number (with_owner herd day)) }
+    {
+        let Some(place) = self.records.get_index_of(&number) else {
+            unreachable!();
+        };
+        let animal = self.records[place];
+        self.undo = Undo::Record {
+            place: place as u32,
+            animal,
+            sire: self.sires.parent(place as u32),
+            dam: self.dams.parent(place as u32),
+        };
+        self.old_depths.clear();
+        let record = &mut self.records[place];
+        record.herd = herd;
+        record.since = day;
+    }
+
+    /// Sets the day on which an animal left. It takes no memory.
+    pub fn set_left(&mut self, number: AnimalNumber, day: Day)
+        requires { IsExit self.old.book number day }
+        ensures { self.new ≡ changed_to self.old (changed self.old.book number (with_left day)) }
+    {
+        let Some(place) = self.records.get_index_of(&number) else {
+            unreachable!();
+        };
+        let animal = self.records[place];
+        self.undo = Undo::Record {
+            place: place as u32,
+            animal,
+            sire: self.sires.parent(place as u32),
+            dam: self.dams.parent(place as u32),
+        };
+        self.old_depths.clear();
+        self.records[place].left = Some(day);
+    }
+
+    /// Whether there is a change that can be taken back: true after each change, false after `new` and `take_back`.
+    pub fn can_take_back(&self) -> bool
+        ensures { result ≡ is_some self.now.before }
+    {
+        match self.undo {
+            Undo::Nothing => false,
+            Undo::Birth | Undo::Record { .. } => true,
+        }
+    }
+
+    /// Takes the last change back. It takes no memory.
+    pub fn take_back(&mut self)
+        requires { IsSome self.old.before }
+        ensures book { self.old.before ≡ Some self.new.book }
+        ensures before { self.new.before ≡ None }
+    {
+        let undo = self.undo;
+        self.undo = Undo::Nothing;
+        match undo {
+            Undo::Nothing => unreachable!(),
+            Undo::Birth => {
+                let _ = self.records.pop();
+                self.sires.pop();
+                self.dams.pop();
+                let _ = self.depths.pop();
+            }
+            Undo::Record {
+                place,
+                animal,
+                sire,
+                dam,
+            } => {
+                self.records[place as usize] = animal;
+                self.sires.set(place, sire);
+                self.dams.set(place, dam);
+                undo_writes(&mut self.depths, &mut self.old_depths);
+            }
+        }
+    }
+
+    /// The book in age order.
+    pub fn freeze<B: Allocator + Clone>(&self, alloc: B) -> Result<Frozen<B>, AllocError>
+        ensures { IfOk result (IsFrozenFrom DEPTH_LIMIT MOST_ANIMALS self.now.book) }
+    {
+        let _ = alloc;
+        Err(AllocError)
+    }
+}
+
+// Makes room for one more animal with this parent.
+fn reserve<A: Allocator>(progeny: &mut Progeny<A>, parent: Option<u32>) -> Result<(), AllocError>
+    requires within { (p : ℕ) → parent ≡ Some p → p < length progeny.old.parents }
+    ensures parents { progeny.new.parents ≡ progeny.old.parents }
+    ensures spare { (p : ℕ) → slice_index progeny.old.spare p ≤ slice_index progeny.new.spare p }
+    ensures room { OnOk result (0 < progeny.new.room) }
+    ensures reserved { OnOk result ((p : ℕ) → parent ≡ Some p → 0 < slice_index progeny.new.spare p) }
+{
+    progeny.reserve_animal()?;
+    progeny.reserve_calf(parent)
+}

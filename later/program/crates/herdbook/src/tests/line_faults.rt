@@ -1,0 +1,137 @@
+//! Files with a fault: the replies before it, and the fault.
+
+use super::support::{Header, expect, expect_fault, file, number, ran};
+use herd_report::{LineCause, LineFault, Order, RunFault};
+use std::test::Fail;
+
+fn line(entry: u32, cause: LineCause) -> RunFault {
+    RunFault::Line(LineFault { entry, cause })
+}
+
+#[test]
+fn a_second_record_with_a_fault(rt: HostRuntime) -> Result<(), Fail> {
+    let faults = [
+        (
+            "birth,HOLGBRM00000000001,2000-01-01,0,0,,1",
+            LineCause::Animal,
+        ),
+        (
+            "birth,HOLGBRX000000000002,2000-01-01,0,0,,1",
+            LineCause::Animal,
+        ),
+        ("birth,M2,2023-02-29,0,0,,1", LineCause::Day),
+        ("birth,M2,2000-01-01,HOL,0,,1", LineCause::Sire),
+        ("birth,M2,2000-01-01,0,x,,1", LineCause::Dam),
+        ("transfer,M1,2000-01-01,,,0,2", LineCause::FromHerd),
+        ("birth,M2,2000-01-01,0,0,,100000000", LineCause::ToHerd),
+        ("sale,M1,2000-01-01,,,1,2", LineCause::Kind),
+        ("birth,M2,2000-01-01,0,0,1", LineCause::Fields),
+        ("birth,M2,2000-01-01,0,0,1,1", LineCause::FieldNotUsed),
+        ("exit,M1,2000-01-01,,,,1", LineCause::FieldNotUsed),
+        ("exit,x,x,,,,1", LineCause::Animal),
+        ("exit,M1,x,,,,1", LineCause::Day),
+        ("parents,M1,x,,,,", LineCause::FieldNotUsed),
+    ];
+    for (record, cause) in faults {
+        let text = file(
+            rt.alloc(),
+            Header::Plain,
+            &["birth,M1,2000-01-01,0,0,,1", record],
+        )?;
+        expect_fault(
+            &rt,
+            ran!(rt, Order::File, text.as_bytes()),
+            &["1,accepted"],
+            line(2, cause),
+        )?;
+    }
+    Ok(())
+}
+
+#[test]
+fn a_first_record_with_a_fault(rt: HostRuntime) -> Result<(), Fail> {
+    let faults = [
+        (
+            Header::WithEmbryo,
+            "birth,M5,2000-01-01,0,0,,1,x",
+            LineCause::Embryo,
+        ),
+        (
+            Header::WithEmbryo,
+            "exit,M5,2000-01-01,,,,,1",
+            LineCause::FieldNotUsed,
+        ),
+        (
+            Header::WithEmbryo,
+            "birth,M5,2000-01-01,0,0,,1",
+            LineCause::Fields,
+        ),
+        (
+            Header::Plain,
+            "birth,M5,2000-01-01,0,0,,1,",
+            LineCause::Fields,
+        ),
+    ];
+    for (header, record, cause) in faults {
+        let text = file(rt.alloc(), header, &[record])?;
+        expect_fault(
+            &rt,
+            ran!(rt, Order::File, text.as_bytes()),
+            &[],
+            line(1, cause),
+        )?;
+    }
+    Ok(())
+}
+
+#[test]
+fn a_file_that_is_cut(rt: HostRuntime) -> Result<(), Fail> {
+    let mut text = file(rt.alloc(), Header::Plain, &["birth,M1,2000-01-01,0,0,,1"])?;
+    text.push_str("birth,HOLGBRM0000")?;
+    let fault = line(2, LineCause::Fields);
+    expect_fault(
+        &rt,
+        ran!(rt, Order::File, text.as_bytes()),
+        &["1,accepted"],
+        fault,
+    )
+}
+
+#[test]
+fn a_file_without_its_header(rt: HostRuntime) -> Result<(), Fail> {
+    let files: [&[u8]; 2] = [b"", b"birth,HOLGBRM000000000001,2000-01-01,0,0,,1\n"];
+    for text in files {
+        expect_fault(
+            &rt,
+            ran!(rt, Order::File, text),
+            &[],
+            line(0, LineCause::Header),
+        )?;
+    }
+    Ok(())
+}
+
+#[test]
+fn quoted_fields_and_other_line_ends(rt: HostRuntime) -> Result<(), Fail> {
+    let text =
+        "kind,animal,day,sire,dam,from,to\r\n\"birth\",\"HOLGBRM000000000001\",\"2000-01-01\",\"0\",\"0\",\"\",\"1\"\r\n";
+    expect(&rt, ran!(rt, Order::File, text.as_bytes()), &["1,accepted"])
+}
+
+#[test]
+fn other_orders_write_nothing_for_a_file_with_a_fault(rt: HostRuntime) -> Result<(), Fail> {
+    let records = ["birth,M1,2000-01-01,0,0,,1", "birth,M2,2023-02-29,0,0,,1"];
+    let text = file(rt.alloc(), Header::Plain, &records)?;
+    let (dam, sires) = (number(&rt, "F2")?, [number(&rt, "M1")?]);
+    let fault = line(2, LineCause::Day);
+    let list = Order::Inbreeding {
+        workers: 1,
+        block: 256,
+    };
+    expect_fault(&rt, ran!(rt, list, text.as_bytes()), &[], fault)?;
+    let certificate = Order::Certificate(number(&rt, "M1")?);
+    expect_fault(&rt, ran!(rt, certificate, text.as_bytes()), &[], fault)?;
+    let mating = Order::Mating { dam, sires: &sires };
+    expect_fault(&rt, ran!(rt, mating, text.as_bytes()), &[], fault)?;
+    expect_fault(&rt, ran!(rt, Order::Inverse, text.as_bytes()), &[], fault)
+}

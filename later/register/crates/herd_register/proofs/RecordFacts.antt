@@ -1,0 +1,99 @@
+-- A record of a book, set by its place and by its number.
+use Rattle.std.proofs.Common.{◌≡◌, ℕ, zero, suc, ◌<◌, ◌≤◌, Bool, true, false, List, [], ◌∷◌, ◌++◌, length, get_or, set, Some, refl, sym, ap, subst, ◌∙◌, arith}
+use Rattle.std.specs.Prelude.{is_some, ◌||◌, if◌then◌else◌}
+use Rattle.std.specs.List.{list_any, position}
+use Rattle.std.specs.Map.{keys_of}
+use Rattle.std.specs.Str.{bytes_eq}
+use Rattle.std.proofs.lemmas.Bool.{le-ltb, lt-ltb}
+use Rattle.std.proofs.lemmas.List.Quantifiers.{position-Some}
+use Rattle.herd_pedigree.specs.declared.animal.Animal.{Animal}
+use Rattle.herd_pedigree.specs.Book.{Book, changed, is_there, record_of}
+use Rattle.herd_register.specs.Records.{AreInRoom, with_record_in}
+
+-- a number is there where some number of the book is equal to it
+pub is_there-list_any : (book : Book) (number : List ℕ) → is_there book number ≡ list_any (bytes_eq number) (keys_of book)
+is_there-list_any [] number = refl
+is_there-list_any (entry ∷ book) number = by (bytes_eq number entry.0) (is_there-list_any book number) where
+  by : (same : Bool) → is_there book number ≡ list_any (bytes_eq number) (keys_of book) → is_some (if same then Some entry.1 else record_of book number) ≡ (same || list_any (bytes_eq number) (keys_of book))
+  by true rest = refl
+  by false rest = rest
+
+-- a change of one record leaves the number of records
+pub length-changed : (book : Book) (number : List ℕ) (change : Animal → Animal) → length (changed book number change) ≡ length book
+length-changed [] number change = refl
+length-changed (entry ∷ book) number change = by (bytes_eq number entry.0) (length-changed book number change) where
+  by : (same : Bool) → length (changed book number change) ≡ length book → length (if same then (entry.0, change entry.1) ∷ book else entry ∷ changed book number change) ≡ suc (length book)
+  by true rest = refl
+  by false rest = ap suc rest
+
+-- the change of a number that isn't there changes nothing
+changed-absent : (book : Book) (number : List ℕ) (change : Animal → Animal) → is_there book number ≡ false → changed book number change ≡ book
+changed-absent [] number change absent = refl
+changed-absent (entry ∷ book) number change absent = by (bytes_eq number entry.0) absent (changed-absent book number change) where
+  by : (same : Bool) → is_some (if same then Some entry.1 else record_of book number) ≡ false → (is_there book number ≡ false → changed book number change ≡ book) → (if same then (entry.0, change entry.1) ∷ book else entry ∷ changed book number change) ≡ entry ∷ book
+  by true absent rest = absurd (cc (absent))
+  by false absent rest = ap (λ (b : Book). entry ∷ b) (rest absent)
+
+-- the first entry whose number is equal is the one that a change of the number changes
+changed-first : (book : Book) (number : List ℕ) (change : Animal → Animal) (place : ℕ) (entry : List ℕ × Animal) → entry ≡ get_or book place entry → bytes_eq number entry.0 ≡ true → ((k : ℕ) → k < place → bytes_eq number (get_or (keys_of book) k entry.0) ≡ false) → set book place (entry.0, change entry.1) ≡ changed book number change
+changed-first [] number change place entry at same before = refl
+changed-first (first ∷ book) number change zero entry at same before =
+    let found : bytes_eq number first.0 ≡ true = subst (λ (e : List ℕ × Animal). bytes_eq number e.0 ≡ true) at same in
+    rw found (ap (λ (e : List ℕ × Animal). (e.0, change e.1) ∷ book) at)
+changed-first (first ∷ book) number change (suc place) entry at same before =
+    let other : bytes_eq number first.0 ≡ false = before 0 (omega arith) in
+    rw other (ap (λ (b : Book). first ∷ b) (changed-first book number change place entry at same (λ k earlier. before (suc k) (omega arith))))
+
+-- and its number stays
+keys_of-set : (book : Book) (place : ℕ) (entry : List ℕ × Animal) (animal : Animal) → entry ≡ get_or book place entry → keys_of (set book place (entry.0, animal)) ≡ keys_of book
+keys_of-set [] place entry animal at = refl
+keys_of-set (first ∷ book) zero entry animal at = ap (λ (e : List ℕ × Animal). e.0 ∷ keys_of book) at
+keys_of-set (first ∷ book) (suc place) entry animal at = ap (λ (keys : List (List ℕ)). first.0 ∷ keys) (keys_of-set book place entry animal at)
+
+length-set_at : (book : Book) (place : ℕ) (entry : List ℕ × Animal) → length (set book place entry) ≡ length book
+length-set_at [] place entry = refl
+length-set_at (first ∷ book) zero entry = refl
+length-set_at (first ∷ book) (suc place) entry = ap suc (length-set_at book place entry)
+
+key_at : (book : Book) (place : ℕ) (entry : List ℕ × Animal) → entry ≡ get_or book place entry → entry.0 ≡ get_or (keys_of book) place entry.0
+key_at [] place entry at = refl
+key_at (first ∷ book) zero entry at = ap (λ (e : List ℕ × Animal). e.0) at
+key_at (first ∷ book) (suc place) entry at = key_at book place entry at
+
+-- where a number has a place among the numbers, its record there is changed
+pub changed-at : {most capacity spare : ℕ} {numbers : List (List ℕ)} (book : Book) (number : List ℕ) (change : Animal → Animal) (place : ℕ) (entry : List ℕ × Animal) → AreInRoom most book capacity numbers spare → position (bytes_eq number) numbers ≡ Some place → entry ≡ get_or book place entry → set book place (entry.0, change entry.1) ≡ changed book number change
+changed-at book number change place entry is found at =
+    let first = position-Some (bytes_eq number) (keys_of book) place entry.0 (subst (λ (keys : List (List ℕ)). position (bytes_eq number) keys ≡ Some place) is.same_order found) in
+    changed-first book number change place entry at (subst (λ (key : List ℕ). bytes_eq number key ≡ true) (sym (key_at book place entry at)) first.1) first.2
+
+-- a number that has a place is there, and one that has none isn't
+is_there-numbers : {most capacity spare : ℕ} {numbers : List (List ℕ)} (book : Book) (number : List ℕ) (found : Bool) → AreInRoom most book capacity numbers spare → found ≡ list_any (bytes_eq number) numbers → is_there book number ≡ found
+is_there-numbers book number found is says =
+    is_there-list_any book number ∙ (ap (list_any (bytes_eq number)) (sym is.same_order) ∙ sym says)
+
+-- where it has none, nothing is changed
+pub changed-nowhere : {most capacity spare : ℕ} {numbers : List (List ℕ)} (book : Book) (number : List ℕ) (change : Animal → Animal) → AreInRoom most book capacity numbers spare → false ≡ list_any (bytes_eq number) numbers → changed book number change ≡ book
+changed-nowhere book number change is absent =
+    changed-absent book number change (is_there-numbers book number false is absent)
+
+-- the record of a number that is there is put in its place
+pub with_record_in-at : {most capacity spare : ℕ} {numbers : List (List ℕ)} (limit : ℕ) (book : Book) (number : List ℕ) (animal : Animal) (place : ℕ) (entry : List ℕ × Animal) → AreInRoom most book capacity numbers spare → position (bytes_eq number) numbers ≡ Some place → true ≡ list_any (bytes_eq number) numbers → entry ≡ get_or book place entry → set book place (entry.0, animal) ≡ with_record_in limit book number animal
+with_record_in-at limit book number animal place entry is found says at =
+    rw (is_there-numbers book number true is says) (changed-at book number (λ _. animal) place entry is found at)
+
+-- a new number's is put at the end where there is room, and nowhere else
+pub with_record_in-new : {most capacity spare : ℕ} {numbers : List (List ℕ)} (limit : ℕ) (book : Book) (number : List ℕ) (animal : Animal) → AreInRoom most book capacity numbers spare → false ≡ list_any (bytes_eq number) numbers → length book < limit → with_record_in limit book number animal ≡ book ++ (number, animal) ∷ []
+with_record_in-new limit book number animal is says room =
+    rw (is_there-numbers book number false is says, lt-ltb (length book) limit room) refl
+
+pub with_record_in-full : {most capacity spare : ℕ} {numbers : List (List ℕ)} (limit : ℕ) (book : Book) (number : List ℕ) (animal : Animal) → AreInRoom most book capacity numbers spare → false ≡ list_any (bytes_eq number) numbers → limit ≤ length book → with_record_in limit book number animal ≡ book
+with_record_in-full limit book number animal is says full =
+    rw (is_there-numbers book number false is says, le-ltb (length book) limit full) refl
+
+-- the room that there is, once a record is changed in its place
+pub AreInRoom-set : {most capacity spare : ℕ} {numbers : List (List ℕ)} (book : Book) (place : ℕ) (entry : List ℕ × Animal) (animal : Animal) → AreInRoom most book capacity numbers spare → entry ≡ get_or book place entry → AreInRoom most (set book place (entry.0, animal)) capacity numbers spare
+AreInRoom-set book place entry animal is at = record {
+  same_order = is.same_order ∙ sym (keys_of-set book place entry animal at);
+  entries_room = is.entries_room;
+  numbers_room = let room = is.numbers_room in rw (length-set_at book place (entry.0, animal)) room;
+}

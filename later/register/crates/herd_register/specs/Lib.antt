@@ -1,0 +1,6 @@
+pub mod Refusal
+pub mod Run
+pub mod Command
+pub mod Register
+pub mod Records
+pub mod Copybook

@@ -1,0 +1,117 @@
+ghost use Rattle.std.specs.Prelude.{◌≡◌, ◌≤◌, [], IfOk, length};
+ghost use Rattle.herd_pedigree.specs.Frozen.{IsFrozenFrom};
+ghost use Rattle.herd_pedigree.specs.declared.TheConstants.{DEPTH_LIMIT, MOST_ANIMALS};
+ghost use Rattle.herd_register.specs.Copybook.{copybook_of, set_in, taken_over};
+ghost use Rattle.herd_register.specs.Records.{records_of};
+ghost use Rattle.herd_register.specs.Register.{AreLimits};
+ghost use Rattle.herd_register.specs.Run.{IsLegal, commands_of, run_book};
+
+use crate::command::Command;
+use crate::limits::Limits;
+use crate::records::Records;
+use crate::reply::Reply;
+use crate::step::Step;
+use herd_pedigree::{Animal, Frozen, freeze_list};
+use std::alloc::{AllocError, Allocator};
+use std::marker::Model;
+
+/// What readers see of a register: its records and its journal, with room for as many as the limits allow.
+#[derive(Drop)]
+pub struct Copybook<A: Allocator> {
+    limits: Limits,
+    records: Records<A>,
+    journal: Vec<Step, A>,
+}
+
+impl<A: Allocator> Model for Copybook<A> {
+    ghost use Rattle.std.specs.Prelude.{vec_capacity};
+    ghost use Rattle.herd_register.specs.Copybook.{Copybook, IsCopybook, copybook_of};
+
+    ghost Value = { Copybook };
+
+    ghost view = { λ c. copybook_of c.limits c.records.book c.journal.items };
+
+    ghost invariant = { λ c. IsCopybook (copybook_of c.limits c.records.book c.journal.items) c.records.most (vec_capacity c.journal) };
+}
+
+impl<A: Allocator + Copy> Copybook<A> {
+    /// A copy of a register in which nothing was filed.
+    pub fn new(alloc: A, limits: Limits) -> Result<Self, AllocError>
+        requires { AreLimits limits }
+        ensures { IfOk result (λ copybook. copybook ≡ copybook_of limits [] []) }
+    {
+        Ok(Copybook {
+            limits,
+            records: Records::with_room(alloc, limits.animals)?,
+            journal: Vec::with_capacity(alloc, limits.steps as usize)?,
+        })
+    }
+}
+
+impl<A: Allocator> Copybook<A> {
+    /// Adds a step, and sets the record that it set; a full journal takes no step. It takes no memory.
+    pub fn take_over(&mut self, step: &Step)
+        ensures { self.new ≡ taken_over self.old step.now }
+    {
+        if self.journal.len() >= self.limits.steps as usize {
+            return;
+        }
+        self.journal.push_reserved(*step);
+        match step.reply {
+            Reply::Accepted => set(&mut self.records, &step.command),
+            Reply::Refused(_) => {}
+        }
+    }
+
+    /// How many steps were taken over.
+    pub fn steps(&self) -> u64
+        ensures steps { result ≡ length self.now.journal }
+        ensures room { result ≤ self.now.limits.steps }
+    {
+        self.journal.len() as u64
+    }
+
+    /// The book in age order.
+    pub fn freeze<B: Allocator + Clone>(&self, alloc: B) -> Result<Frozen<B>, AllocError>
+        requires { IsLegal self.now.limits self.now.journal }
+        ensures records { self.now.book ≡ run_book self.now.limits (commands_of self.now.journal) }
+        ensures frozen { IfOk result (IsFrozenFrom DEPTH_LIMIT MOST_ANIMALS self.now.book) }
+    {
+        freeze_list(alloc, self.records.as_slice())
+    }
+}
+
+// Sets the record of the command's animal.
+fn set<A: Allocator>(records: &mut Records<A>, command: &Command)
+    ensures { records.new ≡ records_of (set_in records.old.most records.old.book command.now) records.old.most }
+{
+    match *command {
+        Command::Birth {
+            animal,
+            day,
+            sire,
+            dam,
+            herd,
+            embryo,
+        } => records.put(
+            animal,
+            Animal {
+                birth: day,
+                sire,
+                dam,
+                embryo,
+                herd,
+                since: day,
+                left: None,
+            },
+        ),
+        Command::Parents { animal, sire, dam } => records.set_parents(&animal, sire, dam),
+        Command::Transfer {
+            animal,
+            day,
+            giver: _,
+            taker,
+        } => records.set_owner(&animal, taker, day),
+        Command::Exit { animal, day } => records.set_left(&animal, day),
+    }
+}

@@ -1,0 +1,11 @@
+/// The number of steps that a journal may have.
+pub const MOST_STEPS: u32 = 1_000_000;
+
+/// How large a register may grow.
+#[derive(Clone, Copy, Debug, PartialEq, Eq)]
+pub struct Limits {
+    /// The number of animals in the book, from 1 to 60,000.
+    pub animals: u32,
+    /// The number of steps in the journal, from 1 to 1,000,000.
+    pub steps: u32,
+}

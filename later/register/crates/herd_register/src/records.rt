@@ -1,0 +1,103 @@
+//! The records of a book, in a fixed room.
+ghost use Rattle.std.specs.Prelude.{◌≡◌, [], IfOk};
+ghost use Rattle.herd_pedigree.specs.Book.{changed, with_left, with_owner, with_parents};
+ghost use Rattle.herd_register.specs.Records.{records_of, with_record_in};
+
+use herd_animal::{AnimalNumber, Day, Herd};
+use herd_pedigree::Animal;
+use indexmap::IndexSet;
+use std::alloc::{AllocError, Allocator};
+use std::hash::{BuildHasherDefault, FoldHasher};
+use std::marker::Model;
+
+/// The records in the order of registration, found by their numbers. Once made, it takes no memory.
+#[derive(Drop)]
+pub(crate) struct Records<A: Allocator> {
+    entries: Vec<(AnimalNumber, Animal), A>,
+    /// The place of a number here is that of its entry.
+    numbers: IndexSet<AnimalNumber, BuildHasherDefault<FoldHasher>, A>,
+    most: u32,
+}
+
+impl<A: Allocator> Model for Records<A> {
+    ghost use Rattle.std.specs.Prelude.{vec_capacity};
+    ghost use Rattle.indexmap.specs.IndexSet.{spare};
+    ghost use Rattle.herd_register.specs.Records.{AreInRoom, Records, records_of};
+
+    ghost Value = { Records };
+
+    ghost view = { λ r. records_of r.entries.items r.most };
+
+    ghost invariant = { λ r. AreInRoom r.most r.entries.items (vec_capacity r.entries) r.numbers.keys (spare r.numbers) };
+}
+
+impl<A: Allocator + Copy> Records<A> {
+    /// No records, with room for so many.
+    pub(crate) fn with_room(alloc: A, most: u32) -> Result<Self, AllocError>
+        ensures { IfOk result (λ records. records ≡ records_of [] most) }
+    {
+        Ok(Records {
+            entries: Vec::with_capacity(alloc, most as usize)?,
+            numbers: IndexSet::with_capacity(alloc, most as usize)?,
+            most,
+        })
+    }
+}
+
+impl<A: Allocator> Records<A> {
+    pub(crate) fn as_slice(&self) -> &[(AnimalNumber, Animal)]
+        ensures { result.now ≡ self.now.book }
+    {
+        self.entries.as_slice()
+    }
+
+    /// Sets the record of a number; a new number's only where there is room.
+    pub(crate) fn put(&mut self, number: AnimalNumber, animal: Animal)
+        ensures { self.new ≡ records_of (with_record_in self.old.most self.old.book number animal) self.old.most }
+    {
+        if let Some(place) = self.numbers.get_index_of(&number) {
+            self.entries[place].1 = animal;
+        } else if self.entries.len() < self.most as usize {
+            let Ok(_) = self.numbers.insert(number) else {
+                unreachable!();
+            };
+            self.entries.push_reserved((number, animal));
+        }
+    }
+
+    /// Sets both parents of an animal that is there.
+    pub(crate) fn set_parents(
+        &mut self,
+        number: &AnimalNumber,
+        sire: Option<AnimalNumber>,
+        dam: Option<AnimalNumber>,
+    )
+        ensures { self.new ≡ records_of (changed self.old.book number.now (with_parents sire dam)) self.old.most }
+    {
+        if let Some(place) = self.numbers.get_index_of(number) {
+            let animal = &mut self.entries[place].1;
+            animal.sire = sire;
+            animal.dam = dam;
+        }
+    }
+
+    /// Sets the owner of an animal that is there, and the day from which it is.
+    pub(crate) fn set_owner(&mut self, number: &AnimalNumber, herd: Herd, day: Day)
+        ensures { self.new ≡ records_of (changed self.old.book number.now (with_owner herd day)) self.old.most }
+    {
+        if let Some(place) = self.numbers.get_index_of(number) {
+            let animal = &mut self.entries[place].1;
+            animal.herd = herd;
+            animal.since = day;
+        }
+    }
+
+    /// Sets the day on which an animal that is there left.
+    pub(crate) fn set_left(&mut self, number: &AnimalNumber, day: Day)
+        ensures { self.new ≡ records_of (changed self.old.book number.now (with_left day)) self.old.most }
+    {
+        if let Some(place) = self.numbers.get_index_of(number) {
+            self.entries[place].1.left = Some(day);
+        }
+    }
+}

@@ -1,0 +1,136 @@
+ghost use Rattle.std.specs.Option.{option_copied};
+ghost use Rattle.std.specs.Prelude.{◌≡◌, ◌≤◌, ◌↔◌, IsTrue, IfOk, OnErr, OnOk, length};
+ghost use Rattle.herd_register.specs.declared.reply.Refusal.{Refusal};
+ghost use Rattle.herd_register.specs.Register.{AreLimits, book_of, new_register, step_at, with_step, without_last_step};
+ghost use Rattle.herd_register.specs.Run.{IsLegal, answer, next, step_of};
+
+use crate::command::Command;
+use crate::file_fault::FileFault;
+use crate::limits::Limits;
+use crate::reply::Reply;
+use crate::step::Step;
+use herd_pedigree::Pedigree;
+use std::alloc::Allocator;
+use std::marker::Model;
+
+/// The register of one society: its book, and each command that was answered.
+///
+/// Book and replies are always those of the journal's commands, answered one after the other from the empty book.
+#[derive(Drop)]
+pub struct Register<A: Allocator> {
+    limits: Limits,
+    pedigree: Pedigree<A>,
+    journal: Vec<Step, A>,
+    can_withdraw: bool,
+}
+
+impl<A: Allocator> Model for Register<A> {
+    ghost use Rattle.herd_register.specs.Register.{IsRegister, Register, register_of};
+
+    ghost Value = { Register };
+
+    ghost view = { λ r. register_of r.limits r.journal.items r.can_withdraw };
+
+    ghost invariant = { λ r. IsRegister (register_of r.limits r.journal.items r.can_withdraw) r.pedigree };
+}
+
+impl<A: Allocator + Copy> Register<A> {
+    /// A register in which nothing was filed. It takes no memory.
+    pub fn new(alloc: A, limits: Limits) -> Self
+        requires { AreLimits limits }
+        ensures { result ≡ new_register limits }
+    {
+        Register {
+            limits,
+            pedigree: Pedigree::new(alloc),
+            journal: Vec::new(alloc),
+            can_withdraw: false,
+        }
+    }
+}
+
+impl<A: Allocator> Register<A> {
+    /// The limits that it was made with.
+    pub fn limits(&self) -> Limits
+        ensures value { result ≡ self.now.limits }
+        ensures range { AreLimits result }
+    {
+        self.limits
+    }
+
+    /// The steps in the order in which they were filed.
+    pub fn journal(&self) -> &[Step]
+        ensures value { result.now ≡ self.now.journal }
+        ensures legal { IsLegal self.now.limits self.now.journal }
+        ensures room { length self.now.journal ≤ self.now.limits.steps }
+    {
+        self.journal.as_slice()
+    }
+
+    /// The step of a serial number, which counts from 1.
+    pub fn step(&self, serial: u32) -> Option<&Step>
+        ensures { option_copied result ≡ step_at self.now.journal serial }
+    {
+        self.journal.get((serial as usize).checked_sub(1)?)
+    }
+
+    /// The book.
+    pub fn pedigree(&self) -> &Pedigree<A>
+        ensures book { result.now.book ≡ book_of self.now }
+        ensures few { length result.now.book ≤ self.now.limits.animals }
+    {
+        &self.pedigree
+    }
+
+    /// Whether the journal has as many steps as the limits allow.
+    pub fn is_full(&self) -> bool
+        ensures { IsTrue result ↔ (length self.now.journal ≡ self.now.limits.steps) }
+    {
+        self.journal.len() >= self.limits.steps as usize
+    }
+
+    /// Answers a command, and adds the answer to the journal.
+    pub fn file(&mut self, desk: u16, command: Command) -> Result<Reply, FileFault>
+        ensures reply { IfOk result (λ reply. reply ≡ answer self.old.limits (book_of self.old) command) }
+        ensures stored { IfOk result (λ reply. self.new ≡ with_step self.old (step_of desk command reply)) }
+        ensures book { OnOk result (book_of self.new ≡ next self.old.limits (book_of self.old) command) }
+        ensures refused { (refusal : Refusal) → result ≡ Ok (Reply.Refused refusal) → book_of self.new ≡ book_of self.old }
+
+        // The journal's end is asked first. A command that isn't answered changes nothing.
+        ensures full { (result ≡ Err FileFault.JournalFull) ↔ (length self.old.journal ≡ self.old.limits.steps) }
+        ensures fault { OnErr result (self.new ≡ self.old) }
+    {
+        if self.is_full() {
+            return Err(FileFault::JournalFull);
+        }
+        self.journal.reserve(1)?;
+        let reply = command.carry_out(self.limits, &mut self.pedigree)?;
+        self.journal.push_reserved(Step {
+            desk,
+            command,
+            reply,
+        });
+        self.can_withdraw = true;
+        Ok(reply)
+    }
+
+    /// Whether the last step can be taken out again: so it is after `file` answered, until `withdraw`.
+    pub fn can_withdraw(&self) -> bool
+        ensures { result ≡ self.now.can_withdraw }
+    {
+        self.can_withdraw
+    }
+
+    /// Takes the last step out again. It takes no memory.
+    pub fn withdraw(&mut self)
+        requires { IsTrue self.old.can_withdraw }
+        ensures { self.new ≡ without_last_step self.old }
+    {
+        let step = self.journal.pop().unwrap();
+        match step.reply {
+            Reply::Accepted => self.pedigree.take_back(),
+            Reply::Refused(_) => {}
+        }
+        self.can_withdraw = false;
+    }
+}

@@ -1,0 +1,114 @@
+ghost use Rattle.std.specs.Prelude.{◌≡◌, ◌+◌, ◌<◌, [], ◌++◌, decimal, drop, IfErr, OnErr, OnOk};
+ghost use Rattle.std.specs.Io.KnownBytes.{Appends};
+ghost use Rattle.herd_report.specs.Output.{AppendsFront, PassesOn};
+
+use crate::report_fault::ReportFault;
+use itoa::{Buffer, Integer};
+use std::alloc::{AllocError, Allocator};
+use std::io::Write;
+use std::marker::Model;
+
+// What waits is written once it has so many bytes.
+const PART: usize = 8192;
+
+// Wide numbers are written in two parts, the second of eighteen digits.
+const SPLIT: u128 = 1_000_000_000_000_000_000;
+
+/// The end of a text that still waits to be written.
+#[derive(Drop)]
+pub(crate) struct Output<A: Allocator> {
+    waiting: Vec<u8, A>,
+}
+
+impl<A: Allocator> Model for Output<A> {
+    ghost use Rattle.std.specs.Prelude.{List, ℕ};
+
+    ghost Value = { List ℕ };
+
+    ghost view = { λ output. output.waiting.items };
+}
+
+impl<A: Allocator> Output<A> {
+    /// Nothing waits yet.
+    pub(crate) fn new(alloc: A) -> Self
+        ensures { result ≡ [] }
+    {
+        Output {
+            waiting: Vec::new(alloc),
+        }
+    }
+
+    /// Adds bytes at the end.
+    pub(crate) fn push(&mut self, bytes: &[u8]) -> Result<(), AllocError>
+        ensures { OnOk result (self.new ≡ self.old ++ bytes.now) }
+    {
+        self.waiting.extend_from_slice(bytes)
+    }
+
+    /// Adds a number at the end, in decimal.
+    pub(crate) fn push_number<N: Integer>(&mut self, number: N) -> Result<(), AllocError>
+        ensures { OnOk result (self.new ≡ self.old ++ N.text number) }
+    {
+        self.push(Buffer::new().format(number).as_bytes())
+    }
+
+    /// Adds a number at the end, in decimal, one that may be wide.
+    pub(crate) fn push_wide_number(&mut self, number: u128) -> Result<(), AllocError>
+        ensures { OnOk result (self.new ≡ self.old ++ decimal number) }
+    {
+        if number < SPLIT {
+            return self.push_number(number as u64);
+        }
+        let high = number / SPLIT;
+        self.push_number(high)?;
+        self.push_low_digits((number - high * SPLIT) as u64)
+    }
+
+    // Adds eighteen digits. They are written after a one, so that no zero before them is left out.
+    fn push_low_digits(&mut self, low: u64) -> Result<(), AllocError>
+        requires { low < SPLIT }
+        ensures { OnOk result (self.new ≡ self.old ++ drop 1 (decimal (SPLIT + low))) }
+    {
+        let mut buffer = Buffer::new();
+        let (_, digits) = buffer.format(low + SPLIT as u64).as_bytes().split_at(1);
+        self.push(digits)
+    }
+
+    /// Writes what waits, where it is long enough for a write of its own.
+    pub(crate) fn pass_on<W: Write>(&mut self, writer: &mut W) -> Result<(), ReportFault>
+        ensures ok { OnOk result (PassesOn (W.contents writer.old) (W.contents writer.new) self.old self.new) }
+        ensures err { OnErr result (AppendsFront (W.contents writer.old) (W.contents writer.new) self.old) }
+        ensures fault { IfErr result (λ fault. fault ≡ ReportFault.Write) }
+    {
+        if self.waiting.len() >= PART {
+            write_all(writer, self.waiting.as_slice())?;
+            self.waiting.clear();
+        }
+        Ok(())
+    }
+
+    /// Writes all that waits.
+    pub(crate) fn finish<W: Write>(self, writer: &mut W) -> Result<(), ReportFault>
+        ensures ok { OnOk result (Appends (W.contents writer.old) (W.contents writer.new) self) }
+        ensures err { OnErr result (AppendsFront (W.contents writer.old) (W.contents writer.new) self) }
+        ensures fault { IfErr result (λ fault. fault ≡ ReportFault.Write) }
+    {
+        write_all(writer, self.waiting.as_slice())
+    }
+}
+
+// Writes bytes until the writer has them all, or a write fails or takes none.
+fn write_all<W: Write>(writer: &mut W, bytes: &[u8]) -> Result<(), ReportFault>
+    ensures ok { OnOk result (Appends (W.contents writer.old) (W.contents writer.new) bytes.now) }
+    ensures err { OnErr result (AppendsFront (W.contents writer.old) (W.contents writer.new) bytes.now) }
+    ensures fault { IfErr result (λ fault. fault ≡ ReportFault.Write) }
+{
+    let mut rest = bytes;
+    while !rest.is_empty() {
+        match writer.write(rest) {
+            Ok(0) | Err(_) => return Err(ReportFault::Write),
+            Ok(count) => rest = &rest[count..],
+        }
+    }
+    Ok(())
+}

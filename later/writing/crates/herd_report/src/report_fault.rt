@@ -1,0 +1,27 @@
+ghost use Rattle.std.specs.Prelude.{◌≡◌};
+ghost use Rattle.herd_report.specs.declared.report_fault.ReportFault.TheVariants.{Memory};
+
+use std::alloc::AllocError;
+use thiserror::Error;
+
+/// Why a report wasn't written to its end.
+#[derive(Clone, Copy, Debug, PartialEq, Eq, Error)]
+pub enum ReportFault {
+    /// A write failed or took no byte.
+    #[error("write fault")]
+    Write,
+    /// A growth of memory was refused.
+    #[error("no memory")]
+    Memory,
+    /// The animal isn't in the book. Nothing was written.
+    #[error("not registered")]
+    NotRegistered,
+}
+
+impl From<AllocError> for ReportFault {
+    ghost from_gives = { λ _ fault. fault ≡ Memory };
+
+    fn from(_cause: AllocError) -> ReportFault {
+        ReportFault::Memory
+    }
+}
