@@ -1,7 +1,0 @@
-use Rattle.herd_pedigree.specs.declared.TheConstants.{DEPTH_LIMIT, MOST_ANIMALS}
-use Rattle.herd_kinship.proofs.LawFacts.{frozen-decomposition}
-use Rattle.herd_kinship.proofs.laws.decomposition.Goals as goal
-
-pub returns : goal.returns
-returns g c =
-    frozen-decomposition DEPTH_LIMIT MOST_ANIMALS c.args.frozen.now c.len.ensures.frozen c.args.x c.args.y c.requires.first c.requires.second

@@ -1,5 +1,0 @@
-use Rattle.herd_kinship.proofs.PendingFacts.{lowest-cleared}
-use Rattle.herd_kinship.proofs.pending.without_lowest.Goals as goal
-
-pub returns : goal.returns
-returns c = lowest-cleared c.args.word c.requires c.ranges.word.fits

@@ -1,4 +1,0 @@
-pub mod Known
-pub mod LevelFacts
-pub mod Passes
-pub mod Writes

@@ -1,6 +1,0 @@
-pub mod Refusal
-pub mod Run
-pub mod Command
-pub mod Register
-pub mod Records
-pub mod Copybook
