@@ -5,4 +5,10 @@ mod HerdFacts
 mod UpcomingFacts
 pub mod OutputFacts
 pub mod ReplyLines
+pub mod Pieces
+pub mod WideDecimal
+pub mod CoefficientFacts
+pub mod AncestorFacts
+pub mod CertificateFacts
+pub mod ContributionFacts
 pub mod RunFacts

@@ -53,6 +53,10 @@ holds_passed {rest = rest} held passed = record { passed = passes_more held.pass
 pub front_passed : {old now : Option (List ℕ)} {text waiting rest : List ℕ} → Holds old now text waiting rest → AppendsFront old now text
 front_passed {waiting = waiting} {rest = rest} held = record { rest = waiting ++ rest; passed = held.passed }
 
+-- and so is nothing
+pub front_nothing : (known : Option (List ℕ)) (text : List ℕ) → AppendsFront known known text
+front_nothing known text = front_passed (holds_nothing known text)
+
 -- with a front of what waits it is one too
 pub front_waiting : {old now new : Option (List ℕ)} {text waiting rest : List ℕ} → Holds old now text waiting rest
     → AppendsFront now new waiting → AppendsFront old new text

@@ -6,5 +6,11 @@ pub mod CommandFile
 pub mod Upcoming
 pub mod Output
 pub mod Replies
+pub mod CoefficientText
+pub mod InbreedingList
+pub mod Ancestors
+pub mod Certificate
+pub mod MatingList
+pub mod InverseList
 pub mod RunFault
 pub mod Run

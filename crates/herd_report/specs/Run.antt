@@ -1,18 +1,28 @@
 -- What a run writes for a command file, and how it may end.
-use Rattle.std.specs.Prelude.{◌≡◌, ℕ, List, [], ◌∷◌, ◌++◌, MatchBool, Option, Some, None}
+use Rattle.std.specs.Prelude.{◌≡◌, ◌≢◌, ◌⊎◌, ◌≤◌, ℕ, List, [], ◌∷◌, ◌++◌, ⊤, Option, Some, None, true, false}
 use Rattle.std.specs.Io.KnownBytes.{Appends}
-use Rattle.herd_pedigree.specs.Book.{Book}
-use Rattle.herd_register.specs.Run.{answer, next, step_of}
+use Rattle.herd_pedigree.specs.Book.{Book, is_there}
+use Rattle.herd_pedigree.specs.Frozen.{IsFrozenFrom, book_of}
+use Rattle.herd_pedigree.specs.declared.TheConstants.{DEPTH_LIMIT, MOST_ANIMALS}
+use Rattle.herd_pedigree.specs.declared.frozen.Row.{Row}
+use Rattle.herd_register.specs.Run.{answer, next, run_book, step_of}
 use Rattle.herd_register.specs.declared.command.Command.{Command}
 use Rattle.herd_register.specs.declared.limits.Limits.{Limits}
 use Rattle.herd_register.specs.declared.step.Step.{Step}
-use Rattle.herd_report.specs.CommandFile.{CommandFile, IsReadBefore}
-use Rattle.herd_report.specs.LineCause.{is_interruption}
+use Rattle.herd_kinship.specs.FrozenAncestry.{ancestry_of}
+use Rattle.herd_kinship.specs.Table.{coefficient}
+use Rattle.herd_report.specs.Certificate.{certificate_text}
+use Rattle.herd_report.specs.CommandFile.{CommandFile, IsRead}
+use Rattle.herd_report.specs.InbreedingList.{inbreeding_text}
+use Rattle.herd_report.specs.InverseList.{inverse_text}
+use Rattle.herd_report.specs.MatingList.{mating_text}
 use Rattle.herd_report.specs.Output.{AppendsFront}
 use Rattle.herd_report.specs.Replies.{replies_text}
 use Rattle.herd_report.specs.declared.line_fault.LineFault.{LineFault}
+use Rattle.herd_report.specs.declared.orders.Order.{Order}
+use Rattle.herd_report.specs.declared.orders.Order.TheVariants.{File, Inbreeding, Certificate, Mating, Inverse}
 use Rattle.herd_report.specs.declared.run_fault.RunFault.{RunFault}
-use Rattle.herd_report.specs.declared.run_fault.RunFault.TheVariants.{Line, NotRegistered, Memory, Write}
+use Rattle.herd_report.specs.declared.run_fault.RunFault.TheVariants.{Line, NotRegistered, NoThread, Memory, Write}
 
 -- the steps of commands that are filed at desk 0 one after the other, the first with this book
 abbrev pub filed_from : Limits → Book → List Command → List Step
@@ -24,26 +34,67 @@ filed_from limits book (command ∷ commands) =
 abbrev pub replies_to : Limits → List Command → List ℕ
 replies_to limits commands = replies_text (filed_from limits [] commands)
 
--- the file has no fault, and the replies to its commands were written
-pub record IsAnswered (limits : Limits) (file : CommandFile) (old new : Option (List ℕ)) : Type 0 where
+-- what an order wants of commands, and of the frozen rows of their book
+abbrev pub wanted : Order → Limits → List Command → List Row → List ℕ
+wanted File limits commands rows = replies_to limits commands
+wanted (Inbreeding workers block) limits commands rows = inbreeding_text (coefficient (ancestry_of rows) DEPTH_LIMIT) rows
+wanted (Certificate number) limits commands rows = certificate_text (book_of rows) (coefficient (ancestry_of rows) DEPTH_LIMIT number) number
+wanted (Mating dam sires) limits commands rows = mating_text (book_of rows) dam sires.now
+wanted Inverse limits commands rows = inverse_text rows
+
+-- an order that the program can carry out
+abbrev pub IsOrder : Order → Type 0
+IsOrder (Inbreeding workers block) = (1 ≤ workers) × (workers ≤ 16) × (1 ≤ block)
+IsOrder order = ⊤
+
+-- the animal of a certificate is in the book
+abbrev pub IsThere : Order → Book → Type 0
+IsThere (Certificate number) book = is_there book number ≡ true
+IsThere order book = ⊤
+
+-- it is not
+abbrev pub IsAbsent : Order → Book → Type 0
+IsAbsent (Certificate number) book = is_there book number ≡ false
+IsAbsent order book = ⊥
+
+-- the order is that for the list of coefficients
+abbrev pub IsInbreeding : Order → Type 0
+IsInbreeding (Inbreeding workers block) = ⊤
+IsInbreeding order = ⊥
+
+-- a text that an order wants of commands passes a test; only for the replies no frozen rows are needed
+pub record IsReport (limits : Limits) (order : Order) (commands : List Command) (Passes : List ℕ → Type 0) : Type 0 where
+  pub rows : List Row
+  pub frozen : order ≢ File → IsFrozenFrom DEPTH_LIMIT MOST_ANIMALS (run_book limits commands) rows
+  pub passes : Passes (wanted order limits commands rows)
+
+-- the file has no fault, the animal of a certificate is in the book, and what the order wants was written
+pub record IsAnswered (limits : Limits) (order : Order) (file : CommandFile) (old new : Option (List ℕ)) : Type 0 where
   pub faultless : file.fault ≡ None
-  pub written : Appends old new (replies_to limits file.commands)
+  pub there : IsThere order (run_book limits file.commands)
+  pub written : IsReport limits order file.commands (Appends old new)
 
--- the replies to the commands before a fault of the file were written
-pub record IsAnsweredBefore (limits : Limits) (file : CommandFile) (fault : LineFault) (old new : Option (List ℕ)) : Type 0 where
-  pub told : file.fault ≡ Some fault
-  pub written : Appends old new (replies_to limits file.commands)
+-- what is written of the commands before a line fault: their replies, and for other orders nothing
+abbrev pub IsWrittenBefore : Limits → Order → List Command → Option (List ℕ) → Option (List ℕ) → Type 0
+IsWrittenBefore limits File commands old new = Appends old new (replies_to limits commands)
+IsWrittenBefore limits order commands old new = new ≡ old
 
--- reading was interrupted, and the replies to the commands before were written
-pub record IsInterrupted (limits : Limits) (file : CommandFile) (fault : LineFault) (old new : Option (List ℕ)) : Type 0 where
+-- a line fault, or an interruption of the reading, was met after these commands
+pub record EndsByLine (limits : Limits) (order : Order) (file : CommandFile) (fault : LineFault) (old new : Option (List ℕ)) : Type 0 where
   pub commands : List Command
-  pub before : IsReadBefore limits.steps fault.entry commands file
-  pub written : Appends old new (replies_to limits commands)
+  pub read : IsRead limits.steps file commands (Some fault)
+  pub written : IsWrittenBefore limits order commands old new
+
+-- only the replies are written of a file with a fault
+abbrev pub IsFaultlessFor : Order → CommandFile → Type 0
+IsFaultlessFor order file = order ≢ File → file.fault ≡ None
 
 -- how a run may end early
-abbrev pub EndsBy : Limits → CommandFile → Option (List ℕ) → Option (List ℕ) → RunFault → Type 0
-EndsBy limits file old new (Line fault) =
-    MatchBool (is_interruption fault.cause) (IsInterrupted limits file fault old new) (IsAnsweredBefore limits file fault old new)
-EndsBy limits file old new NotRegistered = ⊥
-EndsBy limits file old new Memory = AppendsFront old new (replies_to limits file.commands)
-EndsBy limits file old new Write = AppendsFront old new (replies_to limits file.commands)
+abbrev pub EndsBy : Limits → Order → CommandFile → Option (List ℕ) → Option (List ℕ) → RunFault → Type 0
+EndsBy limits order file old new (Line fault) = EndsByLine limits order file fault old new
+EndsBy limits order file old new NotRegistered =
+    (file.fault ≡ None) × IsAbsent order (run_book limits file.commands) × (new ≡ old)
+EndsBy limits order file old new NoThread = IsInbreeding order × (file.fault ≡ None) × (new ≡ old)
+EndsBy limits order file old new Memory =
+    IsFaultlessFor order file × ((new ≡ old) ⊎ IsReport limits order file.commands (AppendsFront old new))
+EndsBy limits order file old new Write = IsFaultlessFor order file × IsReport limits order file.commands (AppendsFront old new)

@@ -1,10 +1,35 @@
--- The fault of a report, as that of a run.
+-- The faults of a part of a run, as those of the run.
+use Rattle.std.specs.Prelude.{◌≡◌, ℕ, List, Option, Some, None}
+use Rattle.herd_pool.specs.declared.pool_fault.PoolFault.{PoolFault}
+use Rattle.herd_pool.specs.declared.pool_fault.PoolFault.TheVariants as pool
+use Rattle.herd_report.specs.Output.{AppendsFront}
+use Rattle.herd_report.specs.declared.line_fault.LineFault.{LineFault}
 use Rattle.herd_report.specs.declared.report_fault.ReportFault.{ReportFault}
 use Rattle.herd_report.specs.declared.report_fault.ReportFault.TheVariants as report
 use Rattle.herd_report.specs.declared.run_fault.RunFault.{RunFault}
-use Rattle.herd_report.specs.declared.run_fault.RunFault.TheVariants.{NotRegistered, Memory, Write}
+use Rattle.herd_report.specs.declared.run_fault.RunFault.TheVariants.{Line, NotRegistered, NoThread, Memory, Write}
 
 abbrev pub run_fault_of : ReportFault → RunFault
 run_fault_of report.Write = Write
 run_fault_of report.Memory = Memory
 run_fault_of report.NotRegistered = NotRegistered
+
+abbrev pub run_fault_of_pool : PoolFault → RunFault
+run_fault_of_pool pool.NoThread = NoThread
+run_fault_of_pool pool.Memory = Memory
+
+-- why there is no frozen book: the line fault that was read, or where there is none a want of memory
+abbrev pub EndsFreezing : Option LineFault → RunFault → Type 0
+EndsFreezing told (Line fault) = told ≡ Some fault
+EndsFreezing told NotRegistered = ⊥
+EndsFreezing told NoThread = ⊥
+EndsFreezing told Memory = told ≡ None
+EndsFreezing told Write = ⊥
+
+-- how the writing of a list of coefficients may end early
+abbrev pub EndsListing : Option (List ℕ) → Option (List ℕ) → List ℕ → RunFault → Type 0
+EndsListing old new text (Line fault) = ⊥
+EndsListing old new text NotRegistered = ⊥
+EndsListing old new text NoThread = new ≡ old
+EndsListing old new text Memory = AppendsFront old new text
+EndsListing old new text Write = AppendsFront old new text

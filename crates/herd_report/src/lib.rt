@@ -1,10 +1,19 @@
 //! Reading a command file, filing it, and every text that the herd book prints.
 #![tactic(auto)]
 
+mod ancestors;
+#[cfg(test)]
+#[macro_use]
+mod assert_writes;
+mod certificate;
+mod coefficient_text;
 mod columns;
 mod command_file;
 mod field;
+mod inbreeding_list;
+mod inverse_list;
 mod line_fault;
+mod mating_list;
 mod orders;
 mod output;
 mod records;
@@ -13,10 +22,16 @@ mod report_fault;
 mod run_fault;
 #[cfg(test)]
 mod stops_after;
+#[cfg(test)]
+mod test_books;
 mod version;
 
+pub use certificate::write_certificate;
 pub use command_file::{Commands, read_commands};
+pub use inbreeding_list::write_inbreeding;
+pub use inverse_list::write_inverse;
 pub use line_fault::{LineCause, LineFault};
+pub use mating_list::write_mating;
 pub use orders::{Order, run};
 pub use replies::write_replies;
 pub use report_fault::ReportFault;

@@ -1,52 +1,197 @@
-ghost use Rattle.std.specs.Prelude.{◌≡◌, ◌≢◌, ◌≤◌, [], length, IfErr, IfOk, IfSome, OnErr, OnOk};
+ghost use Rattle.std.specs.Prelude.{◌≡◌, ◌≢◌, ◌↔◌, ◌≤◌, [], false, length, Err, IfErr, IfOk, IfSome, None, OnErr, OnOk};
 ghost use Rattle.std.specs.Io.KnownBytes.{Appends};
+ghost use Rattle.herd_pedigree.specs.Book.{is_there};
+ghost use Rattle.herd_pedigree.specs.Frozen.{IsFrozenFrom, book_of};
+ghost use Rattle.herd_pedigree.specs.declared.TheConstants.{DEPTH_LIMIT, MOST_ANIMALS};
 ghost use Rattle.herd_register.specs.Register.{AreLimits};
+ghost use Rattle.herd_register.specs.Run.{run_book};
+ghost use Rattle.herd_kinship.specs.FrozenAncestry.{ancestry_of};
+ghost use Rattle.herd_kinship.specs.Table.{coefficient};
+ghost use Rattle.herd_report.specs.Certificate.{certificate_text};
 ghost use Rattle.herd_report.specs.CommandFile.{commands};
+ghost use Rattle.herd_report.specs.InbreedingList.{inbreeding_text};
+ghost use Rattle.herd_report.specs.InverseList.{inverse_text};
+ghost use Rattle.herd_report.specs.MatingList.{mating_text};
 ghost use Rattle.herd_report.specs.Output.{AppendsFront};
-ghost use Rattle.herd_report.specs.Run.{EndsBy, IsAnswered, filed_from, replies_to};
+ghost use Rattle.herd_report.specs.Run.{EndsBy, IsAnswered, IsOrder, filed_from, replies_to};
+ghost use Rattle.herd_report.specs.RunFault.{EndsFreezing, EndsListing};
 
-use crate::command_file::read_commands;
+use crate::certificate::write_certificate;
+use crate::command_file::{Commands, read_commands};
+use crate::inbreeding_list::write_inbreeding;
+use crate::inverse_list::write_inverse;
+use crate::mating_list::write_mating;
 use crate::replies::write_replies;
 use crate::report_fault::ReportFault;
 use crate::run_fault::RunFault;
+use herd_animal::AnimalNumber;
+use herd_kinship::coefficients_plain;
+use herd_pedigree::Frozen;
+use herd_pool::NoGate;
 use herd_register::{Command, FileFault, Limits, Register};
 use std::alloc::{AllocError, Global};
 use std::io::{Read, Write};
+use std::sync::Wait;
+use std::thread::Threads;
 
 /// What a run is asked for.
 #[derive(Clone, Copy, Debug, PartialEq, Eq)]
-pub enum Order {
+pub enum Order<'a> {
     /// The reply to each command.
     File,
+    /// The coefficient of inbreeding of each animal, computed by 1 to 16 workers in blocks of so many animals.
+    Inbreeding {
+        workers: u32,
+        block: u32,
+    },
+    /// The certificate of an animal.
+    Certificate(AnimalNumber),
+    /// For each sire the coefficient that a calf of it and the dam would have.
+    Mating {
+        dam: AnimalNumber,
+        sires: &'a [AnimalNumber],
+    },
+    /// What each animal contributes to the inverse of the table of relationships.
+    Inverse,
 }
 
 /// Reads a command file, files its commands one after the other, and writes what is asked for.
 ///
-/// A write that fails while the replies before a line fault are written is told as `Write`.
-pub fn run<R: Read + Drop, W: Write>(
+/// After a line fault only `File` writes: the replies to the commands before it. A write that fails then is told
+/// as `Write`.
+pub fn run<H: Threads + Wait + Sync, R: Read + Drop, W: Write>(
+    rt: &H,
     alloc: Global,
     limits: Limits,
-    order: Order,
+    order: Order<'_>,
     reader: R,
     writer: &mut W,
 ) -> Result<(), RunFault>
-    requires { AreLimits limits }
+    requires limits { AreLimits limits }
+    requires order { IsOrder order }
     ensures ok { OnOk result (IfSome (R.remaining reader)
-        (λ bytes. IsAnswered limits (commands bytes limits.steps) (W.contents writer.old) (W.contents writer.new))) }
+        (λ bytes. IsAnswered limits order.entry (commands bytes limits.steps) (W.contents writer.old) (W.contents writer.new))) }
     ensures err { IfErr result (λ fault. IfSome (R.remaining reader)
-        (λ bytes. EndsBy limits (commands bytes limits.steps) (W.contents writer.old) (W.contents writer.new) fault)) }
+        (λ bytes. EndsBy limits order.entry (commands bytes limits.steps) (W.contents writer.old) (W.contents writer.new) fault)) }
 {
-    match order {
-        Order::File => {}
-    }
     let commands = read_commands(alloc, reader, limits.steps);
-    write_answers(alloc, limits, commands.list.as_slice(), writer)?;
-    match commands.fault {
-        None => Ok(()),
-        Some(fault) => Err(RunFault::Line(fault)),
+    match order {
+        Order::File => {
+            write_answers(alloc, limits, commands.list.as_slice(), writer)?;
+            match commands.fault {
+                None => Ok(()),
+                Some(fault) => Err(RunFault::Line(fault)),
+            }
+        }
+        Order::Inbreeding { workers, block } => {
+            let frozen = frozen_book(alloc, limits, &commands)?;
+            list_inbreeding(rt, alloc, &frozen, workers, block, writer)
+        }
+        Order::Certificate(number) => {
+            let frozen = frozen_book(alloc, limits, &commands)?;
+            Ok(certify(alloc, &frozen, number, writer)?)
+        }
+        Order::Mating { dam, sires } => {
+            let frozen = frozen_book(alloc, limits, &commands)?;
+            Ok(advise(alloc, &frozen, dam, sires, writer)?)
+        }
+        Order::Inverse => {
+            let frozen = frozen_book(alloc, limits, &commands)?;
+            Ok(list_inverse(alloc, &frozen, writer)?)
+        }
     }
 }
 
+// Writes the coefficients of a book's animals.
+fn list_inbreeding<H: Threads + Wait + Sync, W: Write>(
+    rt: &H,
+    alloc: Global,
+    frozen: &Frozen<Global>,
+    workers: u32,
+    block: u32,
+    writer: &mut W,
+) -> Result<(), RunFault>
+    requires { IsOrder (Order.Inbreeding workers block) }
+    ensures ok { OnOk result (Appends (W.contents writer.old) (W.contents writer.new)
+        (inbreeding_text (coefficient (ancestry_of frozen.now) DEPTH_LIMIT) frozen.now)) }
+    ensures err { IfErr result (EndsListing (W.contents writer.old) (W.contents writer.new)
+        (inbreeding_text (coefficient (ancestry_of frozen.now) DEPTH_LIMIT) frozen.now)) }
+{
+    let coefficients = herd_pool::coefficients(rt, alloc, frozen, workers, block, &NoGate)?;
+    Ok(write_inbreeding(alloc, frozen, &coefficients, writer)?)
+}
+
+// Writes an animal's certificate. Where the animal isn't in the book, nothing is computed.
+fn certify<W: Write>(
+    alloc: Global,
+    frozen: &Frozen<Global>,
+    number: AnimalNumber,
+    writer: &mut W,
+) -> Result<(), ReportFault>
+    ensures ok { OnOk result (Appends (W.contents writer.old) (W.contents writer.new)
+        (certificate_text (book_of frozen.now) (coefficient (ancestry_of frozen.now) DEPTH_LIMIT number) number)) }
+    ensures err { OnErr result (AppendsFront (W.contents writer.old) (W.contents writer.new)
+        (certificate_text (book_of frozen.now) (coefficient (ancestry_of frozen.now) DEPTH_LIMIT number) number)) }
+    ensures absent { (result ≡ Err ReportFault.NotRegistered) ↔ (is_there (book_of frozen.now) number ≡ false) }
+    ensures untouched { is_there (book_of frozen.now) number ≡ false → writer.new ≡ writer.old }
+{
+    match frozen.place(&number) {
+        None => Err(ReportFault::NotRegistered),
+        Some(_) => {
+            let coefficients = coefficients_plain(alloc, frozen)?;
+            write_certificate(alloc, frozen, &coefficients, number, writer)
+        }
+    }
+}
+
+// Writes mating advice for a dam.
+fn advise<W: Write>(
+    alloc: Global,
+    frozen: &Frozen<Global>,
+    dam: AnimalNumber,
+    sires: &[AnimalNumber],
+    writer: &mut W,
+) -> Result<(), ReportFault>
+    ensures ok { OnOk result (Appends (W.contents writer.old) (W.contents writer.new) (mating_text (book_of frozen.now) dam sires.now)) }
+    ensures err { OnErr result (AppendsFront (W.contents writer.old) (W.contents writer.new) (mating_text (book_of frozen.now) dam sires.now)) }
+    ensures fault { IfErr result (λ fault. fault ≢ ReportFault.NotRegistered) }
+{
+    let coefficients = coefficients_plain(alloc, frozen)?;
+    write_mating(alloc, frozen, &coefficients, dam, sires, writer)
+}
+
+// Writes what a book's animals contribute to the inverse.
+fn list_inverse<W: Write>(
+    alloc: Global,
+    frozen: &Frozen<Global>,
+    writer: &mut W,
+) -> Result<(), ReportFault>
+    ensures ok { OnOk result (Appends (W.contents writer.old) (W.contents writer.new) (inverse_text frozen.now)) }
+    ensures err { OnErr result (AppendsFront (W.contents writer.old) (W.contents writer.new) (inverse_text frozen.now)) }
+    ensures fault { IfErr result (λ fault. fault ≢ ReportFault.NotRegistered) }
+{
+    let coefficients = coefficients_plain(alloc, frozen)?;
+    write_inverse(alloc, frozen, &coefficients, writer)
+}
+
+// The frozen book of the commands of a file without a fault.
+fn frozen_book(
+    alloc: Global,
+    limits: Limits,
+    commands: &Commands,
+) -> Result<Frozen<Global>, RunFault>
+    requires limits { AreLimits limits }
+    requires room { length commands.now.list.items ≤ limits.steps }
+    ensures faultless { OnOk result (commands.now.fault ≡ None) }
+    ensures frozen { IfOk result (IsFrozenFrom DEPTH_LIMIT MOST_ANIMALS (run_book limits commands.now.list.items)) }
+    ensures err { IfErr result (EndsFreezing commands.now.fault) }
+{
+    if let Some(fault) = commands.fault {
+        return Err(RunFault::Line(fault));
+    }
+    let register = filed(alloc, limits, commands.list.as_slice())?;
+    Ok(register.pedigree().freeze(alloc)?)
+}
 // Files the commands, and writes the replies.
 fn write_answers<W: Write>(
     alloc: Global,

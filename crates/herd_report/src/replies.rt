@@ -24,8 +24,8 @@ pub fn write_replies<W: Write, A: Allocator>(
 {
     let mut output = Output::new(alloc);
     for (place, step) in steps.iter().enumerate() {
-        push_reply(&mut output, place + 1, step.reply)?;
         output.pass_on(writer)?;
+        push_reply(&mut output, place + 1, step.reply)?;
     }
     output.finish(writer)
 }

@@ -2,23 +2,38 @@ ghost use Rattle.std.specs.Prelude.{◌≡◌};
 
 use crate::line_fault::LineFault;
 use crate::report_fault::ReportFault;
+use herd_pool::PoolFault;
+use std::alloc::AllocError;
 use thiserror::Error;
 
 /// Why a run ended early.
 #[derive(Clone, Copy, Debug, PartialEq, Eq, Error)]
 pub enum RunFault {
-    /// The command file has a fault. The replies to the commands before it were written.
+    /// The command file has a fault. The replies to the commands before it were written, and nothing else.
     #[error("{0}")]
     Line(LineFault),
     /// The animal that a certificate was asked for isn't in the book. Nothing was written.
     #[error("not registered")]
     NotRegistered,
+    /// A thread couldn't be started. Nothing was written.
+    #[error("no thread")]
+    NoThread,
     /// A growth of memory was refused.
     #[error("no memory")]
     Memory,
     /// A write failed or took no byte.
     #[error("write fault")]
     Write,
+}
+
+impl From<AllocError> for RunFault {
+    ghost use Rattle.herd_report.specs.declared.run_fault.RunFault.TheVariants.{Memory};
+
+    ghost from_gives = { λ _ told. told ≡ Memory };
+
+    fn from(_cause: AllocError) -> RunFault {
+        RunFault::Memory
+    }
 }
 
 impl From<ReportFault> for RunFault {
@@ -31,6 +46,19 @@ impl From<ReportFault> for RunFault {
             ReportFault::Write => RunFault::Write,
             ReportFault::Memory => RunFault::Memory,
             ReportFault::NotRegistered => RunFault::NotRegistered,
+        }
+    }
+}
+
+impl From<PoolFault> for RunFault {
+    ghost use Rattle.herd_report.specs.RunFault.{run_fault_of_pool};
+
+    ghost from_gives = { λ fault told. told ≡ run_fault_of_pool fault };
+
+    fn from(fault: PoolFault) -> RunFault {
+        match fault {
+            PoolFault::NoThread => RunFault::NoThread,
+            PoolFault::Memory => RunFault::Memory,
         }
     }
 }

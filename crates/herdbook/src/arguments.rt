@@ -1,23 +1,168 @@
 //! The words of the command line.
 
-use clap::Command;
+ghost use Rattle.herd_report.specs.Run.{IsOrder};
+
+use clap::{Arg, ArgAction, ArgMatches, Command};
+use herd_animal::{AnimalNumber, NumberFault};
 use herd_report::Order;
 use std::alloc::{AllocError, Global};
 
+/// What the words ask for.
+#[derive(Drop)]
+pub enum Request {
+    File,
+    Inbreeding {
+        workers: u32,
+        block: u32,
+    },
+    Certificate(AnimalNumber),
+    Mating {
+        dam: AnimalNumber,
+        sires: Vec<AnimalNumber>,
+    },
+    Inverse,
+}
+
+/// Why the words ask for nothing.
+#[derive(Drop)]
+pub enum WordsFault {
+    /// They aren't a command line, or ask for help: `clap` has the text and the status.
+    Words(clap::Error),
+    /// The first of the numbers that is none: of the dam, then of the sires as given.
+    Number(NumberFault),
+}
+
+impl From<clap::Error> for WordsFault {
+    fn from(error: clap::Error) -> WordsFault {
+        WordsFault::Words(error)
+    }
+}
+
+impl From<AllocError> for WordsFault {
+    fn from(error: AllocError) -> WordsFault {
+        WordsFault::Words(clap::Error::from(error))
+    }
+}
+
+impl From<NumberFault> for WordsFault {
+    fn from(fault: NumberFault) -> WordsFault {
+        WordsFault::Number(fault)
+    }
+}
+
+impl Request {
+    /// What `run` is asked for.
+    pub fn order(&self) -> Order<'_>
+        ensures { IsOrder result }
+    {
+        match self {
+            Request::File => Order::File,
+            Request::Inbreeding { workers, block } => Order::Inbreeding {
+                workers: (*workers).clamp(1, 16),
+                block: (*block).max(1),
+            },
+            Request::Certificate(number) => Order::Certificate(*number),
+            Request::Mating { dam, sires } => Order::Mating {
+                dam: *dam,
+                sires: sires.as_slice(),
+            },
+            Request::Inverse => Order::Inverse,
+        }
+    }
+}
+
 /// Reads the words of the command line, the program's own name first.
-pub fn read_words(alloc: Global, words: &[String]) -> Result<Order, clap::Error> {
-    command(alloc)?.try_get_matches_from(words)?;
-    Ok(Order::File)
+pub fn read_words(alloc: Global, words: &[String]) -> Result<Request, WordsFault> {
+    let matches = command(alloc)?.try_get_matches_from(words)?;
+    match matches.subcommand() {
+        Some(("inbreeding", given)) => Ok(inbreeding_of(given)),
+        Some(("certificate", given)) => Ok(Request::Certificate(number_of(given, "NUMBER")?)),
+        Some(("mating", given)) => mating_of(alloc, given),
+        Some(("inverse", _)) => Ok(Request::Inverse),
+        _ => Ok(Request::File),
+    }
+}
+
+fn inbreeding_of(given: &ArgMatches<'_>) -> Request {
+    Request::Inbreeding {
+        workers: given.get_one::<u32>("workers").unwrap_or(1),
+        block: given.get_one::<u32>("block").unwrap_or(256),
+    }
+}
+
+fn mating_of(alloc: Global, given: &ArgMatches<'_>) -> Result<Request, WordsFault> {
+    let dam = number_of(given, "dam")?;
+    let mut sires = Vec::new(alloc);
+    for text in given.get_strs("SIRE").unwrap_or(&[]) {
+        let sire = AnimalNumber::parse(text.as_bytes())?;
+        sires.push(sire).map_err(AllocError::from)?;
+    }
+    Ok(Request::Mating { dam, sires })
+}
+
+// The number under an argument that must be there.
+fn number_of(given: &ArgMatches<'_>, id: &str) -> Result<AnimalNumber, NumberFault> {
+    AnimalNumber::parse(given.get_str(id).unwrap_or("").as_bytes())
 }
 
 fn command<'a>(alloc: Global) -> Result<Command<'a>, AllocError> {
-    let file = Command::new(alloc, "file").about(
-        "Files the commands and writes one reply for each",
-    );
     Command::new(alloc, "herdbook")
         .about(
             "Keeps a herd book: reads a command file from standard input and writes to standard output",
         )
         .subcommand_required(true)
-        .subcommand(file)
+        .subcommand(Command::new(alloc, "file").about(
+            "Files the commands and writes one reply for each",
+        ))?
+        .subcommand(inbreeding(alloc)?)?
+        .subcommand(certificate(alloc)?)?
+        .subcommand(mating(alloc)?)?
+        .subcommand(Command::new(alloc, "inverse").about(
+            "Writes each animal's contributions to the inverse relationship matrix",
+        ))
+}
+
+fn inbreeding<'a>(alloc: Global) -> Result<Command<'a>, AllocError> {
+    let workers = Arg::new(alloc, "workers")
+        .long("workers")
+        .value_name("N")
+        .value_parser(clap::value_parser!(u32).range(1..=16))
+        .default_value("1")
+        .help("The number of threads, from 1 to 16");
+    let block = Arg::new(alloc, "block")
+        .long("block")
+        .value_name("N")
+        .value_parser(clap::value_parser!(u32).range(1..=60_000))
+        .default_value("256")
+        .help("The number of animals that a thread takes at once, from 1 to 60,000");
+    Command::new(alloc, "inbreeding")
+        .about("Writes the inbreeding coefficient of each animal, in age order")
+        .arg(workers)?
+        .arg(block)
+}
+
+fn certificate<'a>(alloc: Global) -> Result<Command<'a>, AllocError> {
+    let number = Arg::new(alloc, "NUMBER")
+        .required(true)
+        .help("The animal's number");
+    Command::new(alloc, "certificate")
+        .about("Writes an animal's certificate, with three generations of ancestors")
+        .arg(number)
+}
+
+fn mating<'a>(alloc: Global) -> Result<Command<'a>, AllocError> {
+    let dam = Arg::new(alloc, "dam")
+        .long("dam")
+        .value_name("NUMBER")
+        .required(true)
+        .help("The dam's number");
+    let sires = Arg::new(alloc, "SIRE")
+        .required(true)
+        .action(ArgAction::Append)
+        .num_args(1..)
+        .help("The numbers of the sires");
+    Command::new(alloc, "mating")
+        .about("Writes the inbreeding coefficient that a calf of the dam would have by each sire")
+        .arg(dam)?
+        .arg(sires)
 }

@@ -1,5 +1,6 @@
 //! What is told on standard error.
 
+use herd_animal::NumberFault;
 use herd_report::{LineCause, LineFault, RunFault};
 use std::io;
 
@@ -11,9 +12,21 @@ pub fn tell_run_fault(rt: &impl Eprint, fault: RunFault) -> io::Result<()> {
             eprintln!(rt; "herdbook: record {entry}: fault {code} {name}")
         }
         RunFault::NotRegistered => eprintln!(rt; "herdbook: not registered"),
+        RunFault::NoThread => eprintln!(rt; "herdbook: no thread"),
         RunFault::Memory => eprintln!(rt; "herdbook: no memory"),
         RunFault::Write => eprintln!(rt; "herdbook: write fault"),
     }
+}
+
+/// Tells why a word is no animal number.
+pub fn tell_number_fault(rt: &impl Eprint, fault: NumberFault) -> io::Result<()> {
+    let (code, name) = match fault {
+        NumberFault::Length => (1, "Length"),
+        NumberFault::Letter(_) => (2, "Letter"),
+        NumberFault::SexLetter => (3, "SexLetter"),
+        NumberFault::NumberCharacter(_) => (4, "NumberCharacter"),
+    };
+    eprintln!(rt; "herdbook: animal number fault {code} {name}")
 }
 
 fn code_and_name(cause: LineCause) -> (u8, &'static str) {

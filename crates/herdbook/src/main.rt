@@ -4,8 +4,8 @@
 mod arguments;
 mod faults;
 
-use arguments::read_words;
-use faults::tell_run_fault;
+use arguments::{WordsFault, read_words};
+use faults::{tell_number_fault, tell_run_fault};
 use herd_register::Limits;
 use herd_report::run;
 use std::io;
@@ -17,16 +17,30 @@ const LIMITS: Limits = Limits {
     steps: 1_000_000,
 };
 
+/// The words aren't a command line.
+const USAGE: u8 = 2;
+
 fn main(rt: HostRuntime) -> io::Result<ExitCode> {
     let words: Vec<String> = std::env::args(&rt)?.collect(rt.alloc())?;
-    let order = match read_words(rt.alloc(), words.as_slice()) {
-        Ok(order) => order,
-        Err(error) => {
+    let request = match read_words(rt.alloc(), words.as_slice()) {
+        Ok(request) => request,
+        Err(WordsFault::Words(error)) => {
             error.print(&rt)?;
             return Ok(ExitCode::from(error.exit_code() as u8));
         }
+        Err(WordsFault::Number(fault)) => {
+            tell_number_fault(&rt, fault)?;
+            return Ok(ExitCode::from(USAGE));
+        }
     };
-    match run(rt.alloc(), LIMITS, order, rt.reader(), &mut io::writer(&rt)) {
+    match run(
+        &rt,
+        rt.alloc(),
+        LIMITS,
+        request.order(),
+        rt.reader(),
+        &mut io::writer(&rt),
+    ) {
         Ok(()) => Ok(ExitCode::SUCCESS),
         Err(fault) => {
             tell_run_fault(&rt, fault)?;

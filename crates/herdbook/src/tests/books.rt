@@ -3,6 +3,23 @@
 use super::support::{Header, file};
 use std::alloc::{AllocError, Global};
 
+/// Six animals: full sibs M3 and F4, of whom M5 is a calf, and F6 of F4 and her own sire.
+pub const SIX: [&str; 6] = [
+    "birth,M1,2000-01-01,0,0,,1",
+    "birth,F2,2000-01-01,0,0,,1",
+    "birth,M3,2002-01-01,M1,F2,,1",
+    "birth,F4,2002-01-01,M1,F2,,1",
+    "birth,M5,2004-01-01,M3,F4,,1",
+    "birth,F6,2004-01-01,M1,F4,,1",
+];
+
+/// The six animals, and then these records.
+pub fn six_and(alloc: Global, records: &[&str]) -> Result<String, AllocError> {
+    let mut text = file(alloc, Header::Plain, &SIX)?;
+    super::support::push_lines(&mut text, records)?;
+    Ok(text)
+}
+
 /// One pair a generation, each of the pair before: males of odd numbers, females of even ones, the first pair born
 /// on the first day of 2000 and each further one a year later. Then these records.
 pub fn pairs_and(alloc: Global, generations: u32, records: &[&str]) -> Result<String, AllocError> {

@@ -1,6 +1,6 @@
 //! Files with a fault: the replies before it, and the fault.
 
-use super::support::{Header, expect, expect_fault, file, ran};
+use super::support::{Header, expect, expect_fault, file, number, ran};
 use herd_report::{LineCause, LineFault, Order, RunFault};
 use std::test::Fail;
 
@@ -40,7 +40,7 @@ fn a_second_record_with_a_fault(rt: HostRuntime) -> Result<(), Fail> {
         )?;
         expect_fault(
             &rt,
-            ran!(rt, Order::File, text.as_bytes()),
+            ran!(&rt, Order::File, text.as_bytes()),
             &["1,accepted"],
             line(2, cause),
         )?;
@@ -76,7 +76,7 @@ fn a_first_record_with_a_fault(rt: HostRuntime) -> Result<(), Fail> {
         let text = file(rt.alloc(), header, &[record])?;
         expect_fault(
             &rt,
-            ran!(rt, Order::File, text.as_bytes()),
+            ran!(&rt, Order::File, text.as_bytes()),
             &[],
             line(1, cause),
         )?;
@@ -91,7 +91,7 @@ fn a_file_that_is_cut(rt: HostRuntime) -> Result<(), Fail> {
     let fault = line(2, LineCause::Fields);
     expect_fault(
         &rt,
-        ran!(rt, Order::File, text.as_bytes()),
+        ran!(&rt, Order::File, text.as_bytes()),
         &["1,accepted"],
         fault,
     )
@@ -103,7 +103,7 @@ fn a_file_without_its_header(rt: HostRuntime) -> Result<(), Fail> {
     for text in files {
         expect_fault(
             &rt,
-            ran!(rt, Order::File, text),
+            ran!(&rt, Order::File, text),
             &[],
             line(0, LineCause::Header),
         )?;
@@ -115,5 +115,27 @@ fn a_file_without_its_header(rt: HostRuntime) -> Result<(), Fail> {
 fn quoted_fields_and_other_line_ends(rt: HostRuntime) -> Result<(), Fail> {
     let text =
         "kind,animal,day,sire,dam,from,to\r\n\"birth\",\"HOLGBRM000000000001\",\"2000-01-01\",\"0\",\"0\",\"\",\"1\"\r\n";
-    expect(&rt, ran!(rt, Order::File, text.as_bytes()), &["1,accepted"])
+    expect(
+        &rt,
+        ran!(&rt, Order::File, text.as_bytes()),
+        &["1,accepted"],
+    )
+}
+
+#[test]
+fn other_orders_write_nothing_for_a_file_with_a_fault(rt: HostRuntime) -> Result<(), Fail> {
+    let records = ["birth,M1,2000-01-01,0,0,,1", "birth,M2,2023-02-29,0,0,,1"];
+    let text = file(rt.alloc(), Header::Plain, &records)?;
+    let (dam, sires) = (number(&rt, "F2")?, [number(&rt, "M1")?]);
+    let fault = line(2, LineCause::Day);
+    let list = Order::Inbreeding {
+        workers: 1,
+        block: 256,
+    };
+    expect_fault(&rt, ran!(&rt, list, text.as_bytes()), &[], fault)?;
+    let certificate = Order::Certificate(number(&rt, "M1")?);
+    expect_fault(&rt, ran!(&rt, certificate, text.as_bytes()), &[], fault)?;
+    let mating = Order::Mating { dam, sires: &sires };
+    expect_fault(&rt, ran!(&rt, mating, text.as_bytes()), &[], fault)?;
+    expect_fault(&rt, ran!(&rt, Order::Inverse, text.as_bytes()), &[], fault)
 }

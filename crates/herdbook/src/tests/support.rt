@@ -1,9 +1,12 @@
 //! What the tests have in common: command files and texts in which numbers are written short.
 
+use herd_animal::AnimalNumber;
 use herd_report::{Order, RunFault};
 use std::alloc::{AllocError, Global};
 use std::process::Abort;
+use std::sync::Wait;
 use std::test::Fail;
+use std::thread::Threads;
 
 /// The header of a command file.
 #[derive(Clone, Copy, PartialEq, Eq)]
@@ -62,14 +65,30 @@ fn push_field(text: &mut String, field: &str) -> Result<(), AllocError> {
     }
 }
 
+/// The number that is written short.
+pub fn number<R: AllocGlobal>(rt: &R, short: &str) -> Result<AnimalNumber, Fail> {
+    let mut text = String::new(rt.alloc());
+    push_field(&mut text, short)?;
+    Ok(AnimalNumber::parse(text.as_bytes())?)
+}
+
 /// What a run came to: its outcome, and what it wrote.
 pub type Ran = (Result<(), RunFault>, Vec<u8>);
 
-/// Runs an order on the bytes of a command file. (A function would do, but for orders that hold a list.)
+/// Runs an order on the bytes of a command file. It is no function, since one that passes an order on gets no proof
+/// today, and names the type of numbers, without which a caller gets none.
 macro_rules! ran {
     ($rt:expr, $order:expr, $bytes:expr) => {{
+        let _unknown: Option<herd_animal::AnimalNumber> = None;
         let mut written = Vec::new($rt.alloc());
-        let outcome = herd_report::run($rt.alloc(), $crate::LIMITS, $order, $bytes, &mut written);
+        let outcome = herd_report::run(
+            $rt,
+            $rt.alloc(),
+            $crate::LIMITS,
+            $order,
+            $bytes,
+            &mut written,
+        );
         (outcome, written)
     }};
 }
@@ -112,7 +131,7 @@ pub fn expect_fault<R: Abort + AllocGlobal>(
 }
 
 /// The replies to a command file: `a` for accepted, else the number of the refusal.
-pub fn expect_replies<R: Abort + AllocGlobal>(
+pub fn expect_replies<R: Abort + AllocGlobal + Threads + Wait + Sync>(
     rt: &R,
     header: Header,
     records: &[(&str, &str)],

@@ -1,0 +1,51 @@
+-- The certificate of an animal that stands at a place of a frozen book.
+use Rattle.std.proofs.Common.{◌≡◌, ◌∙◌, ℕ, ◌<◌, List, [], ◌++◌, length, slice_get, slice_index, Some, true, Contains, ap, refl, sym}
+use Rattle.std.specs.Map.{keys_of}
+use Rattle.std.specs.Option.{is_some, option_map_or}
+use Rattle.std.proofs.lemmas.List.Elements.{Contains-get_or}
+use Rattle.std.proofs.lemmas.Option.{get_or_from_slice_get, slice_get_within}
+use Rattle.herd_pedigree.specs.declared.animal.Animal.{Animal}
+use Rattle.herd_pedigree.specs.declared.frozen.Row.{Row}
+use Rattle.herd_pedigree.specs.Book.{is_there}
+use Rattle.herd_pedigree.specs.Frozen.{IsFrozen, book_of, numbers_of}
+use Rattle.herd_kinship.specs.Coefficients.{AreCoefficients}
+use Rattle.herd_kinship.specs.FrozenAncestry.{ancestry_of, number_at}
+use Rattle.herd_kinship.specs.Table.{coefficient}
+use Rattle.herd_kinship.proofs.BookFacts.{record_there}
+use Rattle.herd_kinship.proofs.FrozenFacts.{length-numbers_of, number_at-row, numbers_are_keys, record_at-row}
+use Rattle.herd_report.specs.Certificate.{ancestors_text, animal_text, certificate_text}
+
+-- the lines on the animal of the row there, and then those of its ancestors, are the certificate
+pub certificate_made : (l most : ℕ) (rows : List Row) → IsFrozen l most rows → (place : ℕ) (row : Row) → slice_get rows place ≡ Some row
+    → (numerator : ℕ) (none first whole : List ℕ) → none ≡ [] → first ≡ none ++ animal_text row.number row.animal numerator
+    → whole ≡ first ++ ancestors_text (book_of rows) (number_at rows place)
+    → whole ≡ certificate_text (book_of rows) numerator (number_at rows place)
+certificate_made l most rows frozen place row there numerator none first whole empty begun ended =
+    let book = book_of rows in
+    let text : certificate_text book numerator row.number ≡ animal_text row.number row.animal numerator ++ ancestors_text book row.number =
+    ap (λ found. option_map_or (λ (animal : Animal). animal_text row.number animal numerator ++ ancestors_text book row.number) found [])
+    (record_at-row l most rows frozen place row there) in
+    let start : first ≡ animal_text row.number row.animal numerator = begun ∙ ap (λ l. l ++ animal_text row.number row.animal numerator) empty in
+    let end : whole ≡ animal_text row.number row.animal numerator ++ ancestors_text book row.number =
+    (rw (number_at-row rows place row there) at ended) ∙ ap (λ l. l ++ ancestors_text book row.number) start in
+    rw (number_at-row rows place row there) (end ∙ sym text)
+
+-- the number that stands at a place is there
+pub number_is_there : (rows : List Row) (place : ℕ) (number : List ℕ) → slice_get (numbers_of rows) place ≡ Some number
+    → is_there (book_of rows) number ≡ true
+number_is_there rows place number there =
+    let found = get_or_from_slice_get (numbers_of rows) place number [] there in
+    let among : Contains (keys_of (book_of rows)) number =
+    rw (← numbers_are_keys rows, ← found) (Contains-get_or (numbers_of rows) place [] (slice_get_within (numbers_of rows) place number there)) in
+    ap is_some (record_there (book_of rows) number among).1
+
+-- the certificate with the numerator at the place is that of the number with its coefficient
+pub certificate_text-number : (l : ℕ) (rows : List Row) (numerators : List ℕ) → AreCoefficients l rows numerators
+    → (place : ℕ) (number : List ℕ) (numerator : ℕ) → slice_get (numbers_of rows) place ≡ Some number → numerator ≡ slice_index numerators place
+    → certificate_text (book_of rows) numerator (number_at rows place)
+    ≡ certificate_text (book_of rows) (coefficient (ancestry_of rows) l number) number
+certificate_text-number l rows numerators are place number numerator there read =
+    let found : number_at rows place ≡ number = get_or_from_slice_get (numbers_of rows) place number [] there in
+    let within : place < length rows = rw (← length-numbers_of rows) (slice_get_within (numbers_of rows) place number there) in
+    let known : numerator ≡ coefficient (ancestry_of rows) l number = read ∙ are.right place within ∙ ap (coefficient (ancestry_of rows) l) found in
+    rw (found, known) refl

@@ -1,0 +1,16 @@
+-- The numerators of a frozen book's coefficients.
+use Rattle.std.proofs.Common.{◌≡◌, ◌∙◌, ℕ, List, slice_index, slice_get, Some, ap}
+use Rattle.std.proofs.lemmas.Option.{slice_get_within}
+use Rattle.herd_pedigree.specs.declared.frozen.Row.{Row}
+use Rattle.herd_kinship.specs.Coefficients.{AreCoefficients}
+use Rattle.herd_kinship.specs.FrozenAncestry.{ancestry_of}
+use Rattle.herd_kinship.specs.Table.{coefficient}
+use Rattle.herd_kinship.proofs.FrozenFacts.{number_at-row}
+
+-- the numerator at a place is the coefficient of the row there
+pub numerator_is : (l : ℕ) (rows : List Row) (numerators : List ℕ) → AreCoefficients l rows numerators
+    → (place : ℕ) (row : Row) → slice_get rows place ≡ Some row
+    → slice_index numerators place ≡ coefficient (ancestry_of rows) l row.number
+numerator_is l rows numerators are place row there =
+    are.right place (slice_get_within rows place row there)
+    ∙ ap (coefficient (ancestry_of rows) l) (number_at-row rows place row there)

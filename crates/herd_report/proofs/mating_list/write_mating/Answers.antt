@@ -1,0 +1,31 @@
+use Rattle.std.proofs.lemmas.Result.{err_from_is_err_and, on_err_weaker}
+use Rattle.herd_pedigree.specs.Frozen.{book_of}
+use Rattle.herd_report.proofs.OutputFacts.{front_nothing, front_passed, front_waiting, holds_passed}
+use Rattle.herd_report.proofs.Pieces.{holds_element, slice_get-item}
+use Rattle.herd_report.specs.MatingList.{mating_line}
+use Rattle.herd_report.proofs.mating_list.write_mating.Goals as goal
+
+pub returns-in_err-clone-clause-err : goal.returns-in_err-clone-clause-err
+returns-in_err-clone-clause-err g c =
+    let exit = err_from_is_err_and c.from_residual.result c.from_residual.ensures.1 in
+    rw exit.1 (front_nothing _ _)
+
+pub returns-in_err-pass_on-clause-err : goal.returns-in_err-pass_on-clause-err
+returns-in_err-pass_on-clause-err g c =
+    let exit = err_from_is_err_and c.from_residual-in_err-pass_on.result c.from_residual-in_err-pass_on.ensures.1 in
+    rw exit.1 (front_waiting c.loop-sire.invariant c.in_err-pass_on.ensures.err)
+
+pub returns-in_err-push_advice-clause-err : goal.returns-in_err-push_advice-clause-err
+returns-in_err-push_advice-clause-err g c =
+    let exit = err_from_is_err_and c.from_residual-in_err-push_advice.result c.from_residual-in_err-push_advice.ensures.1 in
+    rw exit.1 (front_passed (holds_passed c.loop-sire.invariant c.in_ok-pass_on.ensures.ok))
+
+pub loop-sire-preserved : goal.loop-sire-preserved
+loop-sire-preserved g c =
+    let sires = c.args.sires.now in
+    let place = c.loop-sire.sire-index in
+    holds_element (mating_line (book_of c.args.frozen.now) c.args.dam) sires place c.sire-item.result
+    (holds_passed c.loop-sire.invariant c.in_ok-pass_on.ensures.ok) (slice_get-item sires place c.sire-item.result c.loop-sire-test.true c.sire-item.is) c.in_ok-push_advice.ensures
+
+pub returns-clause-err : goal.returns-clause-err
+returns-clause-err g c = on_err_weaker c.finish.result (front_waiting c.loop-sire.invariant) c.finish.ensures.err

@@ -1,0 +1,19 @@
+-- Where there are no coefficients, nothing is written, and the animal is in the book.
+use Rattle.std.proofs.Common.{◌≡◌, ◌∙◌, Err, sym}
+use Rattle.std.proofs.lemmas.Bool.{false≢true}
+use Rattle.std.proofs.lemmas.Result.{err_from_is_err_and}
+use Rattle.herd_report.proofs.CertificateFacts.{number_is_there}
+use Rattle.herd_report.proofs.OutputFacts.{front_nothing}
+use Rattle.herd_report.specs.declared.report_fault.ReportFault.TheVariants.{Memory, NotRegistered}
+use Rattle.herd_report.proofs.orders.certify.Goals as goal
+
+pub returns-in_err-coefficients-in-Some-clause-err : goal.returns-in_err-coefficients-in-Some-clause-err
+returns-in_err-coefficients-in-Some-clause-err g c =
+    let exit = err_from_is_err_and c.from_residual.result c.from_residual.ensures.1 in
+    rw exit.1 (front_nothing _ _)
+
+pub returns-in_err-coefficients-in-Some-clause-absent : goal.returns-in_err-coefficients-in-Some-clause-absent
+returns-in_err-coefficients-in-Some-clause-absent g c =
+    let exit = err_from_is_err_and c.from_residual.result c.from_residual.ensures.1 in
+    let there = number_is_there c.args.frozen.now c.in-Some.field-0 c.args.number c.in-Some.ensures.place in
+    (λ told. absurd (cc (exit.1, exit.2, told)), λ absent. absurd (false≢true (sym absent ∙ there)))

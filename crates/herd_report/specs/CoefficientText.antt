@@ -1,0 +1,25 @@
+-- Fractions and percentages as text.
+use Rattle.std.specs.Prelude.{ℕ, ◌*◌, ◌/◌, ◌%◌, ◌^◌, ◌==◌, false, List, [], ◌++◌, if◌then◌else◌, codes, decimal}
+use Rattle.herd_animal.specs.Day.{two_digits_of}
+use Rattle.herd_pedigree.specs.declared.TheConstants.{DEPTH_LIMIT}
+use Rattle.herd_kinship.specs.declared.fractions.Fraction.{Fraction}
+use Rattle.herd_kinship.specs.Fraction.{halved, hundredths_of}
+
+-- a minus sign where it is negative, the numerator, and where it isn't 1 the denominator after a slash
+abbrev pub fraction_text : Fraction → List ℕ
+fraction_text fraction =
+    (if fraction.negative then codes "-" else []) ++ decimal fraction.numerator
+    ++ (if fraction.denominator == 1 then [] else codes "/" ++ decimal fraction.denominator)
+
+-- so many hundredths of a percent, with two digits after the point
+abbrev pub percentage_text : ℕ → List ℕ
+percentage_text hundredths = decimal (hundredths / 100) ++ codes "." ++ two_digits_of (hundredths % 100)
+
+-- a coefficient with this numerator as a fraction and as a percentage, with a separator between them
+unfoldable pub coefficient_text : List ℕ → ℕ → List ℕ
+coefficient_text separator numerator =
+    fraction_text (halved false numerator (2 ^ (2 * DEPTH_LIMIT))) ++ separator ++ percentage_text (hundredths_of DEPTH_LIMIT numerator)
+
+-- the line of an animal in a list: its number, and the coefficient as a fraction and as a percentage
+abbrev pub coefficient_line : List ℕ → ℕ → List ℕ
+coefficient_line number numerator = number ++ codes "," ++ coefficient_text (codes ",") numerator ++ codes "\n"

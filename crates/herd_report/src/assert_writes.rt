@@ -1,0 +1,33 @@
+// What each test of a writer asserts.
+
+/// Asserts that a call writes a text: to a writer that takes a byte at a time and to one that fails halfway, and
+/// that it answers want of memory or writes all, with heaps of which each is larger than the last.
+macro_rules! assert_writes {
+    ($rt:ident, $text:expr, |$alloc:ident, $writer:ident| $call:expr) => {
+        let text: &[u8] = $text;
+        for most in [text.len(), text.len() / 2] {
+            let mut taker = StopsAfter::new($rt.alloc(), most, Then::Fails);
+            let $alloc = $rt.alloc();
+            let $writer = &mut taker;
+            let answer = $call;
+            assert_eq!($rt; answer.is_ok(), most == text.len());
+            assert_eq!($rt; taker.taken.as_slice(), &text[..most]);
+        }
+        let mut refused = 0u32;
+        for size in 1..64 {
+            let heap = LocalHeap::new($rt.alloc(), 64 * size)?;
+            let mut written = Vec::new($rt.alloc());
+            let $alloc = &heap;
+            let $writer = &mut written;
+            match $call {
+                Ok(()) => assert_eq!($rt; written.as_slice(), text),
+                Err(fault) => {
+                    assert_eq!($rt; fault, ReportFault::Memory);
+                    assert!($rt; text.starts_with(written.as_slice()));
+                    refused = refused.saturating_add(1);
+                }
+            }
+        }
+        assert!($rt; 0 < refused && refused < 63);
+    };
+}

@@ -1,0 +1,82 @@
+use crate::stops_after::{StopsAfter, Then};
+use crate::test_books::{FULL_SIBS, animal, registered};
+use crate::{ReportFault, write_certificate};
+use herd_animal::{Day, Herd};
+use herd_kinship::coefficients_plain;
+use herd_register::Command;
+use linked_list_allocator::LocalHeap;
+use std::test::Fail;
+
+const CERTIFICATE: &[u8] = b"animal HOLGBRM000000000005
+sex male
+born 2004-01-01
+herd 1
+since 2004-01-01
+left -
+inbreeding 1/4 25.00
+S HOLGBRM000000000003
+D HOLGBRF000000000004
+SS HOLGBRM000000000001
+SD HOLGBRF000000000002
+DS HOLGBRM000000000001
+DD HOLGBRF000000000002
+SSS 0
+SSD 0
+SDS 0
+SDD 0
+DSS 0
+DSD 0
+DDS 0
+DDD 0
+";
+
+#[test]
+fn writes_the_animal_and_its_ancestors(rt: HostRuntime) -> Result<(), Fail> {
+    let register = registered(rt.alloc(), &FULL_SIBS)?;
+    let frozen = register.pedigree().freeze(rt.alloc())?;
+    let coefficients = coefficients_plain(rt.alloc(), &frozen)?;
+    let number = animal(rt.alloc(), 'M', 5)?;
+    assert_writes!(
+        rt,
+        CERTIFICATE,
+        |alloc, writer| write_certificate(alloc, &frozen, &coefficients, number, writer)
+    );
+    Ok(())
+}
+
+#[test]
+fn tells_the_owner_and_the_exit(rt: HostRuntime) -> Result<(), Fail> {
+    let mut register = registered(rt.alloc(), &FULL_SIBS)?;
+    let number = animal(rt.alloc(), 'M', 5)?;
+    let sale = Command::Transfer {
+        animal: number,
+        day: Day::parse(b"2004-06-01")?,
+        giver: Herd::parse(b"1")?,
+        taker: Herd::parse(b"2")?,
+    };
+    register.file(0, sale)?;
+    let exit = Command::Exit {
+        animal: number,
+        day: Day::parse(b"2005-03-01")?,
+    };
+    register.file(0, exit)?;
+    let frozen = register.pedigree().freeze(rt.alloc())?;
+    let coefficients = coefficients_plain(rt.alloc(), &frozen)?;
+    let mut text = Vec::new(rt.alloc());
+    write_certificate(rt.alloc(), &frozen, &coefficients, number, &mut text)?;
+    let lines: &[u8] = b"\nherd 2\nsince 2004-06-01\nleft 2005-03-01\ninbreeding 1/4 25.00\n";
+    assert!(rt; text.windows(lines.len()).any(|part| part == lines));
+    Ok(())
+}
+
+#[test]
+fn writes_nothing_of_an_absent_number(rt: HostRuntime) -> Result<(), Fail> {
+    let register = registered(rt.alloc(), &FULL_SIBS)?;
+    let frozen = register.pedigree().freeze(rt.alloc())?;
+    let coefficients = coefficients_plain(rt.alloc(), &frozen)?;
+    let number = animal(rt.alloc(), 'F', 9)?;
+    let mut writer = StopsAfter::new(rt.alloc(), 0, Then::Fails);
+    let answer = write_certificate(rt.alloc(), &frozen, &coefficients, number, &mut writer);
+    assert_eq!(rt; answer, Err(ReportFault::NotRegistered));
+    Ok(())
+}

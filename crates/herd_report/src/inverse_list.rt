@@ -1,0 +1,104 @@
+ghost use Rattle.std.specs.Prelude.{◌≡◌, ◌≢◌, ◌<◌, ◌++◌, All, codes, length, IfErr, OnErr, OnOk};
+ghost use Rattle.std.specs.Io.KnownBytes.{Appends};
+ghost use Rattle.std.specs.List.{flat_map};
+ghost use Rattle.herd_pedigree.specs.declared.TheConstants.{DEPTH_LIMIT, MOST_ANIMALS};
+ghost use Rattle.herd_pedigree.specs.Frozen.{IsFrozen};
+ghost use Rattle.herd_kinship.specs.Coefficients.{AreCoefficients};
+ghost use Rattle.herd_kinship.specs.FrozenAncestry.{number_at};
+ghost use Rattle.herd_report.specs.InverseList.{contribution_line, contributions_text, inverse_text, IsWithin};
+ghost use Rattle.herd_report.specs.Output.{AppendsFront};
+
+use crate::coefficient_text::push_fraction;
+use crate::output::Output;
+use crate::report_fault::ReportFault;
+use herd_kinship::{Coefficients, Entry, contributions};
+use herd_pedigree::Frozen;
+use std::alloc::{AllocError, Allocator};
+use std::io::Write;
+
+#[cfg(test)]
+mod tests;
+
+/// Writes what each animal of a book contributes to the inverse of the table of relationships, in age order.
+pub fn write_inverse<W: Write, A: Allocator, F: Allocator, C: Allocator>(
+    alloc: A,
+    frozen: &Frozen<F>,
+    coefficients: &Coefficients<C>,
+    writer: &mut W,
+) -> Result<(), ReportFault>
+    requires { AreCoefficients DEPTH_LIMIT frozen.now coefficients.now }
+    ensures ok { OnOk result (Appends (W.contents writer.old) (W.contents writer.new) (inverse_text frozen.now)) }
+    ensures err { OnErr result (AppendsFront (W.contents writer.old) (W.contents writer.new) (inverse_text frozen.now)) }
+    ensures fault { IfErr result (λ fault. fault ≢ ReportFault.NotRegistered) }
+{
+    let mut output = Output::new(alloc);
+    for place in 0..frozen.len() {
+        output.pass_on(writer)?;
+        push_contributions(&mut output, frozen, coefficients, place)?;
+    }
+    output.finish(writer)
+}
+
+// Adds the lines of what the animal at a place contributes.
+fn push_contributions<A: Allocator, F: Allocator, C: Allocator>(
+    output: &mut Output<A>,
+    frozen: &Frozen<F>,
+    coefficients: &Coefficients<C>,
+    place: u32,
+) -> Result<(), AllocError>
+    requires frozen { IsFrozen DEPTH_LIMIT MOST_ANIMALS frozen.now }
+    requires place { place < length frozen.now }
+    requires coefficients { AreCoefficients DEPTH_LIMIT frozen.now coefficients.now }
+    ensures { OnOk result (output.new ≡ output.old ++ contributions_text frozen.now place) }
+{
+    let listed = contributions(frozen, coefficients, place);
+    let entries = &listed.entries[..listed.count as usize];
+    push_entries(output, frozen, place, entries)
+}
+
+// Adds the lines of some entries of the animal at a place.
+fn push_entries<A: Allocator, F: Allocator>(
+    output: &mut Output<A>,
+    frozen: &Frozen<F>,
+    place: u32,
+    entries: &[Entry],
+) -> Result<(), AllocError>
+    requires place { place < length frozen.now }
+    requires entries { All (IsWithin frozen.now) entries.now }
+    ensures { OnOk result (output.new ≡ output.old ++ flat_map (contribution_line frozen.now place) entries.now) }
+{
+    for entry in entries {
+        push_entry(output, frozen, place, *entry)?;
+    }
+    Ok(())
+}
+
+fn push_entry<A: Allocator, F: Allocator>(
+    output: &mut Output<A>,
+    frozen: &Frozen<F>,
+    place: u32,
+    entry: Entry,
+) -> Result<(), AllocError>
+    requires place { place < length frozen.now }
+    requires entry { IsWithin frozen.now entry }
+    ensures { OnOk result (output.new ≡ output.old ++ contribution_line frozen.now place entry) }
+{
+    push_number_at(output, frozen, place)?;
+    push_number_at(output, frozen, entry.row)?;
+    push_number_at(output, frozen, entry.column)?;
+    push_fraction(output, entry.value)?;
+    output.push(b"\n")
+}
+
+// Adds the number of the animal at a place, and a comma.
+fn push_number_at<A: Allocator, F: Allocator>(
+    output: &mut Output<A>,
+    frozen: &Frozen<F>,
+    place: u32,
+) -> Result<(), AllocError>
+    requires { place < length frozen.now }
+    ensures { OnOk result (output.new ≡ output.old ++ number_at frozen.now place ++ codes ",") }
+{
+    output.push(&frozen.row(place).number.bytes())?;
+    output.push(b",")
+}

@@ -1,0 +1,73 @@
+ghost use Rattle.std.specs.Prelude.{◌≡◌, ◌≢◌, ◌++◌, IfErr, OnErr, OnOk};
+ghost use Rattle.std.specs.Io.KnownBytes.{Appends};
+ghost use Rattle.herd_pedigree.specs.declared.TheConstants.{DEPTH_LIMIT};
+ghost use Rattle.herd_pedigree.specs.Frozen.{book_of};
+ghost use Rattle.herd_kinship.specs.Coefficients.{AreCoefficients};
+ghost use Rattle.herd_report.specs.MatingList.{mating_line, mating_text, refused_line};
+ghost use Rattle.herd_report.specs.Output.{AppendsFront};
+
+use crate::coefficient_text::push_coefficient_line;
+use crate::output::Output;
+use crate::report_fault::ReportFault;
+use herd_animal::AnimalNumber;
+use herd_kinship::{Coefficients, MatingFault, mating};
+use herd_pedigree::Frozen;
+use std::alloc::{AllocError, Allocator};
+use std::io::Write;
+
+#[cfg(test)]
+mod tests;
+
+/// Writes for each sire the coefficient that a calf of it and the dam would have, or why there is none.
+pub fn write_mating<W: Write, A: Allocator + Clone, F: Allocator, C: Allocator>(
+    alloc: A,
+    frozen: &Frozen<F>,
+    coefficients: &Coefficients<C>,
+    dam: AnimalNumber,
+    sires: &[AnimalNumber],
+    writer: &mut W,
+) -> Result<(), ReportFault>
+    requires { AreCoefficients DEPTH_LIMIT frozen.now coefficients.now }
+    ensures ok { OnOk result (Appends (W.contents writer.old) (W.contents writer.new) (mating_text (book_of frozen.now) dam sires.now)) }
+    ensures err { OnErr result (AppendsFront (W.contents writer.old) (W.contents writer.new) (mating_text (book_of frozen.now) dam sires.now)) }
+    ensures fault { IfErr result (λ fault. fault ≢ ReportFault.NotRegistered) }
+{
+    let mut output = Output::new(alloc.clone()?);
+    for sire in sires {
+        output.pass_on(writer)?;
+        push_advice(&mut output, &alloc, frozen, coefficients, *sire, dam)?;
+    }
+    output.finish(writer)
+}
+
+// Adds the line of a sire.
+fn push_advice<A: Allocator + Clone, F: Allocator, C: Allocator>(
+    output: &mut Output<A>,
+    alloc: &A,
+    frozen: &Frozen<F>,
+    coefficients: &Coefficients<C>,
+    sire: AnimalNumber,
+    dam: AnimalNumber,
+) -> Result<(), AllocError>
+    requires { AreCoefficients DEPTH_LIMIT frozen.now coefficients.now }
+    ensures { OnOk result (output.new ≡ output.old ++ mating_line (book_of frozen.now) dam sire) }
+{
+    match mating(alloc.clone()?, frozen, coefficients, &sire, &dam) {
+        Ok(numerator) => push_coefficient_line(output, sire, numerator),
+        Err(MatingFault::Memory) => Err(AllocError),
+        Err(fault) => push_refused(output, sire, fault),
+    }
+}
+
+fn push_refused<A: Allocator>(
+    output: &mut Output<A>,
+    sire: AnimalNumber,
+    fault: MatingFault,
+) -> Result<(), AllocError>
+    ensures { OnOk result (output.new ≡ output.old ++ refused_line sire fault) }
+{
+    output.push(&sire.bytes())?;
+    output.push(b",refused,")?;
+    output.push_number(fault.number())?;
+    output.push(b"\n")
+}

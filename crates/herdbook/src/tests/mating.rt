@@ -1,0 +1,58 @@
+//! Mating advice.
+
+use super::books::six_and;
+use super::support::{expect, number, ran};
+use herd_report::Order;
+use std::process::Abort;
+use std::sync::Wait;
+use std::test::Fail;
+use std::thread::Threads;
+
+fn expect_advice<R: Abort + AllocGlobal + Threads + Wait + Sync>(
+    rt: &R,
+    dam: &str,
+    advice: &[(&str, &str)],
+) -> Result<(), Fail> {
+    let mut sires = Vec::new(rt.alloc());
+    let mut wanted = Vec::new(rt.alloc());
+    for (sire, line) in advice {
+        sires
+            .push(number(rt, sire)?)
+            .map_err(|_| Fail::from("memory"))?;
+        wanted.push(*line)?;
+    }
+    let order = Order::Mating {
+        dam: number(rt, dam)?,
+        sires: sires.as_slice(),
+    };
+    expect(
+        rt,
+        ran!(rt, order, six_and(rt.alloc(), &[])?.as_bytes()),
+        wanted.as_slice(),
+    )
+}
+
+#[test]
+fn each_sire_with_a_dam(rt: HostRuntime) -> Result<(), Fail> {
+    let advice = [
+        ("M3", "M3,1/4,25.00"),
+        ("M1", "M1,1/4,25.00"),
+        ("M5", "M5,3/8,37.50"),
+        ("F4", "F4,refused,3"),
+        ("M99", "M99,refused,1"),
+    ];
+    expect_advice(&rt, "F4", &advice)
+}
+
+#[test]
+fn a_dam_that_is_none(rt: HostRuntime) -> Result<(), Fail> {
+    expect_advice(&rt, "F99", &[("M3", "M3,refused,2")])?;
+    expect_advice(&rt, "M1", &[("M3", "M3,refused,4")])
+}
+
+#[test]
+fn more_pairs(rt: HostRuntime) -> Result<(), Fail> {
+    expect_advice(&rt, "F6", &[("M5", "M5,5/16,31.25")])?;
+    expect_advice(&rt, "F2", &[("M1", "M1,0,0.00"), ("M1", "M1,0,0.00")])?;
+    expect_advice(&rt, "F2", &[])
+}
