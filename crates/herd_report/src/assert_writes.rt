@@ -31,3 +31,5 @@ macro_rules! assert_writes {
         assert!($rt; 0 < refused && refused < 63);
     };
 }
+
+pub(crate) use assert_writes;

@@ -3,7 +3,6 @@
 
 mod ancestors;
 #[cfg(test)]
-#[macro_use]
 mod assert_writes;
 mod certificate;
 mod coefficient_text;

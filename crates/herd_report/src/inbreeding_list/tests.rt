@@ -1,3 +1,4 @@
+use crate::assert_writes::assert_writes;
 use crate::stops_after::{StopsAfter, Then};
 use crate::test_books::{FULL_SIBS, registered};
 use crate::{ReportFault, write_inbreeding};

@@ -1,8 +1,8 @@
 //! Certificates.
 
 use super::books::six_and;
-use super::support::{expect, expect_fault, number, ran};
-use herd_report::{Order, RunFault};
+use super::support::{certificate, expect, expect_fault, number};
+use herd_report::RunFault;
 use std::process::Abort;
 use std::sync::Wait;
 use std::test::Fail;
@@ -41,10 +41,10 @@ fn expect_certificate<R: Abort + AllocGlobal + Threads + Wait + Sync>(
     for line in ANCESTORS {
         wanted.push(line)?;
     }
-    let order = Order::Certificate(number(rt, "M5")?);
+    let animal = number(rt, "M5")?;
     expect(
         rt,
-        ran!(rt, order, six_and(rt.alloc(), records)?.as_bytes()),
+        certificate(rt, animal, six_and(rt.alloc(), records)?.as_bytes()),
         wanted.as_slice(),
     )
 }
@@ -65,11 +65,11 @@ fn an_animal_that_was_sold_and_left(rt: HostRuntime) -> Result<(), Fail> {
 
 #[test]
 fn an_animal_that_is_not_there(rt: HostRuntime) -> Result<(), Fail> {
-    let order = Order::Certificate(number(&rt, "F9")?);
+    let animal = number(&rt, "F9")?;
     let text = six_and(rt.alloc(), &[])?;
     expect_fault(
         &rt,
-        ran!(&rt, order, text.as_bytes()),
+        certificate(&rt, animal, text.as_bytes()),
         &[],
         RunFault::NotRegistered,
     )

@@ -1,26 +1,20 @@
 //! Lists of inbreeding coefficients.
 
 use super::books::{pairs_and, six_and};
-use super::support::{Header, expect, expect_last, file, ran};
-use herd_report::Order;
+use super::support::{Header, coefficients, expect, expect_last, file};
 use std::test::Fail;
-
-const LIST: Order<'static> = Order::Inbreeding {
-    workers: 1,
-    block: 256,
-};
 
 #[test]
 fn an_empty_book(rt: HostRuntime) -> Result<(), Fail> {
     let header = file(rt.alloc(), Header::Plain, &[])?;
-    expect(&rt, ran!(&rt, LIST, header.as_bytes()), &[])
+    expect(&rt, coefficients(&rt, header.as_bytes()), &[])
 }
 
 #[test]
 fn one_founder(rt: HostRuntime) -> Result<(), Fail> {
     let record = "birth,M1,2000-01-01,0,0,,1";
     let text = file(rt.alloc(), Header::Plain, &[record, record])?;
-    expect(&rt, ran!(&rt, LIST, text.as_bytes()), &["M1,0,0.00"])
+    expect(&rt, coefficients(&rt, text.as_bytes()), &["M1,0,0.00"])
 }
 
 const HALF_SIBS: [&str; 5] = [
@@ -51,7 +45,7 @@ fn a_calf_of_half_sibs(rt: HostRuntime) -> Result<(), Fail> {
         let [a, b, c, d, e] = NOT_INBRED;
         expect(
             &rt,
-            ran!(&rt, LIST, text.as_bytes()),
+            coefficients(&rt, text.as_bytes()),
             &[a, b, c, d, e, line],
         )?;
     }
@@ -62,7 +56,7 @@ fn a_calf_of_half_sibs(rt: HostRuntime) -> Result<(), Fail> {
 fn full_sibs_and_a_sire_with_his_daughter(rt: HostRuntime) -> Result<(), Fail> {
     expect(
         &rt,
-        ran!(&rt, LIST, six_and(rt.alloc(), &[])?.as_bytes()),
+        coefficients(&rt, six_and(rt.alloc(), &[])?.as_bytes()),
         &[
             "F2,0,0.00",
             "M1,0,0.00",
@@ -78,7 +72,7 @@ fn full_sibs_and_a_sire_with_his_daughter(rt: HostRuntime) -> Result<(), Fail> {
 fn full_sibs_for_five_generations(rt: HostRuntime) -> Result<(), Fail> {
     expect(
         &rt,
-        ran!(&rt, LIST, pairs_and(rt.alloc(), 5, &[])?.as_bytes()),
+        coefficients(&rt, pairs_and(rt.alloc(), 5, &[])?.as_bytes()),
         &[
             "F2,0,0.00",
             "M1,0,0.00",
@@ -105,13 +99,13 @@ fn a_correction_changes_the_list(rt: HostRuntime) -> Result<(), Fail> {
     let mut text = file(rt.alloc(), Header::Plain, &records)?;
     expect(
         &rt,
-        ran!(&rt, LIST, text.as_bytes()),
+        coefficients(&rt, text.as_bytes()),
         &["M1,0,0.00", "F2,0,0.00", "M3,1/4,25.00"],
     )?;
     super::support::push_lines(&mut text, &["parents,M3,,M1,0,,"])?;
     expect(
         &rt,
-        ran!(&rt, LIST, text.as_bytes()),
+        coefficients(&rt, text.as_bytes()),
         &["M1,0,0.00", "F2,0,0.00", "M3,0,0.00"],
     )
 }
@@ -131,5 +125,5 @@ fn a_calf_of_half_first_cousins_is_rounded_up(rt: HostRuntime) -> Result<(), Fai
         "birth,M10,2006-01-01,M8,F9,,1",
     ];
     let text = file(rt.alloc(), Header::Plain, &records)?;
-    expect_last(&rt, ran!(&rt, LIST, text.as_bytes()), &["M10,1/32,3.13"])
+    expect_last(&rt, coefficients(&rt, text.as_bytes()), &["M10,1/32,3.13"])
 }

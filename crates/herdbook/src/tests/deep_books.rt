@@ -1,14 +1,8 @@
 //! Books at the limit of depth.
 
 use super::books::pairs_and;
-use super::support::{expect, expect_last, number, ran};
-use herd_report::Order;
+use super::support::{advice, certificate, coefficients, expect, expect_last, number, replies};
 use std::test::Fail;
-
-const LIST: Order<'static> = Order::Inbreeding {
-    workers: 1,
-    block: 256,
-};
 
 const OLDER: [&str; 2] = ["birth,M101,1990-01-01,0,0,,1", "parents,M1,,M101,0,,"];
 
@@ -18,20 +12,15 @@ const OLDEST: [&str; 2] = ["birth,M201,1990-01-01,0,0,,1", "parents,M1,,M201,0,,
 fn twenty_nine_generations(rt: HostRuntime) -> Result<(), Fail> {
     let text = pairs_and(rt.alloc(), 29, &[])?;
     let last = ["F58,33450427/33554432,99.69", "M57,33450427/33554432,99.69"];
-    expect_last(&rt, ran!(&rt, LIST, text.as_bytes()), &last)?;
+    expect_last(&rt, coefficients(&rt, text.as_bytes()), &last)?;
     let (dam, sires) = (number(&rt, "F58")?, [number(&rt, "M57")?]);
-    let mating = Order::Mating { dam, sires: &sires };
     expect(
         &rt,
-        ran!(&rt, mating, text.as_bytes()),
+        advice(&rt, dam, &sires, text.as_bytes()),
         &["M57,535524643/536870912,99.75"],
     )?;
     let text = pairs_and(rt.alloc(), 29, &["birth,M59,2029-01-01,M57,F58,,1"])?;
-    expect_last(
-        &rt,
-        ran!(&rt, Order::File, text.as_bytes()),
-        &["59,accepted"],
-    )
+    expect_last(&rt, replies(&rt, text.as_bytes()), &["59,accepted"])
 }
 
 #[test]
@@ -42,7 +31,7 @@ fn an_older_founder_of_twenty_nine_generations(rt: HostRuntime) -> Result<(), Fa
             28 => &["57,accepted", "58,accepted"],
             _ => &["59,accepted", "60,accepted"],
         };
-        expect_last(&rt, ran!(&rt, Order::File, text.as_bytes()), last)?;
+        expect_last(&rt, replies(&rt, text.as_bytes()), last)?;
     }
     Ok(())
 }
@@ -54,11 +43,11 @@ fn sixty_one_generations(rt: HostRuntime) -> Result<(), Fail> {
         "F122,1152917451867309095/1152921504606846976,100.00",
         "M121,1152917451867309095/1152921504606846976,100.00",
     ];
-    expect_last(&rt, ran!(&rt, LIST, text.as_bytes()), &last)?;
+    expect_last(&rt, coefficients(&rt, text.as_bytes()), &last)?;
     let text = pairs_and(rt.alloc(), 61, &["birth,M123,2061-01-01,M121,F122,,1"])?;
     expect_last(
         &rt,
-        ran!(&rt, Order::File, text.as_bytes()),
+        replies(&rt, text.as_bytes()),
         &["122,accepted", "123,refused,10"],
     )
 }
@@ -68,19 +57,19 @@ fn an_older_founder_of_sixty_one_generations_is_too_deep(rt: HostRuntime) -> Res
     let text = pairs_and(rt.alloc(), 61, &OLDEST)?;
     expect_last(
         &rt,
-        ran!(&rt, Order::File, text.as_bytes()),
+        replies(&rt, text.as_bytes()),
         &["123,accepted", "124,refused,10"],
     )?;
     let (dam, sires) = (number(&rt, "F122")?, [number(&rt, "M121")?]);
     expect(
         &rt,
-        ran!(&rt, Order::Mating { dam, sires: &sires }, text.as_bytes()),
+        advice(&rt, dam, &sires, text.as_bytes()),
         &["M121,refused,5"],
     )?;
-    let certificate = Order::Certificate(number(&rt, "M1")?);
+    let animal = number(&rt, "M1")?;
     expect_last(
         &rt,
-        ran!(&rt, certificate, text.as_bytes()),
+        certificate(&rt, animal, text.as_bytes()),
         &["DDS 0", "DDD 0"],
     )
 }
@@ -90,13 +79,13 @@ fn an_older_founder_of_sixty_generations_just_fits(rt: HostRuntime) -> Result<()
     let text = pairs_and(rt.alloc(), 60, &OLDEST)?;
     expect_last(
         &rt,
-        ran!(&rt, Order::File, text.as_bytes()),
+        replies(&rt, text.as_bytes()),
         &["121,accepted", "122,accepted"],
     )?;
     let (dam, sires) = (number(&rt, "F118")?, [number(&rt, "M119")?]);
     expect(
         &rt,
-        ran!(&rt, Order::Mating { dam, sires: &sires }, text.as_bytes()),
+        advice(&rt, dam, &sires, text.as_bytes()),
         &["M119,refused,5"],
     )
 }

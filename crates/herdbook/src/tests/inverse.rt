@@ -1,22 +1,16 @@
 //! Contributions to the inverse relationship matrix.
 
 use super::books::six_and;
-use super::support::{Header, expect, expect_last, file, lines, ran};
-use crate::LIMITS;
-use herd_report::{Order, run};
+use super::support::{Header, expect, expect_last, file, inverse, lines};
 use std::test::Fail;
 
 #[test]
 fn an_empty_book_and_one_founder(rt: HostRuntime) -> Result<(), Fail> {
     let header = file(rt.alloc(), Header::Plain, &[])?;
-    expect(&rt, ran!(&rt, Order::Inverse, header.as_bytes()), &[])?;
+    expect(&rt, inverse(&rt, header.as_bytes()), &[])?;
     let record = "birth,M1,2000-01-01,0,0,,1";
     let text = file(rt.alloc(), Header::Plain, &[record, record])?;
-    expect(
-        &rt,
-        ran!(&rt, Order::Inverse, text.as_bytes()),
-        &["M1,M1,M1,1"],
-    )
+    expect(&rt, inverse(&rt, text.as_bytes()), &["M1,M1,M1,1"])
 }
 
 #[test]
@@ -39,11 +33,7 @@ fn an_inbred_sire_with_a_younger_founder(rt: HostRuntime) -> Result<(), Fail> {
     ];
     expect_last(
         &rt,
-        ran!(
-            &rt,
-            Order::Inverse,
-            six_and(rt.alloc(), &records)?.as_bytes()
-        ),
+        inverse(&rt, six_and(rt.alloc(), &records)?.as_bytes()),
         &last,
     )
 }
@@ -67,11 +57,7 @@ fn two_inbred_parents_and_one(rt: HostRuntime) -> Result<(), Fail> {
     ];
     expect_last(
         &rt,
-        ran!(
-            &rt,
-            Order::Inverse,
-            six_and(rt.alloc(), &records)?.as_bytes()
-        ),
+        inverse(&rt, six_and(rt.alloc(), &records)?.as_bytes()),
         &last,
     )
 }
@@ -86,16 +72,8 @@ fn parents_that_are_not_inbred(rt: HostRuntime) -> Result<(), Fail> {
         "M3,F2,F2,1/2",
         "M3,M1,F2,1/2",
     ];
-    let mut written = Vec::new(rt.alloc());
     let text = six_and(rt.alloc(), &[])?;
-    let outcome = run(
-        &rt,
-        rt.alloc(),
-        LIMITS,
-        Order::Inverse,
-        text.as_bytes(),
-        &mut written,
-    );
+    let (outcome, written) = inverse(&rt, text.as_bytes());
     assert_eq!(rt; outcome, Ok(()));
     let wanted = lines(rt.alloc(), &six)?;
     let found = written

@@ -1,7 +1,9 @@
 //! Files with a fault: the replies before it, and the fault.
 
-use super::support::{Header, expect, expect_fault, file, number, ran};
-use herd_report::{LineCause, LineFault, Order, RunFault};
+use super::support::{
+    Header, advice, certificate, coefficients, expect, expect_fault, file, inverse, number, replies,
+};
+use herd_report::{LineCause, LineFault, RunFault};
 use std::test::Fail;
 
 fn line(entry: u32, cause: LineCause) -> RunFault {
@@ -40,7 +42,7 @@ fn a_second_record_with_a_fault(rt: HostRuntime) -> Result<(), Fail> {
         )?;
         expect_fault(
             &rt,
-            ran!(&rt, Order::File, text.as_bytes()),
+            replies(&rt, text.as_bytes()),
             &["1,accepted"],
             line(2, cause),
         )?;
@@ -74,12 +76,7 @@ fn a_first_record_with_a_fault(rt: HostRuntime) -> Result<(), Fail> {
     ];
     for (header, record, cause) in faults {
         let text = file(rt.alloc(), header, &[record])?;
-        expect_fault(
-            &rt,
-            ran!(&rt, Order::File, text.as_bytes()),
-            &[],
-            line(1, cause),
-        )?;
+        expect_fault(&rt, replies(&rt, text.as_bytes()), &[], line(1, cause))?;
     }
     Ok(())
 }
@@ -89,24 +86,14 @@ fn a_file_that_is_cut(rt: HostRuntime) -> Result<(), Fail> {
     let mut text = file(rt.alloc(), Header::Plain, &["birth,M1,2000-01-01,0,0,,1"])?;
     text.push_str("birth,HOLGBRM0000")?;
     let fault = line(2, LineCause::Fields);
-    expect_fault(
-        &rt,
-        ran!(&rt, Order::File, text.as_bytes()),
-        &["1,accepted"],
-        fault,
-    )
+    expect_fault(&rt, replies(&rt, text.as_bytes()), &["1,accepted"], fault)
 }
 
 #[test]
 fn a_file_without_its_header(rt: HostRuntime) -> Result<(), Fail> {
     let files: [&[u8]; 2] = [b"", b"birth,HOLGBRM000000000001,2000-01-01,0,0,,1\n"];
     for text in files {
-        expect_fault(
-            &rt,
-            ran!(&rt, Order::File, text),
-            &[],
-            line(0, LineCause::Header),
-        )?;
+        expect_fault(&rt, replies(&rt, text), &[], line(0, LineCause::Header))?;
     }
     Ok(())
 }
@@ -115,11 +102,7 @@ fn a_file_without_its_header(rt: HostRuntime) -> Result<(), Fail> {
 fn quoted_fields_and_other_line_ends(rt: HostRuntime) -> Result<(), Fail> {
     let text =
         "kind,animal,day,sire,dam,from,to\r\n\"birth\",\"HOLGBRM000000000001\",\"2000-01-01\",\"0\",\"0\",\"\",\"1\"\r\n";
-    expect(
-        &rt,
-        ran!(&rt, Order::File, text.as_bytes()),
-        &["1,accepted"],
-    )
+    expect(&rt, replies(&rt, text.as_bytes()), &["1,accepted"])
 }
 
 #[test]
@@ -128,14 +111,9 @@ fn other_orders_write_nothing_for_a_file_with_a_fault(rt: HostRuntime) -> Result
     let text = file(rt.alloc(), Header::Plain, &records)?;
     let (dam, sires) = (number(&rt, "F2")?, [number(&rt, "M1")?]);
     let fault = line(2, LineCause::Day);
-    let list = Order::Inbreeding {
-        workers: 1,
-        block: 256,
-    };
-    expect_fault(&rt, ran!(&rt, list, text.as_bytes()), &[], fault)?;
-    let certificate = Order::Certificate(number(&rt, "M1")?);
-    expect_fault(&rt, ran!(&rt, certificate, text.as_bytes()), &[], fault)?;
-    let mating = Order::Mating { dam, sires: &sires };
-    expect_fault(&rt, ran!(&rt, mating, text.as_bytes()), &[], fault)?;
-    expect_fault(&rt, ran!(&rt, Order::Inverse, text.as_bytes()), &[], fault)
+    expect_fault(&rt, coefficients(&rt, text.as_bytes()), &[], fault)?;
+    let animal = number(&rt, "M1")?;
+    expect_fault(&rt, certificate(&rt, animal, text.as_bytes()), &[], fault)?;
+    expect_fault(&rt, advice(&rt, dam, &sires, text.as_bytes()), &[], fault)?;
+    expect_fault(&rt, inverse(&rt, text.as_bytes()), &[], fault)
 }

@@ -1,8 +1,7 @@
 //! Mating advice.
 
 use super::books::six_and;
-use super::support::{expect, number, ran};
-use herd_report::Order;
+use super::support::{advice, expect, number};
 use std::process::Abort;
 use std::sync::Wait;
 use std::test::Fail;
@@ -11,37 +10,32 @@ use std::thread::Threads;
 fn expect_advice<R: Abort + AllocGlobal + Threads + Wait + Sync>(
     rt: &R,
     dam: &str,
-    advice: &[(&str, &str)],
+    expected: &[(&str, &str)],
 ) -> Result<(), Fail> {
     let mut sires = Vec::new(rt.alloc());
     let mut wanted = Vec::new(rt.alloc());
-    for (sire, line) in advice {
+    for (sire, line) in expected {
         sires
             .push(number(rt, sire)?)
             .map_err(|_| Fail::from("memory"))?;
         wanted.push(*line)?;
     }
-    let order = Order::Mating {
-        dam: number(rt, dam)?,
-        sires: sires.as_slice(),
-    };
-    expect(
-        rt,
-        ran!(rt, order, six_and(rt.alloc(), &[])?.as_bytes()),
-        wanted.as_slice(),
-    )
+    let dam = number(rt, dam)?;
+    let text = six_and(rt.alloc(), &[])?;
+    let ran = advice(rt, dam, sires.as_slice(), text.as_bytes());
+    expect(rt, ran, wanted.as_slice())
 }
 
 #[test]
 fn each_sire_with_a_dam(rt: HostRuntime) -> Result<(), Fail> {
-    let advice = [
+    let expected = [
         ("M3", "M3,1/4,25.00"),
         ("M1", "M1,1/4,25.00"),
         ("M5", "M5,3/8,37.50"),
         ("F4", "F4,refused,3"),
         ("M99", "M99,refused,1"),
     ];
-    expect_advice(&rt, "F4", &advice)
+    expect_advice(&rt, "F4", &expected)
 }
 
 #[test]

@@ -1,13 +1,12 @@
 //! Births, corrections, transfers and exits, and what the register answers to them.
 
-use super::support::{Header, expect, expect_replies, file, ran};
-use herd_report::Order;
+use super::support::{Header, expect, expect_replies, file, replies};
 use std::test::Fail;
 
 #[test]
 fn a_header_alone_has_no_replies(rt: HostRuntime) -> Result<(), Fail> {
     let header = file(rt.alloc(), Header::Plain, &[])?;
-    expect(&rt, ran!(&rt, Order::File, header.as_bytes()), &[])
+    expect(&rt, replies(&rt, header.as_bytes()), &[])
 }
 
 #[test]

@@ -75,8 +75,7 @@ pub fn number<R: AllocGlobal>(rt: &R, short: &str) -> Result<AnimalNumber, Fail>
 /// What a run came to: its outcome, and what it wrote.
 pub type Ran = (Result<(), RunFault>, Vec<u8>);
 
-/// Runs an order on the bytes of a command file. It is no function, since one that passes an order on gets no proof
-/// today, and names the type of numbers, without which a caller gets none.
+// Runs an order on the bytes of a command file. (A function that is given an order gets no proof today.)
 macro_rules! ran {
     ($rt:expr, $order:expr, $bytes:expr) => {{
         let _unknown: Option<herd_animal::AnimalNumber> = None;
@@ -93,7 +92,43 @@ macro_rules! ran {
     }};
 }
 
-pub(crate) use ran;
+/// Runs a command file for its replies.
+pub fn replies<R: AllocGlobal + Threads + Wait + Sync>(rt: &R, bytes: &[u8]) -> Ran {
+    ran!(rt, Order::File, bytes)
+}
+
+/// Runs a command file for the list of coefficients.
+pub fn coefficients<R: AllocGlobal + Threads + Wait + Sync>(rt: &R, bytes: &[u8]) -> Ran {
+    let order = Order::Inbreeding {
+        workers: 1,
+        block: 256,
+    };
+    ran!(rt, order, bytes)
+}
+
+/// Runs a command file for the certificate of an animal.
+pub fn certificate<R: AllocGlobal + Threads + Wait + Sync>(
+    rt: &R,
+    number: AnimalNumber,
+    bytes: &[u8],
+) -> Ran {
+    ran!(rt, Order::Certificate(number), bytes)
+}
+
+/// Runs a command file for mating advice.
+pub fn advice<R: AllocGlobal + Threads + Wait + Sync>(
+    rt: &R,
+    dam: AnimalNumber,
+    sires: &[AnimalNumber],
+    bytes: &[u8],
+) -> Ran {
+    ran!(rt, Order::Mating { dam, sires }, bytes)
+}
+
+/// Runs a command file for the contributions to the inverse.
+pub fn inverse<R: AllocGlobal + Threads + Wait + Sync>(rt: &R, bytes: &[u8]) -> Ran {
+    ran!(rt, Order::Inverse, bytes)
+}
 
 /// The run ended well, and wrote these lines.
 pub fn expect<R: Abort + AllocGlobal>(rt: &R, ran: Ran, wanted: &[&str]) -> Result<(), Fail> {
@@ -146,7 +181,7 @@ pub fn expect_replies<R: Abort + AllocGlobal + Threads + Wait + Sync>(
             number => writeln!(wanted, "{serial},refused,{number}")?,
         }
     }
-    let (outcome, written) = ran!(rt, Order::File, file.as_bytes());
+    let (outcome, written) = replies(rt, file.as_bytes());
     assert_eq!(rt; outcome, Ok(()));
     assert_eq!(rt; written.as_slice(), wanted.as_bytes());
     Ok(())
