@@ -8,14 +8,16 @@ use std::test::Fail;
 pub(crate) type Birth = (char, u32, &'static str, Option<u32>, Option<u32>);
 
 /// Two founders, a son and a daughter, and a calf of the two and one of father and daughter.
-pub(crate) const FULL_SIBS: [Birth; 6] = [
-    ('M', 1, "2000-01-01", None, None),
-    ('F', 2, "2000-01-01", None, None),
-    ('M', 3, "2002-01-01", Some(1), Some(2)),
-    ('F', 4, "2002-01-01", Some(1), Some(2)),
-    ('M', 5, "2004-01-01", Some(3), Some(4)),
-    ('F', 6, "2004-01-01", Some(1), Some(4)),
-];
+pub(crate) fn full_sibs() -> [Birth; 6] {
+    [
+        ('M', 1, "2000-01-01", None, None),
+        ('F', 2, "2000-01-01", None, None),
+        ('M', 3, "2002-01-01", Some(1), Some(2)),
+        ('F', 4, "2002-01-01", Some(1), Some(2)),
+        ('M', 5, "2004-01-01", Some(3), Some(4)),
+        ('F', 6, "2004-01-01", Some(1), Some(4)),
+    ]
+}
 
 /// A register in which the births are filed.
 pub(crate) fn registered(alloc: Global, births: &[Birth]) -> Result<Register<Global>, Fail> {

@@ -1,6 +1,6 @@
 use crate::assert_writes::assert_writes;
 use crate::stops_after::{StopsAfter, Then};
-use crate::test_books::{FULL_SIBS, animal, registered};
+use crate::test_books::{animal, full_sibs, registered};
 use crate::{ReportFault, write_certificate};
 use herd_animal::{Day, Herd};
 use herd_kinship::coefficients_plain;
@@ -8,7 +8,8 @@ use herd_register::Command;
 use linked_list_allocator::LocalHeap;
 use std::test::Fail;
 
-const CERTIFICATE: &[u8] = b"animal HOLGBRM000000000005
+fn certificate() -> &'static [u8] {
+    b"animal HOLGBRM000000000005
 sex male
 born 2004-01-01
 herd 1
@@ -29,17 +30,18 @@ DSS 0
 DSD 0
 DDS 0
 DDD 0
-";
+"
+}
 
 #[test]
 fn writes_the_animal_and_its_ancestors(rt: HostRuntime) -> Result<(), Fail> {
-    let register = registered(rt.alloc(), &FULL_SIBS)?;
+    let register = registered(rt.alloc(), &full_sibs())?;
     let frozen = register.pedigree().freeze(rt.alloc())?;
     let coefficients = coefficients_plain(rt.alloc(), &frozen)?;
     let number = animal(rt.alloc(), 'M', 5)?;
     assert_writes!(
         rt,
-        CERTIFICATE,
+        certificate(),
         |alloc, writer| write_certificate(alloc, &frozen, &coefficients, number, writer)
     );
     Ok(())
@@ -47,7 +49,7 @@ fn writes_the_animal_and_its_ancestors(rt: HostRuntime) -> Result<(), Fail> {
 
 #[test]
 fn tells_the_owner_and_the_exit(rt: HostRuntime) -> Result<(), Fail> {
-    let mut register = registered(rt.alloc(), &FULL_SIBS)?;
+    let mut register = registered(rt.alloc(), &full_sibs())?;
     let number = animal(rt.alloc(), 'M', 5)?;
     let sale = Command::Transfer {
         animal: number,
@@ -72,7 +74,7 @@ fn tells_the_owner_and_the_exit(rt: HostRuntime) -> Result<(), Fail> {
 
 #[test]
 fn writes_nothing_of_an_absent_number(rt: HostRuntime) -> Result<(), Fail> {
-    let register = registered(rt.alloc(), &FULL_SIBS)?;
+    let register = registered(rt.alloc(), &full_sibs())?;
     let frozen = register.pedigree().freeze(rt.alloc())?;
     let coefficients = coefficients_plain(rt.alloc(), &frozen)?;
     let number = animal(rt.alloc(), 'F', 9)?;

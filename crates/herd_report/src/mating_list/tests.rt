@@ -1,21 +1,23 @@
 use crate::assert_writes::assert_writes;
 use crate::stops_after::{StopsAfter, Then};
-use crate::test_books::{FULL_SIBS, animal, registered};
+use crate::test_books::{animal, full_sibs, registered};
 use crate::{ReportFault, write_mating};
 use herd_kinship::coefficients_plain;
 use linked_list_allocator::LocalHeap;
 use std::test::Fail;
 
-const ADVICE: &[u8] = b"HOLGBRM000000000003,1/4,25.00
+fn advice() -> &'static [u8] {
+    b"HOLGBRM000000000003,1/4,25.00
 HOLGBRM000000000001,1/4,25.00
 HOLGBRM000000000005,3/8,37.50
 HOLGBRF000000000004,refused,3
 HOLGBRM000000000099,refused,1
-";
+"
+}
 
 #[test]
 fn writes_a_line_for_each_sire(rt: HostRuntime) -> Result<(), Fail> {
-    let register = registered(rt.alloc(), &FULL_SIBS)?;
+    let register = registered(rt.alloc(), &full_sibs())?;
     let frozen = register.pedigree().freeze(rt.alloc())?;
     let coefficients = coefficients_plain(rt.alloc(), &frozen)?;
     let dam = animal(rt.alloc(), 'F', 4)?;
@@ -28,7 +30,7 @@ fn writes_a_line_for_each_sire(rt: HostRuntime) -> Result<(), Fail> {
     ];
     assert_writes!(
         rt,
-        ADVICE,
+        advice(),
         |alloc, writer| write_mating(alloc, &frozen, &coefficients, dam, &sires, writer)
     );
     Ok(())
@@ -36,7 +38,7 @@ fn writes_a_line_for_each_sire(rt: HostRuntime) -> Result<(), Fail> {
 
 #[test]
 fn tells_why_there_is_no_advice(rt: HostRuntime) -> Result<(), Fail> {
-    let register = registered(rt.alloc(), &FULL_SIBS)?;
+    let register = registered(rt.alloc(), &full_sibs())?;
     let frozen = register.pedigree().freeze(rt.alloc())?;
     let coefficients = coefficients_plain(rt.alloc(), &frozen)?;
     let first = animal(rt.alloc(), 'M', 1)?;
