@@ -9,6 +9,8 @@ pub mod laws;
 mod mating_advice;
 mod numerators;
 mod pending;
+#[cfg(test)]
+mod tests;
 mod tracing;
 
 pub use coefficients::{Coefficients, coefficients_plain};
