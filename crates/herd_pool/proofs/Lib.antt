@@ -1,0 +1,4 @@
+pub mod Known
+pub mod LevelFacts
+pub mod Passes
+pub mod Writes

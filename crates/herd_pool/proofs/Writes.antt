@@ -1,0 +1,156 @@
+-- What the list of numerators has once places, blocks and levels are written.
+use Rattle.std.proofs.Common.{◌≡◌, ℕ, suc, ◌+◌, ◌*◌, ◌/◌, ◌%◌, ◌^◌, ◌<◌, ◌≤◌, List, [], ◌∷◌, length, drop, get_or, map, set, slice_index, take, sym, ap, subst, inl, inr, ◌∙◌, ⊎_elim, arith}
+use Rattle.std.specs.Int.{div_ceil}
+use Rattle.std.specs.List.{All, Contains}
+use Rattle.std.proofs.lemmas.Bool.{cases_eq, cases_lt}
+use Rattle.std.proofs.lemmas.Bool.Decides.{nat_tests}
+use Rattle.std.proofs.lemmas.Grind.{div_ceil_times}
+use Rattle.std.proofs.lemmas.List.{get_or-drop, get_or-map, get_or-set_other, get_or-set_same, get_or-take, get_or_default, length-drop, length-take}
+use Rattle.std.proofs.lemmas.List.Elements.{All-from_get_or, All-more, All-weaker}
+use Rattle.std.proofs.lemmas.Nat.{div-add-mod', div_below}
+use Rattle.herd_pedigree.specs.declared.frozen.Row.{Row}
+use Rattle.herd_pedigree.specs.Frozen.{IsFrozen, depth_at, level_of}
+use Rattle.herd_kinship.specs.Coefficients.{AreCoefficients}
+use Rattle.herd_kinship.proofs.FrozenDepths.{depth-at_most}
+use Rattle.herd_kinship.proofs.KnownFacts.{frozen-coefficient_bound}
+use Rattle.herd_pool.specs.Blocks.{once_below, times}
+use Rattle.herd_pool.specs.Levels.{AreBlocks, HasAt, Keeps, KnowsBelow, block_of, coefficient_at, numbers}
+use Rattle.herd_pool.specs.declared.level.ComputedBlock.{ComputedBlock}
+use Rattle.herd_pool.proofs.LevelFacts.{level_of-has}
+
+-- the first n places have f of themselves
+abbrev pub HasBefore : (ℕ → ℕ) → List ℕ → List ℕ → ℕ → Type 0
+HasBefore f known places n = (i : ℕ) → i < n → slice_index known (slice_index places i) ≡ f (slice_index places i)
+
+-- a write of f at one place
+set_keeps : (f : ℕ → ℕ) (known : List ℕ) (place value : ℕ) → value ≡ f place → place < length known → Keeps f known (set known place value)
+set_keeps f known place value is below p =
+    ⊎_elim (λ (e : p ≡ place). inr (ap (slice_index (set known place value)) e ∙ get_or-set_same known place value 0 below ∙ is ∙ ap f (sym e)))
+    (λ (ne : p ≡ place → ⊥). inl (get_or-set_other known place p value 0 ne)) (cases_eq p place)
+
+-- where f stands, it stays
+stays : (f : ℕ → ℕ) (old new : List ℕ) → Keeps f old new → (p : ℕ) → slice_index old p ≡ f p → slice_index new p ≡ f p
+stays f old new keeps p at = ⊎_elim (λ (same : slice_index new p ≡ slice_index old p). same ∙ at) (λ (there : slice_index new p ≡ f p). there) (keeps p)
+
+keeps_on : (f : ℕ → ℕ) (old known new : List ℕ) → Keeps f old known → Keeps f known new → Keeps f old new
+keeps_on f old known new first then p =
+    ⊎_elim (λ (same : slice_index new p ≡ slice_index known p).
+    ⊎_elim (λ (s : slice_index known p ≡ slice_index old p). inl (same ∙ s)) (λ (t : slice_index known p ≡ f p). inr (same ∙ t)) (first p))
+    (λ (there : slice_index new p ≡ f p). inr there) (then p)
+
+-- one more place is written
+pub place_written : (f : ℕ → ℕ) (old known places numerators : List ℕ) (n m place value : ℕ) → numerators ≡ map f places → m ≡ n + 1 → n < length places → place ≡ get_or places n 0 → value ≡ get_or numerators n 0 → place < length known
+    → Keeps f old known × HasBefore f known places n
+    → Keeps f old (set known place value) × HasBefore f (set known place value) places m
+place_written f old known places numerators n m place value is more within at_place at_value below was =
+    let there : value ≡ f place = at_value ∙ ap (λ l. get_or l n 0) is ∙ get_or-map f places n 0 0 within ∙ ap f (sym at_place) in
+    let keeps = set_keeps f known place value there below in (
+      keeps_on f old known (set known place value) was.0 keeps,
+      (λ i low. ⊎_elim (λ (before : i < n). stays f known (set known place value) keeps (get_or places i 0) (was.1 i before))
+          (λ (last : n ≤ i).
+          let e : get_or places i 0 ≡ place = ap (λ k. get_or places k 0) (let k : i ≡ n = omega arith in k) ∙ sym at_place in
+          ap (slice_index (set known place value)) e ∙ get_or-set_same known place value 0 below ∙ there ∙ ap f (sym e)) (cases_lt i n)),
+    )
+
+-- these blocks of a level have f of their places
+abbrev pub HasBlocks : (ℕ → ℕ) → ℕ → List ℕ → List ℕ → List ComputedBlock → Type 0
+HasBlocks f len level known blocks = All (λ block. HasAt f known (block_of len block.number level)) blocks
+
+-- the blocks that are written on the way, after n of them
+pub record HasWritten (f : ℕ → ℕ) (len : ℕ) (level old known : List ℕ) (blocks : List ComputedBlock) (n : ℕ) : Type 0 where
+  pub kept : Keeps f old known
+  pub written : HasBlocks f len level known (take n blocks)
+
+-- one more block is written
+pub block_written : (f : ℕ → ℕ) (len : ℕ) (level : List ℕ) (blocks : List ComputedBlock) (n : ℕ) (block : ComputedBlock) (old known new places numerators : List ℕ) → n < length blocks → block ≡ get_or blocks n block → places ≡ block_of len block.number level → numerators ≡ block.numerators.items
+    → All (λ (b : ComputedBlock). b.numerators.items ≡ map f (block_of len b.number level)) blocks
+    → (numerators ≡ map f places → Keeps f known new × HasAt f new places)
+    → HasWritten f len level old known blocks n
+    → HasWritten f len level old new blocks (n + 1)
+block_written f len level blocks n block old known new places numerators below at is_places is_numerators all write was =
+    let Old : ComputedBlock → Type 0 = λ b. HasAt f known (block_of len b.number level) in
+    let New : ComputedBlock → Type 0 = λ b. HasAt f new (block_of len b.number level) in
+    let Right : ComputedBlock → Type 0 = λ b. b.numerators.items ≡ map f (block_of len b.number level) in
+    let right : Right block = subst Right (sym at) (all n block below) in
+    let now = write (is_numerators ∙ right ∙ ap (map f) (sym is_places)) in
+    let mine : New (get_or blocks n block) = subst New at (subst (HasAt f new) is_places now.1) in
+    record {
+      kept = keeps_on f old known new was.kept now.0;
+      written = All-more New blocks n block below (All-weaker Old New (λ b h i low. stays f known new now.0 (slice_index (block_of len b.number level) i) (h i low)) (take n blocks) was.written) mine;
+    }
+
+times_tail : (x : ℕ) (b : ComputedBlock) (bs : List ComputedBlock) → (b.number ≡ x → ⊥) → 0 < times x (numbers (b ∷ bs)) → 0 < times x (numbers bs)
+times_tail x b bs ne some = grind (arith, nat_tests)
+
+-- a number that stands in the list stands at some place
+times_has : (x : ℕ) (blocks : List ComputedBlock) → 0 < times x (numbers blocks) → (k : ℕ) × (k < length blocks) × ((d : ComputedBlock) → (get_or blocks k d).number ≡ x)
+times_has x [] some = absurd (omega arith)
+times_has x (b ∷ bs) some =
+    ⊎_elim (λ (e : b.number ≡ x). (0, omega arith, λ d. e))
+    (λ (ne : b.number ≡ x → ⊥).
+    let rest = times_has x bs (times_tail x b bs ne some) in
+    (suc rest.0, omega (arith, rest.1), rest.2)) (cases_eq b.number x)
+
+-- what holds of each block holds of the one with this number
+with_number : (P : ℕ → Type 0) (x : ℕ) (blocks : List ComputedBlock) → 0 < times x (numbers blocks) → All (λ b. P b.number) blocks → P x
+with_number P x [] some all = absurd (omega arith)
+with_number P x (b ∷ bs) some all =
+    let found = times_has x (b ∷ bs) some in
+    subst P (found.2 b) (all found.0 b found.1)
+
+-- a place of the level is written where its block is
+in_block : (f : ℕ → ℕ) (new level : List ℕ) (len i : ℕ) (p : ℕ) → 0 < len → i < length level → get_or level i p ≡ p → HasAt f new (block_of len (i / len) level) → slice_index new p ≡ f p
+in_block f new level len i p some below at has =
+    let j = i % len in
+    let start = i / len * len in
+    let whole : start + j ≡ i = div-add-mod' i len in
+    let short : j < len = omega arith in
+    let rest = drop start level in
+    let within : j < length (block_of len (i / len) level) = omega (arith, length-take len rest, length-drop start level) in
+    let e : slice_index (block_of len (i / len) level) j ≡ p =
+    get_or-take len rest j 0 short ∙ get_or-drop start level j 0 ∙ ap (λ k. get_or level k 0) whole ∙ get_or_default level i 0 p below ∙ at in
+    ap (slice_index new) (sym e) ∙ has j within ∙ ap f e
+
+once_within : (x n : ℕ) → x < n → once_below x n ≡ 1
+once_within x n below = grind (arith, nat_tests)
+
+-- where each block of a level is written, the level is known
+pub level_known : (l most : ℕ) (rows : List Row) (known new : List ℕ) (depth len : ℕ) (blocks : List ComputedBlock) → 0 < len → length new ≡ length known → KnowsBelow l most rows known depth → AreBlocks l rows depth len blocks
+    → Keeps (coefficient_at l rows) known new → HasBlocks (coefficient_at l rows) len (level_of depth rows) new blocks
+    → KnowsBelow l most rows new (depth + 1)
+level_known l most rows known new depth len blocks some same knows are kept written =
+    let f = coefficient_at l rows in
+    let level = level_of depth rows in
+    let count = div_ceil (length level) len in
+    let here : (p : ℕ) → p < length rows → depth_at rows p ≡ depth → slice_index new p ≡ f p =
+    λ p low is.
+    let found : Contains level p = subst (λ d. Contains (level_of d rows) p) is (level_of-has rows p low) in
+    let i = found.0 in
+    let cover = div_ceil_times (length level) len some in
+    let inside : i / len < count = div_below i len count some (omega (arith, found.1, cover)) in
+    let once : times (i / len) (numbers blocks) ≡ 1 = are.each_once (i / len) ∙ once_within (i / len) count inside in
+    let has = with_number (λ n. HasAt f new (block_of len n level)) (i / len) blocks (omega arith) written in
+    in_block f new level len i p some found.1 found.2 has in
+    record {
+      frozen = knows.frozen;
+      each = same ∙ knows.each;
+      right = λ p low shallow.
+          ⊎_elim (λ (less : depth_at rows p < depth). stays f known new kept p (knows.right p low less))
+          (λ (more : depth ≤ depth_at rows p). here p low (omega arith)) (cases_lt (depth_at rows p) depth);
+    }
+
+-- where all levels are known, all coefficients are
+pub all_known : (l most : ℕ) (rows : List Row) (known : List ℕ) (depth : ℕ) → l < depth → KnowsBelow l most rows known depth → AreCoefficients l rows known
+all_known l most rows known depth beyond knows = record {
+  each = knows.each;
+  right = λ place low. let limit = depth-at_most l most rows knows.frozen place low in knows.right place low (omega arith);
+}
+
+-- and they are below 1
+pub known_below_one : (l most : ℕ) (rows : List Row) (known : List ℕ) → IsFrozen l most rows → AreCoefficients l rows known → All (λ n. n < 2 ^ (2 * l)) known
+known_below_one l most rows known frozen are =
+    All-from_get_or (λ n. n < 2 ^ (2 * l)) known 0 (λ place low.
+    let each = are.each in
+    let within : place < length rows = omega arith in
+    let bound = frozen-coefficient_bound l most rows frozen place within in
+    omega (arith, are.right place within, bound))

@@ -1,0 +1,9 @@
+use Rattle.herd_pedigree.specs.Frozen.{level_of}
+use Rattle.herd_pedigree.specs.declared.TheConstants.{DEPTH_LIMIT}
+use Rattle.herd_pool.specs.Levels.{coefficient_at}
+use Rattle.herd_pool.proofs.Writes.{HasWritten}
+use Rattle.herd_pool.proofs.merge.write_all.Given as goal
+
+abbrev pub invariant-loop-block : goal.invariant-loop-block
+invariant-loop-block l =
+    HasWritten (coefficient_at DEPTH_LIMIT l.level.frozen.now) l.level.block (level_of l.level.depth l.level.frozen.now) l.initial.known l.known l.blocks l.block-index

@@ -1,0 +1,9 @@
+use Rattle.std.proofs.Common.{◌≡◌, ℕ, length, map}
+use Rattle.herd_pool.specs.Levels.{Keeps}
+use Rattle.herd_pool.proofs.Writes.{HasBefore}
+use Rattle.herd_pool.proofs.merge.write_block.Given as goal
+
+abbrev pub invariant-loop-place : goal.invariant-loop-place
+invariant-loop-place l =
+    (f : ℕ → ℕ) → l.numerators ≡ map f l.places
+    → Keeps f l.initial.known l.known × HasBefore f l.known l.places (length l.yielded)

@@ -1,0 +1,38 @@
+//! What a caller may do where a block begins, and in place of tracing an animal.
+ghost use Rattle.std.specs.Prelude.{◌≡◌, ◌*◌, ◌<◌, length, IfOk, Some};
+ghost use Rattle.herd_pedigree.specs.declared.TheConstants.{DEPTH_LIMIT};
+ghost use Rattle.herd_kinship.specs.Coefficients.{KnowsAncestors};
+ghost use Rattle.herd_kinship.specs.FrozenAncestry.{ancestry_of, number_at};
+ghost use Rattle.herd_kinship.specs.Table.{entry};
+
+use herd_pedigree::Frozen;
+use std::alloc::{AllocError, Global};
+
+/// A caller's part in the pool.
+pub trait Gate: Sync {
+    /// A thread has taken this block of the level, and begins with it.
+    fn enter(&self, level: u8, block: u32);
+
+    /// Traces the animal at a place, on the thread that took its block. Each animal is traced once.
+    fn trace(
+        &self,
+        alloc: Global,
+        frozen: &Frozen<Global>,
+        known: &[u128],
+        place: u32,
+    ) -> Result<u128, AllocError>
+        requires place { place < length frozen.now }
+        requires known { KnowsAncestors DEPTH_LIMIT frozen.now known.now place }
+        ensures { IfOk result (λ value. value ≡ entry (ancestry_of frozen.now) (2 * DEPTH_LIMIT) (Some (number_at frozen.now place)) (Some (number_at frozen.now place))) }
+    {
+        herd_kinship::trace(alloc, frozen, known, place)
+    }
+}
+
+/// The gate that lets all pass.
+#[derive(Clone, Copy, Debug, Default)]
+pub struct NoGate;
+
+impl Gate for NoGate {
+    fn enter(&self, _level: u8, _block: u32) {}
+}

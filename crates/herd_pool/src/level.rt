@@ -1,0 +1,70 @@
+//! A level of the book and its blocks.
+ghost use Rattle.std.specs.Prelude.{◌≡◌, ◌<◌, length, IfOk};
+ghost use Rattle.std.specs.Int.{div_ceil};
+ghost use Rattle.herd_pedigree.specs.Frozen.{IsFrozen, level_of};
+ghost use Rattle.herd_pedigree.specs.declared.TheConstants.{DEPTH_LIMIT, MOST_ANIMALS};
+ghost use Rattle.herd_pool.specs.Levels.{block_of, IsComputed, KnowsBelow};
+
+use crate::gate::Gate;
+use herd_kinship::inbred;
+use herd_pedigree::Frozen;
+use std::alloc::{AllocError, Global};
+
+/// The numerators of a block's animals.
+#[derive(Drop)]
+pub struct ComputedBlock {
+    pub number: u32,
+    pub numerators: Vec<u128>,
+}
+
+/// The animals of a depth, cut into blocks.
+#[derive(Clone, Copy)]
+pub struct Level<'a> {
+    pub frozen: &'a Frozen<Global>,
+    pub depth: u8,
+    /// How many animals a block has. The last may have fewer.
+    pub block: u32,
+}
+
+impl<'a> Level<'a> {
+    /// How many blocks there are.
+    pub fn blocks(&self) -> u32
+        requires frozen { IsFrozen DEPTH_LIMIT MOST_ANIMALS self.now.frozen.now }
+        requires block { 0 < self.now.block }
+        ensures { result ≡ div_ceil (length (level_of self.now.depth self.now.frozen.now)) self.now.block }
+    {
+        let places = self.frozen.level(self.depth).len();
+        places.div_ceil(self.block as usize) as u32
+    }
+
+    /// The places of a block.
+    pub fn places(&self, number: u32) -> &'a [u32]
+        ensures { result.now ≡ block_of self.now.block number (level_of self.now.depth self.now.frozen.now) }
+    {
+        let places = self.frozen.level(self.depth);
+        let block = self.block as usize;
+        let rest = &places[places.len().min(number as usize * block)..];
+        &rest[..rest.len().min(block)]
+    }
+
+    /// Computes a block.
+    pub fn compute<G: Gate>(
+        &self,
+        alloc: Global,
+        known: &[u128],
+        gate: &G,
+        number: u32,
+    ) -> Result<ComputedBlock, AllocError>
+        requires { KnowsBelow DEPTH_LIMIT MOST_ANIMALS self.now.frozen.now known.now self.now.depth }
+        ensures number { IfOk result (λ block. block.number ≡ number) }
+        ensures computed { IfOk result (λ block. IsComputed DEPTH_LIMIT self.now.frozen.now self.now.depth self.now.block block) }
+    {
+        gate.enter(self.depth, number);
+        let mut numerators = Vec::new(alloc);
+        for place in self.places(number) {
+            let value = gate.trace(alloc, self.frozen, known, *place)?;
+            numerators.push(inbred(value))?;
+        }
+        Ok(ComputedBlock { number, numerators })
+    }
+}

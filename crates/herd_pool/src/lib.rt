@@ -1,0 +1,17 @@
+//! The coefficients of a frozen book, by a pool of threads over blocks of each level.
+#![tactic(auto)]
+
+mod crew;
+mod gate;
+mod level;
+mod merge;
+mod pool;
+mod pool_fault;
+mod queue;
+#[cfg(test)]
+mod tests;
+mod worker;
+
+pub use gate::{Gate, NoGate};
+pub use pool::coefficients;
+pub use pool_fault::PoolFault;

@@ -1,0 +1,59 @@
+ghost use Rattle.std.specs.Prelude.{◌≡◌, ◌+◌, ◌<◌, ◌≤◌, IfOk, OnOk};
+ghost use Rattle.herd_pedigree.specs.declared.TheConstants.{DEPTH_LIMIT, MOST_ANIMALS};
+ghost use Rattle.herd_kinship.specs.Coefficients.{AreCoefficients};
+ghost use Rattle.herd_pool.specs.Levels.{KnowsBelow};
+
+use crate::crew::compute_level;
+use crate::gate::Gate;
+use crate::level::Level;
+use crate::merge::write_all;
+use crate::pool_fault::PoolFault;
+use herd_kinship::Coefficients;
+use herd_pedigree::{DEPTH_LIMIT, Frozen};
+use std::alloc::Global;
+use std::sync::Wait;
+use std::thread::Threads;
+
+/// The coefficients of a book, by this many workers, who take the blocks of each level from a queue. A level of one
+/// block starts no thread, and when the call returns all threads have ended.
+pub fn coefficients<R: Threads + Wait + Sync, G: Gate>(
+    rt: &R,
+    alloc: Global,
+    frozen: &Frozen<Global>,
+    workers: u32,
+    block: u32,
+    gate: &G,
+) -> Result<Coefficients<Global>, PoolFault>
+    requires workers { (1 ≤ workers) × (workers ≤ 16) }
+    requires block { 1 ≤ block }
+    ensures { IfOk result (AreCoefficients DEPTH_LIMIT frozen.now) }
+{
+    let mut known = vec![in alloc; 0u128; frozen.len() as usize]?;
+    for depth in 0..=DEPTH_LIMIT {
+        let level = Level {
+            frozen,
+            depth,
+            block,
+        };
+        add_level(rt, alloc, level, &mut known, workers, gate)?;
+    }
+    Ok(Coefficients::from_list(known))
+}
+
+// Computes and writes a level, where all levels below are known.
+fn add_level<R: Threads + Wait + Sync, G: Gate>(
+    rt: &R,
+    alloc: Global,
+    level: Level<'_>,
+    known: &mut [u128],
+    workers: u32,
+    gate: &G,
+) -> Result<(), PoolFault>
+    requires known { KnowsBelow DEPTH_LIMIT MOST_ANIMALS level.frozen.now known.old level.depth }
+    requires block { 0 < level.block }
+    ensures { OnOk result (KnowsBelow DEPTH_LIMIT MOST_ANIMALS level.entry.frozen.now known.new (level.entry.depth + 1)) }
+{
+    let blocks = compute_level(rt, alloc, level, known, workers, gate)?;
+    write_all(known, level, &blocks);
+    Ok(())
+}

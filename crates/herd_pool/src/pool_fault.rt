@@ -1,0 +1,22 @@
+use std::alloc::AllocError;
+use thiserror::Error;
+
+/// Why there are no coefficients.
+#[derive(Clone, Copy, Debug, PartialEq, Eq, Error)]
+pub enum PoolFault {
+    #[error("a thread couldn't be started")]
+    NoThread,
+    #[error("memory ran out")]
+    Memory,
+}
+
+impl From<AllocError> for PoolFault {
+    ghost use Rattle.std.specs.Prelude.{◌≡◌};
+    ghost use Rattle.herd_pool.specs.declared.pool_fault.PoolFault.TheVariants.{Memory};
+
+    ghost from_gives = { λ _ fault. fault ≡ Memory };
+
+    fn from(_refused: AllocError) -> Self {
+        PoolFault::Memory
+    }
+}
