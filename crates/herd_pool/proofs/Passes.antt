@@ -6,9 +6,9 @@ use mathlib.Core.Option.{some, some-ne-none}
 use lib.ListN.{get_elem?}
 use Rattle.crossbeam_deque.proofs.Lists.{at_set, at_snoc}
 use Rattle.crossbeam_deque.specs.Tasks.{Pushes, Takes, Finds, Forks, Merges}
-use Rattle.herd_pool.specs.declared.queue.Hand.{Hand}
+use Rattle.herd_pool.specs.declared.queue.PassView.{PassView}
 use Rattle.herd_pool.specs.declared.level.ComputedBlock.{ComputedBlock}
-use Rattle.herd_pool.specs.Blocks.{hand, times, once_below, total, EachOnce}
+use Rattle.herd_pool.specs.Blocks.{pass_view, times, once_below, total, EachOnce}
 use Rattle.herd_pool.specs.Levels.{numbers}
 
 same_some : {A : Type 0} (x y : A) → some x ≡ some y → x ≡ y
@@ -21,43 +21,43 @@ times-append x (z ∷ zs) ys = let e = times-append x zs ys in omega arith
 once_below-more : (x n : ℕ) → once_below x (n + 1) ≡ once_below x n + times x (n ∷ [])
 once_below-more x n = grind (arith, nat_tests)
 
-total-append : (f : Hand → ℕ) (vs ws : List Hand) → total f (vs ++ ws) ≡ total f vs + total f ws
+total-append : (f : PassView → ℕ) (vs ws : List PassView) → total f (vs ++ ws) ≡ total f vs + total f ws
 total-append f [] ws = omega arith
 total-append f (v ∷ vs) ws = let e = total-append f vs ws in omega arith
 
 -- the total after one view has changed
-total_set : (f : Hand → ℕ) (views : List Hand) (port : ℕ) (v w : Hand) → get_elem? views port ≡ some v → total f (set views port w) + f v ≡ total f views + f w
+total_set : (f : PassView → ℕ) (views : List PassView) (port : ℕ) (v w : PassView) → get_elem? views port ≡ some v → total f (set views port w) + f v ≡ total f views + f w
 total_set f [] port v w at = absurd (some-ne-none v (sym at))
 total_set f (u ∷ us) zero v w at = let e : f u ≡ f v = ap f (same_some u v at) in omega arith
 total_set f (u ∷ us) (suc port) v w at = let e = total_set f us port v w at in omega arith
 
-total-none : (f : Hand → ℕ) (vs : List Hand) → ((port : ℕ) (v : Hand) → get_elem? vs port ≡ some v → f v ≡ 0) → total f vs ≡ 0
+total-none : (f : PassView → ℕ) (vs : List PassView) → ((port : ℕ) (v : PassView) → get_elem? vs port ≡ some v → f v ≡ 0) → total f vs ≡ 0
 total-none f [] none = refl
 total-none f (v ∷ vs) none =
     let here = none 0 v refl in let rest = total-none f vs (λ port u at. none (suc port) u at) in omega arith
 
 -- one of the views counts no more than all
-total-at : (f : Hand → ℕ) (vs : List Hand) (port : ℕ) (v : Hand) → get_elem? vs port ≡ some v → f v ≤ total f vs
+total-at : (f : PassView → ℕ) (vs : List PassView) (port : ℕ) (v : PassView) → get_elem? vs port ≡ some v → f v ≤ total f vs
 total-at f [] port v at = absurd (some-ne-none v (sym at))
 total-at f (u ∷ us) zero v at = let e : f u ≡ f v = ap f (same_some u v at) in omega arith
 total-at f (u ∷ us) (suc port) v at = let e = total-at f us port v at in omega arith
 
-abbrev SpentIsEmpty : List Hand → Type 0
-SpentIsEmpty views = (port : ℕ) (v : Hand) → get_elem? views port ≡ some v → v.out ≡ 0 → v.taken ≡ []
+abbrev SpentIsEmpty : List PassView → Type 0
+SpentIsEmpty views = (port : ℕ) (v : PassView) → get_elem? views port ≡ some v → v.out ≡ 0 → v.taken ≡ []
 
-spent_set : (views : List Hand) (port : ℕ) (w : Hand) → (w.out ≡ 0 → w.taken ≡ []) → SpentIsEmpty views → SpentIsEmpty (set views port w)
+spent_set : (views : List PassView) (port : ℕ) (w : PassView) → (w.out ≡ 0 → w.taken ≡ []) → SpentIsEmpty views → SpentIsEmpty (set views port w)
 spent_set views port w mine all j u at none =
-    ⊎_elim (λ (x : (j ≡ port) × (w ≡ u)). ap (λ (y : Hand). y.taken) (sym x.1) ∙ mine (ap (λ (y : Hand). y.out) x.1 ∙ none))
+    ⊎_elim (λ (x : (j ≡ port) × (w ≡ u)). ap (λ (y : PassView). y.taken) (sym x.1) ∙ mine (ap (λ (y : PassView). y.out) x.1 ∙ none))
     (λ (x : (j ≢ port) × (get_elem? views j ≡ some u)). all j u x.1 none) (at_set views port j w u at)
 
-pushes_first : (v : Hand) (block : ℕ) → block ≡ v.pushed → Pushes EachOnce 0 v (block ∷ []) (λ w. w ≡ hand v.out (v.pushed + 1) v.taken)
+pushes_first : (v : PassView) (block : ℕ) → block ≡ v.pushed → Pushes EachOnce 0 v (block ∷ []) (λ w. w ≡ pass_view v.out (v.pushed + 1) v.taken)
 pushes_first v block next items [] rule at = absurd rule
 pushes_first v block next items (s ∷ others) rule at =
     let e : s ≡ v = same_some s v at in
-    let out : s.out ≡ v.out = ap (λ (y : Hand). y.out) e in
-    let pushed : s.pushed ≡ v.pushed = ap (λ (y : Hand). y.pushed) e in
-    let taken : s.taken ≡ v.taken = ap (λ (y : Hand). y.taken) e in (
-      hand v.out (v.pushed + 1) v.taken,
+    let out : s.out ≡ v.out = ap (λ (y : PassView). y.out) e in
+    let pushed : s.pushed ≡ v.pushed = ap (λ (y : PassView). y.pushed) e in
+    let taken : s.taken ≡ v.taken = ap (λ (y : PassView). y.taken) e in (
+      pass_view v.out (v.pushed + 1) v.taken,
       (
         rule.0 ∙ out,
         (λ x.
@@ -72,18 +72,18 @@ pushes_first v block next items (s ∷ others) rule at =
     )
 
 -- the starter pushes the next block
-pub pushes : (port : ℕ) (v : Hand) (block : ℕ) → port ≡ 0 → block ≡ v.pushed → Pushes EachOnce port v (block ∷ []) (λ w. w ≡ hand v.out (v.pushed + 1) v.taken)
-pushes port v block first next = subst (λ p. Pushes EachOnce p v (block ∷ []) (λ w. w ≡ hand v.out (v.pushed + 1) v.taken)) (sym first) (pushes_first v block next)
+pub pushes : (port : ℕ) (v : PassView) (block : ℕ) → port ≡ 0 → block ≡ v.pushed → Pushes EachOnce port v (block ∷ []) (λ w. w ≡ pass_view v.out (v.pushed + 1) v.taken)
+pushes port v block first next = subst (λ p. Pushes EachOnce p v (block ∷ []) (λ w. w ≡ pass_view v.out (v.pushed + 1) v.taken)) (sym first) (pushes_first v block next)
 
 -- the starter, or a worker whose pass is out, takes a block
-pub takes : (port : ℕ) (v : Hand) → (port ≡ 0) ⊎ (0 < v.out) → Takes EachOnce port v 1 (λ xs w. w ≡ hand v.out v.pushed (v.taken ++ xs))
+pub takes : (port : ℕ) (v : PassView) → (port ≡ 0) ⊎ (0 < v.out) → Takes EachOnce port v 1 (λ xs w. w ≡ pass_view v.out v.pushed (v.taken ++ xs))
 takes port v may xs items [] some_task one rule at = absurd rule
 takes zero v may xs items (s ∷ others) some_task one rule at =
     let e : s ≡ v = same_some s v at in
-    let out : s.out ≡ v.out = ap (λ (y : Hand). y.out) e in
-    let pushed : s.pushed ≡ v.pushed = ap (λ (y : Hand). y.pushed) e in
-    let taken : s.taken ≡ v.taken = ap (λ (y : Hand). y.taken) e in (
-      hand v.out v.pushed (v.taken ++ xs),
+    let out : s.out ≡ v.out = ap (λ (y : PassView). y.out) e in
+    let pushed : s.pushed ≡ v.pushed = ap (λ (y : PassView). y.pushed) e in
+    let taken : s.taken ≡ v.taken = ap (λ (y : PassView). y.taken) e in (
+      pass_view v.out v.pushed (v.taken ++ xs),
       (
         rule.0 ∙ out,
         (λ x.
@@ -96,7 +96,7 @@ takes zero v may xs items (s ∷ others) some_task one rule at =
       refl,
     )
 takes (suc port) v may xs items (s ∷ others) some_task one rule at =
-    let w = hand v.out v.pushed (v.taken ++ xs) in
+    let w = pass_view v.out v.pushed (v.taken ++ xs) in
     let is_out : 0 < v.out = ⊎_elim (λ (z : suc port ≡ 0). absurd (omega arith)) (λ (h : 0 < v.out). h) may in (
       w,
       (
@@ -110,13 +110,13 @@ takes (suc port) v may xs items (s ∷ others) some_task one rule at =
       refl,
     )
 
-finds_first : (v : Hand) → Finds EachOnce 0 v (v.out ≡ 0 → (x : ℕ) → times x v.taken ≡ once_below x v.pushed)
+finds_first : (v : PassView) → Finds EachOnce 0 v (v.out ≡ 0 → (x : ℕ) → times x v.taken ≡ once_below x v.pushed)
 finds_first v [] rule at = absurd rule
 finds_first v (s ∷ others) rule at = λ all_back x.
     let e : s ≡ v = same_some s v at in
-    let out : s.out ≡ v.out = ap (λ (y : Hand). y.out) e in
-    let t : times x s.taken ≡ times x v.taken = ap (λ (y : Hand). times x y.taken) e in
-    let p : once_below x s.pushed ≡ once_below x v.pushed = ap (λ (y : Hand). once_below x y.pushed) e in
+    let out : s.out ≡ v.out = ap (λ (y : PassView). y.out) e in
+    let t : times x s.taken ≡ times x v.taken = ap (λ (y : PassView). times x y.taken) e in
+    let p : once_below x s.pushed ≡ once_below x v.pushed = ap (λ (y : PassView). once_below x y.pushed) e in
     let b = rule.1 x in
     let none = total-none (λ u. times x u.taken) others (λ port u there.
     let o = total-at (λ y. y.out) others port u there in
@@ -126,62 +126,62 @@ finds_first v (s ∷ others) rule at = λ all_back x.
     omega arith
 
 -- where no pass is out and the queue is empty, the starter has taken each block once
-pub finds : (port : ℕ) (v : Hand) → port ≡ 0 → Finds EachOnce port v (v.out ≡ 0 → (x : ℕ) → times x v.taken ≡ once_below x v.pushed)
+pub finds : (port : ℕ) (v : PassView) → port ≡ 0 → Finds EachOnce port v (v.out ≡ 0 → (x : ℕ) → times x v.taken ≡ once_below x v.pushed)
 finds port v first = subst (λ p. Finds EachOnce p v (v.out ≡ 0 → (x : ℕ) → times x v.taken ≡ once_below x v.pushed)) (sym first) (finds_first v)
 
-forks_first : (v : Hand) → Forks EachOnce 0 v (hand (v.out + 1) v.pushed v.taken) (hand 1 0 [])
+forks_first : (v : PassView) → Forks EachOnce 0 v (pass_view (v.out + 1) v.pushed v.taken) (pass_view 1 0 [])
 forks_first v items [] rule at = absurd rule
 forks_first v items (s ∷ others) rule at =
     let e : s ≡ v = same_some s v at in
-    let out : s.out ≡ v.out = ap (λ (y : Hand). y.out) e in
-    let right = hand 1 0 [] in (
+    let out : s.out ≡ v.out = ap (λ (y : PassView). y.out) e in
+    let right = pass_view 1 0 [] in (
       (let r = rule.0 in omega (arith, total-append (λ u. u.out) others (right ∷ []))),
       (λ x.
           let b = rule.1 x in
-          let t : times x s.taken ≡ times x v.taken = ap (λ (y : Hand). times x y.taken) e in
-          let p : once_below x s.pushed ≡ once_below x v.pushed = ap (λ (y : Hand). once_below x y.pushed) e in
+          let t : times x s.taken ≡ times x v.taken = ap (λ (y : PassView). times x y.taken) e in
+          let p : once_below x s.pushed ≡ once_below x v.pushed = ap (λ (y : PassView). once_below x y.pushed) e in
           omega (arith, total-append (λ u. times x u.taken) others (right ∷ []))),
       (λ j u there none. ⊎_elim (λ (old : get_elem? others j ≡ some u). rule.2 j u old none)
-          (λ (is : right ≡ u). ap (λ (y : Hand). y.taken) (sym is)) (at_snoc others right u j there)),
+          (λ (is : right ≡ u). ap (λ (y : PassView). y.taken) (sym is)) (at_snoc others right u j there)),
     )
 
 -- a pass goes out
-pub forks : (port : ℕ) (v : Hand) → port ≡ 0 → Forks EachOnce port v (hand (v.out + 1) v.pushed v.taken) (hand 1 0 [])
-forks port v first = subst (λ p. Forks EachOnce p v (hand (v.out + 1) v.pushed v.taken) (hand 1 0 [])) (sym first) (forks_first v)
+pub forks : (port : ℕ) (v : PassView) → port ≡ 0 → Forks EachOnce port v (pass_view (v.out + 1) v.pushed v.taken) (pass_view 1 0 [])
+forks port v first = subst (λ p. Forks EachOnce p v (pass_view (v.out + 1) v.pushed v.taken) (pass_view 1 0 [])) (sym first) (forks_first v)
 
-merges_first : (v : Hand) (other : ℕ) (w : Hand) → w.out ≡ 1 → Merges EachOnce 0 v other w (hand (v.out - 1) v.pushed (v.taken ++ w.taken)) (hand 0 0 [])
+merges_first : (v : PassView) (other : ℕ) (w : PassView) → w.out ≡ 1 → Merges EachOnce 0 v other w (pass_view (v.out - 1) v.pushed (v.taken ++ w.taken)) (pass_view 0 0 [])
 merges_first v other w one items [] rule at two there = absurd rule
 merges_first v zero w one items (s ∷ others) rule at two there = absurd (two refl)
 merges_first v (suc other) w one items (s ∷ others) rule at two there =
     let e : s ≡ v = same_some s v at in
-    let out : s.out ≡ v.out = ap (λ (y : Hand). y.out) e in
-    let spent = hand 0 0 [] in (
+    let out : s.out ≡ v.out = ap (λ (y : PassView). y.out) e in
+    let spent = pass_view 0 0 [] in (
       (let r = rule.0 in let t = total_set (λ u. u.out) others other w spent there in omega arith),
       (λ x.
           let b = rule.1 x in
-          let t : times x s.taken ≡ times x v.taken = ap (λ (y : Hand). times x y.taken) e in
-          let p : once_below x s.pushed ≡ once_below x v.pushed = ap (λ (y : Hand). once_below x y.pushed) e in
+          let t : times x s.taken ≡ times x v.taken = ap (λ (y : PassView). times x y.taken) e in
+          let p : once_below x s.pushed ≡ once_below x v.pushed = ap (λ (y : PassView). once_below x y.pushed) e in
           let m = total_set (λ u. times x u.taken) others other w spent there in
           omega (arith, times-append x v.taken w.taken)),
       spent_set others other spent (λ none. refl) rule.2,
     )
 
 -- a worker's pass comes back, and is spent
-pub merges : (port : ℕ) (v : Hand) (other : ℕ) (w : Hand) → port ≡ 0 → w.out ≡ 1 → Merges EachOnce port v other w (hand (v.out - 1) v.pushed (v.taken ++ w.taken)) (hand 0 0 [])
-merges port v other w first one = subst (λ p. Merges EachOnce p v other w (hand (v.out - 1) v.pushed (v.taken ++ w.taken)) (hand 0 0 [])) (sym first) (merges_first v other w one)
+pub merges : (port : ℕ) (v : PassView) (other : ℕ) (w : PassView) → port ≡ 0 → w.out ≡ 1 → Merges EachOnce port v other w (pass_view (v.out - 1) v.pushed (v.taken ++ w.taken)) (pass_view 0 0 [])
+merges port v other w first one = subst (λ p. Merges EachOnce p v other w (pass_view (v.out - 1) v.pushed (v.taken ++ w.taken)) (pass_view 0 0 [])) (sym first) (merges_first v other w one)
 
 -- the starter's view, once it has taken a worker's over
-pub absorbed : (n p : ℕ) (v w u : Hand) (xs ys all : List ComputedBlock) → v ≡ hand n p (numbers xs) → w ≡ hand 1 0 (numbers ys) → u ≡ hand (v.out - 1) v.pushed (v.taken ++ w.taken) → all ≡ xs ++ ys → u ≡ hand (n - 1) p (numbers all)
+pub absorbed : (n p : ℕ) (v w u : PassView) (xs ys all : List ComputedBlock) → v ≡ pass_view n p (numbers xs) → w ≡ pass_view 1 0 (numbers ys) → u ≡ pass_view (v.out - 1) v.pushed (v.taken ++ w.taken) → all ≡ xs ++ ys → u ≡ pass_view (n - 1) p (numbers all)
 absorbed n p v w u xs ys all is_v is_w is_u joined =
     is_u
-    ∙ ap (λ (x : Hand). hand (x.out - 1) x.pushed (x.taken ++ w.taken)) is_v
-    ∙ ap (λ (x : Hand). hand (n - 1) p (numbers xs ++ x.taken)) is_w
-    ∙ ap (hand (n - 1) p) (sym (map-append (λ (block : ComputedBlock). block.number) xs ys) ∙ ap numbers (sym joined))
+    ∙ ap (λ (x : PassView). pass_view (x.out - 1) x.pushed (x.taken ++ w.taken)) is_v
+    ∙ ap (λ (x : PassView). pass_view (n - 1) p (numbers xs ++ x.taken)) is_w
+    ∙ ap (pass_view (n - 1) p) (sym (map-append (λ (block : ComputedBlock). block.number) xs ys) ∙ ap numbers (sym joined))
 
 -- what the starter knows at the end, where a pop finds nothing
-pub all_taken : (v : Hand) (pushed : ℕ) (taken : List ℕ) → v ≡ hand 0 pushed taken → (v.out ≡ 0 → (x : ℕ) → times x v.taken ≡ once_below x v.pushed) → (x : ℕ) → times x taken ≡ once_below x pushed
+pub all_taken : (v : PassView) (pushed : ℕ) (taken : List ℕ) → v ≡ pass_view 0 pushed taken → (v.out ≡ 0 → (x : ℕ) → times x v.taken ≡ once_below x v.pushed) → (x : ℕ) → times x taken ≡ once_below x pushed
 all_taken v pushed taken is once x =
-    let all = once (ap (λ (h : Hand). h.out) is) x in
-    let t : times x v.taken ≡ times x taken = ap (λ (h : Hand). times x h.taken) is in
-    let p : once_below x v.pushed ≡ once_below x pushed = ap (λ (h : Hand). once_below x h.pushed) is in
+    let all = once (ap (λ (h : PassView). h.out) is) x in
+    let t : times x v.taken ≡ times x taken = ap (λ (h : PassView). times x h.taken) is in
+    let p : once_below x v.pushed ≡ once_below x pushed = ap (λ (h : PassView). once_below x h.pushed) is in
     sym t ∙ all ∙ p

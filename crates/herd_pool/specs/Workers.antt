@@ -6,22 +6,22 @@ use Rattle.crossbeam_deque.specs.Handles.{Pass, view, IsPassOf, stealer_deque, w
 use Rattle.crossbeam_deque.specs.declared.handles.Stealer.{Stealer}
 use Rattle.crossbeam_deque.specs.declared.handles.Worker.{Worker}
 use Rattle.herd_pedigree.specs.declared.frozen.Row.{Row}
-use Rattle.herd_pool.specs.Blocks.{hand}
+use Rattle.herd_pool.specs.Blocks.{pass_view}
 use Rattle.herd_pool.specs.Levels.{IsComputed, numbers}
-use Rattle.herd_pool.specs.declared.queue.Hand.{Hand}
-use Rattle.herd_pool.specs.declared.worker.Haul.{Haul}
+use Rattle.herd_pool.specs.declared.queue.PassView.{PassView}
+use Rattle.herd_pool.specs.declared.worker.WorkerOutput.{WorkerOutput}
 
 -- the starter's end of the queue, first in first out, and what it knows
-abbrev pub IsStarter : {P : Type 0} → Worker ℕ Global Hand P → Hand → Type 0
-IsStarter owner knows = record { fifo : worker_flavor owner ≡ 0; first : worker_port owner ≡ 0; view : worker_view owner ≡ knows }
+abbrev pub IsStarter : {P : Type 0} → Worker ℕ Global PassView P → PassView → Type 0
+IsStarter queue knows = record { fifo : worker_flavor queue ≡ 0; first : worker_port queue ≡ 0; view : worker_view queue ≡ knows }
 
 -- a worker's pass to this queue, by which it has taken these blocks
-abbrev pub IsTicket : {P : Type 0} → Stealer ℕ Global Hand P → Pass ℕ Hand Global → List ℕ → Type 0
-IsTicket thief ticket taken = record { pass : IsPassOf (stealer_deque thief) ticket; view : view ticket ≡ hand 1 0 taken }
+abbrev pub IsBlockPass : {P : Type 0} → Stealer ℕ Global PassView P → Pass ℕ PassView Global → List ℕ → Type 0
+IsBlockPass stealer pass taken = record { queue : IsPassOf (stealer_deque stealer) pass; view : view pass ≡ pass_view 1 0 taken }
 
 -- a worker came back with its pass to this queue and with the blocks that it took, each computed
-abbrev pub IsHaul : {P : Type 0} → ℕ → List Row → ℕ → ℕ → Stealer ℕ Global Hand P → Haul → Type 0
-IsHaul l rows depth len thief haul = record {
-  ticket : IsTicket thief haul.ticket (numbers haul.blocks.items);
-  computed : All (IsComputed l rows depth len) haul.blocks.items;
+abbrev pub IsWorkerOutput : {P : Type 0} → ℕ → List Row → ℕ → ℕ → Stealer ℕ Global PassView P → WorkerOutput → Type 0
+IsWorkerOutput l rows depth len stealer output = record {
+  pass : IsBlockPass stealer output.pass (numbers output.blocks.items);
+  computed : All (IsComputed l rows depth len) output.blocks.items;
 }

@@ -2,30 +2,30 @@
 ghost use Rattle.std.specs.Prelude.{◌≡◌, ℕ, ◌<◌, All, IfOk, [], length, vec_len, get_or, vec_items};
 ghost use Rattle.crossbeam_deque.specs.Handles.{stealer_deque, worker_deque, worker_view};
 ghost use Rattle.herd_pedigree.specs.declared.TheConstants.{DEPTH_LIMIT, MOST_ANIMALS};
-ghost use Rattle.herd_pool.specs.Blocks.{hand};
+ghost use Rattle.herd_pool.specs.Blocks.{pass_view};
 ghost use Rattle.herd_pool.specs.Levels.{AreBlocks, IsComputed, KnowsBelow, numbers};
-ghost use Rattle.herd_pool.specs.Workers.{IsHaul, IsStarter, IsTicket};
+ghost use Rattle.herd_pool.specs.Workers.{IsWorkerOutput, IsStarter, IsBlockPass};
 
 use crate::gate::Gate;
 use crate::level::{ComputedBlock, Level};
 use crate::pool_fault::PoolFault;
-use crate::queue::{Owner, Ticket, Trip, filled};
-use crate::worker::{Haul, Shift, finish, work};
+use crate::queue::{BlockPass, BlockQueue, ForWorker, filled};
+use crate::worker::{Task, WorkerOutput, finish, work};
 use std::alloc::{AllocError, Global};
 use std::sync::Wait;
 use std::thread;
 use std::thread::{Promise, PromisedHandle, Scope, Threads};
 
-impl<'a> Promise<Result<Haul, AllocError>> for Shift<'a> {
+impl<'a> Promise<Result<WorkerOutput, AllocError>> for Task<'a> {
     ghost use Rattle.std.specs.Prelude.{IfOk};
     ghost use Rattle.herd_pedigree.specs.declared.TheConstants.{DEPTH_LIMIT};
-    ghost use Rattle.herd_pool.specs.Workers.{IsHaul};
+    ghost use Rattle.herd_pool.specs.Workers.{IsWorkerOutput};
 
-    ghost kept_by = { λ shift result. IfOk result (IsHaul DEPTH_LIMIT shift.level.frozen.now shift.level.depth shift.level.block shift.thief.now) };
+    ghost kept_by = { λ task result. IfOk result (IsWorkerOutput DEPTH_LIMIT task.level.frozen.now task.level.depth task.level.block task.stealer.now) };
 }
 
-/// A worker's thread, which promises to bring back what its shift asks for.
-pub type Worker<'a> = PromisedHandle<Result<Haul, AllocError>, Shift<'a>>;
+/// A worker's thread, which promises to bring back what its task asks for.
+pub type Worker<'a> = PromisedHandle<Result<WorkerOutput, AllocError>, Task<'a>>;
 
 /// Computes the blocks of a level, each once, by this many workers.
 pub fn compute_level<R: Threads + Wait + Sync, G: Gate>(
@@ -44,53 +44,53 @@ pub fn compute_level<R: Threads + Wait + Sync, G: Gate>(
     if count == 0 {
         return Ok(Vec::new(alloc));
     }
-    let owner = filled(alloc, count)?;
+    let queue = filled(alloc, count)?;
     if count == 1 {
-        return Ok(finish(rt, alloc, level, known, gate, owner, Vec::new(alloc))?);
+        return Ok(finish(rt, alloc, level, known, gate, queue, Vec::new(alloc))?);
     }
-    let thief = owner.stealer()?;
-    let shift = Shift {
+    let stealer = queue.stealer()?;
+    let task = Task {
         level,
         known,
-        thief: &thief,
+        stealer: &stealer,
     };
-    let (owner, blocks) = share(rt, alloc, shift, gate, owner, workers.min(count))?;
-    Ok(finish(rt, alloc, level, known, gate, owner, blocks)?)
+    let (queue, blocks) = share(rt, alloc, task, gate, queue, workers.min(count))?;
+    Ok(finish(rt, alloc, level, known, gate, queue, blocks)?)
 }
 
 // Shares the blocks of the queue among this many workers. All have ended when it returns.
 fn share<R: Threads + Wait + Sync, G: Gate>(
     rt: &R,
     alloc: Global,
-    shift: Shift<'_>,
+    task: Task<'_>,
     gate: &G,
-    owner: Owner,
+    queue: BlockQueue,
     workers: u32,
-) -> Result<(Owner, Vec<ComputedBlock>), PoolFault>
-    requires known { KnowsBelow DEPTH_LIMIT MOST_ANIMALS shift.level.frozen.now shift.known.now shift.level.depth }
-    requires deque { worker_deque owner ≡ stealer_deque shift.thief.now }
-    requires owner { IsStarter owner (hand 0 (worker_view owner).pushed []) }
-    ensures owner { IfOk result (λ r. IsStarter r.0 (hand 0 (worker_view owner).pushed (numbers r.1.items))) }
-    ensures computed { IfOk result (λ r. All (IsComputed DEPTH_LIMIT shift.entry.level.frozen.now shift.entry.level.depth shift.entry.level.block) r.1.items) }
+) -> Result<(BlockQueue, Vec<ComputedBlock>), PoolFault>
+    requires known { KnowsBelow DEPTH_LIMIT MOST_ANIMALS task.level.frozen.now task.known.now task.level.depth }
+    requires deque { worker_deque queue ≡ stealer_deque task.stealer.now }
+    requires queue { IsStarter queue (pass_view 0 (worker_view queue).pushed []) }
+    ensures queue { IfOk result (λ r. IsStarter r.0 (pass_view 0 (worker_view queue).pushed (numbers r.1.items))) }
+    ensures computed { IfOk result (λ r. All (IsComputed DEPTH_LIMIT task.entry.level.frozen.now task.entry.level.depth task.entry.level.block) r.1.items) }
 {
     // The closures take the references one by one: nothing is known of one that takes a struct of references.
-    let Shift {
+    let Task {
         level: Level {
             frozen,
             depth,
             block,
         },
         known,
-        thief,
-    } = shift;
+        stealer,
+    } = task;
     thread::scope(
         thread::scope_env(),
         rt,
-        |scope| -> Result<(Owner, Vec<ComputedBlock>), PoolFault>
+        |scope| -> Result<(BlockQueue, Vec<ComputedBlock>), PoolFault>
             requires known { KnowsBelow DEPTH_LIMIT MOST_ANIMALS frozen.now known.now depth }
-            requires deque { worker_deque owner ≡ stealer_deque thief.now }
-            requires owner { IsStarter owner (hand 0 (worker_view owner).pushed []) }
-            ensures owner { IfOk result (λ r. IsStarter r.0 (hand 0 (worker_view owner).pushed (numbers r.1.items))) }
+            requires deque { worker_deque queue ≡ stealer_deque stealer.now }
+            requires queue { IsStarter queue (pass_view 0 (worker_view queue).pushed []) }
+            ensures queue { IfOk result (λ r. IsStarter r.0 (pass_view 0 (worker_view queue).pushed (numbers r.1.items))) }
             ensures computed { IfOk result (λ r. All (IsComputed DEPTH_LIMIT frozen.entry.now depth block) r.1.items) }
         {
             let level = Level {
@@ -98,42 +98,42 @@ fn share<R: Threads + Wait + Sync, G: Gate>(
                 depth,
                 block,
             };
-            let shift = Shift {
+            let task = Task {
                 level,
                 known,
-                thief,
+                stealer,
             };
-            let (owner, started) = start_all(scope, rt, alloc, shift, gate, owner, workers)?;
-            join_all(rt, alloc, shift, started, owner)
+            let (queue, started) = start_all(scope, rt, alloc, task, gate, queue, workers)?;
+            join_all(rt, alloc, task, started, queue)
         },
     )
 }
 
-// Starts this many workers, each with a pass of the owner's.
+// Starts this many workers, each with a pass of the queue's.
 fn start_all<'s, E, R: Wait + Sync, G: Gate>(
     scope: &'s Scope<'s, E>,
     rt: &'s R,
     alloc: Global,
-    shift: Shift<'s>,
+    task: Task<'s>,
     gate: &'s G,
-    mut owner: Owner,
+    mut queue: BlockQueue,
     workers: u32,
-) -> Result<(Owner, Vec<Worker<'s>>), PoolFault>
-    requires known { KnowsBelow DEPTH_LIMIT MOST_ANIMALS shift.level.frozen.now shift.known.now shift.level.depth }
-    requires deque { worker_deque owner ≡ stealer_deque shift.thief.now }
-    requires owner { IsStarter owner (hand 0 (worker_view owner).pushed []) }
-    ensures deque { IfOk result (λ r. worker_deque r.0 ≡ worker_deque owner) }
-    ensures owner { IfOk result (λ r. IsStarter r.0 (hand workers (worker_view owner).pushed [])) }
+) -> Result<(BlockQueue, Vec<Worker<'s>>), PoolFault>
+    requires known { KnowsBelow DEPTH_LIMIT MOST_ANIMALS task.level.frozen.now task.known.now task.level.depth }
+    requires deque { worker_deque queue ≡ stealer_deque task.stealer.now }
+    requires queue { IsStarter queue (pass_view 0 (worker_view queue).pushed []) }
+    ensures deque { IfOk result (λ r. worker_deque r.0 ≡ worker_deque queue) }
+    ensures queue { IfOk result (λ r. IsStarter r.0 (pass_view workers (worker_view queue).pushed [])) }
     ensures count { IfOk result (λ r. vec_len r.1 ≡ workers) }
-    ensures shift { IfOk result (λ r. (k : ℕ) (d : _) → k < workers → (get_or (vec_items r.1) k d).promise ≡ shift.entry) }
+    ensures task { IfOk result (λ r. (k : ℕ) (d : _) → k < workers → (get_or (vec_items r.1) k d).promise ≡ task.entry) }
 {
     let mut started = Vec::new(alloc);
     for _ in 0..workers {
-        let ticket = owner.another::<Trip>();
-        let worker = start(scope, rt, alloc, shift, gate, ticket)?;
+        let pass = queue.another::<ForWorker>();
+        let worker = start(scope, rt, alloc, task, gate, pass)?;
         started.push(worker).map_err(|_| PoolFault::Memory)?;
     }
-    Ok((owner, started))
+    Ok((queue, started))
 }
 
 // Starts a worker.
@@ -141,41 +141,41 @@ fn start<'s, E, R: Wait + Sync, G: Gate>(
     scope: &'s Scope<'s, E>,
     rt: &'s R,
     alloc: Global,
-    shift: Shift<'s>,
+    task: Task<'s>,
     gate: &'s G,
-    ticket: Ticket,
+    pass: BlockPass,
 ) -> Result<Worker<'s>, PoolFault>
-    requires known { KnowsBelow DEPTH_LIMIT MOST_ANIMALS shift.level.frozen.now shift.known.now shift.level.depth }
-    requires ticket { IsTicket shift.thief.now ticket [] }
-    ensures { IfOk result (λ worker. worker.promise ≡ shift.entry) }
+    requires known { KnowsBelow DEPTH_LIMIT MOST_ANIMALS task.level.frozen.now task.known.now task.level.depth }
+    requires pass { IsBlockPass task.stealer.now pass [] }
+    ensures { IfOk result (λ worker. worker.promise ≡ task.entry) }
 {
-    let Shift {
+    let Task {
         level: Level {
             frozen,
             depth,
             block,
         },
         known,
-        thief,
-    } = shift;
+        stealer,
+    } = task;
     let started = scope.spawn_with(
-        shift,
-        move || -> Result<Haul, AllocError>
+        task,
+        move || -> Result<WorkerOutput, AllocError>
             requires known { KnowsBelow DEPTH_LIMIT MOST_ANIMALS frozen.now known.now depth }
-            requires ticket { IsTicket thief.now ticket [] }
-            ensures { IfOk result (IsHaul DEPTH_LIMIT frozen.entry.now depth block thief.entry.now) }
+            requires pass { IsBlockPass stealer.now pass [] }
+            ensures { IfOk result (IsWorkerOutput DEPTH_LIMIT frozen.entry.now depth block stealer.entry.now) }
         {
             let level = Level {
                 frozen,
                 depth,
                 block,
             };
-            let shift = Shift {
+            let task = Task {
                 level,
                 known,
-                thief,
+                stealer,
             };
-            work(rt, alloc, shift, gate, ticket)
+            work(rt, alloc, task, gate, pass)
         },
     );
     match started {
@@ -184,25 +184,25 @@ fn start<'s, E, R: Wait + Sync, G: Gate>(
     }
 }
 
-// Joins each worker of this shift, and takes its pass back.
+// Joins each worker of this task, and takes its pass back.
 fn join_all<'s, R: Threads>(
     rt: &R,
     alloc: Global,
-    shift: Shift<'s>,
+    task: Task<'s>,
     started: Vec<Worker<'s>>,
-    mut owner: Owner,
-) -> Result<(Owner, Vec<ComputedBlock>), PoolFault>
-    requires shift { (k : ℕ) (d : _) → k < vec_len started → (get_or (vec_items started) k d).promise ≡ shift }
-    requires deque { worker_deque owner ≡ stealer_deque shift.thief.now }
-    requires owner { IsStarter owner (hand (vec_len started) (worker_view owner).pushed []) }
-    ensures owner { IfOk result (λ r. IsStarter r.0 (hand 0 (worker_view owner).pushed (numbers r.1.items))) }
-    ensures computed { IfOk result (λ r. All (IsComputed DEPTH_LIMIT shift.entry.level.frozen.now shift.entry.level.depth shift.entry.level.block) r.1.items) }
+    mut queue: BlockQueue,
+) -> Result<(BlockQueue, Vec<ComputedBlock>), PoolFault>
+    requires task { (k : ℕ) (d : _) → k < vec_len started → (get_or (vec_items started) k d).promise ≡ task }
+    requires deque { worker_deque queue ≡ stealer_deque task.stealer.now }
+    requires queue { IsStarter queue (pass_view (vec_len started) (worker_view queue).pushed []) }
+    ensures queue { IfOk result (λ r. IsStarter r.0 (pass_view 0 (worker_view queue).pushed (numbers r.1.items))) }
+    ensures computed { IfOk result (λ r. All (IsComputed DEPTH_LIMIT task.entry.level.frozen.now task.entry.level.depth task.entry.level.block) r.1.items) }
 {
     let mut all = Vec::new(alloc);
     for worker in started {
-        let Haul { ticket, mut blocks } = worker.join(rt)?;
-        owner.absorb::<Trip>(ticket);
+        let WorkerOutput { pass, mut blocks } = worker.join(rt)?;
+        queue.absorb::<ForWorker>(pass);
         all.append(&mut blocks)?;
     }
-    Ok((owner, all))
+    Ok((queue, all))
 }

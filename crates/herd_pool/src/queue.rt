@@ -1,7 +1,7 @@
 //! The queue of a level's blocks, and what each thread knows of it.
 ghost use Rattle.std.specs.Prelude.{◌≡◌, ℕ, ◌+◌, ◌-◌, ◌<◌, ◌≤◌, ◌^◌, [], ◌++◌, IfOk};
 ghost use Rattle.crossbeam_deque.specs.Handles.{SameWorker, worker_capacity, worker_flavor, worker_index, worker_port, worker_view};
-ghost use Rattle.herd_pool.specs.Blocks.{hand, times, once_below, EachOnce};
+ghost use Rattle.herd_pool.specs.Blocks.{pass_view, times, once_below, EachOnce};
 
 use crossbeam_deque::protocol::{Join, Outcome, Protocol, Split};
 use crossbeam_deque::{Pass, Stealer, Worker};
@@ -10,91 +10,91 @@ use std::collections::LinkedList;
 
 /// What a pass knows: how many passes are out, how many blocks were pushed, and the numbers of the blocks that it
 /// took. A worker's own pass is out until it is spent. No value of it is made.
-pub struct Hand {
+pub struct PassView {
     pub out: u64,
     pub pushed: u64,
     pub taken: LinkedList<u32>,
 }
 
 /// The rule of the queue: each block is taken once.
-pub struct Once;
+pub struct EachBlockOnce;
 
-impl Protocol<u32, Hand> for Once {
+impl Protocol<u32, PassView> for EachBlockOnce {
     ghost use Rattle.std.specs.Prelude.{[]};
-    ghost use Rattle.herd_pool.specs.Blocks.{hand, EachOnce};
+    ghost use Rattle.herd_pool.specs.Blocks.{pass_view, EachOnce};
 
     ghost holds = { EachOnce };
 
-    ghost first = { hand 0 0 [] };
+    ghost first = { pass_view 0 0 [] };
 
-    ghost guest = { hand 0 0 [] };
+    ghost guest = { pass_view 0 0 [] };
 }
 
 /// A block is pushed.
 pub struct Pushed;
 
-impl Outcome<u32, Hand> for Pushed {
-    ghost then = { λ v xs w. w ≡ hand v.out (v.pushed + 1) v.taken };
+impl Outcome<u32, PassView> for Pushed {
+    ghost then = { λ v xs w. w ≡ pass_view v.out (v.pushed + 1) v.taken };
 }
 
 /// A block is stolen by a worker.
 pub struct Stolen;
 
-impl Outcome<u32, Hand> for Stolen {
-    ghost then = { λ v xs w. w ≡ hand v.out v.pushed (v.taken ++ xs) };
+impl Outcome<u32, PassView> for Stolen {
+    ghost then = { λ v xs w. w ≡ pass_view v.out v.pushed (v.taken ++ xs) };
 }
 
-/// What is left at the end, once all passes are back.
-pub struct Left;
+/// A block is popped by the starter. Where none is left and all passes are back, each block was taken once.
+pub struct Popped;
 
-impl Outcome<u32, Hand> for Left {
-    ghost then = { λ v xs w. w ≡ hand v.out v.pushed (v.taken ++ xs) };
+impl Outcome<u32, PassView> for Popped {
+    ghost then = { λ v xs w. w ≡ pass_view v.out v.pushed (v.taken ++ xs) };
 
     ghost empty = { λ v. v.out ≡ 0 → (x : ℕ) → times x v.taken ≡ once_below x v.pushed };
 }
 
 /// A pass goes out to a worker, and comes back.
-pub struct Trip;
+pub struct ForWorker;
 
-impl Split<Hand> for Trip {
+impl Split<PassView> for ForWorker {
     ghost use Rattle.std.specs.Prelude.{◌+◌, []};
-    ghost use Rattle.herd_pool.specs.Blocks.{hand};
+    ghost use Rattle.herd_pool.specs.Blocks.{pass_view};
 
-    ghost left = { λ v. hand (v.out + 1) v.pushed v.taken };
+    ghost left = { λ v. pass_view (v.out + 1) v.pushed v.taken };
 
-    ghost right = { λ v. hand 1 0 [] };
+    ghost right = { λ v. pass_view 1 0 [] };
 }
 
-impl Join<Hand> for Trip {
+impl Join<PassView> for ForWorker {
     ghost use Rattle.std.specs.Prelude.{◌-◌, ◌++◌, []};
-    ghost use Rattle.herd_pool.specs.Blocks.{hand};
+    ghost use Rattle.herd_pool.specs.Blocks.{pass_view};
 
-    ghost both = { λ v w. hand (v.out - 1) v.pushed (v.taken ++ w.taken) };
+    ghost both = { λ v w. pass_view (v.out - 1) v.pushed (v.taken ++ w.taken) };
 
-    ghost spent = { hand 0 0 [] };
+    ghost spent = { pass_view 0 0 [] };
 }
 
 /// The starter's end of the queue.
-pub type Owner = Worker<u32, Global, Hand, Once>;
+pub type BlockQueue = Worker<u32, Global, PassView, EachBlockOnce>;
 
 /// What the workers steal from.
-pub type Thief = Stealer<u32, Global, Hand, Once>;
+pub type BlockStealer = Stealer<u32, Global, PassView, EachBlockOnce>;
 
 /// What a worker shows to steal.
-pub type Ticket = Pass<u32, Hand>;
+pub type BlockPass = Pass<u32, PassView>;
 
 /// A queue with the blocks below `count`, in ascending order.
-pub fn filled(alloc: Global, count: u32) -> Result<Owner, AllocError>
-    ensures flavor { IfOk result (λ owner. worker_flavor owner ≡ 0) }
-    ensures port { IfOk result (λ owner. worker_port owner ≡ 0) }
-    ensures view { IfOk result (λ owner. worker_view owner ≡ hand 0 count []) }
+pub fn filled(alloc: Global, count: u32) -> Result<BlockQueue, AllocError>
+    ensures flavor { IfOk result (λ queue. worker_flavor queue ≡ 0) }
+    ensures port { IfOk result (λ queue. worker_port queue ≡ 0) }
+    ensures view { IfOk result (λ queue. worker_view queue ≡ pass_view 0 count []) }
 {
-    let mut owner = Owner::fifo_as(alloc, count as usize)?;
+    let mut queue = BlockQueue::fifo_as(alloc, count as usize)?;
     for block in 0..count {
-        match owner.push_as::<Pushed>(block) {
+        match queue.push_as::<Pushed>(block) {
             Ok(()) => {}
             Err(_) => unreachable!(),
         }
     }
-    Ok(owner)
+    Ok(queue)
 }

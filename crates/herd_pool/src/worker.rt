@@ -2,29 +2,29 @@
 ghost use Rattle.std.specs.Prelude.{◌≡◌, ℕ, All, IfOk, []};
 ghost use Rattle.crossbeam_deque.specs.Handles.{worker_view};
 ghost use Rattle.herd_pedigree.specs.declared.TheConstants.{DEPTH_LIMIT, MOST_ANIMALS};
-ghost use Rattle.herd_pool.specs.Blocks.{hand, once_below, times};
+ghost use Rattle.herd_pool.specs.Blocks.{pass_view, once_below, times};
 ghost use Rattle.herd_pool.specs.Levels.{IsComputed, KnowsBelow, numbers};
-ghost use Rattle.herd_pool.specs.Workers.{IsHaul, IsStarter, IsTicket};
+ghost use Rattle.herd_pool.specs.Workers.{IsWorkerOutput, IsStarter, IsBlockPass};
 
 use crate::gate::Gate;
 use crate::level::{ComputedBlock, Level};
-use crate::queue::{Left, Owner, Stolen, Thief, Ticket};
+use crate::queue::{BlockPass, BlockQueue, BlockStealer, Popped, Stolen};
 use crossbeam_deque::Steal;
 use std::alloc::{AllocError, Global};
 use std::sync::Wait;
 
 /// A worker's task: to take blocks of a level, and to compute them by the numerators that are known.
 #[derive(Clone, Copy)]
-pub struct Shift<'a> {
+pub struct Task<'a> {
     pub level: Level<'a>,
     pub known: &'a [u128],
-    pub thief: &'a Thief,
+    pub stealer: &'a BlockStealer,
 }
 
 /// What a worker brings back: its pass, and the blocks that it took.
 #[derive(Drop)]
-pub struct Haul {
-    pub ticket: Ticket,
+pub struct WorkerOutput {
+    pub pass: BlockPass,
     pub blocks: Vec<ComputedBlock>,
 }
 
@@ -32,25 +32,25 @@ pub struct Haul {
 pub fn work<R: Wait, G: Gate>(
     rt: &R,
     alloc: Global,
-    shift: Shift<'_>,
+    task: Task<'_>,
     gate: &G,
-    mut ticket: Ticket,
-) -> Result<Haul, AllocError>
-    requires known { KnowsBelow DEPTH_LIMIT MOST_ANIMALS shift.level.frozen.now shift.known.now shift.level.depth }
-    requires ticket { IsTicket shift.thief.now ticket [] }
-    ensures { IfOk result (IsHaul DEPTH_LIMIT shift.entry.level.frozen.now shift.entry.level.depth shift.entry.level.block shift.entry.thief.now) }
+    mut pass: BlockPass,
+) -> Result<WorkerOutput, AllocError>
+    requires known { KnowsBelow DEPTH_LIMIT MOST_ANIMALS task.level.frozen.now task.known.now task.level.depth }
+    requires pass { IsBlockPass task.stealer.now pass [] }
+    ensures { IfOk result (IsWorkerOutput DEPTH_LIMIT task.entry.level.frozen.now task.entry.level.depth task.entry.level.block task.entry.stealer.now) }
 {
     let mut blocks = Vec::new(alloc);
     for _ in rt.forever() {
-        match shift.thief.steal_as::<Stolen>(&mut ticket) {
+        match task.stealer.steal_as::<Stolen>(&mut pass) {
             Steal::Success(number) => {
-                blocks.push(shift.level.compute(alloc, shift.known, gate, number)?)?;
+                blocks.push(task.level.compute(alloc, task.known, gate, number)?)?;
             }
             Steal::Empty => break,
             Steal::Retry => {}
         }
     }
-    Ok(Haul { ticket, blocks })
+    Ok(WorkerOutput { pass, blocks })
 }
 
 /// Computes the blocks that are left in the queue, once all workers have ended.
@@ -60,17 +60,17 @@ pub fn finish<R: Wait, G: Gate>(
     level: Level<'_>,
     known: &[u128],
     gate: &G,
-    mut owner: Owner,
+    mut queue: BlockQueue,
     mut blocks: Vec<ComputedBlock>,
 ) -> Result<Vec<ComputedBlock>, AllocError>
     requires known { KnowsBelow DEPTH_LIMIT MOST_ANIMALS level.frozen.now known.now level.depth }
-    requires owner { IsStarter owner (hand 0 (worker_view owner).pushed (numbers blocks.items)) }
+    requires queue { IsStarter queue (pass_view 0 (worker_view queue).pushed (numbers blocks.items)) }
     requires computed { All (IsComputed DEPTH_LIMIT level.frozen.now level.depth level.block) blocks.items }
-    ensures each_once { IfOk result (λ all. (number : ℕ) → times number (numbers all.items) ≡ once_below number (worker_view owner).pushed) }
+    ensures each_once { IfOk result (λ all. (number : ℕ) → times number (numbers all.items) ≡ once_below number (worker_view queue).pushed) }
     ensures computed { IfOk result (λ all. All (IsComputed DEPTH_LIMIT level.entry.frozen.now level.entry.depth level.entry.block) all.items) }
 {
     for _ in rt.forever() {
-        match owner.pop_as::<Left>() {
+        match queue.pop_as::<Popped>() {
             Some(number) => blocks.push(level.compute(alloc, known, gate, number)?)?,
             None => break,
         }

@@ -4,34 +4,34 @@ use Rattle.std.specs.Vec.Iter.{into_iter_len}
 use Rattle.std.proofs.lemmas.List.Elements.{All-append, All-same}
 use Rattle.crossbeam_deque.specs.Handles.{worker_view}
 use Rattle.herd_pedigree.specs.declared.TheConstants.{DEPTH_LIMIT}
-use Rattle.herd_pool.specs.Blocks.{hand}
+use Rattle.herd_pool.specs.Blocks.{pass_view}
 use Rattle.herd_pool.specs.Levels.{IsComputed, numbers}
 use Rattle.herd_pool.specs.declared.level.ComputedBlock.{ComputedBlock}
-use Rattle.herd_pool.specs.declared.worker.Shift.{Shift}
+use Rattle.herd_pool.specs.declared.worker.Task.{Task}
 use Rattle.herd_pool.proofs.Passes.{merges, absorbed}
 use Rattle.herd_pool.proofs.crew.join_all.Goals as goal
 
 pub absorb-requires-clause-rule : goal.absorb-requires-clause-rule
-absorb-requires-clause-rule g c = merges _ _ _ _ c.loop-worker.invariant.owner.first (ap (λ v. v.out) c.in_ok-ticket.ensures.ticket.view)
+absorb-requires-clause-rule g c = merges _ _ _ _ c.loop-worker.invariant.queue.first (ap (λ v. v.out) c.in_ok-pass.ensures.pass.view)
 
 pub loop-worker-preserved : goal.loop-worker-preserved
 loop-worker-preserved g c =
     let was = c.loop-worker.invariant in
-    let mine : c.in-Some.worker.promise ≡ c.args.shift = let h = was.shift 0 c.in-Some.worker in grind rules in
-    let IsRight : ComputedBlock → Type 0 = IsComputed DEPTH_LIMIT c.args.shift.level.frozen.now c.args.shift.level.depth c.args.shift.level.block in
-    let came : All IsRight c.in_ok-ticket.field-0.blocks.items =
-    subst (λ (s : Shift). All (IsComputed DEPTH_LIMIT s.level.frozen.now s.level.depth s.level.block) c.in_ok-ticket.field-0.blocks.items) mine c.in_ok-ticket.ensures.computed in
-    let joined : c.append.new.self.items ≡ c.loop-worker.all.items ++ c.in_ok-ticket.field-0.blocks.items = search rules in
+    let mine : c.in-Some.worker.promise ≡ c.args.task = let h = was.task 0 c.in-Some.worker in grind rules in
+    let IsRight : ComputedBlock → Type 0 = IsComputed DEPTH_LIMIT c.args.task.level.frozen.now c.args.task.level.depth c.args.task.level.block in
+    let came : All IsRight c.in_ok-pass.field-0.blocks.items =
+    subst (λ (s : Task). All (IsComputed DEPTH_LIMIT s.level.frozen.now s.level.depth s.level.block) c.in_ok-pass.field-0.blocks.items) mine c.in_ok-pass.ensures.computed in
+    let joined : c.append.new.self.items ≡ c.loop-worker.all.items ++ c.in_ok-pass.field-0.blocks.items = search rules in
     let left : into_iter_len c.next.new.self ≡ into_iter_len c.loop-worker.worker-iterator - 1 = grind rules in
     record {
       deque = search rules;
-      owner = record {
+      queue = record {
         fifo = search rules;
         first = search rules;
         view =
-            absorbed _ _ _ _ _ _ _ _ was.owner.view c.in_ok-ticket.ensures.ticket.view c.absorb.ensures.rule joined
-            ∙ ap (λ n. hand n (worker_view c.args.owner).pushed (numbers c.append.new.self.items)) (sym left);
+            absorbed _ _ _ _ _ _ _ _ was.queue.view c.in_ok-pass.ensures.pass.view c.absorb.ensures.rule joined
+            ∙ ap (λ n. pass_view n (worker_view c.args.queue).pushed (numbers c.append.new.self.items)) (sym left);
       };
       computed = All-same IsRight _ _ joined (All-append IsRight _ _ was.computed came);
-      shift = λ k d below. let h = was.shift (k + 1) d in grind rules;
+      task = λ k d below. let h = was.task (k + 1) d in grind rules;
     }

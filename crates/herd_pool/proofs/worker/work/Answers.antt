@@ -3,4 +3,4 @@ use Rattle.herd_pool.proofs.Passes.{takes}
 use Rattle.herd_pool.proofs.worker.work.Goals as goal
 
 pub steal_as-requires-clause-takes : goal.steal_as-requires-clause-takes
-steal_as-requires-clause-takes g c = let out = ap (λ v. v.out) c.loop.invariant.ticket.view in takes _ _ (inr (omega arith))
+steal_as-requires-clause-takes g c = let out = ap (λ v. v.out) c.loop.invariant.pass.view in takes _ _ (inr (omega arith))
