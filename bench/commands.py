@@ -1,0 +1,89 @@
+#!/usr/bin/env python3
+"""Runs a herd book program on a long command file, and prints what a command costs.
+
+    commands.sh PROGRAM [--animals 60000] [--commands 1000000] [--shapes narrow,dairy] [--runs 3] [--work FOLDER]
+
+The file has births, and then corrections of parents, transfers and exits in turn (generate.py --further).
+The program runs on the births alone and on the whole file; the least processor time (user and system)
+and the greatest memory of each count. The status is 1 where a run takes 500 MB or more.
+"""
+
+import argparse
+import collections
+import os
+import subprocess
+import sys
+import tempfile
+
+HERE = os.path.dirname(os.path.abspath(__file__))
+MOST_MEMORY = 500e6
+
+
+def command_file(work, shape, animals, further):
+    """The command file of that shape, made once."""
+    made = os.path.join(work, f"{shape}-{animals}-and-{further}.csv")
+    if not os.path.exists(made):
+        words = [sys.executable, os.path.join(HERE, "generate.py"), shape, str(animals), "--further", str(further)]
+        with open(made + ".part", "wb") as it:
+            subprocess.run(words, check=True, stdout=it, stderr=subprocess.DEVNULL)
+        os.rename(made + ".part", made)
+    return made
+
+
+def ran(program, file, out):
+    """Seconds of processor and bytes of memory of one run."""
+    with open(file, "rb") as given, open(out, "wb") as taken:
+        child = subprocess.Popen([program, "file"], stdin=given, stdout=taken)
+        _, status, used = os.wait4(child.pid, 0)
+        child.returncode = os.waitstatus_to_exitcode(status)
+    if child.returncode:
+        sys.exit(f"{program} ended with status {child.returncode}")
+    return used.ru_utime + used.ru_stime, used.ru_maxrss * 1024
+
+
+def best(program, file, out, runs):
+    """The least time and the greatest memory of some runs."""
+    each = [ran(program, file, out) for _ in range(runs)]
+    return min(it[0] for it in each), max(it[1] for it in each)
+
+
+def accepted(file, out):
+    """How many commands of each kind were accepted, of how many."""
+    counts = collections.Counter()
+    with open(file, "rb") as given, open(out, "rb") as replies:
+        next(given)
+        for command, reply in zip(given, replies, strict=True):
+            kind = command.split(b",", 1)[0].decode()
+            counts[kind, "all"] += 1
+            counts[kind, "accepted"] += reply.endswith(b",accepted\n")
+    kinds = ("birth", "parents", "transfer", "exit")
+    return ", ".join(f"{it} {counts[it, 'accepted']:,} of {counts[it, 'all']:,}" for it in kinds)
+
+
+def main():
+    takes = argparse.ArgumentParser(description=__doc__, formatter_class=argparse.RawDescriptionHelpFormatter)
+    takes.add_argument("program")
+    takes.add_argument("--animals", type=int, default=60_000)
+    takes.add_argument("--commands", type=int, default=1_000_000)
+    takes.add_argument("--shapes", default="narrow,dairy")
+    takes.add_argument("--runs", type=int, default=3)
+    takes.add_argument("--work", default=os.environ.get("BENCH_WORK", os.path.join(tempfile.gettempdir(), "herdbook-bench")))
+    said = takes.parse_args()
+    os.makedirs(said.work, exist_ok=True)
+    program = os.path.abspath(said.program)
+    out = os.path.join(said.work, "commands.out")
+    print(f"program {program}, best of {said.runs}, load {os.getloadavg()[0]:.1f} on {os.cpu_count()} cores")
+    is_small = True
+    for shape in said.shapes.split(","):
+        births = command_file(said.work, shape, said.animals, 0)
+        whole = command_file(said.work, shape, said.animals, said.commands - said.animals)
+        for name, file, count in (("births alone", births, said.animals), ("whole file", whole, said.commands)):
+            cpu, memory = best(program, file, out, said.runs)
+            is_small = is_small and memory < MOST_MEMORY
+            print(f"{shape:8} {name:12} {count:9,} commands  cpu {cpu * 1e3:8.1f} ms, {cpu / count * 1e6:6.3f} us each  memory {memory / 1e6:6.1f} MB")
+        print(f"         accepted: {accepted(whole, out)}", flush=True)
+    return 0 if is_small else 1
+
+
+if __name__ == "__main__":
+    sys.exit(main())
