@@ -1,18 +1,23 @@
-// What each test of a writer asserts.
+// What tests of writers assert.
 
-/// Asserts that a call writes a text: to a writer that takes a byte at a time and to one that fails halfway, and
-/// that it answers want of memory or writes all, with heaps of which each is larger than the last.
+/// Asserts that a call writes a text to a writer that takes a byte at a time, and a half of it to one that then fails.
 macro_rules! assert_writes {
-    ($rt:ident, $text:expr, |$alloc:ident, $writer:ident| $call:expr) => {
+    ($rt:ident, $text:expr, |$writer:ident| $call:expr) => {
         let text: &[u8] = $text;
         for most in [text.len(), text.len() / 2] {
             let mut taker = StopsAfter::new($rt.alloc(), most, Then::Fails);
-            let $alloc = $rt.alloc();
             let $writer = &mut taker;
             let answer = $call;
             assert_eq!($rt; answer.is_ok(), most == text.len());
             assert_eq!($rt; taker.taken.as_slice(), &text[..most]);
         }
+    };
+}
+
+/// Asserts that a call answers want of memory or writes a text, with heaps of which each is larger than the last.
+macro_rules! assert_memory_or {
+    ($rt:ident, $text:expr, |$alloc:ident, $writer:ident| $call:expr) => {
+        let text: &[u8] = $text;
         let mut refused = 0u32;
         for size in 1..64 {
             let heap = LocalHeap::new($rt.alloc(), 64 * size)?;
@@ -32,4 +37,5 @@ macro_rules! assert_writes {
     };
 }
 
+pub(crate) use assert_memory_or;
 pub(crate) use assert_writes;

@@ -1,5 +1,6 @@
 // Books for tests: births are filed in a register, whose book is frozen.
 use herd_animal::{AnimalNumber, Day, Herd};
+use herd_pedigree::Frozen;
 use herd_register::{Command, Limits, Register};
 use std::alloc::Global;
 use std::test::Fail;
@@ -31,6 +32,11 @@ pub(crate) fn registered(alloc: Global, births: &[Birth]) -> Result<Register<Glo
         register.file(0, command)?;
     }
     Ok(register)
+}
+
+/// The frozen book of the births.
+pub(crate) fn frozen_of(alloc: Global, births: &[Birth]) -> Result<Frozen<Global>, Fail> {
+    Ok(registered(alloc, births)?.pedigree().freeze(alloc)?)
 }
 
 fn command_of(alloc: Global, birth: Birth) -> Result<Command, Fail> {

@@ -1,11 +1,14 @@
-use crate::assert_writes::assert_writes;
+use crate::assert_writes::{assert_memory_or, assert_writes};
 use crate::stops_after::{StopsAfter, Then};
-use crate::test_books::{animal, full_sibs, registered};
+use crate::test_books::{animal, frozen_of, full_sibs, registered};
 use crate::{ReportFault, write_certificate};
-use herd_animal::{Day, Herd};
+use herd_animal::{AnimalNumber, Day, Herd};
 use herd_kinship::coefficients_plain;
+use herd_pedigree::Frozen;
 use herd_register::Command;
 use linked_list_allocator::LocalHeap;
+use std::alloc::{Allocator, Global};
+use std::io::Write;
 use std::test::Fail;
 
 fn certificate() -> &'static [u8] {
@@ -33,24 +36,45 @@ DDD 0
 "
 }
 
+// Writes the certificate of an animal.
+fn write<A: Allocator, W: Write>(
+    alloc: A,
+    frozen: &Frozen<Global>,
+    number: AnimalNumber,
+    heap: Global,
+    writer: &mut W,
+) -> Result<(), ReportFault> {
+    let coefficients = coefficients_plain(heap, frozen)?;
+    write_certificate(alloc, frozen, &coefficients, number, writer)
+}
+
 #[test]
 fn writes_the_animal_and_its_ancestors(rt: HostRuntime) -> Result<(), Fail> {
-    let register = registered(rt.alloc(), &full_sibs())?;
-    let frozen = register.pedigree().freeze(rt.alloc())?;
-    let coefficients = coefficients_plain(rt.alloc(), &frozen)?;
+    let frozen = frozen_of(rt.alloc(), &full_sibs())?;
     let number = animal(rt.alloc(), 'M', 5)?;
     assert_writes!(
         rt,
         certificate(),
-        |alloc, writer| write_certificate(alloc, &frozen, &coefficients, number, writer)
+        |writer| write(rt.alloc(), &frozen, number, rt.alloc(), writer)
     );
     Ok(())
 }
 
 #[test]
-fn tells_the_owner_and_the_exit(rt: HostRuntime) -> Result<(), Fail> {
-    let mut register = registered(rt.alloc(), &full_sibs())?;
+fn answers_memory_or_all(rt: HostRuntime) -> Result<(), Fail> {
+    let frozen = frozen_of(rt.alloc(), &full_sibs())?;
     let number = animal(rt.alloc(), 'M', 5)?;
+    assert_memory_or!(
+        rt,
+        certificate(),
+        |alloc, writer| write(alloc, &frozen, number, rt.alloc(), writer)
+    );
+    Ok(())
+}
+
+// The calf is sold, and then it leaves.
+fn sold_and_gone(alloc: Global, number: AnimalNumber) -> Result<Frozen<Global>, Fail> {
+    let mut register = registered(alloc, &full_sibs())?;
     let sale = Command::Transfer {
         animal: number,
         day: Day::parse(b"2004-06-01")?,
@@ -63,10 +87,15 @@ fn tells_the_owner_and_the_exit(rt: HostRuntime) -> Result<(), Fail> {
         day: Day::parse(b"2005-03-01")?,
     };
     register.file(0, exit)?;
-    let frozen = register.pedigree().freeze(rt.alloc())?;
-    let coefficients = coefficients_plain(rt.alloc(), &frozen)?;
+    Ok(register.pedigree().freeze(alloc)?)
+}
+
+#[test]
+fn tells_the_owner_and_the_exit(rt: HostRuntime) -> Result<(), Fail> {
+    let number = animal(rt.alloc(), 'M', 5)?;
+    let frozen = sold_and_gone(rt.alloc(), number)?;
     let mut text = Vec::new(rt.alloc());
-    write_certificate(rt.alloc(), &frozen, &coefficients, number, &mut text)?;
+    write(rt.alloc(), &frozen, number, rt.alloc(), &mut text)?;
     let lines: &[u8] = b"\nherd 2\nsince 2004-06-01\nleft 2005-03-01\ninbreeding 1/4 25.00\n";
     assert!(rt; text.windows(lines.len()).any(|part| part == lines));
     Ok(())
@@ -74,12 +103,10 @@ fn tells_the_owner_and_the_exit(rt: HostRuntime) -> Result<(), Fail> {
 
 #[test]
 fn writes_nothing_of_an_absent_number(rt: HostRuntime) -> Result<(), Fail> {
-    let register = registered(rt.alloc(), &full_sibs())?;
-    let frozen = register.pedigree().freeze(rt.alloc())?;
-    let coefficients = coefficients_plain(rt.alloc(), &frozen)?;
+    let frozen = frozen_of(rt.alloc(), &full_sibs())?;
     let number = animal(rt.alloc(), 'F', 9)?;
     let mut writer = StopsAfter::new(rt.alloc(), 0, Then::Fails);
-    let answer = write_certificate(rt.alloc(), &frozen, &coefficients, number, &mut writer);
+    let answer = write(rt.alloc(), &frozen, number, rt.alloc(), &mut writer);
     assert_eq!(rt; answer, Err(ReportFault::NotRegistered));
     Ok(())
 }

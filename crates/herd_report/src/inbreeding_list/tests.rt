@@ -1,9 +1,12 @@
-use crate::assert_writes::assert_writes;
+use crate::assert_writes::{assert_memory_or, assert_writes};
 use crate::stops_after::{StopsAfter, Then};
-use crate::test_books::{full_sibs, registered};
+use crate::test_books::{frozen_of, full_sibs};
 use crate::{ReportFault, write_inbreeding};
 use herd_kinship::coefficients_plain;
+use herd_pedigree::Frozen;
 use linked_list_allocator::LocalHeap;
+use std::alloc::{Allocator, Global};
+use std::io::Write;
 use std::test::Fail;
 
 fn list() -> &'static [u8] {
@@ -16,15 +19,35 @@ HOLGBRM000000000005,1/4,25.00
 "
 }
 
+// Writes the list of a book.
+fn write<A: Allocator, W: Write>(
+    alloc: A,
+    frozen: &Frozen<Global>,
+    heap: Global,
+    writer: &mut W,
+) -> Result<(), ReportFault> {
+    let coefficients = coefficients_plain(heap, frozen)?;
+    write_inbreeding(alloc, frozen, &coefficients, writer)
+}
+
 #[test]
 fn writes_the_animals_in_age_order(rt: HostRuntime) -> Result<(), Fail> {
-    let register = registered(rt.alloc(), &full_sibs())?;
-    let frozen = register.pedigree().freeze(rt.alloc())?;
-    let coefficients = coefficients_plain(rt.alloc(), &frozen)?;
+    let frozen = frozen_of(rt.alloc(), &full_sibs())?;
     assert_writes!(
         rt,
         list(),
-        |alloc, writer| write_inbreeding(alloc, &frozen, &coefficients, writer)
+        |writer| write(rt.alloc(), &frozen, rt.alloc(), writer)
+    );
+    Ok(())
+}
+
+#[test]
+fn answers_memory_or_all(rt: HostRuntime) -> Result<(), Fail> {
+    let frozen = frozen_of(rt.alloc(), &full_sibs())?;
+    assert_memory_or!(
+        rt,
+        list(),
+        |alloc, writer| write(alloc, &frozen, rt.alloc(), writer)
     );
     Ok(())
 }

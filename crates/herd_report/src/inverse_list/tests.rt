@@ -1,10 +1,15 @@
-use crate::assert_writes::assert_writes;
+use crate::assert_writes::{assert_memory_or, assert_writes};
 use crate::stops_after::{StopsAfter, Then};
-use crate::test_books::{Birth, full_sibs, registered};
+use crate::test_books::{Birth, frozen_of, full_sibs};
 use crate::{ReportFault, write_inverse};
 use herd_kinship::coefficients_plain;
+use herd_pedigree::Frozen;
 use linked_list_allocator::LocalHeap;
+use std::alloc::{Allocator, Global};
+use std::io::Write;
 use std::test::Fail;
+
+const LINE: &[u8] = b"HOLGBRM000000000001,HOLGBRM000000000001,HOLGBRM000000000001,1\n";
 
 fn founder() -> [Birth; 1] {
     [('M', 1, "2000-01-01", None, None)]
@@ -32,16 +37,35 @@ HOLGBRF000000000009,HOLGBRM000000000001,HOLGBRM000000000001,1/3
 "
 }
 
+// Writes the contributions of a book.
+fn write<A: Allocator, W: Write>(
+    alloc: A,
+    frozen: &Frozen<Global>,
+    heap: Global,
+    writer: &mut W,
+) -> Result<(), ReportFault> {
+    let coefficients = coefficients_plain(heap, frozen)?;
+    write_inverse(alloc, frozen, &coefficients, writer)
+}
+
 #[test]
 fn writes_a_founder(rt: HostRuntime) -> Result<(), Fail> {
-    let register = registered(rt.alloc(), &founder())?;
-    let frozen = register.pedigree().freeze(rt.alloc())?;
-    let coefficients = coefficients_plain(rt.alloc(), &frozen)?;
-    let line = b"HOLGBRM000000000001,HOLGBRM000000000001,HOLGBRM000000000001,1\n";
+    let frozen = frozen_of(rt.alloc(), &founder())?;
     assert_writes!(
         rt,
-        line,
-        |alloc, writer| write_inverse(alloc, &frozen, &coefficients, writer)
+        LINE,
+        |writer| write(rt.alloc(), &frozen, rt.alloc(), writer)
+    );
+    Ok(())
+}
+
+#[test]
+fn answers_memory_or_all(rt: HostRuntime) -> Result<(), Fail> {
+    let frozen = frozen_of(rt.alloc(), &founder())?;
+    assert_memory_or!(
+        rt,
+        LINE,
+        |alloc, writer| write(alloc, &frozen, rt.alloc(), writer)
     );
     Ok(())
 }
@@ -50,11 +74,9 @@ fn writes_a_founder(rt: HostRuntime) -> Result<(), Fail> {
 fn writes_what_offspring_contribute(rt: HostRuntime) -> Result<(), Fail> {
     let mut births = Vec::from_slice(rt.alloc(), &full_sibs())?;
     births.extend_from_slice(&more())?;
-    let register = registered(rt.alloc(), births.as_slice())?;
-    let frozen = register.pedigree().freeze(rt.alloc())?;
-    let coefficients = coefficients_plain(rt.alloc(), &frozen)?;
+    let frozen = frozen_of(rt.alloc(), births.as_slice())?;
     let mut text = Vec::new(rt.alloc());
-    write_inverse(rt.alloc(), &frozen, &coefficients, &mut text)?;
+    write(rt.alloc(), &frozen, rt.alloc(), &mut text)?;
     assert!(rt; text.ends_with(last_lines()));
     Ok(())
 }

@@ -1,9 +1,13 @@
-use crate::assert_writes::assert_writes;
+use crate::assert_writes::{assert_memory_or, assert_writes};
 use crate::stops_after::{StopsAfter, Then};
-use crate::test_books::{animal, full_sibs, registered};
+use crate::test_books::{animal, frozen_of, full_sibs};
 use crate::{ReportFault, write_mating};
+use herd_animal::AnimalNumber;
 use herd_kinship::coefficients_plain;
+use herd_pedigree::Frozen;
 use linked_list_allocator::LocalHeap;
+use std::alloc::{Allocator, Global};
+use std::io::Write;
 use std::test::Fail;
 
 fn advice() -> &'static [u8] {
@@ -15,52 +19,82 @@ HOLGBRM000000000099,refused,1
 "
 }
 
+fn other_advice() -> &'static [u8] {
+    b"HOLGBRM000000000003,refused,2
+HOLGBRM000000000003,refused,4
+HOLGBRM000000000001,0,0.00
+HOLGBRM000000000001,0,0.00
+"
+}
+
+// Writes advice for a dam.
+fn write<A: Allocator + Clone, W: Write>(
+    alloc: A,
+    frozen: &Frozen<Global>,
+    dam: AnimalNumber,
+    sires: &[AnimalNumber],
+    heap: Global,
+    writer: &mut W,
+) -> Result<(), ReportFault> {
+    let coefficients = coefficients_plain(heap, frozen)?;
+    write_mating(alloc, frozen, &coefficients, dam, sires, writer)
+}
+
+// Three bulls, a cow, and a bull that isn't there.
+fn sires(alloc: Global) -> Result<[AnimalNumber; 5], Fail> {
+    Ok([
+        animal(alloc, 'M', 3)?,
+        animal(alloc, 'M', 1)?,
+        animal(alloc, 'M', 5)?,
+        animal(alloc, 'F', 4)?,
+        animal(alloc, 'M', 99)?,
+    ])
+}
+
 #[test]
 fn writes_a_line_for_each_sire(rt: HostRuntime) -> Result<(), Fail> {
-    let register = registered(rt.alloc(), &full_sibs())?;
-    let frozen = register.pedigree().freeze(rt.alloc())?;
-    let coefficients = coefficients_plain(rt.alloc(), &frozen)?;
+    let frozen = frozen_of(rt.alloc(), &full_sibs())?;
     let dam = animal(rt.alloc(), 'F', 4)?;
-    let sires = [
-        animal(rt.alloc(), 'M', 3)?,
-        animal(rt.alloc(), 'M', 1)?,
-        animal(rt.alloc(), 'M', 5)?,
-        dam,
-        animal(rt.alloc(), 'M', 99)?,
-    ];
+    let sires = sires(rt.alloc())?;
     assert_writes!(
         rt,
         advice(),
-        |alloc, writer| write_mating(alloc, &frozen, &coefficients, dam, &sires, writer)
+        |writer| write(rt.alloc(), &frozen, dam, &sires, rt.alloc(), writer)
+    );
+    Ok(())
+}
+
+#[test]
+fn answers_memory_or_all(rt: HostRuntime) -> Result<(), Fail> {
+    let frozen = frozen_of(rt.alloc(), &full_sibs())?;
+    let dam = animal(rt.alloc(), 'F', 4)?;
+    let sires = sires(rt.alloc())?;
+    assert_memory_or!(
+        rt,
+        advice(),
+        |alloc, writer| write(alloc, &frozen, dam, &sires, rt.alloc(), writer)
     );
     Ok(())
 }
 
 #[test]
 fn tells_why_there_is_no_advice(rt: HostRuntime) -> Result<(), Fail> {
-    let register = registered(rt.alloc(), &full_sibs())?;
-    let frozen = register.pedigree().freeze(rt.alloc())?;
-    let coefficients = coefficients_plain(rt.alloc(), &frozen)?;
+    let frozen = frozen_of(rt.alloc(), &full_sibs())?;
     let first = animal(rt.alloc(), 'M', 1)?;
     let son = animal(rt.alloc(), 'M', 3)?;
     let mut text = Vec::new(rt.alloc());
     for dam in [animal(rt.alloc(), 'F', 99)?, first] {
-        write_mating(rt.alloc(), &frozen, &coefficients, dam, &[son], &mut text)?;
+        write(rt.alloc(), &frozen, dam, &[son], rt.alloc(), &mut text)?;
     }
     let dam = animal(rt.alloc(), 'F', 2)?;
-    write_mating(
+    write(
         rt.alloc(),
         &frozen,
-        &coefficients,
         dam,
         &[first, first],
+        rt.alloc(),
         &mut text,
     )?;
-    let wanted: &[u8] = b"HOLGBRM000000000003,refused,2
-HOLGBRM000000000003,refused,4
-HOLGBRM000000000001,0,0.00
-HOLGBRM000000000001,0,0.00
-";
-    assert_eq!(rt; text.as_slice(), wanted);
+    assert_eq!(rt; text.as_slice(), other_advice());
     Ok(())
 }
