@@ -1,6 +1,8 @@
 -- What a log of writes takes back.
-use Rattle.std.proofs.Common.{ℕ, zero, suc, ◌-◌, ◌<◌, ◌≡◌, arith, refl, sym, ap, ◌∙◌, subst, true, false, is_some, List, [], ◌∷◌, ◌++◌, Option, Some, None, length, slice_set, option_to_list}
-use Rattle.std.proofs.lemmas.List.{length_push, take_at, append-nil, nil_from_length}
+use Rattle.std.proofs.Common.{ℕ, zero, suc, ◌-◌, ◌<◌, ◌≤◌, ◌≡◌, ◌≢◌, ⊎_elim, All, slice_index, arith, refl, sym, ap, ◌∙◌, subst, true, false, is_some, List, [], ◌∷◌, ◌++◌, Option, Some, None, length, slice_set, option_to_list}
+use Rattle.std.proofs.lemmas.Bool.{cases_eq}
+use Rattle.std.proofs.lemmas.List.{get_or-set_other, length_push, take_at, append-nil, nil_from_length}
+use Rattle.std.proofs.lemmas.List.Elements.{All-rest}
 use Rattle.herd_pedigree.specs.declared.animal.Animal.{Animal}
 use Rattle.herd_pedigree.specs.Book.{Book}
 use Rattle.herd_pedigree.specs.Pedigree.{Pedigree, changed_to}
@@ -13,6 +15,18 @@ use Rattle.herd_pedigree.specs.Undo.{IsHeld, undone_writes, without_last}
 pub undone-last : (log : List (ℕ × ℕ)) (write : ℕ × ℕ) (depths : List ℕ) → undone_writes (log ++ write ∷ []) depths ≡ undone_writes log (slice_set depths write.0 write.1)
 undone-last [] write depths = refl
 undone-last (first ∷ log) write depths = ap (λ ds. slice_set ds first.0 first.1) (undone-last log write depths)
+
+-- a depth that was at most l is, where all that were written are
+pub written-most : (l : ℕ) (log : List (ℕ × ℕ)) (depths : List ℕ) → All (λ write. slice_index depths write.0 ≤ l) log → (x : ℕ) →
+    slice_index (undone_writes log depths) x ≤ l → slice_index depths x ≤ l
+written-most l [] depths most x before = before
+written-most l (write ∷ log) depths most x before =
+    let head : slice_index depths write.0 ≤ l = most 0 write (omega arith) in
+    let rest : All (λ write. slice_index depths write.0 ≤ l) log = All-rest (λ write. slice_index depths write.0 ≤ l) write log (write ∷ log) refl most in
+    ⊎_elim
+    (λ (e : x ≡ write.0). subst (λ v. slice_index depths v ≤ l) (sym e) head)
+    (λ (n : x ≢ write.0). written-most l log depths rest x (subst (λ v. v ≤ l) (get_or-set_other (undone_writes log depths) write.0 x write.1 0 n) before))
+    (cases_eq x write.0)
 
 -- without the last element that was pushed
 pub without_last-push : {X : Type 0} (xs : List X) (x : X) → without_last (xs ++ x ∷ []) ≡ xs

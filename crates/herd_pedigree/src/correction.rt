@@ -208,6 +208,7 @@ impl<A: Allocator> Correction<'_, A> {
         requires sound { IsSound self.now }
         requires long { length depths.now ≡ length self.now.sires.now.parents }
         requires settled { IsSettled DEPTH_LIMIT (corrected self.now) (slice_index depths.now) (self.now.place ∷ []) }
+        requires shallow { (x : ℕ) → x < length depths.now → slice_index depths.now x ≤ DEPTH_LIMIT }
         ensures deep { IfOk result (λ deep. IsTrue deep → (x : ℕ) × IsTrue (has_line (corrected self.now) (DEPTH_LIMIT + 1) x)) }
         ensures shallow { IfOk result (λ deep. IsFalse deep → (x : ℕ) → IsFalse (has_line (corrected self.now) (DEPTH_LIMIT + 1) x)) }
     {
@@ -216,17 +217,18 @@ impl<A: Allocator> Correction<'_, A> {
         if !self.carry(alloc, &mut depths, &mut log)? {
             return Ok(true);
         }
-        Ok(has_greater(&depths, DEPTH_LIMIT))
+        Ok(has_greater(&depths, &log, DEPTH_LIMIT))
     }
 }
 
-// Whether one of the depths is above the limit.
-fn has_greater(depths: &[u8], limit: u8) -> bool
+// Whether one of the depths that were written is above the limit.
+fn has_greater(depths: &[u8], log: &[(u32, u8)], limit: u8) -> bool
+    requires { All (λ write. write.0 < length depths.now) log.now }
     ensures greater { IsTrue result → (place : ℕ) × (place < length depths.now) × (limit < slice_index depths.now place) }
-    ensures most { IsFalse result → (place : ℕ) → slice_index depths.now place ≤ limit }
+    ensures most { IsFalse result → All (λ write. slice_index depths.now write.0 ≤ limit) log.now }
 {
-    for depth in depths {
-        if *depth > limit {
+    for write in log {
+        if depths[write.0 as usize] > limit {
             return true;
         }
     }

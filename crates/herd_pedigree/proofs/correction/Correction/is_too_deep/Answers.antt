@@ -1,10 +1,12 @@
-use Rattle.std.proofs.Common.{sym, ap, ◌∙◌, subst, arith, ℕ, List, Option, [], ◌≡◌, ◌<◌, ◌≤◌, IsTrue, length, slice_index, slice_set}
-use Rattle.std.proofs.lemmas.Bool.{lt-ltb}
+use Rattle.std.proofs.Common.{All, sym, ap, ◌∙◌, subst, arith, ℕ, List, Option, [], ◌≡◌, ◌<◌, ◌≤◌, IsTrue, length, slice_index, slice_set}
+use Rattle.std.proofs.lemmas.Bool.{lt-ltb, ltb-true}
 use Rattle.std.proofs.lemmas.List.{length-set, with_items_is}
 use Rattle.herd_pedigree.specs.Correction.{corrected}
 use Rattle.herd_pedigree.specs.Depths.{IsParent}
 use Rattle.herd_pedigree.specs.Carry.{IsSettled}
+use Rattle.herd_pedigree.specs.Undo.{undone_writes}
 use Rattle.herd_pedigree.proofs.CarryFacts.{settled-deep, settled-shallow}
+use Rattle.herd_pedigree.proofs.UndoFacts.{written-most}
 use Rattle.herd_pedigree.proofs.correction.Correction.is_too_deep.Goals as goal
 
 pub returns : goal.returns
@@ -29,5 +31,14 @@ returns g c =
           );
       shallow = λ no.
           settled-shallow 60 (corrected x) (slice_index depths) closed settled
-          (λ y there. subst (λ ds. slice_index ds y ≤ 60) read (c.has_greater.ensures.most no y));
+          (λ y there.
+          let written : All (λ write. slice_index depths write.0 ≤ 60) c.carry.new.log.items =
+          subst (λ log. All (λ write. slice_index depths write.0 ≤ 60) log) c.deref-2.ensures.value
+          (subst (λ ds. All (λ write. slice_index ds write.0 ≤ 60) c.deref-2.result.now) read (c.has_greater.ensures.most no)) in
+          let old : undone_writes c.carry.new.log.items depths ≡ c.args.depths.now =
+          c.carry.ensures.undone ∙ ap (λ log. undone_writes log c.deref_mut.result.now) c.new-log.ensures.items
+          ∙ c.deref_mut.ensures.value ∙ c.in_ok-depths.ensures.items in
+          let within : y < length sires = ltb-true y (length sires) there in
+          let before : slice_index c.args.depths.now y ≤ 60 = c.requires.shallow y (let l = c.requires.long in omega (arith, within, n, l)) in
+          written-most 60 c.carry.new.log.items depths written y (subst (λ ds. slice_index ds y ≤ 60) (sym old) before));
     }

@@ -1,4 +1,5 @@
 use Rattle.std.proofs.Common.{sym, ap, ◌∙◌, subst, arith, ◌≡◌, ◌<◌, ◌≤◌, ℕ, List, [], ◌∷◌, Option, Some, None, Bool, false, nat_lt, IsTrue, IsFalse, length, slice_index, slice_get, slice_set}
+use Rattle.std.proofs.lemmas.Bool.{lt-ltb}
 use Rattle.std.proofs.lemmas.List.{get_or_default}
 use Rattle.std.specs.Map.{keys_of}
 use Rattle.herd_pedigree.specs.Lines.{has_line}
@@ -114,6 +115,15 @@ is_too_deep-requires-clause-settled g c =
     let now : length c.args.self.now.book ≡ length sires = ap (λ p. length p.book) (sym c.self.view_is) ∙ sym m in
     subst (λ ds. IsSettled 60 (parentage_at (slice_set sires place c.args.sire) (slice_set dams place c.args.dam)) (slice_index ds) (place ∷ [])) (sym c.deref-2.ensures.value)
     (settled-exchange 60 60_000 book sires dams depths kept place c.args.sire c.args.dam here)
+
+pub is_too_deep-requires-clause-shallow : goal.is_too_deep-requires-clause-shallow
+is_too_deep-requires-clause-shallow g c =
+    let sires : List (Option ℕ) = c.self.inside.sires.parents in
+    let kept = c.self.invariant.held.kept in
+    let long = kept.long in
+    let wide = kept.sires_are.long in
+    subst (λ ds. (x : ℕ) → x < length ds → slice_index ds x ≤ 60) (sym c.deref-2.ensures.value)
+    (λ x within. kept.depths_are.most x (lt-ltb x (length sires) (omega (arith, within, long, wide))))
 
 pub returns : goal.returns
 returns g c =
