@@ -24,6 +24,24 @@ const FULL_SIBS: [Birth; 6] = [
     Birth(b'F', 6, *b"2004-01-01", 1, 4),
 ];
 
+// The calf of half sibs, and one whose dam isn't known.
+const HALF_SIBS: [Birth; 7] = [
+    Birth(b'M', 1, *b"2000-01-01", 0, 0),
+    Birth(b'F', 2, *b"2000-01-01", 0, 0),
+    Birth(b'F', 3, *b"2000-01-01", 0, 0),
+    Birth(b'M', 4, *b"2002-01-01", 1, 2),
+    Birth(b'F', 5, *b"2002-01-02", 1, 3),
+    Birth(b'M', 6, *b"2004-01-01", 4, 5),
+    Birth(b'M', 7, *b"2004-01-01", 4, 0),
+];
+
+// A sire, a calf of his, and the calf of the two.
+const FATHER_AND_DAUGHTER: [Birth; 3] = [
+    Birth(b'M', 1, *b"2000-01-01", 0, 0),
+    Birth(b'F', 2, *b"2002-01-01", 1, 0),
+    Birth(b'M', 3, *b"2004-01-01", 1, 2),
+];
+
 // The offspring of half first cousins.
 const HALF_COUSINS: [Birth; 10] = [
     Birth(b'M', 1, *b"2000-01-01", 0, 0),
@@ -238,6 +256,41 @@ fn finds_the_inbreeding_of_five_generations(rt: HostRuntime) -> Result<(), Fail>
             (b'M', 9, 1, 2),
         ],
     )
+}
+
+#[test]
+fn finds_the_inbreeding_of_half_sibs(rt: HostRuntime) -> Result<(), Fail> {
+    let frozen = book(&rt, rt.alloc(), &HALF_SIBS)?;
+    has_coefficients(
+        &rt,
+        rt.alloc(),
+        &frozen,
+        &[
+            (b'F', 2, 0, 1),
+            (b'F', 3, 0, 1),
+            (b'M', 1, 0, 1),
+            (b'M', 4, 0, 1),
+            (b'F', 5, 0, 1),
+            (b'M', 6, 1, 8),
+            (b'M', 7, 0, 1),
+        ],
+    )
+}
+
+#[test]
+fn finds_the_inbreeding_of_half_cousins(rt: HostRuntime) -> Result<(), Fail> {
+    let frozen = book(&rt, rt.alloc(), &HALF_COUSINS)?;
+    let coefficients = coefficients_plain(rt.alloc(), &frozen)?;
+    assert_eq!(rt; frozen.len(), 10);
+    assert_eq!(rt; coefficients.numerator(9), 1 << 115);
+    Ok(())
+}
+
+#[test]
+fn finds_the_inbreeding_of_father_and_daughter(rt: HostRuntime) -> Result<(), Fail> {
+    let frozen = book(&rt, rt.alloc(), &FATHER_AND_DAUGHTER)?;
+    let expected = [(b'M', 1, 0, 1), (b'F', 2, 0, 1), (b'M', 3, 1, 4)];
+    has_coefficients(&rt, rt.alloc(), &frozen, &expected)
 }
 
 #[test]
@@ -487,11 +540,23 @@ fn agrees_with_its_table(
 
 #[test]
 fn agrees_with_the_tabular_method(rt: HostRuntime) -> Result<(), Fail> {
+    agrees_with_its_table(&rt, rt.alloc(), &book(&rt, rt.alloc(), &FULL_SIBS)?)?;
+    agrees_with_its_table(&rt, rt.alloc(), &book(&rt, rt.alloc(), &HALF_SIBS)?)?;
+    agrees_with_its_table(
+        &rt,
+        rt.alloc(),
+        &book(&rt, rt.alloc(), &FATHER_AND_DAUGHTER)?,
+    )?;
+    agrees_with_its_table(&rt, rt.alloc(), &book(&rt, rt.alloc(), &HALF_COUSINS)?)?;
+    agrees_with_its_table(&rt, rt.alloc(), &with_one_parent(&rt, rt.alloc())?)
+}
+
+#[test]
+fn agrees_with_the_tabular_method_over_generations(rt: HostRuntime) -> Result<(), Fail> {
     for last in [4, 28, 60] {
         agrees_with_its_table(&rt, rt.alloc(), &generations(&rt, rt.alloc(), last)?)?;
     }
-    agrees_with_its_table(&rt, rt.alloc(), &book(&rt, rt.alloc(), &HALF_COUSINS)?)?;
-    agrees_with_its_table(&rt, rt.alloc(), &with_one_parent(&rt, rt.alloc())?)
+    Ok(())
 }
 
 // Every growth is refused in turn: the heap is a little larger each time.
@@ -526,6 +591,23 @@ fn answers_memory_or_the_mating(rt: HostRuntime) -> Result<(), Fail> {
                 assert_eq!(rt; fault, MatingFault::Memory);
                 refused = refused.saturating_add(1);
             }
+        }
+    }
+    assert!(rt; 0 < refused && refused < 63);
+    Ok(())
+}
+
+#[test]
+fn answers_memory_or_the_traced_value(rt: HostRuntime) -> Result<(), Fail> {
+    let frozen = book(&rt, rt.alloc(), &FULL_SIBS)?;
+    let coefficients = coefficients_plain(rt.alloc(), &frozen)?;
+    let place = frozen.place(&number(b'M', 5)?).ok_or("absent")?;
+    let mut refused = 0u32;
+    for size in 1..64 {
+        let heap = LocalHeap::new(rt.alloc(), 16 * size)?;
+        match trace(&heap, &frozen, coefficients.list(), place) {
+            Ok(value) => assert_eq!(rt; value, (1 << 120) + (1 << 118)),
+            Err(_) => refused = refused.saturating_add(1),
         }
     }
     assert!(rt; 0 < refused && refused < 63);
