@@ -21,38 +21,38 @@ pub type Records<A> = IndexMap<AnimalNumber, Animal, BuildHasherDefault<FoldHash
 pub struct Named {
     pub number: Option<AnimalNumber>,
     pub place: Option<u32>,
-    pub record: Option<Animal>,
+    pub animal: Option<Animal>,
 }
 
 /// What the book has of a parent.
 pub fn find<A: Allocator>(records: &Records<A>, parent: Option<AnimalNumber>) -> Named
     requires { length records.now.entries ≤ MOST_ANIMALS }
     ensures number { result.number ≡ parent }
-    ensures record { result.record ≡ record_named records.now.entries parent }
+    ensures record { result.animal ≡ record_named records.now.entries parent }
     ensures within { IfSome result.place (λ place. place < length records.now.entries) }
-    ensures place { is_missing parent result.record ≡ false → IsPlaceIn (keys_of records.now.entries) result.place parent }
+    ensures place { is_missing parent result.animal ≡ false → IsPlaceIn (keys_of records.now.entries) result.place parent }
 {
     if let Some(number) = parent {
         if let Some((place, _, animal)) = records.get_full(&number) {
             return Named {
                 number: parent,
                 place: Some(place as u32),
-                record: Some(*animal),
+                animal: Some(*animal),
             };
         }
     }
     Named {
         number: parent,
         place: None,
-        record: None,
+        animal: None,
     }
 }
 
 impl Named {
     fn is_missing(&self) -> bool
-        ensures { result ≡ is_missing self.now.number self.now.record }
+        ensures { result ≡ is_missing self.now.number self.now.animal }
     {
-        self.number.is_some() && self.record.is_none()
+        self.number.is_some() && self.animal.is_none()
     }
 
     fn has_sex(&self, sex: Sex) -> bool
@@ -65,18 +65,18 @@ impl Named {
     }
 
     fn is_not_older(&self, birth: Day) -> bool
-        ensures { result ≡ is_found_not_older birth self.now.record }
+        ensures { result ≡ is_found_not_older birth self.now.animal }
     {
-        match self.record {
+        match self.animal {
             Some(animal) => birth <= animal.birth,
             None => false,
         }
     }
 
     fn has_left_before(&self, day: Day) -> bool
-        ensures { result ≡ is_found_gone day self.now.record }
+        ensures { result ≡ is_found_gone day self.now.animal }
     {
-        match self.record {
+        match self.animal {
             Some(
                 Animal {
                     left: Some(left),
@@ -90,7 +90,7 @@ impl Named {
 
 /// The first fault of an animal with this birth day and these parents that their records show.
 pub fn record_fault(birth: Day, sire: &Named, dam: &Named, embryo: bool) -> Option<ParentFault>
-    ensures { result ≡ first_that_holds (record_faults birth sire.now.number sire.now.record dam.now.number dam.now.record embryo) }
+    ensures { result ≡ first_that_holds (record_faults birth sire.now.number sire.now.animal dam.now.number dam.now.animal embryo) }
 {
     if sire.is_missing() {
         Some(ParentFault::SireMissing)
