@@ -1,0 +1,36 @@
+//! The book of a breed society: one record for each number, and what a change of it may be.
+#![tactic(auto)]
+
+mod age_order;
+mod animal;
+mod correction;
+mod depth;
+mod freeze;
+mod frozen;
+mod levels;
+mod links;
+mod listed;
+mod named;
+mod parent_fault;
+mod pedigree;
+mod progeny;
+#[cfg(test)]
+mod tests;
+mod undo;
+
+pub use animal::Animal;
+pub use freeze::freeze_list;
+pub use frozen::{Frozen, Parents, Row};
+pub use parent_fault::ParentFault;
+pub use pedigree::Pedigree;
+// A crate can name a pedigree in a contract only if the types of its fields are exported.
+#[doc(hidden)]
+pub use progeny::Progeny;
+#[doc(hidden)]
+pub use undo::Undo;
+
+/// The number of steps that the longest line of known parents may have.
+pub const DEPTH_LIMIT: u8 = 60;
+
+/// The number of animals that a book may have.
+pub const MOST_ANIMALS: u32 = 60_000;
