@@ -3,14 +3,14 @@ ghost use Rattle.std.specs.Option.{ForSome};
 ghost use Rattle.herd_pedigree.specs.declared.TheConstants.{DEPTH_LIMIT};
 ghost use Rattle.herd_kinship.specs.Coefficients.{IsKnownParent, KnowsAncestors, quarter_of};
 ghost use Rattle.herd_kinship.specs.FrozenAncestry.{ancestry_of, number_at};
-ghost use Rattle.herd_kinship.specs.Places.{placed};
+ghost use Rattle.herd_kinship.specs.Places.{AreParentsAt, placed};
 ghost use Rattle.herd_kinship.specs.Shares.{share};
 ghost use Rattle.herd_kinship.specs.Table.{entry, mendelian as mendelian_part};
 ghost use Rattle.herd_kinship.specs.Tracing.{AreShares, given, GivesMark, HasRoom, IsNext, IsUnderWay};
 
 use crate::ONE;
 use crate::pending::Pending;
-use herd_pedigree::{Frozen, Row};
+use herd_pedigree::{Frozen, Parents, Row};
 use std::alloc::{AllocError, Allocator};
 
 /// An ancestor that is met, and the share that the traced animal has of it.
@@ -77,15 +77,21 @@ impl<A: Allocator> Tracing<A> {
             share: self.shares[distance],
         };
         self.border = met.place;
-        let row = frozen.row(met.place);
-        self.give(frozen, row, met, row.sire);
-        self.give(frozen, row, met, row.dam);
+        let parents = parents_at(frozen, met.place);
+        self.give(frozen, parents, met, parents.sire);
+        self.give(frozen, parents, met, parents.dam);
         Some(met)
     }
 
     /// Gives half of an animal's share to its parent, in the parent's unit.
-    fn give<F: Allocator>(&mut self, frozen: &Frozen<F>, row: &Row, met: Met, parent: Option<u32>)
-        requires row { slice_get frozen.now met.place ≡ Some row.now }
+    fn give<F: Allocator>(
+        &mut self,
+        frozen: &Frozen<F>,
+        parents: Parents,
+        met: Met,
+        parent: Option<u32>,
+    )
+        requires row { AreParentsAt frozen.now met.place parents }
         requires room { ForSome parent (HasRoom DEPTH_LIMIT frozen.now self.old.place self.old.shares.items met.place met.share) }
         requires marks { self.old.place < 64 * length self.old.pending.words.items }
         ensures place { self.new.place ≡ self.old.place }
@@ -94,12 +100,20 @@ impl<A: Allocator> Tracing<A> {
         ensures marks { GivesMark self.old.place self.old.pending.words.items self.new.pending.words.items parent }
     {
         if let Some(place) = parent {
-            let steps = row.depth - frozen.row(place).depth;
+            let steps = parents.depth - parents_at(frozen, place).depth;
             let distance = (self.place - place) as usize;
             self.shares[distance] += met.share << (steps - 1);
             self.pending.insert(distance);
         }
     }
+}
+
+/// The parents and the depth of the animal at a place.
+fn parents_at<F: Allocator>(frozen: &Frozen<F>, place: u32) -> Parents
+    requires { place < length frozen.now }
+    ensures { AreParentsAt frozen.now place result }
+{
+    frozen.parents(place)
 }
 
 /// A quarter of a parent's relationship with itself.
@@ -121,8 +135,8 @@ pub fn mendelian<F: Allocator>(frozen: &Frozen<F>, known: &[u128], place: u32) -
     ensures { result ≡ mendelian_part (ancestry_of frozen.now) DEPTH_LIMIT (number_at frozen.now place) }
 {
     frozen.len();
-    let row = frozen.row(place);
-    ONE - quarter(known, row.sire) - quarter(known, row.dam)
+    let parents = parents_at(frozen, place);
+    ONE - quarter(known, parents.sire) - quarter(known, parents.dam)
 }
 
 /// What an ancestor adds to a relationship: its Mendelian part times the two shares, which are in units that
@@ -152,11 +166,11 @@ fn trace_ancestors<F: Allocator, A: Allocator + Clone>(
     requires known { KnowsAncestors DEPTH_LIMIT frozen.now known.now place }
     ensures { IfOk result (λ value. value ≡ entry (ancestry_of frozen.now) (2 * DEPTH_LIMIT) (Some (number_at frozen.now place)) (Some (number_at frozen.now place))) }
 {
-    let depth = frozen.row(place).depth;
+    let depth = parents_at(frozen, place).depth;
     let mut tracing = Tracing::of(alloc, frozen, place)?;
     let mut sum = 0;
     while let Some(met) = tracing.meet_next(frozen) {
-        let steps = 2 * depth - 2 * frozen.row(met.place).depth;
+        let steps = 2 * depth - 2 * parents_at(frozen, met.place).depth;
         sum += term(
             mendelian(frozen, known, met.place),
             steps,

@@ -3,12 +3,12 @@ use Rattle.herd_kinship.proofs.KnownFacts.{sire-known, dam-known, mendelian-row}
 use Rattle.herd_kinship.proofs.tracing.mendelian.Goals as goal
 
 pub quarter-requires : goal.quarter-requires
-quarter-requires g c = sire-known DEPTH_LIMIT MOST_ANIMALS c.args.frozen.now c.len.ensures.frozen c.args.known.now c.args.place c.row-row.result.now c.requires.place c.requires.known c.row-row.ensures
+quarter-requires g c = rw c.parents_at-parents.ensures.same (sire-known DEPTH_LIMIT MOST_ANIMALS c.args.frozen.now c.len.ensures.frozen c.args.known.now c.args.place c.parents_at-parents.ensures.row c.requires.place c.requires.known c.parents_at-parents.ensures.there)
 
 pub quarter-requires-2 : goal.quarter-requires-2
-quarter-requires-2 g c = dam-known DEPTH_LIMIT MOST_ANIMALS c.args.frozen.now c.len.ensures.frozen c.args.known.now c.args.place c.row-row.result.now c.requires.place c.requires.known c.row-row.ensures
+quarter-requires-2 g c = rw c.parents_at-parents.ensures.same (dam-known DEPTH_LIMIT MOST_ANIMALS c.args.frozen.now c.len.ensures.frozen c.args.known.now c.args.place c.parents_at-parents.ensures.row c.requires.place c.requires.known c.parents_at-parents.ensures.there)
 
 pub returns : goal.returns
 returns g c =
-    rw (c.quarter.ensures.value, c.quarter-2.ensures.value)
-    (mendelian-row DEPTH_LIMIT MOST_ANIMALS c.args.frozen.now c.len.ensures.frozen c.args.known.now c.args.place c.row-row.result.now c.requires.place c.requires.known c.row-row.ensures)
+    rw (c.quarter.ensures.value, c.quarter-2.ensures.value, c.parents_at-parents.ensures.same)
+    (mendelian-row DEPTH_LIMIT MOST_ANIMALS c.args.frozen.now c.len.ensures.frozen c.args.known.now c.args.place c.parents_at-parents.ensures.row c.requires.place c.requires.known c.parents_at-parents.ensures.there)

@@ -26,11 +26,11 @@ overflow_mul-steps g c =
     let x : ℕ = c.loop-met.tracing.place in
     let lx = c.loop-met.invariant.tracing.tracing.place in
     let same : x ≡ c.args.place = c.loop-met.invariant.same in
-    let own_row : slice_get rows x ≡ Some c.row.result.now = rw same c.row.ensures in
+    let own_row : slice_get rows x ≡ Some c.parents_at-depth.ensures.row = rw same c.parents_at-depth.ensures.there in
     let next : IsNext DEPTH_LIMIT rows x c.loop-met.tracing.border c.in-Some.met.place c.in-Some.met.share = c.in-Some.ensures.next in
-    let dx = depth_at-row rows x c.row.result.now own_row in
+    let dx = depth_at-row rows x c.parents_at-depth.ensures.row own_row in
     let limit = depth-at_most DEPTH_LIMIT MOST_ANIMALS rows c.loop-met.invariant.tracing.tracing.book x lx in
-    omega (arith, dx, limit)
+    rw c.parents_at-depth.ensures.same (omega (arith, dx, limit))
 
 pub overflow_mul-steps-in-Some : goal.overflow_mul-steps-in-Some
 overflow_mul-steps-in-Some g c =
@@ -38,13 +38,13 @@ overflow_mul-steps-in-Some g c =
     let x : ℕ = c.loop-met.tracing.place in
     let lx = c.loop-met.invariant.tracing.tracing.place in
     let same : x ≡ c.args.place = c.loop-met.invariant.same in
-    let own_row : slice_get rows x ≡ Some c.row.result.now = rw same c.row.ensures in
+    let own_row : slice_get rows x ≡ Some c.parents_at-depth.ensures.row = rw same c.parents_at-depth.ensures.there in
     let next : IsNext DEPTH_LIMIT rows x c.loop-met.tracing.border c.in-Some.met.place c.in-Some.met.share = c.in-Some.ensures.next in
-    let dx = depth_at-row rows x c.row.result.now own_row in
-    let dy = depth_at-row rows c.in-Some.met.place c.row-in-Some.result.now c.row-in-Some.ensures in
+    let dx = depth_at-row rows x c.parents_at-depth.ensures.row own_row in
+    let dy = depth_at-row rows c.in-Some.met.place c.parents_at.ensures.row c.parents_at.ensures.there in
     let limit = depth-at_most DEPTH_LIMIT MOST_ANIMALS rows c.loop-met.invariant.tracing.tracing.book x lx in
     let less = next.share_is.less_deep in
-    omega (arith, dx, dy, less, limit)
+    rw c.parents_at.ensures.same (omega (arith, dx, dy, less, limit))
 
 pub overflow_sub-steps : goal.overflow_sub-steps
 overflow_sub-steps g c =
@@ -52,12 +52,12 @@ overflow_sub-steps g c =
     let x : ℕ = c.loop-met.tracing.place in
     let lx = c.loop-met.invariant.tracing.tracing.place in
     let same : x ≡ c.args.place = c.loop-met.invariant.same in
-    let own_row : slice_get rows x ≡ Some c.row.result.now = rw same c.row.ensures in
+    let own_row : slice_get rows x ≡ Some c.parents_at-depth.ensures.row = rw same c.parents_at-depth.ensures.there in
     let next : IsNext DEPTH_LIMIT rows x c.loop-met.tracing.border c.in-Some.met.place c.in-Some.met.share = c.in-Some.ensures.next in
-    let dx = depth_at-row rows x c.row.result.now own_row in
-    let dy = depth_at-row rows c.in-Some.met.place c.row-in-Some.result.now c.row-in-Some.ensures in
+    let dx = depth_at-row rows x c.parents_at-depth.ensures.row own_row in
+    let dy = depth_at-row rows c.in-Some.met.place c.parents_at.ensures.row c.parents_at.ensures.there in
     let less = next.share_is.less_deep in
-    omega (arith, dx, dy, less)
+    rw (c.parents_at-depth.ensures.same, c.parents_at.ensures.same) (omega (arith, dx, dy, less))
 
 pub mendelian-requires-clause-known : goal.mendelian-requires-clause-known
 mendelian-requires-clause-known g c =
@@ -65,7 +65,7 @@ mendelian-requires-clause-known g c =
     let x : ℕ = c.loop-met.tracing.place in
     let lx = c.loop-met.invariant.tracing.tracing.place in
     let same : x ≡ c.args.place = c.loop-met.invariant.same in
-    let own_row : slice_get rows x ≡ Some c.row.result.now = rw same c.row.ensures in
+    let own_row : slice_get rows x ≡ Some c.parents_at-depth.ensures.row = rw same c.parents_at-depth.ensures.there in
     let next : IsNext DEPTH_LIMIT rows x c.loop-met.tracing.border c.in-Some.met.place c.in-Some.met.share = c.in-Some.ensures.next in
     let known : KnowsAncestors DEPTH_LIMIT rows c.args.known.now x = rw same c.requires.known in
     known-next DEPTH_LIMIT MOST_ANIMALS rows c.loop-met.invariant.tracing.tracing.book c.args.known.now x c.loop-met.tracing.border c.in-Some.met.place
@@ -77,18 +77,18 @@ term-sum-requires-clause-shift g c =
     let x : ℕ = c.loop-met.tracing.place in
     let lx = c.loop-met.invariant.tracing.tracing.place in
     let same : x ≡ c.args.place = c.loop-met.invariant.same in
-    let own_row : slice_get rows x ≡ Some c.row.result.now = rw same c.row.ensures in
+    let own_row : slice_get rows x ≡ Some c.parents_at-depth.ensures.row = rw same c.parents_at-depth.ensures.there in
     let next : IsNext DEPTH_LIMIT rows x c.loop-met.tracing.border c.in-Some.met.place c.in-Some.met.share = c.in-Some.ensures.next in
     let high : c.loop-met.tracing.border ≤ x + 1 = c.loop-met.invariant.tracing.tracing.border_in in
     let low : c.in-Some.met.place < c.loop-met.tracing.border = next.below in
     let part : c.mendelian.result ≡ mendelian (ancestry_of rows) DEPTH_LIMIT (number_at rows c.in-Some.met.place) = c.mendelian.ensures in
     let own : IsShareOf rows x c.in-Some.met.place c.in-Some.met.share = next.share_is in
     let sum = added DEPTH_LIMIT MOST_ANIMALS rows c.loop-met.invariant.tracing.tracing.book x x lx lx c.loop-met.tracing.border c.in-Some.met.place c.in-Some.met.share
-    c.in-Some.met.share c.loop-met.sum c.row.result.now c.row.result.now c.row-in-Some.result.now c.mendelian.result (lit< tt) low (omega arith)
-    (λ i a b. let z = next.between i a b in rw z (omega arith)) own own c.loop-met.invariant.summed own_row own_row c.row-in-Some.ensures part in
-    let steps : 2 * c.row.result.now.depth - 2 * c.row-in-Some.result.now.depth ≡ c.row.result.now.depth + c.row.result.now.depth - 2 * c.row-in-Some.result.now.depth =
+    c.in-Some.met.share c.loop-met.sum c.parents_at-depth.ensures.row c.parents_at-depth.ensures.row c.parents_at.ensures.row c.mendelian.result (lit< tt) low (omega arith)
+    (λ i a b. let z = next.between i a b in rw z (omega arith)) own own c.loop-met.invariant.summed own_row own_row c.parents_at.ensures.there part in
+    let steps : 2 * c.parents_at-depth.ensures.row.depth - 2 * c.parents_at.ensures.row.depth ≡ c.parents_at-depth.ensures.row.depth + c.parents_at-depth.ensures.row.depth - 2 * c.parents_at.ensures.row.depth =
     omega arith in
-    let shift = sum.shift in omega (arith, steps)
+    let shift = sum.shift in rw (c.parents_at-depth.ensures.same, c.parents_at.ensures.same) (omega (arith, steps, shift))
 
 pub term-sum-requires-clause-fits : goal.term-sum-requires-clause-fits
 term-sum-requires-clause-fits g c =
@@ -96,18 +96,18 @@ term-sum-requires-clause-fits g c =
     let x : ℕ = c.loop-met.tracing.place in
     let lx = c.loop-met.invariant.tracing.tracing.place in
     let same : x ≡ c.args.place = c.loop-met.invariant.same in
-    let own_row : slice_get rows x ≡ Some c.row.result.now = rw same c.row.ensures in
+    let own_row : slice_get rows x ≡ Some c.parents_at-depth.ensures.row = rw same c.parents_at-depth.ensures.there in
     let next : IsNext DEPTH_LIMIT rows x c.loop-met.tracing.border c.in-Some.met.place c.in-Some.met.share = c.in-Some.ensures.next in
     let high : c.loop-met.tracing.border ≤ x + 1 = c.loop-met.invariant.tracing.tracing.border_in in
     let low : c.in-Some.met.place < c.loop-met.tracing.border = next.below in
     let part : c.mendelian.result ≡ mendelian (ancestry_of rows) DEPTH_LIMIT (number_at rows c.in-Some.met.place) = c.mendelian.ensures in
     let own : IsShareOf rows x c.in-Some.met.place c.in-Some.met.share = next.share_is in
     let sum = added DEPTH_LIMIT MOST_ANIMALS rows c.loop-met.invariant.tracing.tracing.book x x lx lx c.loop-met.tracing.border c.in-Some.met.place c.in-Some.met.share
-    c.in-Some.met.share c.loop-met.sum c.row.result.now c.row.result.now c.row-in-Some.result.now c.mendelian.result (lit< tt) low (omega arith)
-    (λ i a b. let z = next.between i a b in rw z (omega arith)) own own c.loop-met.invariant.summed own_row own_row c.row-in-Some.ensures part in
-    let steps : 2 * c.row.result.now.depth - 2 * c.row-in-Some.result.now.depth ≡ c.row.result.now.depth + c.row.result.now.depth - 2 * c.row-in-Some.result.now.depth =
+    c.in-Some.met.share c.loop-met.sum c.parents_at-depth.ensures.row c.parents_at-depth.ensures.row c.parents_at.ensures.row c.mendelian.result (lit< tt) low (omega arith)
+    (λ i a b. let z = next.between i a b in rw z (omega arith)) own own c.loop-met.invariant.summed own_row own_row c.parents_at.ensures.there part in
+    let steps : 2 * c.parents_at-depth.ensures.row.depth - 2 * c.parents_at.ensures.row.depth ≡ c.parents_at-depth.ensures.row.depth + c.parents_at-depth.ensures.row.depth - 2 * c.parents_at.ensures.row.depth =
     omega arith in
-    let below = sum.below_two in rw steps (omega (arith, below))
+    let below = sum.below_two in rw (c.parents_at-depth.ensures.same, c.parents_at.ensures.same, steps) (omega (arith, below))
 
 pub overflow_add-sum : goal.overflow_add-sum
 overflow_add-sum g c =
@@ -115,18 +115,18 @@ overflow_add-sum g c =
     let x : ℕ = c.loop-met.tracing.place in
     let lx = c.loop-met.invariant.tracing.tracing.place in
     let same : x ≡ c.args.place = c.loop-met.invariant.same in
-    let own_row : slice_get rows x ≡ Some c.row.result.now = rw same c.row.ensures in
+    let own_row : slice_get rows x ≡ Some c.parents_at-depth.ensures.row = rw same c.parents_at-depth.ensures.there in
     let next : IsNext DEPTH_LIMIT rows x c.loop-met.tracing.border c.in-Some.met.place c.in-Some.met.share = c.in-Some.ensures.next in
     let high : c.loop-met.tracing.border ≤ x + 1 = c.loop-met.invariant.tracing.tracing.border_in in
     let low : c.in-Some.met.place < c.loop-met.tracing.border = next.below in
     let part : c.mendelian.result ≡ mendelian (ancestry_of rows) DEPTH_LIMIT (number_at rows c.in-Some.met.place) = c.mendelian.ensures in
     let own : IsShareOf rows x c.in-Some.met.place c.in-Some.met.share = next.share_is in
     let sum = added DEPTH_LIMIT MOST_ANIMALS rows c.loop-met.invariant.tracing.tracing.book x x lx lx c.loop-met.tracing.border c.in-Some.met.place c.in-Some.met.share
-    c.in-Some.met.share c.loop-met.sum c.row.result.now c.row.result.now c.row-in-Some.result.now c.mendelian.result (lit< tt) low (omega arith)
-    (λ i a b. let z = next.between i a b in rw z (omega arith)) own own c.loop-met.invariant.summed own_row own_row c.row-in-Some.ensures part in
-    let steps : 2 * c.row.result.now.depth - 2 * c.row-in-Some.result.now.depth ≡ c.row.result.now.depth + c.row.result.now.depth - 2 * c.row-in-Some.result.now.depth =
+    c.in-Some.met.share c.loop-met.sum c.parents_at-depth.ensures.row c.parents_at-depth.ensures.row c.parents_at.ensures.row c.mendelian.result (lit< tt) low (omega arith)
+    (λ i a b. let z = next.between i a b in rw z (omega arith)) own own c.loop-met.invariant.summed own_row own_row c.parents_at.ensures.there part in
+    let steps : 2 * c.parents_at-depth.ensures.row.depth - 2 * c.parents_at.ensures.row.depth ≡ c.parents_at-depth.ensures.row.depth + c.parents_at-depth.ensures.row.depth - 2 * c.parents_at.ensures.row.depth =
     omega arith in
-    let below = sum.below_two in rw (c.term-sum.ensures, steps) (omega (arith, below))
+    let below = sum.below_two in rw (c.term-sum.ensures, c.parents_at-depth.ensures.same, c.parents_at.ensures.same, steps) (omega (arith, below))
 
 pub loop-met-preserved : goal.loop-met-preserved
 loop-met-preserved g c =
@@ -134,23 +134,23 @@ loop-met-preserved g c =
     let x : ℕ = c.loop-met.tracing.place in
     let lx = c.loop-met.invariant.tracing.tracing.place in
     let same : x ≡ c.args.place = c.loop-met.invariant.same in
-    let own_row : slice_get rows x ≡ Some c.row.result.now = rw same c.row.ensures in
+    let own_row : slice_get rows x ≡ Some c.parents_at-depth.ensures.row = rw same c.parents_at-depth.ensures.there in
     let next : IsNext DEPTH_LIMIT rows x c.loop-met.tracing.border c.in-Some.met.place c.in-Some.met.share = c.in-Some.ensures.next in
     let high : c.loop-met.tracing.border ≤ x + 1 = c.loop-met.invariant.tracing.tracing.border_in in
     let low : c.in-Some.met.place < c.loop-met.tracing.border = next.below in
     let part : c.mendelian.result ≡ mendelian (ancestry_of rows) DEPTH_LIMIT (number_at rows c.in-Some.met.place) = c.mendelian.ensures in
     let own : IsShareOf rows x c.in-Some.met.place c.in-Some.met.share = next.share_is in
     let sum = added DEPTH_LIMIT MOST_ANIMALS rows c.loop-met.invariant.tracing.tracing.book x x lx lx c.loop-met.tracing.border c.in-Some.met.place c.in-Some.met.share
-    c.in-Some.met.share c.loop-met.sum c.row.result.now c.row.result.now c.row-in-Some.result.now c.mendelian.result (lit< tt) low (omega arith)
-    (λ i a b. let z = next.between i a b in rw z (omega arith)) own own c.loop-met.invariant.summed own_row own_row c.row-in-Some.ensures part in
-    let steps : 2 * c.row.result.now.depth - 2 * c.row-in-Some.result.now.depth ≡ c.row.result.now.depth + c.row.result.now.depth - 2 * c.row-in-Some.result.now.depth =
+    c.in-Some.met.share c.loop-met.sum c.parents_at-depth.ensures.row c.parents_at-depth.ensures.row c.parents_at.ensures.row c.mendelian.result (lit< tt) low (omega arith)
+    (λ i a b. let z = next.between i a b in rw z (omega arith)) own own c.loop-met.invariant.summed own_row own_row c.parents_at.ensures.there part in
+    let steps : 2 * c.parents_at-depth.ensures.row.depth - 2 * c.parents_at.ensures.row.depth ≡ c.parents_at-depth.ensures.row.depth + c.parents_at-depth.ensures.row.depth - 2 * c.parents_at.ensures.row.depth =
     omega arith in
     let place : c.meet_next.new.self.place ≡ x = c.meet_next.ensures.same in
     let border : c.meet_next.new.self.border ≡ c.in-Some.met.place = c.in-Some.ensures.border in
     record {
       same = place ∙ same;
       tracing = c.meet_next.ensures.tracing;
-      summed = rw (place, border, c.term-sum.ensures, steps) sum.summed;
+      summed = rw (place, border, c.term-sum.ensures, c.parents_at-depth.ensures.same, c.parents_at.ensures.same, steps) sum.summed;
     }
 
 pub returns : goal.returns

@@ -35,7 +35,7 @@ give-requires-clause-room g c =
     let long : length shares ≡ x + 1 = c.requires.tracing.long in
     let read : c.index.result.now ≡ get_or shares d 0 = get_or_read shares d c.index.result.now (omega arith) c.index.ensures 0 in
     let step = taken-step DEPTH_LIMIT rows x b shares words c.requires c.take_nearest.new.self.words.items d taken c.index.result.now read in
-    step-room_sire DEPTH_LIMIT rows x (x - d) shares c.index.result.now step c.row-row.result.now c.row-row.ensures
+    rw c.parents_at-parents.ensures.same (step-room_sire DEPTH_LIMIT rows x (x - d) shares c.index.result.now step c.parents_at-parents.ensures.row c.parents_at-parents.ensures.there)
 
 pub give-requires-2-clause-room : goal.give-requires-2-clause-room
 give-requires-2-clause-room g c =
@@ -55,8 +55,8 @@ give-requires-2-clause-room g c =
     let long : length shares ≡ x + 1 = c.requires.tracing.long in
     let read : c.index.result.now ≡ get_or shares d 0 = get_or_read shares d c.index.result.now (omega arith) c.index.ensures 0 in
     let step = taken-step DEPTH_LIMIT rows x b shares words c.requires c.take_nearest.new.self.words.items d taken c.index.result.now read in
-    rw (c.give.ensures.place, c.give.ensures.shares)
-    (step-room_dam DEPTH_LIMIT rows x (x - d) shares c.index.result.now step c.row-row.result.now c.row-row.ensures)
+    rw (c.give.ensures.place, c.give.ensures.shares, c.parents_at-parents.ensures.same)
+    (step-room_dam DEPTH_LIMIT rows x (x - d) shares c.index.result.now step c.parents_at-parents.ensures.row c.parents_at-parents.ensures.there)
 
 pub returns-clause-tracing : goal.returns-clause-tracing
 returns-clause-tracing g c =
@@ -78,13 +78,14 @@ returns-clause-tracing g c =
     let step = taken-step DEPTH_LIMIT rows x b shares words c.requires c.take_nearest.new.self.words.items d taken c.index.result.now read in
     let place : c.give-2.new.self.place ≡ x = c.give-2.ensures.place ∙ c.give.ensures.place in
     let border : c.give-2.new.self.border ≡ x - d = c.give-2.ensures.border ∙ c.give.ensures.border in
-    let second : GivesMark x c.give.new.self.pending.words.items c.give-2.new.self.pending.words.items c.row-row.result.now.dam =
-    subst (λ v. GivesMark v c.give.new.self.pending.words.items c.give-2.new.self.pending.words.items c.row-row.result.now.dam) c.give.ensures.place c.give-2.ensures.marks in
-    let all : c.give-2.new.self.shares.items ≡ given rows x (given rows x shares (x - d) c.index.result.now c.row-row.result.now.sire) (x - d) c.index.result.now c.row-row.result.now.dam =
+    let second : GivesMark x c.give.new.self.pending.words.items c.give-2.new.self.pending.words.items c.parents_at-parents.result.dam =
+    subst (λ v. GivesMark v c.give.new.self.pending.words.items c.give-2.new.self.pending.words.items c.parents_at-parents.result.dam) c.give.ensures.place c.give-2.ensures.marks in
+    let all : c.give-2.new.self.shares.items ≡ given rows x (given rows x shares (x - d) c.index.result.now c.parents_at-parents.result.sire) (x - d) c.index.result.now c.parents_at-parents.result.dam =
     c.give-2.ensures.shares ∙ rw (c.give.ensures.shares, c.give.ensures.place) refl in
-    rw (place, border, all)
-    (under_way-next DEPTH_LIMIT rows x b shares words c.take_nearest.new.self.words.items c.requires d taken c.index.result.now read c.row-row.result.now c.row-row.ensures
-    c.give.new.self.pending.words.items c.give-2.new.self.pending.words.items c.give.ensures.marks second)
+    let same = c.parents_at-parents.ensures.same in
+    rw (place, border, all, same)
+    (under_way-next DEPTH_LIMIT rows x b shares words c.take_nearest.new.self.words.items c.requires d taken c.index.result.now read c.parents_at-parents.ensures.row c.parents_at-parents.ensures.there
+    c.give.new.self.pending.words.items c.give-2.new.self.pending.words.items (rw same at c.give.ensures.marks) (rw same at second))
 
 pub returns-clause-next : goal.returns-clause-next
 returns-clause-next g c =

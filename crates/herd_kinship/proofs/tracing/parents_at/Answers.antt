@@ -1,0 +1,23 @@
+-- The parents of a row stand where the row does.
+use Rattle.std.proofs.Common.{◌≡◌, ◌∙◌, ◌<◌, ◌≤◌, ◌⊎◌, ⊎_elim, ℕ, List, Some, arith, ap, length, map, slice_get, sym}
+use Rattle.std.specs.Option.{option_map}
+use Rattle.std.proofs.lemmas.Option.{slice_get_cases, slice_get-map}
+use Rattle.herd_pedigree.specs.declared.frozen.Parents.{Parents}
+use Rattle.herd_pedigree.specs.declared.frozen.Row.{Row}
+use Rattle.herd_pedigree.specs.Frozen.{parents_of}
+use Rattle.herd_kinship.specs.Places.{AreParentsAt}
+use Rattle.herd_kinship.proofs.tracing.parents_at.Goals as goal
+
+of_row : (rows : List Row) (place : ℕ) (parents : Parents) (row : Row) → slice_get (map parents_of rows) place ≡ Some parents → slice_get rows place ≡ Some row →
+    AreParentsAt rows place parents
+of_row rows place parents row given there =
+    let told : Some parents ≡ Some (parents_of row) = sym given ∙ slice_get-map parents_of rows place ∙ ap (option_map parents_of) there in
+    record { row = row; there = there; same = cc (told) }
+
+pub returns : goal.returns
+returns g c =
+    let rows = c.args.frozen.now in
+    ⊎_elim
+    (λ found. of_row rows c.args.place c.parents.result found.0 c.parents.ensures found.2)
+    (λ past. absurd (let beyond = past.0 in let within = c.requires in omega (arith, beyond, within)))
+    (slice_get_cases rows c.args.place).1
