@@ -15,19 +15,15 @@ import subprocess
 import sys
 import tempfile
 
-HERE = os.path.dirname(os.path.abspath(__file__))
+from command_file import command_file
+
 MOST_MEMORY = 500e6
 
 
-def command_file(work, shape, animals, further):
-    """The command file of that shape, made once."""
-    made = os.path.join(work, f"{shape}-{animals}-and-{further}.csv")
-    if not os.path.exists(made):
-        words = [sys.executable, os.path.join(HERE, "generate.py"), shape, str(animals), "--further", str(further)]
-        with open(made + ".part", "wb") as it:
-            subprocess.run(words, check=True, stdout=it, stderr=subprocess.DEVNULL)
-        os.rename(made + ".part", made)
-    return made
+def births_and(work, shape, animals, further):
+    """The command file of that shape, with so many further commands."""
+    name = f"{shape}-{animals}-and-{further}.csv"
+    return command_file(work, name, shape, animals, "--further", further)
 
 
 def ran(program, file, out):
@@ -75,8 +71,8 @@ def main():
     print(f"program {program}, best of {said.runs}, load {os.getloadavg()[0]:.1f} on {os.cpu_count()} cores")
     is_small = True
     for shape in said.shapes.split(","):
-        births = command_file(said.work, shape, said.animals, 0)
-        whole = command_file(said.work, shape, said.animals, said.commands - said.animals)
+        births = births_and(said.work, shape, said.animals, 0)
+        whole = births_and(said.work, shape, said.animals, said.commands - said.animals)
         for name, file, count in (("births alone", births, said.animals), ("whole file", whole, said.commands)):
             cpu, memory = best(program, file, out, said.runs)
             is_small = is_small and memory < MOST_MEMORY

@@ -185,6 +185,14 @@ pub fault-rest : (l : ℕ) (book : Book) (number : List ℕ) (birth : ℤ) (sire
 fault-rest l book number birth sire dam embryo deep e told =
     ap (λ t. if t then Some TooDeep else None) told ∙ sym (fault-split l book number birth sire dam embryo ∙ ap (λ o. option_or o (if is_too_deep l book number sire dam then Some TooDeep else None)) e)
 
+-- an animal that isn't in the book, whose parents' records show no fault, has the one that its depth shows, or none
+pub newborn-fault : (l most : ℕ) (book : Book) (sires dams : List (Option ℕ)) (depths : List ℕ) → IsKept l most book sires dams depths → (number : List ℕ) → record_of book number ≡ None →
+    (birth : ℤ) (s d : Option (List ℕ)) (embryo : Bool) (sire dam : Option ℕ) → first_that_holds (record_faults birth s (record_named book s) d (record_named book d) embryo) ≡ None →
+    IsPlaceIn (keys_of book) sire s → IsPlaceIn (keys_of book) dam d → (deep : Bool) → nat_lt l (depth_from (slice_index depths) sire dam) ≡ deep →
+    (if deep then Some TooDeep else None) ≡ parent_fault l book number birth s d embryo
+newborn-fault l most book sires dams depths k number absent birth s d embryo sire dam told si di deep e =
+    fault-rest l book number birth s d embryo deep told (sym e ∙ too_deep-absent l most book sires dams depths k number absent sire dam s d si di)
+
 pub found_none : (birth : ℤ) (book : Book) (sire dam s d : Option (List ℕ)) (sire_found dam_found : Option Animal) (embryo : Bool) → s ≡ sire → sire_found ≡ record_named book sire → d ≡ dam → dam_found ≡ record_named book dam →
     first_that_holds (record_faults birth s sire_found d dam_found embryo) ≡ first_that_holds (record_faults birth sire (record_named book sire) dam (record_named book dam) embryo)
 found_none birth book sire dam s d sire_found dam_found embryo a b e f = λ i. first_that_holds (record_faults birth (a i) (b i) (e i) (f i) embryo)

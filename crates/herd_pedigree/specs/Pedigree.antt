@@ -13,6 +13,13 @@ pub record Pedigree : Type 0 where
 abbrev pub changed_to : Pedigree → Book → Pedigree
 changed_to pedigree book = record { book = book; before = Some pedigree.book }
 
+-- the number is free, there is room for it, and the record is that of a birth
+pub record IsNewborn (most : ℕ) (book : Book) (number : List ℕ) (animal : Animal) : Type 0 where
+  pub absent : record_of book number ≡ None
+  pub room : length book < most
+  pub since : animal.since ≡ animal.birth
+  pub left : animal.left ≡ None
+
 -- the record may be added under the number
 pub record IsBirth (l most : ℕ) (book : Book) (number : List ℕ) (animal : Animal) : Type 0 where
   pub absent : record_of book number ≡ None

@@ -25,6 +25,8 @@ pub struct Named {
 }
 
 /// What the book has of a parent.
+// Inlined: a caller copies no more of the record than it reads.
+#[inline(always)]
 pub fn find<A: Allocator>(records: &Records<A>, parent: Option<AnimalNumber>) -> Named
     requires { length records.now.entries ≤ MOST_ANIMALS }
     ensures number { result.number ≡ parent }

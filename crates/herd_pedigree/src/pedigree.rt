@@ -4,7 +4,7 @@ ghost use Rattle.herd_pedigree.specs.Book.{IsDepthOf, changed, has_calved_after,
 ghost use Rattle.herd_pedigree.specs.Frozen.{IsFrozenFrom};
 ghost use Rattle.herd_pedigree.specs.ParentFault.{is_too_deep, parent_fault};
 ghost use Rattle.herd_pedigree.specs.Places.{IsPlaceIn};
-ghost use Rattle.herd_pedigree.specs.Pedigree.{IsBirth, IsCorrection, IsExit, IsPresentOn, changed_to};
+ghost use Rattle.herd_pedigree.specs.Pedigree.{IsBirth, IsCorrection, IsExit, IsNewborn, IsPresentOn, changed_to};
 ghost use Rattle.herd_pedigree.specs.declared.TheConstants.{DEPTH_LIMIT, MOST_ANIMALS};
 
 use crate::DEPTH_LIMIT;
@@ -128,6 +128,48 @@ impl<A: Allocator + Copy> Pedigree<A> {
     {
         let sire = find(&self.records, animal.sire).place;
         let dam = find(&self.records, animal.dam).place;
+        self.add_below(number, animal, sire, dam)
+    }
+
+    /// Adds an animal that isn't in the book, unless its parents have a fault: the first that `check_parents` tells.
+    pub fn add_if_sound(
+        &mut self,
+        number: AnimalNumber,
+        animal: Animal,
+    ) -> Result<Option<ParentFault>, AllocError>
+        requires { IsNewborn MOST_ANIMALS self.old.book number animal }
+        ensures fault { IfOk result (λ fault. fault ≡ parent_fault DEPTH_LIMIT self.old.book number animal.birth animal.sire animal.dam animal.embryo) }
+        ensures added { result ≡ Ok None → self.new ≡ changed_to self.old (self.old.book ++ (number, animal) ∷ []) }
+        ensures refused { IfOk result (λ fault. IsSome fault → self.new ≡ self.old) }
+        ensures err { OnErr result (self.new ≡ self.old) }
+    {
+        let sire = find(&self.records, animal.sire);
+        let dam = find(&self.records, animal.dam);
+        if let Some(fault) = record_fault(animal.birth, &sire, &dam, animal.embryo) {
+            return Ok(Some(fault));
+        }
+        let (sire, dam) = (sire.place, dam.place);
+        if depth_with(&self.depths, sire, dam) > u16::from(DEPTH_LIMIT) {
+            return Ok(Some(ParentFault::TooDeep));
+        }
+        self.add_below(number, animal, sire, dam)?;
+        Ok(None)
+    }
+
+    // Adds an animal whose parents stand at these places.
+    fn add_below(
+        &mut self,
+        number: AnimalNumber,
+        animal: Animal,
+        sire: Option<u32>,
+        dam: Option<u32>,
+    ) -> Result<(), AllocError>
+        requires birth { IsBirth DEPTH_LIMIT MOST_ANIMALS self.old.book number animal }
+        requires sire { IsPlaceIn (keys_of self.old.book) sire animal.sire }
+        requires dam { IsPlaceIn (keys_of self.old.book) dam animal.dam }
+        ensures added { OnOk result (self.new ≡ changed_to self.old (self.old.book ++ (number, animal) ∷ [])) }
+        ensures err { OnErr result (self.new ≡ self.old) }
+    {
         let depth = depth_with(&self.depths, sire, dam) as u8;
         self.records.reserve(1)?;
         self.depths.reserve(1)?;
@@ -192,6 +234,7 @@ impl<A: Allocator + Copy> Pedigree<A> {
 
 impl<A: Allocator> Pedigree<A> {
     /// The record of an animal.
+    #[inline(always)]
     pub fn get(&self, number: &AnimalNumber) -> Option<Animal>
         ensures { result ≡ record_of self.now.book number.now }
     {

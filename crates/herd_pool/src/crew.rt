@@ -45,7 +45,7 @@ pub fn compute_level<R: Threads + Wait + Sync, G: Gate>(
         return Ok(Vec::new(alloc));
     }
     let queue = filled(alloc, count)?;
-    if count == 1 {
+    if workers == 1 || count == 1 {
         return Ok(finish(rt, alloc, level, known, gate, queue, Vec::new(alloc))?);
     }
     let stealer = queue.stealer()?;

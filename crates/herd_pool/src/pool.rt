@@ -14,8 +14,8 @@ use std::alloc::Global;
 use std::sync::Wait;
 use std::thread::Threads;
 
-/// The coefficients of a book, by this many workers, who take the blocks of each level from a queue. A level of one
-/// block starts no thread, and when the call returns all threads have ended.
+/// The coefficients of a book, by this many workers, who take the blocks of each level from a queue. One worker is
+/// the calling thread itself, and so it is for a level of one block. When the call returns all threads have ended.
 pub fn coefficients<R: Threads + Wait + Sync, G: Gate>(
     rt: &R,
     alloc: Global,

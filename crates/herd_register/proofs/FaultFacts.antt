@@ -95,7 +95,7 @@ no_birth_fault limits book animal day sire dam herd embryo most none =
       left = refl;
     }
 
-no_correction_fault : (book : Book) (animal : List ℕ) (sire dam : Option (List ℕ)) → first_that_holds (correction_refusals book animal sire dam) ≡ None → IsCorrection DEPTH_LIMIT book animal sire dam
+pub no_correction_fault : (book : Book) (animal : List ℕ) (sire dam : Option (List ℕ)) → first_that_holds (correction_refusals book animal sire dam) ≡ None → IsCorrection DEPTH_LIMIT book animal sire dam
 no_correction_fault book animal sire dam none = by (record_of book animal) refl where
   by : (here : Option Animal) → record_of book animal ≡ here → IsCorrection DEPTH_LIMIT book animal sire dam
   by None absent = let some : first_that_holds ((true, NotRegistered) ∷ []) ≡ None = rw absent at none in absurd (cc (some))
@@ -105,12 +105,12 @@ no_correction_fault book animal sire dam none = by (record_of book animal) refl 
     parents = no_parent_fault book animal here.birth sire dam here.embryo (rw there at none);
   }
 
-no_transfer_fault : (book : Book) (animal : List ℕ) (day : ℤ) (giver taker : ℕ) → first_that_holds (transfer_refusals book animal day giver taker) ≡ None → IsPresentOn book animal day
+pub no_transfer_fault : (book : Book) (animal : List ℕ) (day : ℤ) (giver taker : ℕ) → first_that_holds (transfer_refusals book animal day giver taker) ≡ None → IsPresentOn book animal day
 no_transfer_fault book animal day giver taker none =
     let failed = none_holds (transfer_refusals book animal day giver taker) none in
     present book animal day failed.0 failed.1.0 failed.1.1.1.1.0
 
-no_exit_fault : (book : Book) (animal : List ℕ) (day : ℤ) → first_that_holds (exit_refusals book animal day) ≡ None → IsExit book animal day
+pub no_exit_fault : (book : Book) (animal : List ℕ) (day : ℤ) → first_that_holds (exit_refusals book animal day) ≡ None → IsExit book animal day
 no_exit_fault book animal day none =
     let failed = none_holds (exit_refusals book animal day) none in
     record { present = present book animal day failed.0 failed.1.0 failed.1.1.0; last = failed.1.1.1.0 }

@@ -1,10 +1,10 @@
 //! What a command asks of the pedigree, and what it changes in it.
-ghost use Rattle.std.specs.Prelude.{◌≡◌, ◌≤◌, IfOk, OnOk, OnErr};
+ghost use Rattle.std.specs.Prelude.{◌≡◌, ◌≤◌, IfNone, IfOk, IsSome, OnOk, OnErr};
+ghost use Rattle.herd_pedigree.specs.Book.{changed, with_left, with_owner, with_parents};
 ghost use Rattle.herd_pedigree.specs.ParentFault.{first_that_holds};
 ghost use Rattle.herd_pedigree.specs.Pedigree.{changed_to};
 ghost use Rattle.herd_pedigree.specs.declared.TheConstants.{MOST_ANIMALS};
-ghost use Rattle.herd_register.specs.Command.{IsAllowed};
-ghost use Rattle.herd_register.specs.Run.{answer, birth_refusals, correction_refusals, exit_refusals, fault, next, parent_refusals, set, transfer_refusals};
+ghost use Rattle.herd_register.specs.Run.{answer, birth_refusals, correction_refusals, exit_refusals, next, transfer_refusals, with_record};
 
 use crate::command::Command;
 use crate::limits::Limits;
@@ -15,7 +15,6 @@ use std::alloc::{AllocError, Allocator};
 
 impl Command {
     /// Answers the command, and sets the record of its animal where nothing refuses it.
-    #[tactic(auto, using(crate::proofs::FaultFacts::allowed_of_no_fault))]
     pub(crate) fn carry_out<A: Allocator + Copy>(
         &self,
         limits: Limits,
@@ -27,53 +26,7 @@ impl Command {
         ensures before { result ≡ Ok Reply.Accepted → pedigree.new.before ≡ Some pedigree.old.book }
         ensures err { OnErr result (pedigree.new ≡ pedigree.old) }
     {
-        if let Some(refusal) = self.refusal(limits, pedigree)? {
-            return Ok(Reply::Refused(refusal));
-        }
-        self.apply(pedigree)?;
-        Ok(Reply::Accepted)
-    }
-
-    /// The first refusal that holds, if one does.
-    pub(crate) fn refusal<A: Allocator + Copy>(
-        &self,
-        limits: Limits,
-        pedigree: &Pedigree<A>,
-    ) -> Result<Option<Refusal>, AllocError>
-        ensures { IfOk result (λ refusal. refusal ≡ fault limits pedigree.now.book self.now) }
-    {
-        match *self {
-            Command::Birth {
-                animal,
-                day,
-                sire,
-                dam,
-                herd: _,
-                embryo,
-            } => birth_refusal(limits, pedigree, animal, day, sire, dam, embryo),
-            Command::Parents { animal, sire, dam } => {
-                correction_refusal(pedigree, animal, sire, dam)
-            }
-            Command::Transfer {
-                animal,
-                day,
-                giver,
-                taker,
-            } => Ok(transfer_refusal(pedigree, animal, day, giver, taker)),
-            Command::Exit { animal, day } => Ok(exit_refusal(pedigree, animal, day)),
-        }
-    }
-
-    /// Sets the record of its animal.
-    pub(crate) fn apply<A: Allocator + Copy>(
-        &self,
-        pedigree: &mut Pedigree<A>,
-    ) -> Result<(), AllocError>
-        requires { IsAllowed pedigree.old.book self.now }
-        ensures ok { OnOk result (pedigree.new ≡ changed_to pedigree.old (set pedigree.old.book self.now)) }
-        ensures err { OnErr result (pedigree.new ≡ pedigree.old) }
-    {
-        match *self {
+        let refusal = match *self {
             Command::Birth {
                 animal,
                 day,
@@ -81,9 +34,8 @@ impl Command {
                 dam,
                 herd,
                 embryo,
-            } => pedigree.add(
-                animal,
-                Animal {
+            } => {
+                let newborn = Animal {
                     birth: day,
                     sire,
                     dam,
@@ -91,46 +43,111 @@ impl Command {
                     herd,
                     since: day,
                     left: None,
-                },
-            ),
-            Command::Parents { animal, sire, dam } => pedigree.set_parents(animal, sire, dam),
+                };
+                register(limits, pedigree, animal, newborn)?
+            }
+            Command::Parents { animal, sire, dam } => correct(pedigree, animal, &sire, &dam)?,
             Command::Transfer {
                 animal,
                 day,
-                giver: _,
+                giver,
                 taker,
-            } => {
-                pedigree.set_owner(animal, taker, day);
-                Ok(())
-            }
-            Command::Exit { animal, day } => {
-                pedigree.set_left(animal, day);
-                Ok(())
-            }
+            } => transfer(pedigree, animal, day, giver, taker),
+            Command::Exit { animal, day } => leave(pedigree, animal, day),
+        };
+        match refusal {
+            None => Ok(Reply::Accepted),
+            Some(refusal) => Ok(Reply::Refused(refusal)),
         }
     }
 }
 
-fn birth_refusal<A: Allocator + Copy>(
+// Adds the record of a birth, unless it is refused.
+#[tactic(auto, using(crate::proofs::FaultFacts::first_of_parent_refusals))]
+fn register<A: Allocator + Copy>(
     limits: Limits,
-    pedigree: &Pedigree<A>,
-    animal: AnimalNumber,
-    day: Day,
-    sire: Option<AnimalNumber>,
-    dam: Option<AnimalNumber>,
-    embryo: bool,
+    pedigree: &mut Pedigree<A>,
+    number: AnimalNumber,
+    newborn: Animal,
 ) -> Result<Option<Refusal>, AllocError>
-    ensures { IfOk result (λ refusal. refusal ≡ first_that_holds (birth_refusals limits pedigree.now.book animal day sire dam embryo)) }
+    requires limits { limits.animals ≤ MOST_ANIMALS }
+    requires since { newborn.since ≡ newborn.birth }
+    requires left { newborn.left ≡ None }
+    ensures refusal { IfOk result (λ refusal. refusal ≡ first_that_holds (birth_refusals limits pedigree.old.book number newborn.birth newborn.sire newborn.dam newborn.embryo)) }
+    ensures set { result ≡ Ok None → pedigree.new ≡ changed_to pedigree.old (with_record pedigree.old.book number newborn) }
+    ensures refused { IfOk result (λ refusal. IsSome refusal → pedigree.new ≡ pedigree.old) }
+    ensures err { OnErr result (pedigree.new ≡ pedigree.old) }
 {
-    if pedigree.get(&animal).is_some() {
+    if pedigree.get(&number).is_some() {
         return Ok(Some(Refusal::AlreadyThere));
     }
     if pedigree.len() >= limits.animals {
         return Ok(Some(Refusal::BookFull));
     }
-    parent_refusal(pedigree, animal, day, sire, dam, embryo)
+    let fault = pedigree.add_if_sound(number, newborn)?;
+    Ok(fault.map(Refusal::from))
 }
 
+// Sets both parents, unless it is refused. (They come by reference: a number that is passed on twice by value gets no
+// proof.)
+#[tactic(auto, using(crate::proofs::FaultFacts::no_correction_fault))]
+fn correct<A: Allocator + Copy>(
+    pedigree: &mut Pedigree<A>,
+    animal: AnimalNumber,
+    sire: &Option<AnimalNumber>,
+    dam: &Option<AnimalNumber>,
+) -> Result<Option<Refusal>, AllocError>
+    ensures refusal { IfOk result (λ refusal. refusal ≡ first_that_holds (correction_refusals pedigree.old.book animal sire.now dam.now)) }
+    ensures set { result ≡ Ok None → pedigree.new ≡ changed_to pedigree.old (changed pedigree.old.book animal (with_parents sire.now dam.now)) }
+    ensures refused { IfOk result (λ refusal. IsSome refusal → pedigree.new ≡ pedigree.old) }
+    ensures err { OnErr result (pedigree.new ≡ pedigree.old) }
+{
+    let refusal = correction_refusal(pedigree, animal, *sire, *dam)?;
+    if refusal.is_none() {
+        pedigree.set_parents(animal, *sire, *dam)?;
+    }
+    Ok(refusal)
+}
+
+// Sets the owner, unless it is refused.
+#[tactic(auto, using(crate::proofs::FaultFacts::no_transfer_fault))]
+fn transfer<A: Allocator>(
+    pedigree: &mut Pedigree<A>,
+    animal: AnimalNumber,
+    day: Day,
+    giver: Herd,
+    taker: Herd,
+) -> Option<Refusal>
+    ensures refusal { result ≡ first_that_holds (transfer_refusals pedigree.old.book animal day giver taker) }
+    ensures set { IfNone result (pedigree.new ≡ changed_to pedigree.old (changed pedigree.old.book animal (with_owner taker day))) }
+    ensures refused { IsSome result → pedigree.new ≡ pedigree.old }
+{
+    let refusal = transfer_refusal(pedigree, animal, day, giver, taker);
+    if refusal.is_none() {
+        pedigree.set_owner(animal, taker, day);
+    }
+    refusal
+}
+
+// Sets the day on which the animal left, unless it is refused.
+#[tactic(auto, using(crate::proofs::FaultFacts::no_exit_fault))]
+fn leave<A: Allocator>(
+    pedigree: &mut Pedigree<A>,
+    animal: AnimalNumber,
+    day: Day,
+) -> Option<Refusal>
+    ensures refusal { result ≡ first_that_holds (exit_refusals pedigree.old.book animal day) }
+    ensures set { IfNone result (pedigree.new ≡ changed_to pedigree.old (changed pedigree.old.book animal (with_left day))) }
+    ensures refused { IsSome result → pedigree.new ≡ pedigree.old }
+{
+    let refusal = exit_refusal(pedigree, animal, day);
+    if refusal.is_none() {
+        pedigree.set_left(animal, day);
+    }
+    refusal
+}
+
+#[tactic(auto, using(crate::proofs::FaultFacts::first_of_parent_refusals))]
 fn correction_refusal<A: Allocator + Copy>(
     pedigree: &Pedigree<A>,
     animal: AnimalNumber,
@@ -142,25 +159,11 @@ fn correction_refusal<A: Allocator + Copy>(
     let Some(here) = pedigree.get(&animal) else {
         return Ok(Some(Refusal::NotRegistered));
     };
-    parent_refusal(pedigree, animal, here.birth, sire, dam, here.embryo)
-}
-
-#[tactic(auto, using(crate::proofs::FaultFacts::first_of_parent_refusals))]
-fn parent_refusal<A: Allocator + Copy>(
-    pedigree: &Pedigree<A>,
-    number: AnimalNumber,
-    birth: Day,
-    sire: Option<AnimalNumber>,
-    dam: Option<AnimalNumber>,
-    embryo: bool,
-) -> Result<Option<Refusal>, AllocError>
-    ensures { IfOk result (λ refusal. refusal ≡ first_that_holds (parent_refusals pedigree.now.book number birth sire dam embryo)) }
-{
-    let fault = pedigree.check_parents(number, birth, sire, dam, embryo)?;
+    let fault = pedigree.check_parents(animal, here.birth, sire, dam, here.embryo)?;
     Ok(fault.map(Refusal::from))
 }
 
-fn transfer_refusal<A: Allocator + Copy>(
+fn transfer_refusal<A: Allocator>(
     pedigree: &Pedigree<A>,
     animal: AnimalNumber,
     day: Day,
@@ -185,7 +188,7 @@ fn transfer_refusal<A: Allocator + Copy>(
     }
 }
 
-fn exit_refusal<A: Allocator + Copy>(
+fn exit_refusal<A: Allocator>(
     pedigree: &Pedigree<A>,
     animal: AnimalNumber,
     day: Day,

@@ -1,6 +1,7 @@
 //! The words of the command line.
 
 ghost use Rattle.herd_report.specs.Run.{IsOrder};
+ghost use Rattle.herdbook.specs.Request.{IsOrderFor};
 
 use clap::{Arg, ArgAction, ArgMatches, Command};
 use herd_animal::{AnimalNumber, NumberFault};
@@ -53,7 +54,8 @@ impl From<NumberFault> for WordsFault {
 impl Request {
     /// What `run` is asked for.
     pub fn order(&self) -> Order<'_>
-        ensures { IsOrder result }
+        ensures asked { IsOrderFor self.now result }
+        ensures possible { IsOrder result }
     {
         match self {
             Request::File => Order::File,

@@ -7,7 +7,11 @@ use std::alloc::{AllocError, Global};
 use std::process::Abort;
 
 /// A book of this many founders.
-pub fn founders(rt: &impl Abort, alloc: Global, count: u16) -> Result<Frozen<Global>, AllocError> {
+pub(super) fn founders(
+    rt: &impl Abort,
+    alloc: Global,
+    count: u16,
+) -> Result<Frozen<Global>, AllocError> {
     let mut book = Pedigree::new(alloc);
     let birth = Day::parse(b"2000-01-01").expect(rt, "a day");
     for serial in 1..u32::from(count) + 1 {
@@ -18,7 +22,7 @@ pub fn founders(rt: &impl Abort, alloc: Global, count: u16) -> Result<Frozen<Glo
 }
 
 /// Generations of one male and one female, each of the pair before.
-pub fn generations(
+pub(super) fn generations(
     rt: &impl Abort,
     alloc: Global,
     count: u8,

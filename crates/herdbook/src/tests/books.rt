@@ -14,7 +14,7 @@ pub const SIX: [&str; 6] = [
 ];
 
 /// The six animals, and then these records.
-pub fn six_and(alloc: Global, records: &[&str]) -> Result<String, AllocError> {
+pub(super) fn six_and(alloc: Global, records: &[&str]) -> Result<String, AllocError> {
     let mut text = file(alloc, Header::Plain, &SIX)?;
     super::support::push_lines(&mut text, records)?;
     Ok(text)
@@ -22,7 +22,11 @@ pub fn six_and(alloc: Global, records: &[&str]) -> Result<String, AllocError> {
 
 /// One pair a generation, each of the pair before: males of odd numbers, females of even ones, the first pair born
 /// on the first day of 2000 and each further one a year later. Then these records.
-pub fn pairs_and(alloc: Global, generations: u32, records: &[&str]) -> Result<String, AllocError> {
+pub(super) fn pairs_and(
+    alloc: Global,
+    generations: u32,
+    records: &[&str],
+) -> Result<String, AllocError> {
     let mut text = file(alloc, Header::Plain, &[])?;
     for generation in 0..generations {
         push_pair(&mut text, generation)?;

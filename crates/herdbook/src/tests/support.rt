@@ -16,7 +16,7 @@ pub enum Header {
 }
 
 /// A command file of these records. `M1` stands for `HOLGBRM000000000001`, and so on.
-pub fn file(alloc: Global, header: Header, records: &[&str]) -> Result<String, AllocError> {
+pub(super) fn file(alloc: Global, header: Header, records: &[&str]) -> Result<String, AllocError> {
     let mut text = String::from_str(alloc, "kind,animal,day,sire,dam,from,to")?;
     text.push_str(match header {
         Header::Plain => "\n",
@@ -27,13 +27,13 @@ pub fn file(alloc: Global, header: Header, records: &[&str]) -> Result<String, A
 }
 
 /// The lines of a text, in which numbers are written short.
-pub fn lines(alloc: Global, lines: &[&str]) -> Result<String, AllocError> {
+pub(super) fn lines(alloc: Global, lines: &[&str]) -> Result<String, AllocError> {
     let mut text = String::new(alloc);
     push_lines(&mut text, lines)?;
     Ok(text)
 }
 
-pub fn push_lines(text: &mut String, lines: &[&str]) -> Result<(), AllocError> {
+pub(super) fn push_lines(text: &mut String, lines: &[&str]) -> Result<(), AllocError> {
     for line in lines {
         push_line(text, line)?;
     }
@@ -66,7 +66,7 @@ fn push_field(text: &mut String, field: &str) -> Result<(), AllocError> {
 }
 
 /// The number that is written short.
-pub fn number<R: AllocGlobal>(rt: &R, short: &str) -> Result<AnimalNumber, Fail> {
+pub(super) fn number<R: AllocGlobal>(rt: &R, short: &str) -> Result<AnimalNumber, Fail> {
     let mut text = String::new(rt.alloc());
     push_field(&mut text, short)?;
     Ok(AnimalNumber::parse(text.as_bytes())?)
@@ -93,12 +93,12 @@ macro_rules! ran {
 }
 
 /// Runs a command file for its replies.
-pub fn replies<R: AllocGlobal + Threads + Wait + Sync>(rt: &R, bytes: &[u8]) -> Ran {
+pub(super) fn replies<R: AllocGlobal + Threads + Wait + Sync>(rt: &R, bytes: &[u8]) -> Ran {
     ran!(rt, Order::File, bytes)
 }
 
 /// Runs a command file for the list of coefficients.
-pub fn coefficients<R: AllocGlobal + Threads + Wait + Sync>(rt: &R, bytes: &[u8]) -> Ran {
+pub(super) fn coefficients<R: AllocGlobal + Threads + Wait + Sync>(rt: &R, bytes: &[u8]) -> Ran {
     let order = Order::Inbreeding {
         workers: 1,
         block: 256,
@@ -107,7 +107,7 @@ pub fn coefficients<R: AllocGlobal + Threads + Wait + Sync>(rt: &R, bytes: &[u8]
 }
 
 /// Runs a command file for the certificate of an animal.
-pub fn certificate<R: AllocGlobal + Threads + Wait + Sync>(
+pub(super) fn certificate<R: AllocGlobal + Threads + Wait + Sync>(
     rt: &R,
     number: AnimalNumber,
     bytes: &[u8],
@@ -116,7 +116,7 @@ pub fn certificate<R: AllocGlobal + Threads + Wait + Sync>(
 }
 
 /// Runs a command file for mating advice.
-pub fn advice<R: AllocGlobal + Threads + Wait + Sync>(
+pub(super) fn advice<R: AllocGlobal + Threads + Wait + Sync>(
     rt: &R,
     dam: AnimalNumber,
     sires: &[AnimalNumber],
@@ -126,12 +126,16 @@ pub fn advice<R: AllocGlobal + Threads + Wait + Sync>(
 }
 
 /// Runs a command file for the contributions to the inverse.
-pub fn inverse<R: AllocGlobal + Threads + Wait + Sync>(rt: &R, bytes: &[u8]) -> Ran {
+pub(super) fn inverse<R: AllocGlobal + Threads + Wait + Sync>(rt: &R, bytes: &[u8]) -> Ran {
     ran!(rt, Order::Inverse, bytes)
 }
 
 /// The run ended well, and wrote these lines.
-pub fn expect<R: Abort + AllocGlobal>(rt: &R, ran: Ran, wanted: &[&str]) -> Result<(), Fail> {
+pub(super) fn expect<R: Abort + AllocGlobal>(
+    rt: &R,
+    ran: Ran,
+    wanted: &[&str],
+) -> Result<(), Fail> {
     let (outcome, written) = ran;
     assert_eq!(rt; outcome, Ok(()));
     let wanted = lines(rt.alloc(), wanted)?;
@@ -140,7 +144,11 @@ pub fn expect<R: Abort + AllocGlobal>(rt: &R, ran: Ran, wanted: &[&str]) -> Resu
 }
 
 /// The run ended well, and what it wrote ends with these lines.
-pub fn expect_last<R: Abort + AllocGlobal>(rt: &R, ran: Ran, wanted: &[&str]) -> Result<(), Fail> {
+pub(super) fn expect_last<R: Abort + AllocGlobal>(
+    rt: &R,
+    ran: Ran,
+    wanted: &[&str],
+) -> Result<(), Fail> {
     let (outcome, written) = ran;
     assert_eq!(rt; outcome, Ok(()));
     let wanted = lines(rt.alloc(), wanted)?;
@@ -152,7 +160,7 @@ pub fn expect_last<R: Abort + AllocGlobal>(rt: &R, ran: Ran, wanted: &[&str]) ->
 }
 
 /// The run wrote these lines, and ended with the fault.
-pub fn expect_fault<R: Abort + AllocGlobal>(
+pub(super) fn expect_fault<R: Abort + AllocGlobal>(
     rt: &R,
     ran: Ran,
     wanted: &[&str],
@@ -166,7 +174,7 @@ pub fn expect_fault<R: Abort + AllocGlobal>(
 }
 
 /// The replies to a command file: `a` for accepted, else the number of the refusal.
-pub fn expect_replies<R: Abort + AllocGlobal + Threads + Wait + Sync>(
+pub(super) fn expect_replies<R: Abort + AllocGlobal + Threads + Wait + Sync>(
     rt: &R,
     header: Header,
     records: &[(&str, &str)],

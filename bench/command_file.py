@@ -1,0 +1,18 @@
+"""Command files to measure with, each made once by generate.py and kept in a folder."""
+
+import os
+import subprocess
+import sys
+
+HERE = os.path.dirname(os.path.abspath(__file__))
+
+
+def command_file(work, name, *words):
+    """The path of the file of that name, made with these words of generate.py where it isn't there yet."""
+    made = os.path.join(work, name)
+    if not os.path.exists(made):
+        command = [sys.executable, os.path.join(HERE, "generate.py"), *map(str, words)]
+        with open(made + ".part", "wb") as it:
+            subprocess.run(command, check=True, stdout=it, stderr=subprocess.DEVNULL)
+        os.rename(made + ".part", made)
+    return made

@@ -1,0 +1,19 @@
+-- What the words of the command line ask of a run.
+use Rattle.std.specs.Prelude.{◌≡◌, ℕ, List, max, min}
+use Rattle.herd_report.specs.declared.orders.Order.{Order}
+use Rattle.herd_report.specs.declared.orders.Order.TheVariants.{File, Inbreeding, Certificate, Mating, Inverse}
+use Rattle.herdbook.specs.declared.arguments.Request.{Request}
+use Rattle.herdbook.specs.declared.arguments.Request.TheVariants.{File as FileAsked, Inbreeding as InbreedingAsked, Certificate as CertificateAsked, Mating as MatingAsked, Inverse as InverseAsked}
+
+-- mating advice is ordered for this dam and these sires
+abbrev pub IsAdvice : List ℕ → List (List ℕ) → Order → Type 0
+IsAdvice dam sires (Mating d s) = (d ≡ dam) × (s.now ≡ sires)
+IsAdvice dam sires order = ⊥
+
+-- what a run is ordered for a request: from 1 to 16 workers, and blocks of one animal at least
+abbrev pub IsOrderFor : Request → Order → Type 0
+IsOrderFor FileAsked order = order ≡ File
+IsOrderFor (InbreedingAsked workers block) order = order ≡ Inbreeding (max 1 (min 16 workers)) (max 1 block)
+IsOrderFor (CertificateAsked number) order = order ≡ Certificate number
+IsOrderFor (MatingAsked dam sires) order = IsAdvice dam sires.items order
+IsOrderFor InverseAsked order = order ≡ Inverse
