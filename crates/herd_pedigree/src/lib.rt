@@ -14,6 +14,8 @@ mod named;
 mod parent_fault;
 mod pedigree;
 mod progeny;
+#[cfg(test)]
+mod tests;
 mod undo;
 
 pub use animal::Animal;
