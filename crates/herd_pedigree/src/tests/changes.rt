@@ -36,7 +36,7 @@ fn born(rt: &impl Abort, text: DayText, parents: Pair, embryo: bool) -> Animal {
 }
 
 /// Files a change, where it has no fault.
-pub fn file<A: Allocator + Copy>(
+pub(super) fn file<A: Allocator + Copy>(
     rt: &impl Abort,
     pedigree: &mut Pedigree<A>,
     change: Change,
@@ -66,7 +66,7 @@ pub fn file<A: Allocator + Copy>(
 }
 
 /// Files a change, and compares its fault.
-pub fn expect_filed<A: Allocator + Copy>(
+pub(super) fn expect_filed<A: Allocator + Copy>(
     rt: &impl Abort,
     pedigree: &mut Pedigree<A>,
     change: Change,
@@ -77,7 +77,7 @@ pub fn expect_filed<A: Allocator + Copy>(
 }
 
 /// Files changes, each with the fault that it has.
-pub fn expect_faults<A: Allocator + Copy>(
+pub(super) fn expect_faults<A: Allocator + Copy>(
     rt: &impl Abort,
     pedigree: &mut Pedigree<A>,
     rows: &[(Change, ParentFault)],
@@ -89,7 +89,7 @@ pub fn expect_faults<A: Allocator + Copy>(
 }
 
 /// Files changes that have no fault.
-pub fn file_all<A: Allocator + Copy>(
+pub(super) fn file_all<A: Allocator + Copy>(
     rt: &impl Abort,
     pedigree: &mut Pedigree<A>,
     changes: &[Change],
@@ -101,7 +101,7 @@ pub fn file_all<A: Allocator + Copy>(
 }
 
 /// The pedigree after these changes.
-pub fn pedigree_of<A: Allocator + Copy>(
+pub(super) fn pedigree_of<A: Allocator + Copy>(
     rt: &impl Abort,
     alloc: A,
     changes: &[Change],

@@ -5,7 +5,7 @@ use super::names::Name::{Bull, Cow};
 use super::names::{Pair, UNKNOWN};
 
 /// A bull without offspring, a younger bull and a cow, the younger bull's daughter, and her calf.
-pub fn family() -> [Change; 5] {
+pub(super) fn family() -> [Change; 5] {
     [
         Change::Birth(Bull(9), *b"1998-01-01", UNKNOWN),
         Change::Birth(Bull(1), *b"2000-01-01", UNKNOWN),
@@ -16,31 +16,31 @@ pub fn family() -> [Change; 5] {
 }
 
 /// The cow gets her first calf.
-pub fn birth() -> Change {
+pub(super) fn birth() -> Change {
     Change::Birth(Bull(5), *b"2006-01-01", Pair::of_dam(Cow(2)))
 }
 
 /// The younger bull gets a sire, so that he and his descendants are a step deeper.
-pub fn older_sire() -> Change {
+pub(super) fn older_sire() -> Change {
     Change::Parents(Bull(1), Pair::of_sire(Bull(9)))
 }
 
 /// The daughter loses her sire, so that she and her calf are a step less deep.
-pub fn no_parents() -> Change {
+pub(super) fn no_parents() -> Change {
     Change::Parents(Cow(3), UNKNOWN)
 }
 
 /// The calf gets a sire, and is as deep as before.
-pub fn sire() -> Change {
+pub(super) fn sire() -> Change {
     Change::Parents(Bull(4), Pair::of(Bull(9), Cow(3)))
 }
 
 /// The calf goes to another herd.
-pub fn transfer() -> Change {
+pub(super) fn transfer() -> Change {
     Change::Transfer(Bull(4), *b"2006-01-01")
 }
 
 /// The daughter leaves after she calved.
-pub fn exit() -> Change {
+pub(super) fn exit() -> Change {
     Change::Exit(Cow(3), *b"2006-01-01")
 }

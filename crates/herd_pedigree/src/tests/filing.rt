@@ -5,7 +5,7 @@ use herd_animal::{AnimalNumber, Day, Herd};
 use std::alloc::{AllocError, Allocator};
 
 /// Adds an animal, where it has no fault and isn't there yet.
-pub fn file_birth<A: Allocator + Copy>(
+pub(super) fn file_birth<A: Allocator + Copy>(
     pedigree: &mut Pedigree<A>,
     number: AnimalNumber,
     animal: Animal,
@@ -25,7 +25,7 @@ pub fn file_birth<A: Allocator + Copy>(
 }
 
 /// Sets the parents of an animal, where they have no fault.
-pub fn file_correction<A: Allocator + Copy>(
+pub(super) fn file_correction<A: Allocator + Copy>(
     pedigree: &mut Pedigree<A>,
     number: AnimalNumber,
     sire: Option<AnimalNumber>,
@@ -53,7 +53,7 @@ pub fn file_correction<A: Allocator + Copy>(
 }
 
 /// Sets the owner, where the animal is present.
-pub fn file_transfer<A: Allocator>(
+pub(super) fn file_transfer<A: Allocator>(
     pedigree: &mut Pedigree<A>,
     number: AnimalNumber,
     herd: Herd,
@@ -67,7 +67,7 @@ pub fn file_transfer<A: Allocator>(
 }
 
 /// Notes the exit, where the animal may leave.
-pub fn file_exit<A: Allocator>(pedigree: &mut Pedigree<A>, number: AnimalNumber, day: Day) {
+pub(super) fn file_exit<A: Allocator>(pedigree: &mut Pedigree<A>, number: AnimalNumber, day: Day) {
     if let Some(animal) = pedigree.get(&number) {
         if animal.left.is_none() && animal.since <= day && !pedigree.calved_after(&number, day) {
             pedigree.set_left(number, day);

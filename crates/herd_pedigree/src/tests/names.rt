@@ -66,7 +66,7 @@ pub const UNKNOWN: Pair = Pair {
 };
 
 /// The number of a parent, where it is known.
-pub fn number_of(rt: &impl Abort, parent: Option<Name>) -> Option<AnimalNumber> {
+pub(super) fn number_of(rt: &impl Abort, parent: Option<Name>) -> Option<AnimalNumber> {
     match parent {
         Some(name) => Some(name.number(rt)),
         None => None,
@@ -76,6 +76,6 @@ pub fn number_of(rt: &impl Abort, parent: Option<Name>) -> Option<AnimalNumber> 
 /// The text of a day.
 pub type DayText = [u8; 10];
 
-pub fn day(rt: &impl Abort, text: DayText) -> Day {
+pub(super) fn day(rt: &impl Abort, text: DayText) -> Day {
     Day::parse(&text).expect(rt, "a day")
 }

@@ -14,7 +14,7 @@ pub struct Seen {
 }
 
 /// What the pedigree tells of an animal.
-pub fn seen_of<A: Allocator>(rt: &impl Abort, pedigree: &Pedigree<A>, name: Name) -> Seen {
+pub(super) fn seen_of<A: Allocator>(rt: &impl Abort, pedigree: &Pedigree<A>, name: Name) -> Seen {
     let number = name.number(rt);
     Seen {
         animal: pedigree.get(&number),
@@ -24,7 +24,7 @@ pub fn seen_of<A: Allocator>(rt: &impl Abort, pedigree: &Pedigree<A>, name: Name
 }
 
 /// What the pedigree tells of each animal of the family, and of one that isn't born yet.
-pub fn family_seen<A: Allocator>(rt: &impl Abort, pedigree: &Pedigree<A>) -> [Seen; 6] {
+pub(super) fn family_seen<A: Allocator>(rt: &impl Abort, pedigree: &Pedigree<A>) -> [Seen; 6] {
     [
         seen_of(rt, pedigree, Bull(9)),
         seen_of(rt, pedigree, Bull(1)),
@@ -35,11 +35,15 @@ pub fn family_seen<A: Allocator>(rt: &impl Abort, pedigree: &Pedigree<A>) -> [Se
     ]
 }
 
-pub fn depth_of<A: Allocator>(rt: &impl Abort, pedigree: &Pedigree<A>, name: Name) -> Option<u8> {
+pub(super) fn depth_of<A: Allocator>(
+    rt: &impl Abort,
+    pedigree: &Pedigree<A>,
+    name: Name,
+) -> Option<u8> {
     pedigree.depth(&name.number(rt))
 }
 
-pub fn has_calved_after<A: Allocator>(
+pub(super) fn has_calved_after<A: Allocator>(
     rt: &impl Abort,
     pedigree: &Pedigree<A>,
     name: Name,

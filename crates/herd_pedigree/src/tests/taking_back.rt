@@ -10,7 +10,7 @@ use std::process::Abort;
 use std::test::Fail;
 
 /// Takes the last change back. Then there is none.
-pub fn take_back(rt: &impl Abort, pedigree: &mut Pedigree<Global>) {
+pub(super) fn take_back(rt: &impl Abort, pedigree: &mut Pedigree<Global>) {
     assert!(rt; pedigree.can_take_back());
     pedigree.take_back();
     assert!(rt; !pedigree.can_take_back());
