@@ -1,5 +1,5 @@
 //! The parents by place, with those of one animal exchanged, and the depths that follow.
-ghost use Rattle.std.specs.Prelude.{◌≡◌, ℕ, suc, ◌+◌, ◌<◌, ◌≤◌, ◌==◌, ◌++◌, ◌∷◌, [], List, All, IsTrue, IsFalse, ◌↔◌, IfOk, OnOk, OnErr, Some, filter, length, min, not, slice_index};
+ghost use Rattle.std.specs.Prelude.{◌≡◌, ℕ, suc, ◌+◌, ◌<◌, ◌≤◌, ◌==◌, ◌++◌, ◌∷◌, [], List, All, IsTrue, IsFalse, ◌↔◌, IfNone, IfOk, IfSome, OnOk, OnErr, Some, filter, length, min, not, slice_index};
 ghost use Rattle.herd_pedigree.specs.Carry.{AddsCalves, HaveLines, IsSettled};
 ghost use Rattle.herd_pedigree.specs.Depths.{IsParent, depth_from};
 ghost use Rattle.herd_pedigree.specs.Lines.{has_line};
@@ -173,25 +173,34 @@ impl<A: Allocator> Correction<'_, A> {
         Ok(pending.as_slice().is_empty())
     }
 
-    /// Carries depths on and returns the log, or leaves all depths as they were.
-    pub fn carry_or_undo<B: Allocator + Copy>(
+    /// Carries depths on and returns the log. Where some line would be too long, or memory is refused, all depths are
+    /// left as they were.
+    pub fn carry_if_shallow<B: Allocator + Copy>(
         &self,
         alloc: B,
         depths: &mut [u8],
-    ) -> Result<Vec<(u32, u8), B>, AllocError>
+    ) -> Result<Option<Vec<(u32, u8), B>>, AllocError>
         requires sound { IsSound self.now }
         requires long { length depths.old ≡ length self.now.sires.now.parents }
         requires settled { IsSettled DEPTH_LIMIT (corrected self.now) (slice_index depths.old) (self.now.place ∷ []) }
-        requires shallow { (x : ℕ) → IsFalse (has_line (corrected self.now) (DEPTH_LIMIT + 1) x) }
-        ensures logged { IfOk result (λ log. All (λ write. write.0 < length depths.old) log.items) }
-        ensures undone { IfOk result (λ log. undone_writes log.items depths.new ≡ depths.old) }
-        ensures settled { OnOk result (IsSettled DEPTH_LIMIT (corrected self.now) (slice_index depths.new) []) }
+        requires shallow { (x : ℕ) → x < length depths.old → slice_index depths.old x ≤ DEPTH_LIMIT }
+        ensures logged { IfOk result (λ carried. IfSome carried (λ log. All (λ write. write.0 < length depths.old) log.items)) }
+        ensures undone { IfOk result (λ carried. IfSome carried (λ log. undone_writes log.items depths.new ≡ depths.old)) }
+        ensures settled { IfOk result (λ carried. IfSome carried (λ _. IsSettled DEPTH_LIMIT (corrected self.now) (slice_index depths.new) [])) }
+        ensures shallow { IfOk result (λ carried. IfSome carried (λ _. (x : ℕ) → IsFalse (has_line (corrected self.now) (DEPTH_LIMIT + 1) x))) }
+        ensures deep { IfOk result (λ carried. IfNone carried ((x : ℕ) × IsTrue (has_line (corrected self.now) (DEPTH_LIMIT + 1) x))) }
+        ensures same { IfOk result (λ carried. IfNone carried (depths.new ≡ depths.old)) }
         ensures err { OnErr result (depths.new ≡ depths.old) }
     {
         let mut log = Vec::new(alloc);
         match self.carry(alloc, depths, &mut log) {
-            Ok(true) => Ok(log),
-            Ok(false) => unreachable!(),
+            Ok(done) => {
+                if done && !has_greater(depths, &log, DEPTH_LIMIT) {
+                    return Ok(Some(log));
+                }
+                undo_writes(depths, &mut log);
+                Ok(None)
+            }
             Err(refused) => {
                 undo_writes(depths, &mut log);
                 Err(refused)

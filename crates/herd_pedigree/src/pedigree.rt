@@ -198,12 +198,36 @@ impl<A: Allocator + Copy> Pedigree<A> {
         ensures set { OnOk result (self.new ≡ changed_to self.old (changed self.old.book number (with_parents sire dam))) }
         ensures err { OnErr result (self.new ≡ self.old) }
     {
-        let sire = find(&self.records, sire);
-        let dam = find(&self.records, dam);
+        match self.set_parents_if_sound(number, sire, dam)? {
+            None => Ok(()),
+            Some(_) => unreachable!(),
+        }
+    }
+
+    /// Sets both parents of an animal of the book, unless they have a fault: the first that `check_parents` tells,
+    /// asked with the animal's own birth day and embryo flag.
+    pub fn set_parents_if_sound(
+        &mut self,
+        number: AnimalNumber,
+        sire: Option<AnimalNumber>,
+        dam: Option<AnimalNumber>,
+    ) -> Result<Option<ParentFault>, AllocError>
+        requires { IsSome (record_of self.old.book number) }
+        ensures fault { IfOk result (λ fault. IfSome (record_of self.old.book number) (λ animal. fault ≡ parent_fault DEPTH_LIMIT self.old.book number animal.birth sire dam animal.embryo)) }
+        ensures set { result ≡ Ok None → self.new ≡ changed_to self.old (changed self.old.book number (with_parents sire dam)) }
+        ensures refused { IfOk result (λ fault. IsSome fault → self.new ≡ self.old) }
+        ensures err { OnErr result (self.new ≡ self.old) }
+    {
         let Some(index) = self.records.get_index_of(&number) else {
             unreachable!();
         };
         let place = index as u32;
+        let animal = self.records[index];
+        let sire = find(&self.records, sire);
+        let dam = find(&self.records, dam);
+        if let Some(fault) = record_fault(animal.birth, &sire, &dam, animal.embryo) {
+            return Ok(Some(fault));
+        }
         self.sires.reserve_calf(sire.place)?;
         self.dams.reserve_calf(dam.place)?;
         let correction = Correction {
@@ -214,8 +238,9 @@ impl<A: Allocator + Copy> Pedigree<A> {
             dam: dam.place,
         };
         let alloc = *self.records.allocator();
-        let log = correction.carry_or_undo(alloc, &mut self.depths)?;
-        let animal = self.records[index];
+        let Some(log) = correction.carry_if_shallow(alloc, &mut self.depths)? else {
+            return Ok(Some(ParentFault::TooDeep));
+        };
         self.old_depths = log;
         self.undo = Undo::Record {
             place,
@@ -228,7 +253,7 @@ impl<A: Allocator + Copy> Pedigree<A> {
         let record = &mut self.records[index];
         record.sire = sire.number;
         record.dam = dam.number;
-        Ok(())
+        Ok(None)
     }
 }
 

@@ -95,7 +95,7 @@ no_birth_fault limits book animal day sire dam herd embryo most none =
       left = refl;
     }
 
-pub no_correction_fault : (book : Book) (animal : List ℕ) (sire dam : Option (List ℕ)) → first_that_holds (correction_refusals book animal sire dam) ≡ None → IsCorrection DEPTH_LIMIT book animal sire dam
+no_correction_fault : (book : Book) (animal : List ℕ) (sire dam : Option (List ℕ)) → first_that_holds (correction_refusals book animal sire dam) ≡ None → IsCorrection DEPTH_LIMIT book animal sire dam
 no_correction_fault book animal sire dam none = by (record_of book animal) refl where
   by : (here : Option Animal) → record_of book animal ≡ here → IsCorrection DEPTH_LIMIT book animal sire dam
   by None absent = let some : first_that_holds ((true, NotRegistered) ∷ []) ≡ None = rw absent at none in absurd (cc (some))

@@ -46,7 +46,7 @@ impl Command {
                 };
                 register(limits, pedigree, animal, newborn)?
             }
-            Command::Parents { animal, sire, dam } => correct(pedigree, animal, &sire, &dam)?,
+            Command::Parents { animal, sire, dam } => correct(pedigree, animal, sire, dam)?,
             Command::Transfer {
                 animal,
                 day,
@@ -88,25 +88,24 @@ fn register<A: Allocator + Copy>(
     Ok(fault.map(Refusal::from))
 }
 
-// Sets both parents, unless it is refused. (They come by reference: a number that is passed on twice by value gets no
-// proof.)
-#[tactic(auto, using(crate::proofs::FaultFacts::no_correction_fault))]
+// Sets both parents, unless it is refused.
+#[tactic(auto, using(crate::proofs::FaultFacts::first_of_parent_refusals))]
 fn correct<A: Allocator + Copy>(
     pedigree: &mut Pedigree<A>,
     animal: AnimalNumber,
-    sire: &Option<AnimalNumber>,
-    dam: &Option<AnimalNumber>,
+    sire: Option<AnimalNumber>,
+    dam: Option<AnimalNumber>,
 ) -> Result<Option<Refusal>, AllocError>
-    ensures refusal { IfOk result (λ refusal. refusal ≡ first_that_holds (correction_refusals pedigree.old.book animal sire.now dam.now)) }
-    ensures set { result ≡ Ok None → pedigree.new ≡ changed_to pedigree.old (changed pedigree.old.book animal (with_parents sire.now dam.now)) }
+    ensures refusal { IfOk result (λ refusal. refusal ≡ first_that_holds (correction_refusals pedigree.old.book animal sire dam)) }
+    ensures set { result ≡ Ok None → pedigree.new ≡ changed_to pedigree.old (changed pedigree.old.book animal (with_parents sire dam)) }
     ensures refused { IfOk result (λ refusal. IsSome refusal → pedigree.new ≡ pedigree.old) }
     ensures err { OnErr result (pedigree.new ≡ pedigree.old) }
 {
-    let refusal = correction_refusal(pedigree, animal, *sire, *dam)?;
-    if refusal.is_none() {
-        pedigree.set_parents(animal, *sire, *dam)?;
+    if pedigree.get(&animal).is_none() {
+        return Ok(Some(Refusal::NotRegistered));
     }
-    Ok(refusal)
+    let fault = pedigree.set_parents_if_sound(animal, sire, dam)?;
+    Ok(fault.map(Refusal::from))
 }
 
 // Sets the owner, unless it is refused.
@@ -145,22 +144,6 @@ fn leave<A: Allocator>(
         pedigree.set_left(animal, day);
     }
     refusal
-}
-
-#[tactic(auto, using(crate::proofs::FaultFacts::first_of_parent_refusals))]
-fn correction_refusal<A: Allocator + Copy>(
-    pedigree: &Pedigree<A>,
-    animal: AnimalNumber,
-    sire: Option<AnimalNumber>,
-    dam: Option<AnimalNumber>,
-) -> Result<Option<Refusal>, AllocError>
-    ensures { IfOk result (λ refusal. refusal ≡ first_that_holds (correction_refusals pedigree.now.book animal sire dam)) }
-{
-    let Some(here) = pedigree.get(&animal) else {
-        return Ok(Some(Refusal::NotRegistered));
-    };
-    let fault = pedigree.check_parents(animal, here.birth, sire, dam, here.embryo)?;
-    Ok(fault.map(Refusal::from))
 }
 
 fn transfer_refusal<A: Allocator>(

@@ -71,18 +71,13 @@ pub fn correct_heads(pedigree: &mut Pedigree<Global>, times: u32) -> Result<()> 
 }
 
 fn file_birth(pedigree: &mut Pedigree<Global>, number: AnimalNumber, animal: Animal) -> Result<()> {
-    let fault = pedigree.check_parents(
-        number,
-        animal.birth,
-        animal.sire,
-        animal.dam,
-        animal.embryo,
-    )?;
     let is_new = pedigree.get(&number).is_none() && pedigree.len() < MOST_ANIMALS;
-    if fault.is_none() && is_new && animal.since == animal.birth && animal.left.is_none() {
-        Ok(pedigree.add(number, animal)?)
-    } else {
-        bail!("a birth is refused")
+    if !is_new || animal.since != animal.birth || animal.left.is_some() {
+        bail!("no birth of a new animal")
+    }
+    match pedigree.add_if_sound(number, animal)? {
+        None => Ok(()),
+        Some(_) => bail!("a birth is refused"),
     }
 }
 
@@ -91,13 +86,11 @@ fn file_correction(
     number: AnimalNumber,
     sire: Option<AnimalNumber>,
 ) -> Result<()> {
-    let Some(animal) = pedigree.get(&number) else {
+    if pedigree.get(&number).is_none() {
         bail!("there is no such animal")
-    };
-    let fault = pedigree.check_parents(number, animal.birth, sire, None, animal.embryo)?;
-    if fault.is_none() {
-        Ok(pedigree.set_parents(number, sire, None)?)
-    } else {
-        bail!("a correction is refused")
+    }
+    match pedigree.set_parents_if_sound(number, sire, None)? {
+        None => Ok(()),
+        Some(_) => bail!("a correction is refused"),
     }
 }
