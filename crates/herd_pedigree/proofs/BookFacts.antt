@@ -105,11 +105,11 @@ module _ {X : Type 0} where
   push_last [] y = refl
   push_last (x ∷ xs) y = push_last xs y
 
-pub keys-push : (book : Book) (number : List ℕ) (animal : Animal) → keys_of (book ++ (number, animal) ∷ []) ≡ keys_of book ++ number ∷ []
+pub keys-push : {X : Type 0} (book : List (List ℕ × X)) (number : List ℕ) (animal : X) → keys_of (book ++ (number, animal) ∷ []) ≡ keys_of book ++ number ∷ []
 keys-push [] number animal = refl
 keys-push (e ∷ es) number animal = ap (λ ks. e.0 ∷ ks) (keys-push es number animal)
 
-pub length-keys : (book : Book) → length (keys_of book) ≡ length book
+pub length-keys : {X : Type 0} (book : List (List ℕ × X)) → length (keys_of book) ≡ length book
 length-keys [] = refl
 length-keys (e ∷ es) = ap suc (length-keys es)
 

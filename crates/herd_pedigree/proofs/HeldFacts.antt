@@ -17,13 +17,14 @@ use Rattle.herd_pedigree.specs.Progeny.{Progeny}
 use Rattle.herd_pedigree.specs.Whole.{HasRoom, IsWhole}
 use Rattle.herd_pedigree.specs.Carry.{IsSettled}
 use Rattle.herd_pedigree.specs.Kept.{IsKept}
+use Rattle.herd_pedigree.specs.Records.{NamesItsOwn}
 use Rattle.herd_pedigree.specs.Undo.{IsHeld, without_last, undone_writes}
 use Rattle.herd_pedigree.proofs.LineFacts.{depths-fall}
-use Rattle.herd_pedigree.proofs.BookFacts.{lookup_at}
+use Rattle.herd_pedigree.proofs.BookFacts.{lookup_at, there as there_at}
 use Rattle.herd_pedigree.proofs.FaultFacts.{HasNoFault, no_fault, sire-may_be, dam-may_be}
 use Rattle.herd_pedigree.proofs.KeptFacts.{shallow-kept}
 use Rattle.herd_pedigree.proofs.WrittenFacts.{written-changed, lawful-written}
-use Rattle.herd_pedigree.proofs.SetFacts.{set-changed, set-back, length-set-at, stayed-same}
+use Rattle.herd_pedigree.proofs.SetFacts.{keys-set, set-changed, set-back, set_there, length-set-at, stayed-same}
 use Rattle.herd_pedigree.proofs.CarryFacts.{settled-depths, settled-deep}
 use Rattle.herd_pedigree.proofs.ProgenyFacts.{parent-within}
 use Rattle.herd_pedigree.proofs.CheckFacts.{parents-within, sires-corrected, dams-corrected, once-corrected, closed-after, shallow-by_place}
@@ -78,6 +79,16 @@ module _ (l most : ℕ) (book : Book) (sires dams : List (Option ℕ)) (depths :
       absurd (omega (arith, bad)))
       (cases_lt c n)
 
+  -- the book before it names no parent that stands only in the book after it
+  pub names_its_own-before : NamesItsOwn (without_last book)
+  names_its_own-before place entry at =
+      ((parent_at (without_last sires) place, old.sires_are.each place entry at), (parent_at (without_last dams) place, old.dams_are.each place entry at))
+
+  pub IsWhole-before : (sires' dams' : Progeny) → sires'.parents ≡ without_last sires → dams'.parents ≡ without_last dams → IsWhole l most (without_last book) sires' dams' (without_last depths) log Nothing
+  IsWhole-before sires' dams' s d =
+      let held : IsHeld l most (without_last book) (without_last sires) (without_last dams) (without_last depths) log Nothing = record { kept = old; within = tt; before = λ was e. absurd (cc) } in
+      record { held = rw (s, d) held; room = tt }
+
   pub childless-sire : (c : ℕ) → parent_at sires c ≡ Some (length sires - 1) → ⊥
   childless-sire c e = none-of_last c (inl e)
 
@@ -92,6 +103,26 @@ module _ (l most : ℕ) (book : Book) (sires dams : List (Option ℕ)) (depths :
 module _ (l most : ℕ) (book : Book) (sires dams : List (Option ℕ)) (depths : List ℕ) (log : List (ℕ × ℕ)) (place : ℕ) (animal : Animal) (sire dam : Option ℕ) (h : IsHeld l most book sires dams depths log (Record place animal sire dam)) where
   was : IsKept l most (set_value_at book place animal) (slice_set sires place sire) (slice_set dams place dam) (undone_writes log depths)
   was = h.before (set_value_at book place animal) refl
+
+  -- the number at the place of the record that is taken back
+  entry-before : (number : List ℕ) × (slice_get (set_value_at book place animal) place ≡ Some (number, animal))
+  entry-before = let e = there_at book place h.within.0 in (e.0.0, set_there book place animal e.0 e.1)
+
+  pub undo-sire_is : IsPlaceIn (keys_of book) sire animal.sire
+  undo-sire_is =
+      let m = h.kept.sires_are.long in
+      let here : place < length sires = let w = h.within.0 in omega (arith, w, m) in
+      let is : IsPlaceIn (keys_of (set_value_at book place animal)) (parent_at (slice_set sires place sire) place) animal.sire = was.sires_are.each place (entry-before.0, animal) entry-before.1 in
+      subst (λ ks. IsPlaceIn ks sire animal.sire) (keys-set book place animal)
+      (subst (λ o. IsPlaceIn (keys_of (set_value_at book place animal)) o animal.sire) (get_or-set_same sires place sire None here) is)
+
+  pub undo-dam_is : IsPlaceIn (keys_of book) dam animal.dam
+  undo-dam_is =
+      let m = h.kept.dams_are.long in
+      let here : place < length dams = let w = h.within.0 in omega (arith, w, m) in
+      let is : IsPlaceIn (keys_of (set_value_at book place animal)) (parent_at (slice_set dams place dam) place) animal.dam = was.dams_are.each place (entry-before.0, animal) entry-before.1 in
+      subst (λ ks. IsPlaceIn ks dam animal.dam) (keys-set book place animal)
+      (subst (λ o. IsPlaceIn (keys_of (set_value_at book place animal)) o animal.dam) (get_or-set_same dams place dam None here) is)
 
   pub undo-sire : (p : ℕ) → sire ≡ Some p → p < length sires
   undo-sire p e =

@@ -4,7 +4,7 @@ use Rattle.std.specs.Str.{bytes_eq}
 use Rattle.std.specs.List.{IsDistinct, list_any}
 use Rattle.std.specs.Map.{keys_of}
 use Rattle.std.proofs.lemmas.Int.{ints}
-use Rattle.std.proofs.lemmas.Bool.{cases_lt, lt-ltb, le-ltb, or_left, not_from_false}
+use Rattle.std.proofs.lemmas.Bool.{cases_lt, lt-ltb, ltb-true, le-ltb, or_left, not_from_false}
 use Rattle.std.proofs.lemmas.List.{length_push, get_or_push, get_or_append_left}
 use Rattle.std.proofs.lemmas.List.Folds.{list_any_none}
 use Rattle.std.proofs.lemmas.Option.{slice_get_within, same_Some}
@@ -16,7 +16,7 @@ use Rattle.herd_pedigree.specs.Pedigree.{IsBirth}
 use Rattle.herd_pedigree.specs.Depths.{AreDepths, depth_from}
 use Rattle.herd_pedigree.specs.Places.{parent_at, parentage_at, IsPlaceIn, AreParents}
 use Rattle.herd_pedigree.specs.Kept.{IsKept}
-use Rattle.herd_pedigree.specs.declared.undo.Undo.TheVariants.{Birth}
+use Rattle.herd_pedigree.specs.declared.undo.Undo.TheVariants.{Birth, Nothing}
 use Rattle.herd_pedigree.specs.Undo.{IsHeld}
 use Rattle.herd_pedigree.proofs.LineFacts.{Line, depths-line, test-from_line}
 use Rattle.herd_pedigree.proofs.BookFacts.{push_cases, push_keeps, push_last, keys-push, length-keys, distinct-push, key_from_entry}
@@ -166,3 +166,26 @@ module _ (l most : ℕ) (book : Book) (sires dams : List (Option ℕ)) (depths :
         let same : book ≡ old = sym (without_last-push book (number, animal)) ∙ same_Some _ _ is in
         rw (without_last-push sires sire, without_last-push dams dam, without_last-push depths (depth_from (slice_index depths) sire dam)) (subst (λ old. IsKept l most old sires dams depths) same k);
   }
+
+-- what is held of the empty book
+pub IsHeld-empty : (l most : ℕ) (log : List (ℕ × ℕ)) → IsHeld l most [] [] [] [] log Nothing
+unfolding IsDistinct
+IsHeld-empty l most log =
+    record {
+      kept = record {
+        lawful = record { once = tt; few = omega arith; shallow = refl; records = λ number animal e. absurd (cc) };
+        sires_are = record { long = refl; each = λ place entry e. absurd (cc) };
+        dams_are = record { long = refl; each = λ place entry e. absurd (cc) };
+        long = refl;
+        depths_are = record {
+          closed = λ p x t e. absurd (none x t);
+          kept = λ x t. absurd (none x t);
+          most = λ x t. absurd (none x t);
+        };
+      };
+      within = tt;
+      before = λ old e. absurd (cc);
+    }
+  where
+    none : (x : ℕ) → IsTrue ((parentage_at [] []).is_there x) → ⊥
+    none x t = let low = ltb-true x 0 t in omega (arith, low)

@@ -5,6 +5,7 @@ pub mod FrozenFacts
 pub mod AgeOrderFacts
 pub mod PermutedFacts
 pub mod RankFacts
+mod RecordsFacts
 pub mod RowFacts
 pub mod LevelFacts
 pub mod FreezeFacts

@@ -23,18 +23,24 @@ use Rattle.herd_pedigree.proofs.BookFacts.{bytes_itself, bytes_turned, same_byte
 use Rattle.herd_pedigree.proofs.KeptFacts.{shallow-kept}
 use Rattle.herd_pedigree.proofs.WrittenFacts.{written-changed, lawful-written}
 
-pub keys-set : (es : Book) (i : ℕ) (b : Animal) → keys_of (set_value_at es i b) ≡ keys_of es
+pub keys-set : {X : Type 0} (es : List (List ℕ × X)) (i : ℕ) (b : X) → keys_of (set_value_at es i b) ≡ keys_of es
 keys-set [] i b = refl
 keys-set (e ∷ es) zero b = refl
 keys-set (e ∷ es) (suc i) b = ap (λ ks. e.0 ∷ ks) (keys-set es i b)
 
-pub length-set-at : (es : Book) (i : ℕ) (b : Animal) → length (set_value_at es i b) ≡ length es
+pub length-set-at : {X : Type 0} (es : List (List ℕ × X)) (i : ℕ) (b : X) → length (set_value_at es i b) ≡ length es
 length-set-at [] i b = refl
 length-set-at (e ∷ es) zero b = refl
 length-set-at (e ∷ es) (suc i) b = ap (λ n. suc n) (length-set-at es i b)
 
+-- the record that was set
+pub set_there : {X : Type 0} (es : List (List ℕ × X)) (i : ℕ) (b : X) (entry : List ℕ × X) → slice_get es i ≡ Some entry → slice_get (set_value_at es i b) i ≡ Some (entry.0, b)
+set_there [] i b entry at = absurd (cc)
+set_there (e ∷ es) zero b entry at = let k : e ≡ entry = same_Some _ _ at in ap (λ p. Some (p.0, b)) k
+set_there (e ∷ es) (suc i) b entry at = set_there es i b entry at
+
 -- an entry is that which was set, or as it was
-pub set_value-cases : (es : Book) (i c : ℕ) (b : Animal) (entry : List ℕ × Animal) → slice_get (set_value_at es i b) c ≡ Some entry → ((c ≡ i) × (b ≡ entry.1)) ⊎ ((c ≢ i) × (slice_get es c ≡ Some entry))
+pub set_value-cases : {X : Type 0} (es : List (List ℕ × X)) (i c : ℕ) (b : X) (entry : List ℕ × X) → slice_get (set_value_at es i b) c ≡ Some entry → ((c ≡ i) × (b ≡ entry.1)) ⊎ ((c ≢ i) × (slice_get es c ≡ Some entry))
 set_value-cases [] i c b entry at = absurd (cc)
 set_value-cases (e ∷ es) zero zero b entry at = let n : (e.0, b) ≡ entry = same_Some _ _ at in inl (refl, ap (λ p. p.1) n)
 set_value-cases (e ∷ es) zero (suc c) b entry at = inr (λ h. absurd (omega (arith, h)), at)

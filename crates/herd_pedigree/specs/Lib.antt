@@ -13,6 +13,7 @@ pub mod Kept
 pub mod Undo
 pub mod Progeny
 pub mod RecordFault
+pub mod Records
 pub mod Calves
 pub mod Correction
 pub mod Carry

@@ -14,6 +14,7 @@ mod named;
 mod parent_fault;
 mod pedigree;
 mod progeny;
+mod records;
 #[cfg(test)]
 mod tests;
 mod undo;
@@ -26,6 +27,8 @@ pub use pedigree::Pedigree;
 // A crate can name a pedigree in a contract only if the types of its fields are exported.
 #[doc(hidden)]
 pub use progeny::Progeny;
+#[doc(hidden)]
+pub use records::{Entry, Records};
 #[doc(hidden)]
 pub use undo::Undo;
 

@@ -4,8 +4,8 @@ ghost use Rattle.herd_pedigree.specs.Listed.{AreLinksBy};
 
 use crate::animal::Animal;
 use crate::links::Link;
-use crate::named::Records;
 use crate::progeny::Progeny;
+use crate::records::Records;
 use herd_animal::AnimalNumber;
 use std::alloc::{AllocError, Allocator};
 
@@ -14,14 +14,14 @@ pub(crate) fn records_in_order<A: Allocator, B: Allocator>(
     alloc: B,
     records: &Records<A>,
 ) -> Result<Vec<(AnimalNumber, Animal), B>, AllocError>
-    ensures { IfOk result (λ list. list.items ≡ records.now.entries) }
+    ensures { IfOk result (λ list. list.items ≡ records.now.book) }
 {
     let mut list = Vec::with_capacity(alloc, records.len())?;
     for place in 0..records.len() {
-        let Some((number, animal)) = records.get_index(place) else {
+        let Some(entry) = records.entry_at(place) else {
             unreachable!();
         };
-        list.push((*number, *animal))?;
+        list.push(entry)?;
     }
     Ok(list)
 }

@@ -8,13 +8,9 @@ ghost use Rattle.herd_pedigree.specs.declared.TheConstants.{MOST_ANIMALS};
 
 use crate::animal::Animal;
 use crate::parent_fault::ParentFault;
+use crate::records::Records;
 use herd_animal::{AnimalNumber, Day, Sex};
-use indexmap::IndexMap;
 use std::alloc::Allocator;
-use std::hash::{BuildHasherDefault, FoldHasher};
-
-/// The records of a book.
-pub type Records<A> = IndexMap<AnimalNumber, Animal, BuildHasherDefault<FoldHasher>, A>;
 
 /// A parent that is named, or none, with its place and its record where the book has it.
 #[derive(Clone, Copy)]
@@ -28,18 +24,18 @@ pub struct Named {
 // Inlined: a caller copies no more of the record than it reads.
 #[inline(always)]
 pub fn find<A: Allocator>(records: &Records<A>, parent: Option<AnimalNumber>) -> Named
-    requires { length records.now.entries ≤ MOST_ANIMALS }
+    requires { length records.now.book ≤ MOST_ANIMALS }
     ensures number { result.number ≡ parent }
-    ensures record { result.animal ≡ record_named records.now.entries parent }
-    ensures within { IfSome result.place (λ place. place < length records.now.entries) }
-    ensures place { is_missing parent result.animal ≡ false → IsPlaceIn (keys_of records.now.entries) result.place parent }
+    ensures record { result.animal ≡ record_named records.now.book parent }
+    ensures within { IfSome result.place (λ place. place < length records.now.book) }
+    ensures place { is_missing parent result.animal ≡ false → IsPlaceIn (keys_of records.now.book) result.place parent }
 {
     if let Some(number) = parent {
-        if let Some((place, _, animal)) = records.get_full(&number) {
+        if let Some(place) = records.place_of(&number) {
             return Named {
                 number: parent,
                 place: Some(place as u32),
-                animal: Some(*animal),
+                animal: Some(records.animal_at(place)),
             };
         }
     }

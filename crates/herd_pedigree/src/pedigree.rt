@@ -14,19 +14,19 @@ use crate::depth::{depth_with, undo_writes};
 use crate::freeze::frozen_from;
 use crate::frozen::Frozen;
 use crate::listed::{links_in_order, records_in_order};
-use crate::named::{Records, find, record_fault};
+use crate::named::{find, record_fault};
 use crate::parent_fault::ParentFault;
 use crate::progeny::Progeny;
+use crate::records::Records;
 use crate::undo::Undo;
 use herd_animal::{AnimalNumber, Day, Herd};
-use indexmap::IndexMap;
 use std::alloc::{AllocError, Allocator};
 use std::marker::Model;
 
 /// The book of a society. It is always lawful.
 #[derive(Drop)]
 pub struct Pedigree<A: Allocator> {
-    // The book itself. A place is an index of it.
+    // The book itself.
     records: Records<A>,
     sires: Progeny<A>,
     dams: Progeny<A>,
@@ -44,9 +44,9 @@ impl<A: Allocator> Model for Pedigree<A> {
 
     ghost Value = { Pedigree };
 
-    ghost view = { λ p. record { book = p.records.entries; before = undone_book p.undo p.records.entries } };
+    ghost view = { λ p. record { book = p.records.book; before = undone_book p.undo p.records.book } };
 
-    ghost invariant = { λ p. IsWhole DEPTH_LIMIT MOST_ANIMALS p.records.entries p.sires p.dams p.depths.items p.old_depths.items p.undo };
+    ghost invariant = { λ p. IsWhole DEPTH_LIMIT MOST_ANIMALS p.records.book p.sires p.dams p.depths.items p.old_depths.items p.undo };
 }
 
 impl<A: Allocator + Copy> Pedigree<A> {
@@ -56,7 +56,7 @@ impl<A: Allocator + Copy> Pedigree<A> {
         ensures before { result.before ≡ None }
     {
         Pedigree {
-            records: IndexMap::new(alloc),
+            records: Records::new(alloc),
             sires: Progeny::new(alloc),
             dams: Progeny::new(alloc),
             depths: Vec::new(alloc),
@@ -101,7 +101,7 @@ impl<A: Allocator + Copy> Pedigree<A> {
         ensures { IfOk result (λ deep. (s d : Option (List ℕ)) → IsPlaceIn (keys_of self.now.book) sire s → IsPlaceIn (keys_of self.now.book) dam d → deep ≡ is_too_deep DEPTH_LIMIT self.now.book number.now s d) }
     {
         let depth = depth_with(&self.depths, sire, dam);
-        let Some(place) = self.records.get_index_of(number) else {
+        let Some(place) = self.records.place_of(number) else {
             return Ok(depth > u16::from(DEPTH_LIMIT));
         };
         if depth <= u16::from(self.depths[place]) {
@@ -171,13 +171,11 @@ impl<A: Allocator + Copy> Pedigree<A> {
         ensures err { OnErr result (self.new ≡ self.old) }
     {
         let depth = depth_with(&self.depths, sire, dam) as u8;
-        self.records.reserve(1)?;
+        self.records.reserve()?;
         self.depths.reserve(1)?;
         reserve(&mut self.sires, sire)?;
         reserve(&mut self.dams, dam)?;
-        if self.records.insert(number, animal).is_err() {
-            unreachable!();
-        }
+        self.records.push(number, animal, sire, dam);
         if self.depths.push(depth).is_err() {
             unreachable!();
         }
@@ -218,11 +216,11 @@ impl<A: Allocator + Copy> Pedigree<A> {
         ensures refused { IfOk result (λ fault. IsSome fault → self.new ≡ self.old) }
         ensures err { OnErr result (self.new ≡ self.old) }
     {
-        let Some(index) = self.records.get_index_of(&number) else {
+        let Some(index) = self.records.place_of(&number) else {
             unreachable!();
         };
         let place = index as u32;
-        let animal = self.records[index];
+        let animal = self.records.animal_at(index);
         let sire = find(&self.records, sire);
         let dam = find(&self.records, dam);
         if let Some(fault) = record_fault(animal.birth, &sire, &dam, animal.embryo) {
@@ -242,6 +240,8 @@ impl<A: Allocator + Copy> Pedigree<A> {
             return Ok(Some(ParentFault::TooDeep));
         };
         self.old_depths = log;
+        let corrected = animal.with_parents(sire.number, dam.number);
+        self.records.set(index, corrected, sire.place, dam.place);
         self.undo = Undo::Record {
             place,
             animal,
@@ -250,9 +250,6 @@ impl<A: Allocator + Copy> Pedigree<A> {
         };
         self.sires.set(place, sire.place);
         self.dams.set(place, dam.place);
-        let record = &mut self.records[index];
-        record.sire = sire.number;
-        record.dam = dam.number;
         Ok(None)
     }
 }
@@ -263,7 +260,7 @@ impl<A: Allocator> Pedigree<A> {
     pub fn get(&self, number: &AnimalNumber) -> Option<Animal>
         ensures { result ≡ record_of self.now.book number.now }
     {
-        self.records.get(number).copied()
+        self.records.get(number)
     }
 
     /// How many animals are in the book.
@@ -279,7 +276,7 @@ impl<A: Allocator> Pedigree<A> {
         ensures there { IfSome result (λ _. IsSome (record_of self.now.book number.now)) }
         ensures depth { IfSome result (IsDepthOf self.now.book number.now) }
     {
-        let place = self.records.get_index_of(number)?;
+        let place = self.records.place_of(number)?;
         Some(self.depths[place])
     }
 
@@ -287,11 +284,11 @@ impl<A: Allocator> Pedigree<A> {
     pub fn calved_after(&self, number: &AnimalNumber, day: Day) -> bool
         ensures { result ≡ has_calved_after self.now.book number.now day }
     {
-        let Some(place) = self.records.get_index_of(number) else {
+        let Some(place) = self.records.place_of(number) else {
             return false;
         };
         for calf in self.dams.calves(place as u32) {
-            let calf = &self.records[*calf as usize];
+            let calf = self.records.animal_at(*calf as usize);
             if !calf.embryo && day < calf.birth {
                 return true;
             }
@@ -304,20 +301,20 @@ impl<A: Allocator> Pedigree<A> {
         requires { IsPresentOn self.old.book number day }
         ensures { self.new ≡ changed_to self.old (changed self.old.book number (with_owner herd day)) }
     {
-        let Some(place) = self.records.get_index_of(&number) else {
+        let Some(place) = self.records.place_of(&number) else {
             unreachable!();
         };
-        let animal = self.records[place];
+        let animal = self.records.animal_at(place);
+        let sire = self.sires.parent(place as u32);
+        let dam = self.dams.parent(place as u32);
+        self.records.set(place, animal.with_owner(herd, day), sire, dam);
         self.undo = Undo::Record {
             place: place as u32,
             animal,
-            sire: self.sires.parent(place as u32),
-            dam: self.dams.parent(place as u32),
+            sire,
+            dam,
         };
         self.old_depths.clear();
-        let record = &mut self.records[place];
-        record.herd = herd;
-        record.since = day;
     }
 
     /// Sets the day on which an animal left. It takes no memory.
@@ -325,18 +322,20 @@ impl<A: Allocator> Pedigree<A> {
         requires { IsExit self.old.book number day }
         ensures { self.new ≡ changed_to self.old (changed self.old.book number (with_left day)) }
     {
-        let Some(place) = self.records.get_index_of(&number) else {
+        let Some(place) = self.records.place_of(&number) else {
             unreachable!();
         };
-        let animal = self.records[place];
+        let animal = self.records.animal_at(place);
+        let sire = self.sires.parent(place as u32);
+        let dam = self.dams.parent(place as u32);
+        self.records.set(place, animal.with_left(day), sire, dam);
         self.undo = Undo::Record {
             place: place as u32,
             animal,
-            sire: self.sires.parent(place as u32),
-            dam: self.dams.parent(place as u32),
+            sire,
+            dam,
         };
         self.old_depths.clear();
-        self.records[place].left = Some(day);
     }
 
     /// Whether there is a change that can be taken back: true after each change, false after `new` and `take_back`.
@@ -360,7 +359,7 @@ impl<A: Allocator> Pedigree<A> {
         match undo {
             Undo::Nothing => unreachable!(),
             Undo::Birth => {
-                let _ = self.records.pop();
+                self.records.pop();
                 self.sires.pop();
                 self.dams.pop();
                 let _ = self.depths.pop();
@@ -371,7 +370,7 @@ impl<A: Allocator> Pedigree<A> {
                 sire,
                 dam,
             } => {
-                self.records[place as usize] = animal;
+                self.records.set(place as usize, animal, sire, dam);
                 self.sires.set(place, sire);
                 self.dams.set(place, dam);
                 undo_writes(&mut self.depths, &mut self.old_depths);

@@ -2,7 +2,7 @@ use Rattle.std.proofs.Common.{sym}
 use Rattle.herd_pedigree.proofs.BookFacts.{at_position}
 use Rattle.herd_pedigree.proofs.named.find.Goals as goal
 
-pub returns-in-Some-get_full-clause-place : goal.returns-in-Some-get_full-clause-place
-returns-in-Some-get_full-clause-place g c =
+pub returns-in-Some-place_of-clause-place : goal.returns-in-Some-place_of-clause-place
+returns-in-Some-place_of-clause-place g c =
     λ named.
-    rw c.in-Some.is (at_position c.args.records.now.entries c.in-Some.number c.in-Some-get_full.place (sym c.in-Some-get_full.ensures.index))
+    rw c.in-Some.is (at_position c.args.records.now.book c.in-Some.number c.in-Some-place_of.place (sym c.in-Some-place_of.ensures.index))

@@ -9,7 +9,7 @@ use Rattle.herd_pedigree.proofs.pedigree.Pedigree.add.Goals as goal
 
 pub add_below-requires-clause-sire : goal.add_below-requires-clause-sire
 add_below-requires-clause-sire g c =
-    let book : Book = c.self.inside.records.entries in
+    let book : Book = c.self.inside.records.book in
     let birth : IsBirth 60 60_000 book c.args.number c.args.animal = subst (λ p. IsBirth 60 60_000 p.book c.args.number c.args.animal) (sym c.self.view_is) c.requires in
     let fine = no_fault 60 book c.args.number c.args.animal.birth c.args.animal.sire c.args.animal.dam c.args.animal.embryo birth.parents in
     subst (λ p. IsPlaceIn (keys_of p.book) c.find-sire.result.place c.args.animal.sire) c.self.view_is
@@ -17,7 +17,7 @@ add_below-requires-clause-sire g c =
 
 pub add_below-requires-clause-dam : goal.add_below-requires-clause-dam
 add_below-requires-clause-dam g c =
-    let book : Book = c.self.inside.records.entries in
+    let book : Book = c.self.inside.records.book in
     let birth : IsBirth 60 60_000 book c.args.number c.args.animal = subst (λ p. IsBirth 60 60_000 p.book c.args.number c.args.animal) (sym c.self.view_is) c.requires in
     let fine = no_fault 60 book c.args.number c.args.animal.birth c.args.animal.sire c.args.animal.dam c.args.animal.embryo birth.parents in
     subst (λ p. IsPlaceIn (keys_of p.book) c.find-dam.result.place c.args.animal.dam) c.self.view_is

@@ -16,7 +16,7 @@ use Rattle.herd_pedigree.proofs.pedigree.Pedigree.add_below.Goals as goal
 
 pub invariant_of-self-2 : goal.invariant_of-self-2
 invariant_of-self-2 g c =
-    let book : Book = c.self.inside.records.entries in
+    let book : Book = c.self.inside.records.book in
     let sires : List (Option ℕ) = c.self.inside.sires.parents in
     let dams : List (Option ℕ) = c.self.inside.dams.parents in
     let depths : List ℕ = c.self.inside.depths.items in
@@ -27,18 +27,18 @@ invariant_of-self-2 g c =
     let sire_is : IsPlaceIn (keys_of book) sire c.args.animal.sire = subst (λ p. IsPlaceIn (keys_of p.book) sire c.args.animal.sire) (sym c.self.view_is) c.requires.sire in
     let dam_is : IsPlaceIn (keys_of book) dam c.args.animal.dam = subst (λ p. IsPlaceIn (keys_of p.book) dam c.args.animal.dam) (sym c.self.view_is) c.requires.dam in
     let absent : record_of book c.args.number ≡ None = birth.absent in
-    let entries : c.insert.new.self.entries ≡ book ++ (c.args.number, c.args.animal) ∷ [] = search (rules, insert_entry-new bytes_eq c.self.inside.records c.args.number c.args.animal absent) in
-    let sires_are : c.push-2.new.self.parents ≡ sires ++ sire ∷ [] = c.push-2.ensures ∙ ap (λ ps. ps ++ sire ∷ []) c.reserve-3.ensures.parents in
-    let dams_are : c.push-3.new.self.parents ≡ dams ++ dam ∷ [] = c.push-3.ensures ∙ ap (λ ps. ps ++ dam ∷ []) c.reserve-4.ensures.parents in
+    let entries : c.push.new.self.book ≡ book ++ (c.args.number, c.args.animal) ∷ [] = c.push.ensures ∙ ap (λ b. b ++ (c.args.number, c.args.animal) ∷ []) c.reserve.ensures.book in
+    let sires_are : c.push-3.new.self.parents ≡ sires ++ sire ∷ [] = c.push-3.ensures ∙ ap (λ ps. ps ++ sire ∷ []) c.reserve-3.ensures.parents in
+    let dams_are : c.push-4.new.self.parents ≡ dams ++ dam ∷ [] = c.push-4.ensures ∙ ap (λ ps. ps ++ dam ∷ []) c.reserve-4.ensures.parents in
     let depth : c.depth_with-depth.result ≡ depth_from (slice_index depths) sire dam = c.depth_with-depth.ensures.depth ∙ ap (λ ds. depth_from (slice_index ds) sire dam) c.deref.ensures.value in
-    let depths_are : c.push.new.self.items ≡ depths ++ depth_from (slice_index depths) sire dam ∷ [] = search (rules, depth) in
-    let held : IsHeld 60 60_000 c.insert.new.self.entries c.push-2.new.self.parents c.push-3.new.self.parents c.push.new.self.items log Birth =
+    let depths_are : c.push-2.new.self.items ≡ depths ++ depth_from (slice_index depths) sire dam ∷ [] = search (rules, depth) in
+    let held : IsHeld 60 60_000 c.push.new.self.book c.push-3.new.self.parents c.push-4.new.self.parents c.push-2.new.self.items log Birth =
     rw (entries, sires_are, dams_are, depths_are) (IsHeld-push 60 60_000 book sires dams depths c.self.invariant.held.kept c.args.number c.args.animal absent sire dam sire_is dam_is birth log) in
     record { held = held; room = tt }
 
 pub returns-clause-added : goal.returns-clause-added
 returns-clause-added g c =
-    let book : Book = c.self.inside.records.entries in
+    let book : Book = c.self.inside.records.book in
     let absent : record_of book c.args.number ≡ None = subst (λ p. record_of p.book c.args.number ≡ None) (sym c.self.view_is) c.requires.birth.absent in
-    let entries : c.insert.new.self.entries ≡ book ++ (c.args.number, c.args.animal) ∷ [] = search (rules, insert_entry-new bytes_eq c.self.inside.records c.args.number c.args.animal absent) in
-    birth-view c.args.self.now book c.insert.new.self.entries (c.args.number, c.args.animal) entries (ap (λ p. p.book) c.self.view_is)
+    let entries : c.push.new.self.book ≡ book ++ (c.args.number, c.args.animal) ∷ [] = c.push.ensures ∙ ap (λ b. b ++ (c.args.number, c.args.animal) ∷ []) c.reserve.ensures.book in
+    birth-view c.args.self.now book c.push.new.self.book (c.args.number, c.args.animal) entries (ap (λ p. p.book) c.self.view_is)

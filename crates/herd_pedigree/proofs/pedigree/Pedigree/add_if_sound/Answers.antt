@@ -12,7 +12,7 @@ use Rattle.herd_pedigree.proofs.pedigree.Pedigree.add_if_sound.Goals as goal
 
 pub returns-in-Some-clause-fault : goal.returns-in-Some-clause-fault
 returns-in-Some-clause-fault g c =
-    let book : Book = c.self.inside.records.entries in
+    let book : Book = c.self.inside.records.book in
     let birth = c.args.animal.birth in
     let s : Option (List ℕ) = c.args.animal.sire in
     let d : Option (List ℕ) = c.args.animal.dam in
@@ -24,7 +24,7 @@ returns-in-Some-clause-fault g c =
 
 pub returns-then-depth_with-from-clause-fault : goal.returns-then-depth_with-from-clause-fault
 returns-then-depth_with-from-clause-fault g c =
-    let book : Book = c.self.inside.records.entries in
+    let book : Book = c.self.inside.records.book in
     let birth = c.args.animal.birth in
     let s : Option (List ℕ) = c.args.animal.sire in
     let d : Option (List ℕ) = c.args.animal.dam in
@@ -48,7 +48,7 @@ returns-then-depth_with-from-clause-fault g c =
 
 pub add_below-requires-clause-birth : goal.add_below-requires-clause-birth
 add_below-requires-clause-birth g c =
-    let book : Book = c.self.inside.records.entries in
+    let book : Book = c.self.inside.records.book in
     let birth = c.args.animal.birth in
     let s : Option (List ℕ) = c.args.animal.sire in
     let d : Option (List ℕ) = c.args.animal.dam in
@@ -78,7 +78,7 @@ add_below-requires-clause-birth g c =
 
 pub add_below-requires-clause-sire : goal.add_below-requires-clause-sire
 add_below-requires-clause-sire g c =
-    let book : Book = c.self.inside.records.entries in
+    let book : Book = c.self.inside.records.book in
     let birth = c.args.animal.birth in
     let s : Option (List ℕ) = c.args.animal.sire in
     let d : Option (List ℕ) = c.args.animal.dam in
@@ -94,7 +94,7 @@ add_below-requires-clause-sire g c =
 
 pub add_below-requires-clause-dam : goal.add_below-requires-clause-dam
 add_below-requires-clause-dam g c =
-    let book : Book = c.self.inside.records.entries in
+    let book : Book = c.self.inside.records.book in
     let birth = c.args.animal.birth in
     let s : Option (List ℕ) = c.args.animal.sire in
     let d : Option (List ℕ) = c.args.animal.dam in
@@ -110,7 +110,7 @@ add_below-requires-clause-dam g c =
 
 pub returns-clause-fault : goal.returns-clause-fault
 returns-clause-fault g c =
-    let book : Book = c.self.inside.records.entries in
+    let book : Book = c.self.inside.records.book in
     let birth = c.args.animal.birth in
     let s : Option (List ℕ) = c.args.animal.sire in
     let d : Option (List ℕ) = c.args.animal.dam in

@@ -6,4 +6,4 @@ use Rattle.herd_pedigree.proofs.pedigree.Pedigree.calved_after.Given as goal
 
 abbrev pub invariant-loop-calf : goal.invariant-loop-calf
 invariant-loop-calf g l =
-    (k : ℕ) → k < l.calf-index → (entry : List ℕ × Animal) → slice_get l.self-inside.records.entries (get_or l.calf-items k 0) ≡ Some entry → counts l.day entry.1 ≡ false
+    (k : ℕ) → k < l.calf-index → (entry : List ℕ × Animal) → slice_get l.self-inside.records.book (get_or l.calf-items k 0) ≡ Some entry → counts l.day entry.1 ≡ false

@@ -9,7 +9,7 @@ use Rattle.herd_pedigree.proofs.pedigree.Pedigree.check_parents.Goals as goal
 
 pub returns-in-Some : goal.returns-in-Some
 returns-in-Some g c =
-    let book : Book = c.self.inside.records.entries in
+    let book : Book = c.self.inside.records.book in
     let told : first_that_holds (record_faults c.args.birth c.args.sire (record_named book c.args.sire) c.args.dam (record_named book c.args.dam) c.args.embryo) ≡ Some c.in-Some.fault =
     sym (c.record_fault.ensures ∙ found_none c.args.birth book c.args.sire c.args.dam _ _ _ _ c.args.embryo c.find-sire.ensures.number c.find-sire.ensures.record c.find-dam.ensures.number c.find-dam.ensures.record) ∙ c.in-Some.is in
     subst (λ p. Some c.in-Some.fault ≡ parent_fault 60 p.book c.args.number c.args.birth c.args.sire c.args.dam c.args.embryo) c.self.view_is
@@ -17,7 +17,7 @@ returns-in-Some g c =
 
 pub returns-then-branch : goal.returns-then-branch
 returns-then-branch g c =
-    let book : Book = c.self.inside.records.entries in
+    let book : Book = c.self.inside.records.book in
     let now : Book = c.args.self.now.book in
     let same : book ≡ now = ap (λ p. p.book) c.self.view_is in
     let told : first_that_holds (record_faults c.args.birth c.args.sire (record_named book c.args.sire) c.args.dam (record_named book c.args.dam) c.args.embryo) ≡ None =
@@ -31,7 +31,7 @@ returns-then-branch g c =
 
 pub returns-else-branch : goal.returns-else-branch
 returns-else-branch g c =
-    let book : Book = c.self.inside.records.entries in
+    let book : Book = c.self.inside.records.book in
     let now : Book = c.args.self.now.book in
     let same : book ≡ now = ap (λ p. p.book) c.self.view_is in
     let told : first_that_holds (record_faults c.args.birth c.args.sire (record_named book c.args.sire) c.args.dam (record_named book c.args.dam) c.args.embryo) ≡ None =

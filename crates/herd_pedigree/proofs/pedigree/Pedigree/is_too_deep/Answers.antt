@@ -15,7 +15,7 @@ use Rattle.herd_pedigree.proofs.pedigree.Pedigree.is_too_deep.Goals as goal
 
 pub returns-in_default : goal.returns-in_default
 returns-in_default g c =
-    let book : Book = c.self.inside.records.entries in
+    let book : Book = c.self.inside.records.book in
     let number : List ℕ = c.args.number.now in
     let sires : List (Option ℕ) = c.self.inside.sires.parents in
     let dams : List (Option ℕ) = c.self.inside.dams.parents in
@@ -29,7 +29,7 @@ returns-in_default g c =
 
 pub returns-then-depth-from : goal.returns-then-depth-from
 returns-then-depth-from g c =
-    let book : Book = c.self.inside.records.entries in
+    let book : Book = c.self.inside.records.book in
     let number : List ℕ = c.args.number.now in
     let sires : List (Option ℕ) = c.self.inside.sires.parents in
     let dams : List (Option ℕ) = c.self.inside.dams.parents in
@@ -48,7 +48,7 @@ returns-then-depth-from g c =
 
 pub has_no_calves-requires : goal.has_no_calves-requires
 has_no_calves-requires g c =
-    let book : Book = c.self.inside.records.entries in
+    let book : Book = c.self.inside.records.book in
     let number : List ℕ = c.args.number.now in
     let sires : List (Option ℕ) = c.self.inside.sires.parents in
     let dams : List (Option ℕ) = c.self.inside.dams.parents in
@@ -68,7 +68,7 @@ has_no_calves-requires g c =
 
 pub returns-then-has_no_calves : goal.returns-then-has_no_calves
 returns-then-has_no_calves g c =
-    let book : Book = c.self.inside.records.entries in
+    let book : Book = c.self.inside.records.book in
     let number : List ℕ = c.args.number.now in
     let sires : List (Option ℕ) = c.self.inside.sires.parents in
     let dams : List (Option ℕ) = c.self.inside.dams.parents in
@@ -83,7 +83,7 @@ returns-then-has_no_calves g c =
 
 pub is_too_deep-requires-clause-sound : goal.is_too_deep-requires-clause-sound
 is_too_deep-requires-clause-sound g c =
-    let book : Book = c.self.inside.records.entries in
+    let book : Book = c.self.inside.records.book in
     let number : List ℕ = c.args.number.now in
     let sires : List (Option ℕ) = c.self.inside.sires.parents in
     let dams : List (Option ℕ) = c.self.inside.dams.parents in
@@ -103,7 +103,7 @@ is_too_deep-requires-clause-sound g c =
 
 pub is_too_deep-requires-clause-settled : goal.is_too_deep-requires-clause-settled
 is_too_deep-requires-clause-settled g c =
-    let book : Book = c.self.inside.records.entries in
+    let book : Book = c.self.inside.records.book in
     let number : List ℕ = c.args.number.now in
     let sires : List (Option ℕ) = c.self.inside.sires.parents in
     let dams : List (Option ℕ) = c.self.inside.dams.parents in
@@ -127,7 +127,7 @@ is_too_deep-requires-clause-shallow g c =
 
 pub returns : goal.returns
 returns g c =
-    let book : Book = c.self.inside.records.entries in
+    let book : Book = c.self.inside.records.book in
     let number : List ℕ = c.args.number.now in
     let sires : List (Option ℕ) = c.self.inside.sires.parents in
     let dams : List (Option ℕ) = c.self.inside.dams.parents in

@@ -3,7 +3,6 @@ use Rattle.std.specs.Map.{keys_of}
 use Rattle.std.specs.Vec.{with_items}
 use Rattle.std.proofs.lemmas.List.{with_items_is}
 use Rattle.std.proofs.lemmas.Bool.{false≢true, true≢false}
-use Rattle.std.proofs.lemmas.Option.{same_Some}
 use Rattle.indexmap.specs.IndexMap.{set_value_at}
 use Rattle.herd_pedigree.specs.declared.animal.Animal.{Animal}
 use Rattle.herd_pedigree.specs.declared.undo.Undo.TheVariants.{Record}
@@ -26,13 +25,13 @@ use Rattle.herd_pedigree.proofs.pedigree.Pedigree.set_parents_if_sound.Goals as 
 
 pub returns-in-Some-record_fault-clause-fault : goal.returns-in-Some-record_fault-clause-fault
 returns-in-Some-record_fault-clause-fault g c =
-    let book : Book = c.self.inside.records.entries in
+    let book : Book = c.self.inside.records.book in
     let number : List ℕ = c.args.number in
     let kept = c.self.invariant.held.kept in
     let place : ℕ = c.in-Some.index in
     let at : slice_get (keys_of book) place ≡ Some number = at_position book number place (sym c.in-Some.ensures.index) in
-    let a : Animal = c.index-animal.result.now in
-    let entry : slice_get book place ≡ Some (number, a) = entry_from_both book place number a at c.index-animal.ensures in
+    let a : Animal = c.animal_at-animal.result in
+    let entry : slice_get book place ≡ Some (number, a) = entry_from_both book place number a at c.animal_at-animal.ensures in
     let there : record_of book number ≡ Some a = lookup_at book kept.lawful.once place number a entry in
     let birth = a.birth in
     let s : Option (List ℕ) = c.args.sire in
@@ -45,7 +44,7 @@ returns-in-Some-record_fault-clause-fault g c =
 
 pub carry_if_shallow-requires-clause-sound : goal.carry_if_shallow-requires-clause-sound
 carry_if_shallow-requires-clause-sound g c =
-    let book : Book = c.self.inside.records.entries in
+    let book : Book = c.self.inside.records.book in
     let number : List ℕ = c.args.number in
     let sires : List (Option ℕ) = c.self.inside.sires.parents in
     let dams : List (Option ℕ) = c.self.inside.dams.parents in
@@ -54,10 +53,10 @@ carry_if_shallow-requires-clause-sound g c =
     let place : ℕ = c.in-Some.index in
     let sire : Option ℕ = c.find-sire.result.place in
     let dam : Option ℕ = c.find-dam.result.place in
-    let birth = c.index-animal.result.now.birth in
+    let birth = c.animal_at-animal.result.birth in
     let s : Option (List ℕ) = c.args.sire in
     let d : Option (List ℕ) = c.args.dam in
-    let embryo = c.index-animal.result.now.embryo in
+    let embryo = c.animal_at-animal.result.embryo in
     let told : first_that_holds (record_faults birth s (record_named book s) d (record_named book d) embryo) ≡ None =
     sym (c.record_fault.ensures ∙ found_none birth book s d _ _ _ _ embryo c.find-sire.ensures.number c.find-sire.ensures.record c.find-dam.ensures.number c.find-dam.ensures.record) ∙ c.in_default-record_fault.is in
     let missing = none_missing birth s (record_named book s) d (record_named book d) embryo told in
@@ -78,7 +77,7 @@ carry_if_shallow-requires-clause-sound g c =
 
 pub carry_if_shallow-requires-clause-settled : goal.carry_if_shallow-requires-clause-settled
 carry_if_shallow-requires-clause-settled g c =
-    let book : Book = c.self.inside.records.entries in
+    let book : Book = c.self.inside.records.book in
     let number : List ℕ = c.args.number in
     let sires : List (Option ℕ) = c.self.inside.sires.parents in
     let dams : List (Option ℕ) = c.self.inside.dams.parents in
@@ -87,10 +86,10 @@ carry_if_shallow-requires-clause-settled g c =
     let place : ℕ = c.in-Some.index in
     let sire : Option ℕ = c.find-sire.result.place in
     let dam : Option ℕ = c.find-dam.result.place in
-    let birth = c.index-animal.result.now.birth in
+    let birth = c.animal_at-animal.result.birth in
     let s : Option (List ℕ) = c.args.sire in
     let d : Option (List ℕ) = c.args.dam in
-    let embryo = c.index-animal.result.now.embryo in
+    let embryo = c.animal_at-animal.result.embryo in
     let told : first_that_holds (record_faults birth s (record_named book s) d (record_named book d) embryo) ≡ None =
     sym (c.record_fault.ensures ∙ found_none birth book s d _ _ _ _ embryo c.find-sire.ensures.number c.find-sire.ensures.record c.find-dam.ensures.number c.find-dam.ensures.record) ∙ c.in_default-record_fault.is in
     let missing = none_missing birth s (record_named book s) d (record_named book d) embryo told in
@@ -111,7 +110,7 @@ invariant_of-self-in_err-log g c =
     let inside = c.self.inside in
     let long : length c.carry_if_shallow.new.depths ≡ inside.depths.len = c.carry_if_shallow.auto.depths ∙ c.deref_mut.ensures.len in
     let back : (with_items inside.depths c.carry_if_shallow.new.depths).items ≡ inside.depths.items = with_items_is inside.depths c.carry_if_shallow.new.depths long ∙ c.in_err-log.ensures.err ∙ c.deref_mut.ensures.value in
-    IsWhole-more 60 60_000 inside.records.entries inside.sires inside.dams c.reserve_calf.new.self c.reserve_calf-2.new.self inside.depths.items (with_items inside.depths c.carry_if_shallow.new.depths).items inside.old_depths.items inside.undo
+    IsWhole-more 60 60_000 inside.records.book inside.sires inside.dams c.reserve_calf.new.self c.reserve_calf-2.new.self inside.depths.items (with_items inside.depths c.carry_if_shallow.new.depths).items inside.old_depths.items inside.undo
     c.self.invariant c.reserve_calf.ensures.parents c.reserve_calf-2.ensures.parents back c.reserve_calf.ensures.spare c.reserve_calf-2.ensures.spare
 
 pub invariant_of-self-in_default-2 : goal.invariant_of-self-in_default-2
@@ -119,18 +118,18 @@ invariant_of-self-in_default-2 g c =
     let inside = c.self.inside in
     let long : length c.carry_if_shallow.new.depths ≡ inside.depths.len = c.carry_if_shallow.auto.depths ∙ c.deref_mut.ensures.len in
     let back : (with_items inside.depths c.carry_if_shallow.new.depths).items ≡ inside.depths.items = with_items_is inside.depths c.carry_if_shallow.new.depths long ∙ (rw c.in_default-2.is at c.in_ok-log.ensures.same) ∙ c.deref_mut.ensures.value in
-    IsWhole-more 60 60_000 inside.records.entries inside.sires inside.dams c.reserve_calf.new.self c.reserve_calf-2.new.self inside.depths.items (with_items inside.depths c.carry_if_shallow.new.depths).items inside.old_depths.items inside.undo
+    IsWhole-more 60 60_000 inside.records.book inside.sires inside.dams c.reserve_calf.new.self c.reserve_calf-2.new.self inside.depths.items (with_items inside.depths c.carry_if_shallow.new.depths).items inside.old_depths.items inside.undo
     c.self.invariant c.reserve_calf.ensures.parents c.reserve_calf-2.ensures.parents back c.reserve_calf.ensures.spare c.reserve_calf-2.ensures.spare
 
 pub returns-in_default-2-clause-fault : goal.returns-in_default-2-clause-fault
 returns-in_default-2-clause-fault g c =
-    let book : Book = c.self.inside.records.entries in
+    let book : Book = c.self.inside.records.book in
     let number : List ℕ = c.args.number in
     let kept = c.self.invariant.held.kept in
     let place : ℕ = c.in-Some.index in
     let at : slice_get (keys_of book) place ≡ Some number = at_position book number place (sym c.in-Some.ensures.index) in
-    let a : Animal = c.index-animal.result.now in
-    let entry : slice_get book place ≡ Some (number, a) = entry_from_both book place number a at c.index-animal.ensures in
+    let a : Animal = c.animal_at-animal.result in
+    let entry : slice_get book place ≡ Some (number, a) = entry_from_both book place number a at c.animal_at-animal.ensures in
     let there : record_of book number ≡ Some a = lookup_at book kept.lawful.once place number a entry in
     let sires : List (Option ℕ) = c.self.inside.sires.parents in
     let dams : List (Option ℕ) = c.self.inside.dams.parents in
@@ -155,9 +154,35 @@ returns-in_default-2-clause-fault g c =
     let told_by : IfSome (record_of book number) (λ animal. Some TooDeep ≡ parent_fault 60 book number animal.birth s d animal.embryo) = rw there (fault-rest 60 book number birth s d embryo true told deep) in
     subst (λ p. IfSome (record_of p.book number) (λ animal. Some TooDeep ≡ parent_fault 60 p.book number animal.birth s d animal.embryo)) c.self.view_is told_by
 
+pub set-requires-clause-sire : goal.set-requires-clause-sire
+set-requires-clause-sire g c =
+    let book : Book = c.self.inside.records.book in
+    let birth = c.animal_at-animal.result.birth in
+    let s : Option (List ℕ) = c.args.sire in
+    let d : Option (List ℕ) = c.args.dam in
+    let embryo = c.animal_at-animal.result.embryo in
+    let told : first_that_holds (record_faults birth s (record_named book s) d (record_named book d) embryo) ≡ None =
+    sym (c.record_fault.ensures ∙ found_none birth book s d _ _ _ _ embryo c.find-sire.ensures.number c.find-sire.ensures.record c.find-dam.ensures.number c.find-dam.ensures.record) ∙ c.in_default-record_fault.is in
+    let missing = none_missing birth s (record_named book s) d (record_named book d) embryo told in
+    let sire_is : IsPlaceIn (keys_of book) c.find-sire.result.place s = c.find-sire.ensures.place (ap (λ r. is_missing s r) c.find-sire.ensures.record ∙ missing.0) in
+    subst (λ o. IsPlaceIn (keys_of book) c.find-sire.result.place o) (sym (ap (λ v. v.sire) c.with_parents-corrected.ensures ∙ c.find-sire.ensures.number)) sire_is
+
+pub set-requires-clause-dam : goal.set-requires-clause-dam
+set-requires-clause-dam g c =
+    let book : Book = c.self.inside.records.book in
+    let birth = c.animal_at-animal.result.birth in
+    let s : Option (List ℕ) = c.args.sire in
+    let d : Option (List ℕ) = c.args.dam in
+    let embryo = c.animal_at-animal.result.embryo in
+    let told : first_that_holds (record_faults birth s (record_named book s) d (record_named book d) embryo) ≡ None =
+    sym (c.record_fault.ensures ∙ found_none birth book s d _ _ _ _ embryo c.find-sire.ensures.number c.find-sire.ensures.record c.find-dam.ensures.number c.find-dam.ensures.record) ∙ c.in_default-record_fault.is in
+    let missing = none_missing birth s (record_named book s) d (record_named book d) embryo told in
+    let dam_is : IsPlaceIn (keys_of book) c.find-dam.result.place d = c.find-dam.ensures.place (ap (λ r. is_missing d r) c.find-dam.ensures.record ∙ missing.1) in
+    subst (λ o. IsPlaceIn (keys_of book) c.find-dam.result.place o) (sym (ap (λ v. v.dam) c.with_parents-corrected.ensures ∙ c.find-dam.ensures.number)) dam_is
+
 pub invariant_of-self-2 : goal.invariant_of-self-2
 invariant_of-self-2 g c =
-    let book : Book = c.self.inside.records.entries in
+    let book : Book = c.self.inside.records.book in
     let number : List ℕ = c.args.number in
     let sires : List (Option ℕ) = c.self.inside.sires.parents in
     let dams : List (Option ℕ) = c.self.inside.dams.parents in
@@ -166,10 +191,10 @@ invariant_of-self-2 g c =
     let place : ℕ = c.in-Some.index in
     let sire : Option ℕ = c.find-sire.result.place in
     let dam : Option ℕ = c.find-dam.result.place in
-    let birth = c.index-animal.result.now.birth in
+    let birth = c.animal_at-animal.result.birth in
     let s : Option (List ℕ) = c.args.sire in
     let d : Option (List ℕ) = c.args.dam in
-    let embryo = c.index-animal.result.now.embryo in
+    let embryo = c.animal_at-animal.result.embryo in
     let told : first_that_holds (record_faults birth s (record_named book s) d (record_named book d) embryo) ≡ None =
     sym (c.record_fault.ensures ∙ found_none birth book s d _ _ _ _ embryo c.find-sire.ensures.number c.find-sire.ensures.record c.find-dam.ensures.number c.find-dam.ensures.record) ∙ c.in_default-record_fault.is in
     let missing = none_missing birth s (record_named book s) d (record_named book d) embryo told in
@@ -180,11 +205,10 @@ invariant_of-self-2 g c =
     let here : place < length sires = let w = c.in-Some.ensures.within in omega (arith, w, m) in
     let sp : c.reserve_calf.new.self.parents ≡ sires = c.reserve_calf.ensures.parents in
     let dp : c.reserve_calf-2.new.self.parents ≡ dams = c.reserve_calf-2.ensures.parents in
-    let a : Animal = c.index-animal.result.now in
-    let entry : slice_get book place ≡ Some (number, a) = entry_from_both book place number a at c.index-animal.ensures in
-    let same : a ≡ c.index_mut-record.result.now = same_Some _ _ (sym c.index-animal.ensures ∙ c.index_mut-record.ensures.value) in
-    let written : with_parents c.args.sire c.args.dam a ≡ with_parents c.find-sire.result.number c.find-dam.result.number c.index_mut-record.result.now =
-    λ i. with_parents (sym c.find-sire.ensures.number i) (sym c.find-dam.ensures.number i) (same i) in
+    let a : Animal = c.animal_at-animal.result in
+    let entry : slice_get book place ≡ Some (number, a) = entry_from_both book place number a at c.animal_at-animal.ensures in
+    let written : c.set.new.self.book ≡ set_value_at book place (with_parents c.args.sire c.args.dam a) =
+    c.set.ensures ∙ ap (λ v. set_value_at book place v) (c.with_parents-corrected.ensures ∙ (λ i. with_parents (c.find-sire.ensures.number i) (c.find-dam.ensures.number i) a)) in
     let there : record_of book number ≡ Some a = lookup_at book kept.lawful.once place number a entry in
     let S : List (Option ℕ) → List (Option ℕ) → Type 0 = λ ss ds. (x : ℕ) → IsFalse (has_line (parentage_at (slice_set ss place sire) (slice_set ds place dam)) 61 x) in
     let shallow : S sires dams = subst (λ ds. S sires ds) dp (subst (λ ss. S ss c.reserve_calf-2.new.self.parents) sp (rw c.in-Some-2.is at c.in_ok-log.ensures.shallow)) in
@@ -204,27 +228,27 @@ invariant_of-self-2 g c =
     ((rw c.in-Some-2.is at c.in_ok-log.ensures.undone) ∙ c.deref_mut.ensures.value)
     c.parent.result c.parent-2.result (c.parent.ensures ∙ ap (λ ss. parent_at ss place) sp) (c.parent-2.ensures ∙ ap (λ ds. parent_at ds place) dp) in
     let back : (with_items c.self.inside.depths after).items ≡ after = with_items_is c.self.inside.depths after (c.carry_if_shallow.auto.depths ∙ c.deref_mut.ensures.len) in
-    let sires_are : c.set.new.self.parents ≡ slice_set sires place sire = c.set.ensures.parents ∙ ap (λ ss. slice_set ss place sire) sp in
-    let dams_are : c.set-2.new.self.parents ≡ slice_set dams place dam = c.set-2.ensures.parents ∙ ap (λ ds. slice_set ds place dam) dp in
-    let Q : List (Option ℕ) → List (Option ℕ) → List ℕ → Animal → Type 0 = λ ss ds hs b. IsHeld 60 60_000 (set_value_at book place b) ss ds hs log (Record place a c.parent.result c.parent-2.result) in
+    let sires_are : c.set-2.new.self.parents ≡ slice_set sires place sire = c.set-2.ensures.parents ∙ ap (λ ss. slice_set ss place sire) sp in
+    let dams_are : c.set-3.new.self.parents ≡ slice_set dams place dam = c.set-3.ensures.parents ∙ ap (λ ds. slice_set ds place dam) dp in
+    let Q : Book → List (Option ℕ) → List (Option ℕ) → List ℕ → Type 0 = λ b ss ds hs. IsHeld 60 60_000 b ss ds hs log (Record place a c.parent.result c.parent-2.result) in
     record {
       held =
-          subst (λ ss. Q ss c.set-2.new.self.parents (with_items c.self.inside.depths after).items (with_parents c.find-sire.result.number c.find-dam.result.number c.index_mut-record.result.now)) (sym sires_are)
-          (subst (λ ds. Q (slice_set sires place sire) ds (with_items c.self.inside.depths after).items (with_parents c.find-sire.result.number c.find-dam.result.number c.index_mut-record.result.now)) (sym dams_are)
-          (subst (λ hs. Q (slice_set sires place sire) (slice_set dams place dam) hs (with_parents c.find-sire.result.number c.find-dam.result.number c.index_mut-record.result.now)) (sym back)
-          (subst (λ b. Q (slice_set sires place sire) (slice_set dams place dam) after b) written held)));
-      room = (subst (λ o. HasRoomFor c.set.new.self place o) (sym c.parent.ensures) c.set.ensures.room, subst (λ o. HasRoomFor c.set-2.new.self place o) (sym c.parent-2.ensures) c.set-2.ensures.room);
+          subst (λ b. Q b c.set-2.new.self.parents c.set-3.new.self.parents (with_items c.self.inside.depths after).items) (sym written)
+          (subst (λ ss. Q (set_value_at book place (with_parents c.args.sire c.args.dam a)) ss c.set-3.new.self.parents (with_items c.self.inside.depths after).items) (sym sires_are)
+          (subst (λ ds. Q (set_value_at book place (with_parents c.args.sire c.args.dam a)) (slice_set sires place sire) ds (with_items c.self.inside.depths after).items) (sym dams_are)
+          (subst (λ hs. Q (set_value_at book place (with_parents c.args.sire c.args.dam a)) (slice_set sires place sire) (slice_set dams place dam) hs) (sym back) held)));
+      room = (subst (λ o. HasRoomFor c.set-2.new.self place o) (sym c.parent.ensures) c.set-2.ensures.room, subst (λ o. HasRoomFor c.set-3.new.self place o) (sym c.parent-2.ensures) c.set-3.ensures.room);
     }
 
 pub returns-clause-fault : goal.returns-clause-fault
 returns-clause-fault g c =
-    let book : Book = c.self.inside.records.entries in
+    let book : Book = c.self.inside.records.book in
     let number : List ℕ = c.args.number in
     let kept = c.self.invariant.held.kept in
     let place : ℕ = c.in-Some.index in
     let at : slice_get (keys_of book) place ≡ Some number = at_position book number place (sym c.in-Some.ensures.index) in
-    let a : Animal = c.index-animal.result.now in
-    let entry : slice_get book place ≡ Some (number, a) = entry_from_both book place number a at c.index-animal.ensures in
+    let a : Animal = c.animal_at-animal.result in
+    let entry : slice_get book place ≡ Some (number, a) = entry_from_both book place number a at c.animal_at-animal.ensures in
     let there : record_of book number ≡ Some a = lookup_at book kept.lawful.once place number a entry in
     let sires : List (Option ℕ) = c.self.inside.sires.parents in
     let dams : List (Option ℕ) = c.self.inside.dams.parents in
@@ -252,7 +276,7 @@ returns-clause-fault g c =
 
 pub returns-clause-set : goal.returns-clause-set
 returns-clause-set g c =
-    let book : Book = c.self.inside.records.entries in
+    let book : Book = c.self.inside.records.book in
     let number : List ℕ = c.args.number in
     let sires : List (Option ℕ) = c.self.inside.sires.parents in
     let dams : List (Option ℕ) = c.self.inside.dams.parents in
@@ -266,11 +290,10 @@ returns-clause-set g c =
     let here : place < length sires = let w = c.in-Some.ensures.within in omega (arith, w, m) in
     let sp : c.reserve_calf.new.self.parents ≡ sires = c.reserve_calf.ensures.parents in
     let dp : c.reserve_calf-2.new.self.parents ≡ dams = c.reserve_calf-2.ensures.parents in
-    let a : Animal = c.index-animal.result.now in
-    let entry : slice_get book place ≡ Some (number, a) = entry_from_both book place number a at c.index-animal.ensures in
-    let same : a ≡ c.index_mut-record.result.now = same_Some _ _ (sym c.index-animal.ensures ∙ c.index_mut-record.ensures.value) in
-    let written : with_parents c.args.sire c.args.dam a ≡ with_parents c.find-sire.result.number c.find-dam.result.number c.index_mut-record.result.now =
-    λ i. with_parents (sym c.find-sire.ensures.number i) (sym c.find-dam.ensures.number i) (same i) in
+    let a : Animal = c.animal_at-animal.result in
+    let entry : slice_get book place ≡ Some (number, a) = entry_from_both book place number a at c.animal_at-animal.ensures in
+    let written : c.set.new.self.book ≡ set_value_at book place (with_parents c.args.sire c.args.dam a) =
+    c.set.ensures ∙ ap (λ v. set_value_at book place v) (c.with_parents-corrected.ensures ∙ (λ i. with_parents (c.find-sire.ensures.number i) (c.find-dam.ensures.number i) a)) in
     λ _.
-    subst (λ b. record { book = set_value_at book place b; before = Some (set_value_at (set_value_at book place b) place a) } ≡ changed_to c.args.self.now (changed c.args.self.now.book number (with_parents c.args.sire c.args.dam))) written
+    subst (λ b. record { book = b; before = Some (set_value_at b place a) } ≡ changed_to c.args.self.now (changed c.args.self.now.book number (with_parents c.args.sire c.args.dam))) (sym written)
     (record-view c.args.self.now book kept.lawful.once place number a (with_parents c.args.sire c.args.dam) entry (ap (λ p. p.book) c.self.view_is))
