@@ -23,24 +23,24 @@ pub struct Named {
 /// What the book has of a parent.
 // Inlined: a caller copies no more of the record than it reads.
 #[inline(always)]
-pub fn find<A: Allocator>(records: &Records<A>, parent: Option<AnimalNumber>) -> Named
+pub fn find<A: Allocator>(records: &Records<A>, parent: &Option<AnimalNumber>) -> Named
     requires { length records.now.book ≤ MOST_ANIMALS }
-    ensures number { result.number ≡ parent }
-    ensures record { result.animal ≡ record_named records.now.book parent }
+    ensures number { result.number ≡ parent.now }
+    ensures record { result.animal ≡ record_named records.now.book parent.now }
     ensures within { IfSome result.place (λ place. place < length records.now.book) }
-    ensures place { is_missing parent result.animal ≡ false → IsPlaceIn (keys_of records.now.book) result.place parent }
+    ensures place { is_missing parent.now result.animal ≡ false → IsPlaceIn (keys_of records.now.book) result.place parent.now }
 {
     if let Some(number) = parent {
-        if let Some(place) = records.place_of(&number) {
+        if let Some(place) = records.place_of(number) {
             return Named {
-                number: parent,
+                number: *parent,
                 place: Some(place as u32),
                 animal: Some(records.animal_at(place)),
             };
         }
     }
     Named {
-        number: parent,
+        number: *parent,
         place: None,
         animal: None,
     }

@@ -77,8 +77,8 @@ impl<A: Allocator + Copy> Pedigree<A> {
     ) -> Result<Option<ParentFault>, AllocError>
         ensures { IfOk result (λ fault. fault ≡ parent_fault DEPTH_LIMIT self.now.book number birth sire dam embryo) }
     {
-        let sire = find(&self.records, sire);
-        let dam = find(&self.records, dam);
+        let sire = find(&self.records, &sire);
+        let dam = find(&self.records, &dam);
         if let Some(fault) = record_fault(birth, &sire, &dam, embryo) {
             return Ok(Some(fault));
         }
@@ -126,8 +126,8 @@ impl<A: Allocator + Copy> Pedigree<A> {
         ensures added { OnOk result (self.new ≡ changed_to self.old (self.old.book ++ (number, animal) ∷ [])) }
         ensures err { OnErr result (self.new ≡ self.old) }
     {
-        let sire = find(&self.records, animal.sire).place;
-        let dam = find(&self.records, animal.dam).place;
+        let sire = find(&self.records, &animal.sire).place;
+        let dam = find(&self.records, &animal.dam).place;
         self.add_below(number, animal, sire, dam)
     }
 
@@ -143,8 +143,8 @@ impl<A: Allocator + Copy> Pedigree<A> {
         ensures refused { IfOk result (λ fault. IsSome fault → self.new ≡ self.old) }
         ensures err { OnErr result (self.new ≡ self.old) }
     {
-        let sire = find(&self.records, animal.sire);
-        let dam = find(&self.records, animal.dam);
+        let sire = find(&self.records, &animal.sire);
+        let dam = find(&self.records, &animal.dam);
         if let Some(fault) = record_fault(animal.birth, &sire, &dam, animal.embryo) {
             return Ok(Some(fault));
         }
@@ -221,8 +221,8 @@ impl<A: Allocator + Copy> Pedigree<A> {
         };
         let place = index as u32;
         let animal = self.records.animal_at(index);
-        let sire = find(&self.records, sire);
-        let dam = find(&self.records, dam);
+        let sire = find(&self.records, &sire);
+        let dam = find(&self.records, &dam);
         if let Some(fault) = record_fault(animal.birth, &sire, &dam, animal.embryo) {
             return Ok(Some(fault));
         }
