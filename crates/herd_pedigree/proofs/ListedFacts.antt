@@ -1,5 +1,5 @@
 -- Lists that are made one element after another, and the links of a book.
-use Rattle.std.proofs.Common.{◌≡◌, ◌∙◌, ℕ, ◌+◌, ◌<◌, suc, arith, refl, sym, ap, subst, List, [], ◌∷◌, ◌++◌, map, take, length, get_or, slice_get, Option, Some}
+use Rattle.std.proofs.Common.{◌≡◌, ◌∙◌, ℕ, ◌+◌, ◌<◌, arith, sym, ap, subst, List, [], ◌∷◌, ◌++◌, take, length, get_or, slice_get, Option, Some}
 use Rattle.std.specs.Map.{keys_of}
 use Rattle.std.proofs.lemmas.List.{take_more}
 use Rattle.std.proofs.lemmas.List.FromFn.{get_or-map-range_with_len, length-map-range_with_len}

@@ -1,5 +1,5 @@
 -- Entries with the places of parents, and the book of them.
-use Rattle.std.proofs.Common.{ℕ, zero, suc, ◌+◌, ◌-◌, ◌<◌, ◌≤◌, ◌≡◌, ⊎_elim, arith, refl, sym, ap, ◌∙◌, subst, Bool, true, false, List, [], ◌∷◌, ◌++◌, is_some, Option, Some, None, IfSome, IsSome, map, length, slice_get, option_to_list}
+use Rattle.std.proofs.Common.{ℕ, zero, suc, ◌+◌, ◌<◌, ◌≤◌, ◌≡◌, ⊎_elim, arith, refl, sym, ap, ◌∙◌, subst, Bool, true, false, List, [], ◌∷◌, ◌++◌, is_some, Option, Some, None, IfSome, IsSome, length, slice_get, option_to_list}
 use Rattle.std.specs.List.{IsDistinct}
 use Rattle.std.specs.Map.{keys_of, values_of, lookup}
 use Rattle.std.specs.Option.{option_map}
@@ -10,7 +10,6 @@ use Rattle.std.proofs.lemmas.Option.{same_Some, slice_get_within}
 use Rattle.indexmap.specs.IndexMap.{set_value_at}
 use Rattle.herd_pedigree.specs.declared.animal.Animal.{Animal}
 use Rattle.herd_pedigree.specs.declared.records.Entry.{Entry}
-use Rattle.herd_pedigree.specs.Book.{Book}
 use Rattle.herd_pedigree.specs.Places.{IsPlaceIn}
 use Rattle.herd_pedigree.specs.Records.{AreClosed, NamesItsOwn, StandAmong, book_of, book_with, named, number_at}
 use Rattle.herd_pedigree.specs.Undo.{without_last}
@@ -146,9 +145,10 @@ module _ (es : List (List ℕ × Entry)) where
         ⊎_elim
         (λ old. let parents = h place entry old in (further entry.1.sire (omega (arith, more)) parents.0, further entry.1.dam (omega (arith, more)) parents.1))
         (λ new.
-        let same : entry.1 ≡ e = ap (λ p. p.1) (sym new.1) in
-        (further entry.1.sire (omega (arith, more, long)) (subst (λ v. IfSome v.sire (λ p. p < length (keys_of es))) (sym same) s),
-        further entry.1.dam (omega (arith, more, long)) (subst (λ v. IfSome v.dam (λ p. p < length (keys_of es))) (sym same) d)))
+        let same : entry.1 ≡ e = ap (λ p. p.1) (sym new.1) in (
+          further entry.1.sire (omega (arith, more, long)) (subst (λ v. IfSome v.sire (λ p. p < length (keys_of es))) (sym same) s),
+          further entry.1.dam (omega (arith, more, long)) (subst (λ v. IfSome v.dam (λ p. p < length (keys_of es))) (sym same) d),
+        ))
         (push_cases es (x, e) entry place at)
 
   -- and after a write
@@ -159,9 +159,10 @@ module _ (es : List (List ℕ × Entry)) where
   closed-set h i e s d place entry at =
       let same : length (set_value_at es i e) ≡ length es = length-set-at es i e in
       ⊎_elim
-      (λ new.
-      (further entry.1.sire (omega (arith, same)) (subst (λ v. IfSome v.sire (λ p. p < length es)) new.1 s),
-      further entry.1.dam (omega (arith, same)) (subst (λ v. IfSome v.dam (λ p. p < length es)) new.1 d)))
+      (λ new. (
+        further entry.1.sire (omega (arith, same)) (subst (λ v. IfSome v.sire (λ p. p < length es)) new.1 s),
+        further entry.1.dam (omega (arith, same)) (subst (λ v. IfSome v.dam (λ p. p < length es)) new.1 d),
+      ))
       (λ old. let parents = h place entry old.1 in (further entry.1.sire (omega (arith, same)) parents.0, further entry.1.dam (omega (arith, same)) parents.1))
       (set_value-cases es i place e entry at)
 

@@ -307,7 +307,8 @@ impl<A: Allocator> Pedigree<A> {
         let animal = self.records.animal_at(place);
         let sire = self.sires.parent(place as u32);
         let dam = self.dams.parent(place as u32);
-        self.records.set(place, animal.with_owner(herd, day), sire, dam);
+        self.records
+            .set(place, animal.with_owner(herd, day), sire, dam);
         self.undo = Undo::Record {
             place: place as u32,
             animal,

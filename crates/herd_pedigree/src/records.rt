@@ -178,7 +178,11 @@ impl<A: Allocator> Records<A> {
         requires room { 0 < self.old.room }
         ensures { self.new.book ≡ self.old.book ++ (number, animal) ∷ [] }
     {
-        if self.entries.insert(number, Entry::new(animal, sire, dam)).is_err() {
+        if self
+            .entries
+            .insert(number, Entry::new(animal, sire, dam))
+            .is_err()
+        {
             unreachable!();
         }
     }

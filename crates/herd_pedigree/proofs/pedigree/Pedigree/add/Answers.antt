@@ -1,4 +1,4 @@
-use Rattle.std.proofs.Common.{ap, sym, ◌∙◌, subst, ◌≡◌, Option}
+use Rattle.std.proofs.Common.{ap, sym, ◌∙◌, subst}
 use Rattle.std.specs.Map.{keys_of}
 use Rattle.herd_pedigree.specs.Book.{Book}
 use Rattle.herd_pedigree.specs.Pedigree.{IsBirth}

@@ -1,15 +1,11 @@
 use Rattle.std.proofs.Common.{rules, sym, ap, ◌∙◌, subst, ◌≡◌, ℕ, List, [], ◌∷◌, ◌++◌, Option, None, slice_index}
 use Rattle.std.specs.Map.{keys_of}
-use Rattle.std.specs.Str.{bytes_eq}
-use Rattle.indexmap.proofs.CallerLemmas.{insert_entry-new}
 use Rattle.herd_pedigree.specs.Book.{Book, record_of}
 use Rattle.herd_pedigree.specs.declared.undo.Undo.TheVariants.{Birth}
 use Rattle.herd_pedigree.specs.Pedigree.{IsBirth}
 use Rattle.herd_pedigree.specs.Depths.{depth_from}
 use Rattle.herd_pedigree.specs.Places.{IsPlaceIn}
-use Rattle.herd_pedigree.specs.RecordFault.{is_missing}
 use Rattle.herd_pedigree.specs.Undo.{IsHeld}
-use Rattle.herd_pedigree.proofs.FaultFacts.{no_fault, not_missing}
 use Rattle.herd_pedigree.proofs.KeptFacts.{IsHeld-push}
 use Rattle.herd_pedigree.proofs.UndoFacts.{birth-view}
 use Rattle.herd_pedigree.proofs.pedigree.Pedigree.add_below.Goals as goal

@@ -1,4 +1,4 @@
-use Rattle.std.proofs.Common.{sym, ap, ◌∙◌, subst, refl, arith, ◌≡◌, ◌<◌, ◌≤◌, ℕ, List, Option, Some, None, true, false, slice_index}
+use Rattle.std.proofs.Common.{sym, ap, ◌∙◌, subst, arith, ◌≡◌, ℕ, List, Option, Some, None, true, false, slice_index}
 use Rattle.std.specs.Map.{keys_of}
 use Rattle.std.proofs.lemmas.Bool.{lt-ltb, le-ltb}
 use Rattle.herd_pedigree.specs.Book.{Book, record_of}

@@ -1,4 +1,3 @@
-use Rattle.std.proofs.Common.{◌≡◌, [], List, ℕ}
 use Rattle.herd_pedigree.proofs.KeptFacts.{IsHeld-empty}
 use Rattle.herd_pedigree.proofs.pedigree.Pedigree.new.Goals as goal
 

@@ -1,6 +1,6 @@
 use Rattle.std.proofs.Common.{◌≡◌, ◌∙◌, sym, ap, subst, ℕ, List, Some, slice_get}
 use Rattle.std.specs.Map.{keys_of, values_of}
-use Rattle.herd_pedigree.specs.Records.{book_of, named}
+use Rattle.herd_pedigree.specs.Records.{named}
 use Rattle.herd_pedigree.specs.declared.records.Entry.{Entry}
 use Rattle.herd_pedigree.proofs.RecordsFacts.{keys-book_of, value-book_with}
 use Rattle.herd_pedigree.proofs.records.Records.animal_at.Goals as goal

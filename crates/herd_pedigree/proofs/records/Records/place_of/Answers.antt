@@ -1,9 +1,8 @@
-use Rattle.std.proofs.Common.{◌≡◌, ◌∙◌, sym, ap, subst, ℕ, List, Option, Some, None, IfSome, is_some, position, slice_get}
+use Rattle.std.proofs.Common.{◌≡◌, ◌∙◌, sym, ap, subst, ℕ, List, IfSome, is_some, position, slice_get}
 use Rattle.std.specs.Map.{keys_of, values_of, lookup}
-use Rattle.std.specs.Option.{option_map}
 use Rattle.std.specs.Str.{bytes_eq}
 use Rattle.herd_pedigree.specs.Book.{is_there, record_of}
-use Rattle.herd_pedigree.specs.Records.{book_of, named}
+use Rattle.herd_pedigree.specs.Records.{named}
 use Rattle.herd_pedigree.specs.declared.records.Entry.{Entry}
 use Rattle.herd_pedigree.proofs.RecordsFacts.{is_some-map, keys-book_of, lookup-book_with, value-found}
 use Rattle.herd_pedigree.proofs.records.Records.place_of.Goals as goal

@@ -1,8 +1,8 @@
-use Rattle.std.proofs.Common.{◌≡◌, ◌<◌, ◌∙◌, sym, ap, subst, ℕ, List, IfSome, length}
+use Rattle.std.proofs.Common.{◌≡◌, ◌<◌, ◌∙◌, sym, ap, subst, ℕ, List, IfSome}
 use Rattle.std.specs.Map.{keys_of}
 use Rattle.indexmap.specs.IndexMap.{set_value_at}
 use Rattle.herd_pedigree.specs.Places.{IsPlaceIn}
-use Rattle.herd_pedigree.specs.Records.{AreClosed, book_of, named}
+use Rattle.herd_pedigree.specs.Records.{book_of, named}
 use Rattle.herd_pedigree.specs.declared.animal.Animal.{Animal}
 use Rattle.herd_pedigree.specs.declared.records.Entry.{Entry}
 use Rattle.herd_pedigree.proofs.BookFacts.{length-keys}
