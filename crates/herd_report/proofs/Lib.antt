@@ -1,4 +1,4 @@
-pub mod CommandFileFacts
+pub mod CommandReaderFacts
 mod FieldFacts
 mod HeaderFacts
 mod HerdFacts

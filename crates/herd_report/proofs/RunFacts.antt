@@ -1,6 +1,5 @@
 -- The steps of commands that are filed one after the other.
-use Rattle.std.proofs.Common.{◌≡◌, ◌≢◌, inl, inr, ℕ, suc, ◌+◌, ◌<◌, arith, true, false, MatchBool, Option, Some, None, List, [], ◌∷◌, ◌++◌, refl, ap, sym, subst, ◌∙◌, ⊎_elim, append_assoc, append-nil, map, take, get_or, length}
-use Rattle.std.proofs.lemmas.List.{take_more}
+use Rattle.std.proofs.Common.{◌≡◌, ◌≢◌, inl, inr, ℕ, suc, ◌+◌, arith, true, false, MatchBool, Option, Some, None, List, [], ◌∷◌, ◌++◌, refl, ap, sym, subst, ◌∙◌, ⊎_elim, append_assoc, append-nil, length}
 use Rattle.std.proofs.lemmas.List.Sorted.{IsPermutation-sym}
 use Rattle.std.specs.Prelude.{Bool, is_some}
 use Rattle.std.specs.Io.KnownBytes.{Appends}
@@ -9,12 +8,11 @@ use Rattle.herd_pedigree.specs.Frozen.{IsFrozenFrom, book_of}
 use Rattle.herd_pedigree.specs.declared.TheConstants.{DEPTH_LIMIT, MOST_ANIMALS}
 use Rattle.herd_pedigree.specs.declared.frozen.Row.{Row}
 use Rattle.herd_pedigree.proofs.PermutedFacts.{record_of-permuted}
-use Rattle.herd_register.specs.Register as register
-use Rattle.herd_register.specs.Register.{Register, with_step}
+use Rattle.herd_register.specs.Register.{Register, new_register, with_step}
+use Rattle.herd_register.specs.Register.{book_of as book_of_register}
 use Rattle.herd_register.specs.Run.{answer, next, step_of, book_after, commands_of, run_book}
 use Rattle.herd_register.specs.declared.command.Command.{Command}
 use Rattle.herd_register.specs.declared.limits.Limits.{Limits}
-use Rattle.herd_register.specs.declared.reply.Reply.{Reply}
 use Rattle.herd_register.specs.declared.step.Step.{Step}
 use Rattle.herd_pool.specs.declared.pool_fault.PoolFault.{PoolFault}
 use Rattle.herd_pool.specs.declared.pool_fault.PoolFault.TheVariants as pool
@@ -22,7 +20,7 @@ use Rattle.herd_report.specs.CommandFile.{CommandFile, IsRead, IsReadBefore, com
 use Rattle.herd_report.specs.LineCause.{is_interruption}
 use Rattle.herd_report.specs.Output.{AppendsFront}
 use Rattle.herd_report.specs.Replies.{reply_line, reply_lines_from, replies_text}
-use Rattle.herd_report.specs.Run.{EndsBy, IsAnswered, IsReport, IsThere, IsWrittenBefore, filed_from, replies_to, wanted}
+use Rattle.herd_report.specs.Run.{EndsBy, HasFiled, IsAnswered, IsFrozenFile, IsReport, IsThere, IsWrittenBefore, filed_from, replies_to, wanted}
 use Rattle.herd_report.specs.RunFault.{EndsFreezing, EndsListing, run_fault_of, run_fault_of_pool}
 use Rattle.herd_report.specs.declared.line_fault.LineFault.{LineFault}
 use Rattle.herd_report.specs.declared.report_fault.ReportFault.{ReportFault}
@@ -52,27 +50,38 @@ length-filed_from limits book [] = refl
 length-filed_from limits book (command ∷ commands) =
     ap suc (length-filed_from limits (next limits book command) commands)
 
--- the steps of one command more
-pub filed_from-more : (limits : Limits) (book : Book) (commands : List Command) (i : ℕ) (command : Command) → i < length commands →
-    filed_from limits book (take (i + 1) commands)
-    ≡ filed_from limits book (take i commands)
-    ++ step_of 0 (get_or commands i command) (answer limits (book_after limits book (take i commands)) (get_or commands i command)) ∷ []
-filed_from-more limits book commands i command within =
-    rw (take_more commands i command within) (filed_from-append limits book (take i commands) (get_or commands i command ∷ []))
+-- nothing is filed in a new register
+pub nothing_filed : (limits : Limits) → HasFiled limits [] (new_register limits)
+nothing_filed limits = record { limits_are = refl; journal_is = refl }
 
--- a register in which the first commands are filed, once it has answered the next one
-pub filed-next : (limits : Limits) (commands : List Command) (i : ℕ) (command : Command) (reply : Reply) (old new : Register) →
-    old.limits ≡ limits → old.journal ≡ filed_from limits [] (take i commands) → i < length commands → command ≡ get_or commands i command →
-    reply ≡ answer old.limits (register.book_of old) command → new ≡ with_step old (step_of 0 command reply) →
-    new.journal ≡ filed_from limits [] (take (i + 1) commands)
-filed-next limits commands i command reply old new el ej within item er e =
-    let b : register.book_of old ≡ book_after limits [] (take i commands) = rw (el, ej, commands_of-filed_from limits [] (take i commands)) refl in
-    let r : reply ≡ answer limits (book_after limits [] (take i commands)) command = er ∙ ap (λ l. answer l (register.book_of old) command) el ∙ ap (λ k. answer limits k command) b in
-    let j : new.journal ≡ old.journal ++ step_of 0 command reply ∷ [] = ap (λ v. v.journal) e in
-    let t : old.journal ++ step_of 0 command reply ∷ [] ≡ filed_from limits [] (take i commands) ++ step_of 0 command (answer limits (book_after limits [] (take i commands)) command) ∷ [] =
-    ap (λ k. k ++ step_of 0 command reply ∷ []) ej ∙ ap (λ k. filed_from limits [] (take i commands) ++ step_of 0 command k ∷ []) r in
-    let u = ap (λ k. filed_from limits [] (take i commands) ++ step_of 0 k (answer limits (book_after limits [] (take i commands)) k) ∷ []) item in
-    j ∙ t ∙ u ∙ sym (filed_from-more limits [] commands i command within)
+-- as many steps as commands
+pub length-filed : (limits : Limits) (commands : List Command) (register : Register) → HasFiled limits commands register → length register.journal ≡ length commands
+length-filed limits commands register filed = ap length filed.journal_is ∙ length-filed_from limits [] commands
+
+-- the commands of the steps are those that were filed
+pub commands_of-filed : (limits : Limits) (commands : List Command) (register : Register) → HasFiled limits commands register → commands_of register.journal ≡ commands
+commands_of-filed limits commands register filed = ap commands_of filed.journal_is ∙ commands_of-filed_from limits [] commands
+
+-- and its book is theirs
+pub book_of-filed : (limits : Limits) (commands : List Command) (register : Register) → HasFiled limits commands register →
+    book_of_register register ≡ run_book limits commands
+book_of-filed limits commands register filed =
+    ap (λ l. run_book l (commands_of register.journal)) filed.limits_are ∙ ap (run_book limits) (commands_of-filed limits commands register filed)
+
+-- a register that has answered one command more
+pub filed-more : (limits : Limits) (commands : List Command) (command : Command) (old new : Register) → HasFiled limits commands old →
+    new ≡ with_step old (step_of 0 command (answer old.limits (book_of_register old) command)) → HasFiled limits (commands ++ command ∷ []) new
+filed-more limits commands command old new filed e =
+    let book : book_of_register old ≡ book_after limits [] commands = book_of-filed limits commands old filed in
+    let reply : answer old.limits (book_of_register old) command ≡ answer limits (book_after limits [] commands) command =
+    ap (λ l. answer l (book_of_register old) command) filed.limits_are ∙ ap (λ b. answer limits b command) book in
+    record {
+      limits_are = ap (λ r. r.limits) e ∙ filed.limits_are;
+      journal_is = ap (λ r. r.journal) e
+          ∙ ap (λ steps. steps ++ step_of 0 command (answer old.limits (book_of_register old) command) ∷ []) filed.journal_is
+          ∙ ap (λ r. filed_from limits [] commands ++ step_of 0 command r ∷ []) reply
+          ∙ sym (filed_from-append limits [] commands (command ∷ []));
+    }
 
 -- the lines of more steps come after those of the first ones
 pub reply_lines_from-append : (serial : ℕ) (first rest : List Step) →
@@ -106,12 +115,21 @@ first_commands most file list (Some fault) read =
       | false ↦ λ all. ([], sym all.0 ∙ sym (append-nil list))
     ] read
 
--- a text of the commands that were read is one of the file's commands
-pub report_of_file : (limits : Limits) (order : Order) (file : CommandFile) (list : List Command) (rows : List Row) (Passes : List ℕ → Type 0) →
-    IsRead limits.steps file list None → IsFrozenFrom DEPTH_LIMIT MOST_ANIMALS (run_book limits list) rows → Passes (wanted order limits list rows) →
-    IsReport limits order file.commands Passes
-report_of_file limits order file list rows Passes read frozen passes =
-    subst (λ commands. IsReport limits order commands Passes) read.0 (record { rows = rows; frozen = λ other. frozen; passes = passes })
+-- the frozen rows of a register in which the commands of a file without a fault are filed
+pub frozen_file : (limits : Limits) (file : CommandFile) (list : List Command) (line : Option LineFault) (register : Register) (rows : List Row) →
+    IsRead limits.steps file list line → line ≡ None → HasFiled limits list register →
+    IsFrozenFrom DEPTH_LIMIT MOST_ANIMALS (book_of_register register) rows → IsFrozenFile limits file rows
+frozen_file limits file list line register rows read none filed frozen =
+    let whole = subst (λ l. IsRead limits.steps file list l) none read in
+    record {
+      faultless = whole.1;
+      frozen = subst (λ book. IsFrozenFrom DEPTH_LIMIT MOST_ANIMALS book rows) (book_of-filed limits list register filed ∙ ap (run_book limits) whole.0) frozen;
+    }
+
+-- a text of the frozen rows is one of the file's commands
+pub report_of_file : (limits : Limits) (order : Order) (file : CommandFile) (rows : List Row) (Passes : List ℕ → Type 0) →
+    IsFrozenFile limits file rows → Passes (wanted order limits file.commands rows) → IsReport limits order file.commands Passes
+report_of_file limits order file rows Passes made passes = record { rows = rows; frozen = λ other. made.frozen; passes = passes }
 
 -- a front of the replies to what was read is one of the replies to the file
 pub replies_of_file : (limits : Limits) (file : CommandFile) (list : List Command) (fault : Option LineFault) (old new : Option (List ℕ)) →
@@ -155,35 +173,35 @@ nothing_before limits (Certificate number) commands known reports = refl
 nothing_before limits (Mating dam sires) commands known reports = refl
 nothing_before limits Inverse commands known reports = refl
 
-pub not_frozen : (limits : Limits) (order : Order) (file : CommandFile) (list : List Command) (line : Option LineFault) (known : Option (List ℕ)) (fault : RunFault) →
-    order ≢ File → IsRead limits.steps file list line → EndsFreezing line fault → EndsBy limits order file known known fault
-not_frozen limits order file list line known (Line fault) reports read told =
-    record { commands = list; read = subst (λ l. IsRead limits.steps file list l) told read; written = nothing_before limits order list known reports }
-not_frozen limits order file list line known NotRegistered reports read told = absurd told
-not_frozen limits order file list line known NoThread reports read told = absurd told
-not_frozen limits order file list line known Memory reports read told = (λ other. (subst (λ l. IsRead limits.steps file list l) told read).1, inl refl)
-not_frozen limits order file list line known Write reports read told = absurd told
+pub not_frozen : (limits : Limits) (order : Order) (file : CommandFile) (known : Option (List ℕ)) (fault : RunFault) →
+    order ≢ File → EndsFreezing limits file fault → EndsBy limits order file known known fault
+not_frozen limits order file known (Line fault) reports ends =
+    record { commands = ends.0; read = ends.1; written = nothing_before limits order ends.0 known reports }
+not_frozen limits order file known NotRegistered reports ends = absurd ends
+not_frozen limits order file known NoThread reports ends = absurd ends
+not_frozen limits order file known Memory reports ends = (λ other. ends, inl refl)
+not_frozen limits order file known Write reports ends = absurd ends
 
 -- one that stops while it computes or writes
-pub stops_reporting : (limits : Limits) (order : Order) (file : CommandFile) (list : List Command) (rows : List Row) (old new : Option (List ℕ)) (fault : ReportFault) →
-    IsRead limits.steps file list None → IsFrozenFrom DEPTH_LIMIT MOST_ANIMALS (run_book limits list) rows →
-    AppendsFront old new (wanted order limits list rows) → fault ≢ report.NotRegistered → EndsBy limits order file old new (run_fault_of fault)
-stops_reporting limits order file list rows old new report.Write read frozen front other =
-    (λ reports. read.1, report_of_file limits order file list rows (AppendsFront old new) read frozen front)
-stops_reporting limits order file list rows old new report.Memory read frozen front other =
-    (λ reports. read.1, inr (report_of_file limits order file list rows (AppendsFront old new) read frozen front))
-stops_reporting limits order file list rows old new report.NotRegistered read frozen front other = absurd (other refl)
+pub stops_reporting : (limits : Limits) (order : Order) (file : CommandFile) (rows : List Row) (old new : Option (List ℕ)) (fault : ReportFault) →
+    IsFrozenFile limits file rows → AppendsFront old new (wanted order limits file.commands rows) → fault ≢ report.NotRegistered →
+    EndsBy limits order file old new (run_fault_of fault)
+stops_reporting limits order file rows old new report.Write made front other =
+    (λ reports. made.faultless, report_of_file limits order file rows (AppendsFront old new) made front)
+stops_reporting limits order file rows old new report.Memory made front other =
+    (λ reports. made.faultless, inr (report_of_file limits order file rows (AppendsFront old new) made front))
+stops_reporting limits order file rows old new report.NotRegistered made front other = absurd (other refl)
 
-pub stops_listing : (limits : Limits) (workers block : ℕ) (file : CommandFile) (list : List Command) (rows : List Row) (old new : Option (List ℕ)) (fault : RunFault) →
-    IsRead limits.steps file list None → IsFrozenFrom DEPTH_LIMIT MOST_ANIMALS (run_book limits list) rows →
-    EndsListing old new (wanted (Inbreeding workers block) limits list rows) fault → EndsBy limits (Inbreeding workers block) file old new fault
-stops_listing limits workers block file list rows old new (Line fault) read frozen ends = absurd ends
-stops_listing limits workers block file list rows old new NotRegistered read frozen ends = absurd ends
-stops_listing limits workers block file list rows old new NoThread read frozen ends = (tt, read.1, ends)
-stops_listing limits workers block file list rows old new Memory read frozen ends =
-    (λ reports. read.1, inr (report_of_file limits (Inbreeding workers block) file list rows (AppendsFront old new) read frozen ends))
-stops_listing limits workers block file list rows old new Write read frozen ends =
-    (λ reports. read.1, report_of_file limits (Inbreeding workers block) file list rows (AppendsFront old new) read frozen ends)
+pub stops_listing : (limits : Limits) (workers block : ℕ) (file : CommandFile) (rows : List Row) (old new : Option (List ℕ)) (fault : RunFault) →
+    IsFrozenFile limits file rows → EndsListing old new (wanted (Inbreeding workers block) limits file.commands rows) fault →
+    EndsBy limits (Inbreeding workers block) file old new fault
+stops_listing limits workers block file rows old new (Line fault) made ends = absurd ends
+stops_listing limits workers block file rows old new NotRegistered made ends = absurd ends
+stops_listing limits workers block file rows old new NoThread made ends = (tt, made.faultless, ends)
+stops_listing limits workers block file rows old new Memory made ends =
+    (λ reports. made.faultless, inr (report_of_file limits (Inbreeding workers block) file rows (AppendsFront old new) made ends))
+stops_listing limits workers block file rows old new Write made ends =
+    (λ reports. made.faultless, report_of_file limits (Inbreeding workers block) file rows (AppendsFront old new) made ends)
 
 -- a list of coefficients that ends before any was written
 pub nothing_listed : (known : Option (List ℕ)) (text : List ℕ) (fault : PoolFault) → EndsListing known known text (run_fault_of_pool fault)
@@ -197,38 +215,32 @@ there-frozen book rows number frozen =
     sym (ap is_some (record_of-permuted (book_of rows) book frozen.frozen.lawful.once (IsPermutation-sym book (book_of rows) frozen.same) number))
 
 -- a run for a certificate that ends early
-pub stops_certifying : (limits : Limits) (number : List ℕ) (file : CommandFile) (list : List Command) (rows : List Row) (old new : Option (List ℕ)) (fault : ReportFault) →
-    IsRead limits.steps file list None → IsFrozenFrom DEPTH_LIMIT MOST_ANIMALS (run_book limits list) rows →
-    AppendsFront old new (wanted (Certificate number) limits list rows) →
+pub stops_certifying : (limits : Limits) (number : List ℕ) (file : CommandFile) (rows : List Row) (old new : Option (List ℕ)) (fault : ReportFault) →
+    IsFrozenFile limits file rows → AppendsFront old new (wanted (Certificate number) limits file.commands rows) →
     (fault ≡ report.NotRegistered → is_there (book_of rows) number ≡ false) → (is_there (book_of rows) number ≡ false → new ≡ old) →
     EndsBy limits (Certificate number) file old new (run_fault_of fault)
-stops_certifying limits number file list rows old new report.Write read frozen front absent untouched =
-    (λ reports. read.1, report_of_file limits (Certificate number) file list rows (AppendsFront old new) read frozen front)
-stops_certifying limits number file list rows old new report.Memory read frozen front absent untouched =
-    (λ reports. read.1, inr (report_of_file limits (Certificate number) file list rows (AppendsFront old new) read frozen front))
-stops_certifying limits number file list rows old new report.NotRegistered read frozen front absent untouched =
-    let missing = sym (there-frozen (run_book limits list) rows number frozen) ∙ absent refl in
-    (read.1, subst (λ commands. is_there (run_book limits commands) number ≡ false) read.0 missing, untouched (absent refl))
+stops_certifying limits number file rows old new report.Write made front absent untouched =
+    (λ reports. made.faultless, report_of_file limits (Certificate number) file rows (AppendsFront old new) made front)
+stops_certifying limits number file rows old new report.Memory made front absent untouched =
+    (λ reports. made.faultless, inr (report_of_file limits (Certificate number) file rows (AppendsFront old new) made front))
+stops_certifying limits number file rows old new report.NotRegistered made front absent untouched =
+    (made.faultless, sym (there-frozen (run_book limits file.commands) rows number made.frozen) ∙ absent refl, untouched (absent refl))
 
 -- a run for a report that comes to its end
-pub reported : (limits : Limits) (order : Order) (file : CommandFile) (list : List Command) (rows : List Row) (old new : Option (List ℕ)) →
-    IsRead limits.steps file list None → IsFrozenFrom DEPTH_LIMIT MOST_ANIMALS (run_book limits list) rows → IsThere order (run_book limits list) →
-    Appends old new (wanted order limits list rows) → IsAnswered limits order file old new
-reported limits order file list rows old new read frozen there written =
-    record {
-      faultless = read.1;
-      there = subst (λ commands. IsThere order (run_book limits commands)) read.0 there;
-      written = report_of_file limits order file list rows (Appends old new) read frozen written;
-    }
+pub reported : (limits : Limits) (order : Order) (file : CommandFile) (rows : List Row) (old new : Option (List ℕ)) →
+    IsFrozenFile limits file rows → IsThere order (run_book limits file.commands) → Appends old new (wanted order limits file.commands rows) →
+    IsAnswered limits order file old new
+reported limits order file rows old new made there written =
+    record { faultless = made.faultless; there = there; written = report_of_file limits order file rows (Appends old new) made written }
 
 true_else_false : (b : Bool) → (b ≡ false → ⊥) → b ≡ true
 true_else_false true other = refl
 true_else_false false other = absurd (other refl)
 
 -- a run for a certificate that comes to its end
-pub certified : (limits : Limits) (number : List ℕ) (file : CommandFile) (list : List Command) (rows : List Row) (old new : Option (List ℕ)) →
-    IsRead limits.steps file list None → IsFrozenFrom DEPTH_LIMIT MOST_ANIMALS (run_book limits list) rows →
-    (is_there (book_of rows) number ≡ false → ⊥) → Appends old new (wanted (Certificate number) limits list rows) → IsAnswered limits (Certificate number) file old new
-certified limits number file list rows old new read frozen other written =
-    let there = sym (there-frozen (run_book limits list) rows number frozen) ∙ true_else_false (is_there (book_of rows) number) other in
-    reported limits (Certificate number) file list rows old new read frozen there written
+pub certified : (limits : Limits) (number : List ℕ) (file : CommandFile) (rows : List Row) (old new : Option (List ℕ)) →
+    IsFrozenFile limits file rows → (is_there (book_of rows) number ≡ false → ⊥) → Appends old new (wanted (Certificate number) limits file.commands rows) →
+    IsAnswered limits (Certificate number) file old new
+certified limits number file rows old new made other written =
+    let there = sym (there-frozen (run_book limits file.commands) rows number made.frozen) ∙ true_else_false (is_there (book_of rows) number) other in
+    reported limits (Certificate number) file rows old new made there written

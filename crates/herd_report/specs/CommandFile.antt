@@ -1,5 +1,5 @@
 -- What a command file says: its commands before the first fault, and that fault.
-use Rattle.std.specs.Prelude.{◌≡◌, ◌⊎◌, ℕ, ◌+◌, List, [], ◌∷◌, ◌++◌, Bool, true, false, if◌then◌else◌, nat_lt, MatchBool, ⊤, IfSome, Option, Some, None, Result, Ok, Err, length}
+use Rattle.std.specs.Prelude.{◌≡◌, ◌⊎◌, ℕ, ◌+◌, List, [], ◌∷◌, ◌++◌, if◌then◌else◌, nat_lt, MatchBool, ⊤, IfSome, Option, Some, None, Result, Ok, Err, length}
 use Rattle.std.specs.Option.{option_map_or}
 use Rattle.csv.specs.Reading.{default_config, records, strip_bom}
 use Rattle.herd_register.specs.declared.command.Command.{Command}
@@ -61,20 +61,6 @@ IsRead most file list (Some fault) =
     MatchBool (is_interruption fault.cause)
     (IsReadBefore most fault.entry list file)
     ((list ≡ file.commands) × (file.fault ≡ Some fault))
-
--- where the records to come are known, the first gives this command or fault, and the others are still to come
-abbrev pub FirstGives : Version → Option (List Fields) → Option (List Fields) → Result Command LineCause → Type 0
-FirstGives version None new outcome = ⊤
-FirstGives version (Some []) new outcome = ⊥
-FirstGives version (Some (first ∷ rest)) new outcome = (command_of version first ≡ outcome) × (new ≡ Some rest)
-
--- the next record's command was stored, or nothing was, at the end, at its fault or at an interruption
-abbrev pub StoresNext : Version → Option (List Fields) → Option (List Fields) → List Command → List Command → Result Bool LineCause → Type 0
-StoresNext version old new before after (Ok true) =
-    (command : Command) × (after ≡ before ++ command ∷ []) × FirstGives version old new (Ok command)
-StoresNext version old new before after (Ok false) = (after ≡ before) × IfSome old (λ records. records ≡ [])
-StoresNext version old new before after (Err cause) =
-    (after ≡ before) × MatchBool (is_interruption cause) ⊤ (FirstGives version old new (Err cause))
 
 -- where the records to come are known, the version whose header the first is, after which the others are still to come
 abbrev pub TakesHeader : Option (List Fields) → Option (List Fields) → Option Version → Type 0

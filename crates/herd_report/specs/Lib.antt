@@ -4,6 +4,7 @@ pub mod Grammar
 pub mod Columns
 pub mod CommandFile
 pub mod Upcoming
+pub mod CommandReader
 pub mod Output
 pub mod Replies
 pub mod CoefficientText

@@ -1,10 +1,11 @@
 -- What a run writes for a command file, and how it may end.
-use Rattle.std.specs.Prelude.{◌≡◌, ◌≢◌, ◌⊎◌, ◌≤◌, ℕ, List, [], ◌∷◌, ◌++◌, ⊤, Option, Some, None, true, false}
+use Rattle.std.specs.Prelude.{◌≡◌, ◌≢◌, ◌⊎◌, ◌≤◌, ℕ, List, [], ◌∷◌, ⊤, Option, Some, None, true, false}
 use Rattle.std.specs.Io.KnownBytes.{Appends}
 use Rattle.herd_pedigree.specs.Book.{Book, is_there}
 use Rattle.herd_pedigree.specs.Frozen.{IsFrozenFrom, book_of}
 use Rattle.herd_pedigree.specs.declared.TheConstants.{DEPTH_LIMIT, MOST_ANIMALS}
 use Rattle.herd_pedigree.specs.declared.frozen.Row.{Row}
+use Rattle.herd_register.specs.Register.{Register}
 use Rattle.herd_register.specs.Run.{answer, next, run_book, step_of}
 use Rattle.herd_register.specs.declared.command.Command.{Command}
 use Rattle.herd_register.specs.declared.limits.Limits.{Limits}
@@ -30,6 +31,11 @@ filed_from limits book [] = []
 filed_from limits book (command ∷ commands) =
     step_of 0 command (answer limits book command) ∷ filed_from limits (next limits book command) commands
 
+-- commands are filed in a register at desk 0 one after the other, and no others
+pub record HasFiled (limits : Limits) (commands : List Command) (register : Register) : Type 0 where
+  pub limits_are : register.limits ≡ limits
+  pub journal_is : register.journal ≡ filed_from limits [] commands
+
 -- the replies to commands, one after the other from the empty book on
 abbrev pub replies_to : Limits → List Command → List ℕ
 replies_to limits commands = replies_text (filed_from limits [] commands)
@@ -41,6 +47,11 @@ wanted (Inbreeding workers block) limits commands rows = inbreeding_text (coeffi
 wanted (Certificate number) limits commands rows = certificate_text (book_of rows) (coefficient (ancestry_of rows) DEPTH_LIMIT number) number
 wanted (Mating dam sires) limits commands rows = mating_text (book_of rows) dam sires.now
 wanted Inverse limits commands rows = inverse_text rows
+
+-- the file has no fault, and its book has these frozen rows
+pub record IsFrozenFile (limits : Limits) (file : CommandFile) (rows : List Row) : Type 0 where
+  pub faultless : file.fault ≡ None
+  pub frozen : IsFrozenFrom DEPTH_LIMIT MOST_ANIMALS (run_book limits file.commands) rows
 
 -- an order that the program can carry out
 abbrev pub IsOrder : Order → Type 0

@@ -2,8 +2,10 @@
 use Rattle.std.specs.Prelude.{◌≡◌, ℕ, List, Option, Some, None}
 use Rattle.herd_pool.specs.declared.pool_fault.PoolFault.{PoolFault}
 use Rattle.herd_pool.specs.declared.pool_fault.PoolFault.TheVariants as pool
+use Rattle.herd_register.specs.declared.command.Command.{Command}
+use Rattle.herd_register.specs.declared.limits.Limits.{Limits}
+use Rattle.herd_report.specs.CommandFile.{CommandFile, IsRead}
 use Rattle.herd_report.specs.Output.{AppendsFront}
-use Rattle.herd_report.specs.declared.line_fault.LineFault.{LineFault}
 use Rattle.herd_report.specs.declared.report_fault.ReportFault.{ReportFault}
 use Rattle.herd_report.specs.declared.report_fault.ReportFault.TheVariants as report
 use Rattle.herd_report.specs.declared.run_fault.RunFault.{RunFault}
@@ -18,13 +20,13 @@ abbrev pub run_fault_of_pool : PoolFault → RunFault
 run_fault_of_pool pool.NoThread = NoThread
 run_fault_of_pool pool.Memory = Memory
 
--- why there is no frozen book: the line fault that was read, or where there is none a want of memory
-abbrev pub EndsFreezing : Option LineFault → RunFault → Type 0
-EndsFreezing told (Line fault) = told ≡ Some fault
-EndsFreezing told NotRegistered = ⊥
-EndsFreezing told NoThread = ⊥
-EndsFreezing told Memory = told ≡ None
-EndsFreezing told Write = ⊥
+-- why there is no frozen book: a line fault or an interruption of the reading, or where there is none a want of memory
+abbrev pub EndsFreezing : Limits → CommandFile → RunFault → Type 0
+EndsFreezing limits file (Line fault) = (commands : List Command) × IsRead limits.steps file commands (Some fault)
+EndsFreezing limits file NotRegistered = ⊥
+EndsFreezing limits file NoThread = ⊥
+EndsFreezing limits file Memory = file.fault ≡ None
+EndsFreezing limits file Write = ⊥
 
 -- how the writing of a list of coefficients may end early
 abbrev pub EndsListing : Option (List ℕ) → Option (List ℕ) → List ℕ → RunFault → Type 0

@@ -4,11 +4,15 @@
 mod ancestors;
 #[cfg(test)]
 mod assert_writes;
+#[cfg(test)]
+mod breaks_after;
 mod certificate;
 mod coefficient_text;
 mod columns;
 mod command_file;
+mod command_reader;
 mod field;
+mod filing;
 mod inbreeding_list;
 mod inverse_list;
 mod line_fault;

@@ -1,10 +1,9 @@
-ghost use Rattle.std.specs.Prelude.{◌≡◌, ◌≢◌, ◌↔◌, ◌≤◌, [], false, length, Err, IfErr, IfOk, IfSome, None, OnErr, OnOk};
+ghost use Rattle.std.specs.Prelude.{◌≡◌, ◌≢◌, ◌↔◌, false, Err, IfErr, IfOk, IfSome, OnErr, OnOk};
 ghost use Rattle.std.specs.Io.KnownBytes.{Appends};
 ghost use Rattle.herd_pedigree.specs.Book.{is_there};
-ghost use Rattle.herd_pedigree.specs.Frozen.{IsFrozenFrom, book_of};
-ghost use Rattle.herd_pedigree.specs.declared.TheConstants.{DEPTH_LIMIT, MOST_ANIMALS};
+ghost use Rattle.herd_pedigree.specs.Frozen.{book_of};
+ghost use Rattle.herd_pedigree.specs.declared.TheConstants.{DEPTH_LIMIT};
 ghost use Rattle.herd_register.specs.Register.{AreLimits};
-ghost use Rattle.herd_register.specs.Run.{run_book};
 ghost use Rattle.herd_kinship.specs.FrozenAncestry.{ancestry_of};
 ghost use Rattle.herd_kinship.specs.Table.{coefficient};
 ghost use Rattle.herd_report.specs.Certificate.{certificate_text};
@@ -13,11 +12,12 @@ ghost use Rattle.herd_report.specs.InbreedingList.{inbreeding_text};
 ghost use Rattle.herd_report.specs.InverseList.{inverse_text};
 ghost use Rattle.herd_report.specs.MatingList.{mating_text};
 ghost use Rattle.herd_report.specs.Output.{AppendsFront};
-ghost use Rattle.herd_report.specs.Run.{EndsBy, IsAnswered, IsOrder, filed_from, replies_to};
+ghost use Rattle.herd_report.specs.Run.{EndsBy, IsAnswered, IsFrozenFile, IsOrder};
 ghost use Rattle.herd_report.specs.RunFault.{EndsFreezing, EndsListing};
 
 use crate::certificate::write_certificate;
-use crate::command_file::{Commands, read_commands};
+use crate::command_file::read_commands;
+use crate::filing::{file_commands, file_list};
 use crate::inbreeding_list::write_inbreeding;
 use crate::inverse_list::write_inverse;
 use crate::mating_list::write_mating;
@@ -28,8 +28,8 @@ use herd_animal::AnimalNumber;
 use herd_kinship::coefficients_plain;
 use herd_pedigree::Frozen;
 use herd_pool::NoGate;
-use herd_register::{Command, FileFault, Limits, Register};
-use std::alloc::{AllocError, Global};
+use herd_register::Limits;
+use std::alloc::Global;
 use std::io::{Read, Write};
 use std::sync::Wait;
 use std::thread::Threads;
@@ -77,29 +77,22 @@ pub fn run<H: Threads + Wait + Sync, R: Read + Drop, W: Write>(
     ensures err { IfErr result (λ fault. IfSome (R.remaining reader)
         (λ bytes. EndsBy limits order.entry (commands bytes limits.steps) (W.contents writer.old) (W.contents writer.new) fault)) }
 {
-    let commands = read_commands(alloc, reader, limits.steps);
     match order {
-        Order::File => {
-            write_answers(alloc, limits, commands.list.as_slice(), writer)?;
-            match commands.fault {
-                None => Ok(()),
-                Some(fault) => Err(RunFault::Line(fault)),
-            }
-        }
+        Order::File => write_answers(alloc, limits, reader, writer),
         Order::Inbreeding { workers, block } => {
-            let frozen = frozen_book(alloc, limits, &commands)?;
+            let frozen = frozen_book(alloc, limits, reader)?;
             list_inbreeding(rt, alloc, &frozen, workers, block, writer)
         }
         Order::Certificate(number) => {
-            let frozen = frozen_book(alloc, limits, &commands)?;
+            let frozen = frozen_book(alloc, limits, reader)?;
             Ok(certify(alloc, &frozen, number, writer)?)
         }
         Order::Mating { dam, sires } => {
-            let frozen = frozen_book(alloc, limits, &commands)?;
+            let frozen = frozen_book(alloc, limits, reader)?;
             Ok(advise(alloc, &frozen, dam, sires, writer)?)
         }
         Order::Inverse => {
-            let frozen = frozen_book(alloc, limits, &commands)?;
+            let frozen = frozen_book(alloc, limits, reader)?;
             Ok(list_inverse(alloc, &frozen, writer)?)
         }
     }
@@ -177,59 +170,43 @@ fn list_inverse<W: Write>(
     write_inverse(alloc, frozen, &coefficients, writer)
 }
 
-// The frozen book of the commands of a file without a fault.
-fn frozen_book(
+// The frozen book of a file without a fault.
+fn frozen_book<R: Read + Drop>(
     alloc: Global,
     limits: Limits,
-    commands: &Commands,
+    reader: R,
 ) -> Result<Frozen<Global>, RunFault>
-    requires limits { AreLimits limits }
-    requires room { length commands.now.list.items ≤ limits.steps }
-    ensures faultless { OnOk result (commands.now.fault ≡ None) }
-    ensures frozen { IfOk result (IsFrozenFrom DEPTH_LIMIT MOST_ANIMALS (run_book limits commands.now.list.items)) }
-    ensures err { IfErr result (EndsFreezing commands.now.fault) }
+    requires { AreLimits limits }
+    ensures ok { IfOk result (λ frozen. IfSome (R.remaining reader)
+        (λ bytes. IsFrozenFile limits (commands bytes limits.steps) frozen)) }
+    ensures err { IfErr result (λ fault. IfSome (R.remaining reader)
+        (λ bytes. EndsFreezing limits (commands bytes limits.steps) fault)) }
 {
+    let commands = read_commands(alloc, reader, limits.steps);
     if let Some(fault) = commands.fault {
         return Err(RunFault::Line(fault));
     }
-    let register = filed(alloc, limits, commands.list.as_slice())?;
+    let register = file_list(alloc, limits, commands.list.as_slice())?;
     Ok(register.pedigree().freeze(alloc)?)
 }
-// Files the commands, and writes the replies.
-fn write_answers<W: Write>(
-    alloc: Global,
-    limits: Limits,
-    commands: &[Command],
-    writer: &mut W,
-) -> Result<(), ReportFault>
-    requires limits { AreLimits limits }
-    requires room { length commands.now ≤ limits.steps }
-    ensures ok { OnOk result (Appends (W.contents writer.old) (W.contents writer.new) (replies_to limits commands.now)) }
-    ensures err { OnErr result (AppendsFront (W.contents writer.old) (W.contents writer.new) (replies_to limits commands.now)) }
-    ensures fault { IfErr result (λ fault. fault ≢ ReportFault.NotRegistered) }
-{
-    let register = filed(alloc, limits, commands)?;
-    write_replies(alloc, register.journal(), writer)
-}
 
-// A register in which the commands are filed at desk 0.
-fn filed(
+// Files the commands of a file, and writes the replies. A fault of the file is told after them.
+fn write_answers<R: Read + Drop, W: Write>(
     alloc: Global,
     limits: Limits,
-    commands: &[Command],
-) -> Result<Register<Global>, AllocError>
-    requires limits { AreLimits limits }
-    requires room { length commands.now ≤ limits.steps }
-    ensures journal { IfOk result (λ register. register.journal ≡ filed_from limits [] commands.now) }
-    ensures limits { IfOk result (λ register. register.limits ≡ limits) }
+    reader: R,
+    writer: &mut W,
+) -> Result<(), RunFault>
+    requires { AreLimits limits }
+    ensures ok { OnOk result (IfSome (R.remaining reader)
+        (λ bytes. IsAnswered limits Order.File (commands bytes limits.steps) (W.contents writer.old) (W.contents writer.new))) }
+    ensures err { IfErr result (λ fault. IfSome (R.remaining reader)
+        (λ bytes. EndsBy limits Order.File (commands bytes limits.steps) (W.contents writer.old) (W.contents writer.new) fault)) }
 {
-    let mut register = Register::new(alloc, limits);
-    for command in commands {
-        match register.file(0, *command) {
-            Ok(_) => {}
-            Err(FileFault::Memory) => return Err(AllocError),
-            Err(FileFault::JournalFull) => unreachable!(),
-        }
+    let filed = file_commands(alloc, limits, reader)?;
+    write_replies(alloc, filed.register.journal(), writer)?;
+    match filed.fault {
+        None => Ok(()),
+        Some(fault) => Err(RunFault::Line(fault)),
     }
-    Ok(register)
 }

@@ -1,6 +1,5 @@
-ghost use Rattle.std.specs.Prelude.{Some};
-
 use super::*;
+use crate::breaks_after::BreaksAfter;
 use herd_animal::{AnimalNumber, Day, Herd};
 use std::io;
 use std::io::Cursor;
@@ -24,33 +23,6 @@ const TRANSFERS: &[u8] = b"kind,animal,day,sire,dam,from,to\n\
     exit,HOLGBRM000000000001,2002-01-01,,,,\n\
     transfer,HOLGBRM000000000001,2002-02-01,,,2,3\n\
     exit,HOLGBRM000000000009,2002-01-01,,,,\n";
-
-// Gives its text up to a number of bytes, one byte a read, and then fails.
-#[derive(Drop)]
-struct BreaksAfter<'a> {
-    text: &'a [u8],
-    left: usize,
-}
-
-impl Read for BreaksAfter<'_> {
-    ghost remaining = { λ s. Some s.text.now };
-
-    fn read(&mut self, buf: &mut [u8]) -> io::Result<usize> {
-        if self.left == 0 {
-            return Err(io::Error::from(io::ErrorKind::BrokenPipe));
-        }
-        let Some((first, rest)) = self.text.split_first() else {
-            return Ok(0);
-        };
-        let Some(place) = buf.first_mut() else {
-            return Ok(0);
-        };
-        *place = *first;
-        self.text = rest;
-        self.left -= 1;
-        Ok(1)
-    }
-}
 
 fn number(rt: &impl Abort, text: &[u8]) -> AnimalNumber {
     AnimalNumber::parse(text).expect(rt, "an animal number")
@@ -253,10 +225,7 @@ fn stops_where_the_reader_fails(rt: HostRuntime) -> Result<(), Fail> {
         return Ok(());
     }
     for left in 0..TRANSFERS.len() + 1 {
-        let reader = BreaksAfter {
-            text: TRANSFERS,
-            left,
-        };
+        let reader = BreaksAfter::new(TRANSFERS, left);
         let answer = read_commands(rt.alloc(), reader, 9);
         let given = &TRANSFERS[..left];
         let lines = given.iter().filter(|byte| **byte == b'\n').count();

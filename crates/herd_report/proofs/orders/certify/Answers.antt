@@ -1,10 +1,9 @@
 -- Where there are no coefficients, nothing is written, and the animal is in the book.
-use Rattle.std.proofs.Common.{◌≡◌, ◌∙◌, Err, sym}
+use Rattle.std.proofs.Common.{◌∙◌, sym}
 use Rattle.std.proofs.lemmas.Bool.{false≢true}
 use Rattle.std.proofs.lemmas.Result.{err_from_is_err_and}
 use Rattle.herd_report.proofs.CertificateFacts.{number_is_there}
 use Rattle.herd_report.proofs.OutputFacts.{front_nothing}
-use Rattle.herd_report.specs.declared.report_fault.ReportFault.TheVariants.{Memory, NotRegistered}
 use Rattle.herd_report.proofs.orders.certify.Goals as goal
 
 pub returns-in_err-coefficients-in-Some-clause-err : goal.returns-in_err-coefficients-in-Some-clause-err

@@ -1,40 +1,43 @@
--- A run for the replies that stops, and a run for a certificate.
-use Rattle.std.proofs.Common.{◌≡◌, Err, ap, subst}
+-- A run for the list of coefficients, and one for a certificate.
+use Rattle.std.proofs.Common.{Err, ap}
 use Rattle.std.proofs.lemmas.Option.{IfSome_then}
-use Rattle.std.proofs.lemmas.Result.{err_from_is_err_and}
-use Rattle.herd_report.specs.CommandFile.{IsRead, commands}
-use Rattle.herd_report.proofs.RunFacts.{certified, stops_certifying, stops_replying}
+use Rattle.std.proofs.lemmas.Result.{IfErr-weaker, err_from_is_err_and, on_ok_weaker}
+use Rattle.herd_report.specs.CommandFile.{commands}
+use Rattle.herd_report.specs.declared.orders.Order.TheVariants.{Inbreeding}
+use Rattle.herd_report.proofs.RunFacts.{certified, reported, stops_certifying, stops_listing}
 use Rattle.herd_report.proofs.orders.run.Goals as goal
-
-pub returns-in_err-write_answers-in-File-clause-err : goal.returns-in_err-write_answers-in-File-clause-err
-returns-in_err-write_answers-in-File-clause-err g c =
-    let exit = err_from_is_err_and c.from_residual.result c.from_residual.ensures.1 in
-    let front = rw c.as_slice.ensures.value at c.in_err-write_answers-in-File.ensures.err in
-    let file = c.read_commands-commands.result in
-    rw (exit.1, exit.2, c.in-File.is)
-    (IfSome_then (g.R.Read.remaining c.args.reader) c.read_commands-commands.ensures.file
-    (λ bytes read. stops_replying c.args.limits (commands bytes c.args.limits.steps) file.list.items file.fault _ _ _ read front
-    c.in_err-write_answers-in-File.ensures.fault))
 
 pub returns-in_err-certify-in-Certificate-clause-err : goal.returns-in_err-certify-in-Certificate-clause-err
 returns-in_err-certify-in-Certificate-clause-err g c =
     let exit = err_from_is_err_and c.from_residual-in_err-certify-in-Certificate.result c.from_residual-in_err-certify-in-Certificate.ensures.1 in
-    let made = c.in_ok-frozen-in-Certificate.ensures in
     let stopped = c.in_err-certify-in-Certificate.ensures in
-    let list = c.read_commands-commands.result.list.items in
     rw (exit.1, exit.2, c.in-Certificate.is)
-    (IfSome_then (g.R.Read.remaining c.args.reader) c.read_commands-commands.ensures.file
-    (λ bytes read. stops_certifying c.args.limits c.in-Certificate.number (commands bytes c.args.limits.steps) list c.in_ok-frozen-in-Certificate.frozen _ _ _
-    (subst (λ line. IsRead c.args.limits.steps (commands bytes c.args.limits.steps) list line) made.faultless read) made.frozen
-    stopped.err (λ told. stopped.absent.0 (ap Err told)) (λ absent. ap g.W.Write.contents (stopped.untouched absent))))
+    (IfSome_then (g.R.Read.remaining c.args.reader) c.in_ok-frozen-in-Certificate.ensures.ok
+    (λ bytes made. stops_certifying c.args.limits c.in-Certificate.number (commands bytes c.args.limits.steps) c.in_ok-frozen-in-Certificate.frozen _ _ _
+    made stopped.err (λ told. stopped.absent.0 (ap Err told)) (λ absent. ap g.W.Write.contents (stopped.untouched absent))))
 
-pub returns-in-Certificate-clause-ok : goal.returns-in-Certificate-clause-ok
-returns-in-Certificate-clause-ok g c =
-    let made = c.in_ok-frozen-in-Certificate.ensures in
+pub returns-in_ok-certify-in-Certificate-clause-ok : goal.returns-in_ok-certify-in-Certificate-clause-ok
+returns-in_ok-certify-in-Certificate-clause-ok g c =
     let ended = c.in_ok-certify-in-Certificate.ensures in
-    let list = c.read_commands-commands.result.list.items in
     rw c.in-Certificate.is
-    (IfSome_then (g.R.Read.remaining c.args.reader) c.read_commands-commands.ensures.file
-    (λ bytes read. certified c.args.limits c.in-Certificate.number (commands bytes c.args.limits.steps) list c.in_ok-frozen-in-Certificate.frozen _ _
-    (subst (λ line. IsRead c.args.limits.steps (commands bytes c.args.limits.steps) list line) made.faultless read) made.frozen
-    (λ absent. absurd (cc (ended.absent.1 absent))) ended.ok))
+    (IfSome_then (g.R.Read.remaining c.args.reader) c.in_ok-frozen-in-Certificate.ensures.ok
+    (λ bytes made. certified c.args.limits c.in-Certificate.number (commands bytes c.args.limits.steps) c.in_ok-frozen-in-Certificate.frozen _ _
+    made (λ absent. absurd (cc (ended.absent.1 absent))) ended.ok))
+
+pub returns-in_ok-frozen-in-Inbreeding-clause-ok : goal.returns-in_ok-frozen-in-Inbreeding-clause-ok
+returns-in_ok-frozen-in-Inbreeding-clause-ok g c =
+    let order = Inbreeding c.in-Inbreeding.workers c.in-Inbreeding.block in
+    rw c.in-Inbreeding.is
+    (on_ok_weaker c.list_inbreeding.result
+    (λ written. IfSome_then (g.R.Read.remaining c.args.reader) c.in_ok-frozen-in-Inbreeding.ensures.ok
+    (λ bytes made. reported c.args.limits order (commands bytes c.args.limits.steps) c.in_ok-frozen-in-Inbreeding.frozen _ _ made tt written))
+    c.list_inbreeding.ensures.ok)
+
+pub returns-in_ok-frozen-in-Inbreeding-clause-err : goal.returns-in_ok-frozen-in-Inbreeding-clause-err
+returns-in_ok-frozen-in-Inbreeding-clause-err g c =
+    rw c.in-Inbreeding.is
+    (IfErr-weaker c.list_inbreeding.result _ _
+    (λ fault ends. IfSome_then (g.R.Read.remaining c.args.reader) c.in_ok-frozen-in-Inbreeding.ensures.ok
+    (λ bytes made. stops_listing c.args.limits c.in-Inbreeding.workers c.in-Inbreeding.block (commands bytes c.args.limits.steps)
+    c.in_ok-frozen-in-Inbreeding.frozen _ _ fault made ends))
+    c.list_inbreeding.ensures.err)

@@ -1,9 +1,17 @@
--- Where the commands aren't all filed, nothing is written.
+-- What was written of the replies is a front of those to the file.
+use Rattle.std.proofs.lemmas.Option.{IfSome_then}
 use Rattle.std.proofs.lemmas.Result.{err_from_is_err_and}
-use Rattle.herd_report.proofs.OutputFacts.{passes_nothing}
+use Rattle.herd_register.specs.Run.{commands_of}
+use Rattle.herd_report.specs.CommandFile.{commands}
+use Rattle.herd_report.proofs.RunFacts.{stops_replying}
 use Rattle.herd_report.proofs.orders.write_answers.Goals as goal
 
-pub returns-in_err-register-clause-err : goal.returns-in_err-register-clause-err
-returns-in_err-register-clause-err g c =
-    let exit = err_from_is_err_and c.from_residual.result c.from_residual.ensures.1 in
-    rw exit.1 (record { rest = _; passed = passes_nothing _ _ })
+pub returns-in_err-write_replies-clause-err : goal.returns-in_err-write_replies-clause-err
+returns-in_err-write_replies-clause-err g c =
+    let exit = err_from_is_err_and c.from_residual-in_err-write_replies.result c.from_residual-in_err-write_replies.ensures.1 in
+    let filed = c.in_ok-filed in
+    let stopped = c.in_err-write_replies.ensures in
+    let front = rw (c.journal.ensures.value, filed.ensures.filed.journal_is) at stopped.err in
+    rw (exit.1, exit.2)
+    (IfSome_then (g.R.Read.remaining c.args.reader) filed.ensures.file
+    (λ bytes read. stops_replying c.args.limits (commands bytes c.args.limits.steps) (commands_of filed.filed.register.journal) filed.filed.fault _ _ _ read front stopped.fault))

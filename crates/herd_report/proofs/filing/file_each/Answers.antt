@@ -1,0 +1,31 @@
+-- A command that was filed is the last of those that the reader gave.
+use Rattle.std.proofs.Common.{◌≡◌, ◌∙◌, ◌+◌, ◌++◌, ◌∷◌, [], ap, length}
+use Rattle.std.proofs.lemmas.List.{length_push}
+use Rattle.herd_register.specs.Register.{Register}
+use Rattle.herd_register.specs.Run.{commands_of}
+use Rattle.herd_report.proofs.RunFacts.{commands_of-filed, filed-more}
+use Rattle.herd_report.proofs.filing.file_each.Goals as goal
+
+pub loop-command-preserved : goal.loop-command-preserved
+loop-command-preserved g c =
+    let limits = c.args.register.now.limits in
+    let old = c.loop-command.register in
+    let new = c.file_next.new.register in
+    let list = commands_of old.journal in
+    let given = rw c.in-Ok-Some.field-0-is at c.in-Ok-Some.ensures.ready in
+    let gives = rw c.in-Ok-Some.field-0-is at c.in-Ok-Some.ensures.gives in
+    let filed = filed-more limits list c.in-Ok-Some.command old new c.loop-command.invariant.filed c.in_ok-file_next-in-Ok-Some.ensures in
+    let same : commands_of new.journal ≡ list ++ c.in-Ok-Some.command ∷ [] = commands_of-filed limits _ new filed in
+    let count : length new.journal ≡ length old.journal + 1 =
+    ap (λ (r : Register). length r.journal) c.in_ok-file_next-in-Ok-Some.ensures ∙ length_push old.journal _ in
+    let before = c.loop-command.invariant.ready in
+    record {
+      ready = rw (count, ← before.most_is, ← before.given_is) given;
+      filed = rw same filed;
+      gives = λ file before. rw same (gives file list (c.loop-command.invariant.gives file before));
+    }
+
+pub returns-in-Ok-None-clause-file : goal.returns-in-Ok-None-clause-file
+returns-in-Ok-None-clause-file g c =
+    let ends = rw c.in-Ok-None.field-0-is at c.in-Ok-None.ensures.gives in
+    λ file before. ends file (commands_of c.loop-command.register.journal) (c.loop-command.invariant.gives file before)
