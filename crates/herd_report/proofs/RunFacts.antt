@@ -1,5 +1,5 @@
 -- The steps of commands that are filed one after the other.
-use Rattle.std.proofs.Common.{◌≡◌, ◌≢◌, inl, inr, ℕ, suc, ◌+◌, arith, true, false, MatchBool, Option, Some, None, List, [], ◌∷◌, ◌++◌, refl, ap, sym, subst, ◌∙◌, ⊎_elim, append_assoc, append-nil, length}
+use Rattle.std.proofs.Common.{◌≡◌, ◌≢◌, inr, ℕ, suc, ◌+◌, arith, true, false, MatchBool, Option, Some, None, List, [], ◌∷◌, ◌++◌, refl, ap, sym, subst, ◌∙◌, ⊎_elim, append_assoc, append-nil, length}
 use Rattle.std.proofs.lemmas.List.Sorted.{IsPermutation-sym}
 use Rattle.std.specs.Prelude.{Bool, is_some}
 use Rattle.std.specs.Io.KnownBytes.{Appends}
@@ -8,7 +8,7 @@ use Rattle.herd_pedigree.specs.Frozen.{IsFrozenFrom, book_of}
 use Rattle.herd_pedigree.specs.declared.TheConstants.{DEPTH_LIMIT, MOST_ANIMALS}
 use Rattle.herd_pedigree.specs.declared.frozen.Row.{Row}
 use Rattle.herd_pedigree.proofs.PermutedFacts.{record_of-permuted}
-use Rattle.herd_register.specs.Register.{Register, new_register, with_step}
+use Rattle.herd_register.specs.Register.{Register, with_step}
 use Rattle.herd_register.specs.Register.{book_of as book_of_register}
 use Rattle.herd_register.specs.Run.{answer, next, step_of, book_after, commands_of, run_book}
 use Rattle.herd_register.specs.declared.command.Command.{Command}
@@ -20,13 +20,13 @@ use Rattle.herd_report.specs.CommandFile.{CommandFile, IsRead, IsReadBefore, com
 use Rattle.herd_report.specs.LineCause.{is_interruption}
 use Rattle.herd_report.specs.Output.{AppendsFront}
 use Rattle.herd_report.specs.Replies.{reply_line, reply_lines_from, replies_text}
-use Rattle.herd_report.specs.Run.{EndsBy, HasFiled, IsAnswered, IsFrozenFile, IsReport, IsThere, IsWrittenBefore, filed_from, replies_to, wanted}
-use Rattle.herd_report.specs.RunFault.{EndsFreezing, EndsListing, run_fault_of, run_fault_of_pool}
+use Rattle.herd_report.specs.Run.{EndsBy, HasFiled, IsAnswered, IsFrozenFile, IsReport, IsThere, filed_from, replies_to, wanted}
+use Rattle.herd_report.specs.RunFault.{EndsListing, run_fault_of, run_fault_of_pool}
 use Rattle.herd_report.specs.declared.line_fault.LineFault.{LineFault}
 use Rattle.herd_report.specs.declared.report_fault.ReportFault.{ReportFault}
 use Rattle.herd_report.specs.declared.report_fault.ReportFault.TheVariants as report
 use Rattle.herd_report.specs.declared.orders.Order.{Order}
-use Rattle.herd_report.specs.declared.orders.Order.TheVariants.{File, Inbreeding, Certificate, Mating, Inverse}
+use Rattle.herd_report.specs.declared.orders.Order.TheVariants.{File, Inbreeding, Certificate}
 use Rattle.herd_report.specs.declared.run_fault.RunFault.{RunFault}
 use Rattle.herd_report.specs.declared.run_fault.RunFault.TheVariants.{Line, NotRegistered, NoThread, Memory, Write}
 use Rattle.herd_report.proofs.OutputFacts.{front_nothing, passes_before}
@@ -49,10 +49,6 @@ pub length-filed_from : (limits : Limits) (book : Book) (commands : List Command
 length-filed_from limits book [] = refl
 length-filed_from limits book (command ∷ commands) =
     ap suc (length-filed_from limits (next limits book command) commands)
-
--- nothing is filed in a new register
-pub nothing_filed : (limits : Limits) → HasFiled limits [] (new_register limits)
-nothing_filed limits = record { limits_are = refl; journal_is = refl }
 
 -- as many steps as commands
 pub length-filed : (limits : Limits) (commands : List Command) (register : Register) → HasFiled limits commands register → length register.journal ≡ length commands
@@ -143,55 +139,14 @@ replies_of_file limits file list fault old new read front =
       passes = subst (λ t. AppendsFront old new t) (sym (ap (replies_to limits) rest.1 ∙ more.1)) (longer_text old new (replies_to limits list) more.0 front);
     }
 
--- a run for the replies that ends with the file
-pub replied : (limits : Limits) (file : CommandFile) (list : List Command) (old new : Option (List ℕ)) →
-    IsRead limits.steps file list None → Appends old new (replies_to limits list) → IsAnswered limits File file old new
-replied limits file list old new read written =
-    record {
-      faultless = read.1;
-      there = tt;
-      written = subst (λ commands. IsReport limits File commands (Appends old new)) read.0 (record { rows = []; frozen = λ other. absurd (other refl); passes = written });
-    }
-
--- one that comes to a line fault
-pub replied_before : (limits : Limits) (file : CommandFile) (list : List Command) (fault : LineFault) (old new : Option (List ℕ)) →
-    IsRead limits.steps file list (Some fault) → Appends old new (replies_to limits list) → EndsBy limits File file old new (Line fault)
-replied_before limits file list fault old new read written = record { commands = list; read = read; written = written }
-
--- one that stops while it files or writes
+-- a run for the replies that stops while it writes
 pub stops_replying : (limits : Limits) (file : CommandFile) (list : List Command) (line : Option LineFault) (old new : Option (List ℕ)) (fault : ReportFault) →
     IsRead limits.steps file list line → AppendsFront old new (replies_to limits list) → fault ≢ report.NotRegistered → EndsBy limits File file old new (run_fault_of fault)
 stops_replying limits file list line old new report.Write read front other = (λ reports. absurd (reports refl), replies_of_file limits file list line old new read front)
 stops_replying limits file list line old new report.Memory read front other = (λ reports. absurd (reports refl), inr (replies_of_file limits file list line old new read front))
 stops_replying limits file list line old new report.NotRegistered read front other = absurd (other refl)
 
--- a run for a report that comes to no frozen book writes nothing
-nothing_before : (limits : Limits) (order : Order) (commands : List Command) (known : Option (List ℕ)) → order ≢ File → IsWrittenBefore limits order commands known known
-nothing_before limits File commands known reports = absurd (reports refl)
-nothing_before limits (Inbreeding workers block) commands known reports = refl
-nothing_before limits (Certificate number) commands known reports = refl
-nothing_before limits (Mating dam sires) commands known reports = refl
-nothing_before limits Inverse commands known reports = refl
-
-pub not_frozen : (limits : Limits) (order : Order) (file : CommandFile) (known : Option (List ℕ)) (fault : RunFault) →
-    order ≢ File → EndsFreezing limits file fault → EndsBy limits order file known known fault
-not_frozen limits order file known (Line fault) reports ends =
-    record { commands = ends.0; read = ends.1; written = nothing_before limits order ends.0 known reports }
-not_frozen limits order file known NotRegistered reports ends = absurd ends
-not_frozen limits order file known NoThread reports ends = absurd ends
-not_frozen limits order file known Memory reports ends = (λ other. ends, inl refl)
-not_frozen limits order file known Write reports ends = absurd ends
-
--- one that stops while it computes or writes
-pub stops_reporting : (limits : Limits) (order : Order) (file : CommandFile) (rows : List Row) (old new : Option (List ℕ)) (fault : ReportFault) →
-    IsFrozenFile limits file rows → AppendsFront old new (wanted order limits file.commands rows) → fault ≢ report.NotRegistered →
-    EndsBy limits order file old new (run_fault_of fault)
-stops_reporting limits order file rows old new report.Write made front other =
-    (λ reports. made.faultless, report_of_file limits order file rows (AppendsFront old new) made front)
-stops_reporting limits order file rows old new report.Memory made front other =
-    (λ reports. made.faultless, inr (report_of_file limits order file rows (AppendsFront old new) made front))
-stops_reporting limits order file rows old new report.NotRegistered made front other = absurd (other refl)
-
+-- a run for the list of coefficients that stops
 pub stops_listing : (limits : Limits) (workers block : ℕ) (file : CommandFile) (rows : List Row) (old new : Option (List ℕ)) (fault : RunFault) →
     IsFrozenFile limits file rows → EndsListing old new (wanted (Inbreeding workers block) limits file.commands rows) fault →
     EndsBy limits (Inbreeding workers block) file old new fault

@@ -58,6 +58,8 @@ impl<R: Read> CommandReader<R> {
     }
 
     /// The next command, or none at the end of the file. After the end or a fault nothing more may be asked.
+    // Inlined: the command is moved once.
+    #[inline(always)]
     pub(crate) fn next_command(&mut self) -> Result<Option<Command>, LineFault>
         requires { IsReady self.old.most self.old.given self.old }
         ensures ready { IfOk result (λ given. IfSome given (λ _. IsReady self.old.most (self.old.given + 1) self.new)) }
