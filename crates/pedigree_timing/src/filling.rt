@@ -1,5 +1,12 @@
 //! Books that are filled, and corrected, as a register does it: each change is checked first.
 
+ghost use Rattle.std.specs.Prelude.{◌≡◌, ◌++◌, [], ◌∷◌, length, max, None, IfOk, OnOk, OnErr};
+ghost use Rattle.std.specs.Map.{keys_of};
+ghost use Rattle.herd_animal.specs.declared.number.Sex.TheVariants.{Male};
+ghost use Rattle.herd_pedigree.specs.Book.{changed, with_parents};
+ghost use Rattle.pedigree_timing.specs.Animals.{number_at};
+ghost use Rattle.pedigree_timing.specs.Books.{corrected, first_of, lined_animal, lined_entry, paired_animal, paired_entry, paired_sex};
+
 use crate::animals::{born_in, calf, female, male};
 use anyhow::{Result, bail};
 use herd_animal::AnimalNumber;
@@ -13,15 +20,20 @@ const LINE: u32 = 60;
 const PAIRS: u32 = 50;
 
 /// A book of a few pairs, and then of their calves in no order of age.
-pub fn calves(alloc: Global, animals: u32) -> Result<Pedigree<Global>> {
+pub fn calves(alloc: Global, animals: u32) -> Result<Pedigree<Global>>
+    ensures book { IfOk result (λ pedigree. pedigree.book ≡ first_of paired_entry animals) }
+    ensures count { IfOk result (λ pedigree. length pedigree.book ≡ animals) }
+{
     let mut pedigree = Pedigree::new(alloc);
     for place in 0..animals {
-        file_birth(&mut pedigree, number_at(place)?, animal_at(place)?)?;
+        file_birth(&mut pedigree, paired_number(place), paired(place))?;
     }
     Ok(pedigree)
 }
 
-fn number_at(place: u32) -> Result<AnimalNumber> {
+fn paired_number(place: u32) -> AnimalNumber
+    ensures { result ≡ number_at (paired_sex place) place }
+{
     if PAIRS <= place && place < 2 * PAIRS {
         female(place)
     } else {
@@ -29,37 +41,55 @@ fn number_at(place: u32) -> Result<AnimalNumber> {
     }
 }
 
-fn animal_at(place: u32) -> Result<Animal> {
+fn paired(place: u32) -> Animal
+    ensures { result ≡ paired_animal place }
+{
     if place < 2 * PAIRS {
         return born_in(1900, None);
     }
     let pair = place % PAIRS;
-    calf(place, male(pair)?, female(PAIRS + pair)?)
+    calf(place, male(pair), female(PAIRS + pair))
 }
 
 /// A founder, and then one line after the other.
-pub fn lines(alloc: Global, animals: u32) -> Result<Pedigree<Global>> {
+pub fn lines(alloc: Global, animals: u32) -> Result<Pedigree<Global>>
+    ensures book { IfOk result (λ pedigree. pedigree.book ≡ first_of lined_entry (max animals 1)) }
+    ensures count { IfOk result (λ pedigree. length pedigree.book ≡ max animals 1) }
+{
     let mut pedigree = Pedigree::new(alloc);
-    file_birth(&mut pedigree, male(0)?, born_in(1900, None)?)?;
-    let mut sire = None;
-    for place in 1..animals {
-        let generation = (place - 1) % LINE;
-        if generation == 0 {
-            sire = None;
-        }
-        let number = male(place)?;
-        file_birth(&mut pedigree, number, born_in(1910 + generation, sire)?)?;
-        sire = Some(number);
+    for place in 0..animals.max(1) {
+        file_birth(&mut pedigree, male(place), lined(place))?;
     }
     Ok(pedigree)
 }
 
-/// Gives the first of each line in turn the founder as its sire, and in the next round none.
-pub fn correct_heads(pedigree: &mut Pedigree<Global>, times: u32) -> Result<()> {
-    let founder = male(0)?;
+fn lined(place: u32) -> Animal
+    ensures { result ≡ lined_animal place }
+{
+    if place == 0 {
+        return born_in(1900, None);
+    }
+    let before = place - 1;
+    let generation = before % LINE;
+    let sire = if generation == 0 {
+        None
+    } else {
+        Some(male(before))
+    };
+    born_in(1910 + generation, sire)
+}
+
+/// Gives the first of each line in turn the founder as its sire, and in the next round none. After an error the book
+/// has some of the corrections.
+pub fn correct_heads(pedigree: &mut Pedigree<Global>, times: u32) -> Result<()>
+    ensures corrected { OnOk result (pedigree.new.book ≡ corrected pedigree.old.book times) }
+    ensures same { keys_of pedigree.new.book ≡ keys_of pedigree.old.book }
+    ensures count { length pedigree.new.book ≡ length pedigree.old.book }
+{
+    let founder = male(0);
     let lines = (pedigree.len() / LINE).max(1);
     for turn in 0..times {
-        let head = male((turn % lines).wrapping_mul(LINE).wrapping_add(1))?;
+        let head = male(turn % lines * LINE + 1);
         let sire = if (turn / lines).is_multiple_of(2) {
             Some(founder)
         } else {
@@ -70,9 +100,13 @@ pub fn correct_heads(pedigree: &mut Pedigree<Global>, times: u32) -> Result<()> 
     Ok(())
 }
 
-fn file_birth(pedigree: &mut Pedigree<Global>, number: AnimalNumber, animal: Animal) -> Result<()> {
-    let is_new = pedigree.get(&number).is_none() && pedigree.len() < MOST_ANIMALS;
-    if !is_new || animal.since != animal.birth || animal.left.is_some() {
+fn file_birth(pedigree: &mut Pedigree<Global>, number: AnimalNumber, animal: Animal) -> Result<()>
+    requires since { animal.since ≡ animal.birth }
+    requires left { animal.left ≡ None }
+    ensures filed { OnOk result (pedigree.new.book ≡ pedigree.old.book ++ (number, animal) ∷ []) }
+    ensures err { OnErr result (pedigree.new ≡ pedigree.old) }
+{
+    if pedigree.get(&number).is_some() || pedigree.len() >= MOST_ANIMALS {
         bail!("no birth of a new animal")
     }
     match pedigree.add_if_sound(number, animal)? {
@@ -85,7 +119,10 @@ fn file_correction(
     pedigree: &mut Pedigree<Global>,
     number: AnimalNumber,
     sire: Option<AnimalNumber>,
-) -> Result<()> {
+) -> Result<()>
+    ensures corrected { OnOk result (pedigree.new.book ≡ changed pedigree.old.book number (with_parents sire None)) }
+    ensures err { OnErr result (pedigree.new ≡ pedigree.old) }
+{
     if pedigree.get(&number).is_none() {
         bail!("there is no such animal")
     }

@@ -1,0 +1,56 @@
+-- How the made books grow, and what a correction leaves.
+use Rattle.std.proofs.Common.{◌≡◌, ℕ, ◌+◌, ◌*◌, ◌/◌, ◌%◌, ◌==◌, true, false, if◌then◌else◌, List, [], ◌∷◌, ◌++◌, length, Option, Some, None, refl, sym, ap, ◌∙◌, arith, add-one}
+use Rattle.std.proofs.lemmas.List.{length-map}
+use Rattle.std.proofs.lemmas.List.Sorted.{length_permutation}
+use Rattle.std.proofs.lemmas.List.FromFn.{length-map-range_with_len, map-range_with_len_more}
+use Rattle.std.specs.Map.{keys_of}
+use Rattle.std.specs.Str.{bytes_eq}
+use Rattle.herd_animal.specs.declared.number.Sex.TheVariants.{Male}
+use Rattle.herd_pedigree.specs.declared.animal.Animal.{Animal}
+use Rattle.herd_pedigree.specs.Book.{Book, changed, with_parents}
+use Rattle.herd_pedigree.specs.Frozen.{IsFrozenFrom, book_of}
+use Rattle.herd_pedigree.specs.declared.frozen.Row.{Row}
+use Rattle.pedigree_timing.specs.declared.filling.TheConstants.{LINE}
+use Rattle.pedigree_timing.specs.Animals.{number_at}
+use Rattle.pedigree_timing.specs.Books.{first_of, lines_in, corrected}
+
+pub first_of-more : (entry : ℕ → List ℕ × Animal) (n : ℕ) → first_of entry (n + 1) ≡ first_of entry n ++ entry n ∷ []
+first_of-more entry n = map-range_with_len_more entry 0 n n (omega arith)
+
+pub length-first_of : (entry : ℕ → List ℕ × Animal) (n : ℕ) → length (first_of entry n) ≡ n
+length-first_of entry n = length-map-range_with_len entry 0 n
+
+pub keys_of-changed : (book : Book) (number : List ℕ) (change : Animal → Animal) → keys_of (changed book number change) ≡ keys_of book
+keys_of-changed [] number change = refl
+keys_of-changed (entry ∷ book) number change =
+    elim (bytes_eq number entry.0) as (λ b. keys_of (if b then (entry.0, change entry.1) ∷ book else entry ∷ changed book number change) ≡ keys_of (entry ∷ book)) [
+      | true ↦ refl
+      | false ↦ ap (λ keys. entry.0 ∷ keys) (keys_of-changed book number change)
+    ]
+
+pub length-keys_of : (book other : Book) → keys_of book ≡ keys_of other → length book ≡ length other
+length-keys_of book other same =
+    sym (length-map book (λ entry. entry.0)) ∙ ap length same ∙ length-map other (λ entry. entry.0)
+
+pub corrected-none : (book : Book) → corrected book 0 ≡ book
+unfolding corrected
+corrected-none book = refl
+
+pub corrected-more : (book : Book) (turn : ℕ) → corrected book (turn + 1) ≡ changed (corrected book turn) (number_at Male (turn % lines_in book * LINE + 1)) (with_parents (if turn / lines_in book % 2 == 0 then Some (number_at Male 0) else None) None)
+unfolding corrected
+corrected-more book turn = rw (add-one turn) refl
+
+-- a book in which one animal more is registered
+pub first_of-next : (entry : ℕ → List ℕ × Animal) (n : ℕ) (was now : Book) (number : List ℕ) (animal : Animal) → was ≡ first_of entry n → now ≡ was ++ (number, animal) ∷ [] → number ≡ (entry n).0 → animal ≡ (entry n).1 → now ≡ first_of entry (n + 1)
+first_of-next entry n was now number animal old new same_number same_animal =
+    rw first_of-more (rw (new, old, same_number, same_animal) refl)
+
+-- a book in which one correction more is made
+pub corrected-next : (book was now : Book) (turn lines : ℕ) (head : List ℕ) (sire : Option (List ℕ)) → was ≡ corrected book turn → lines ≡ lines_in book → head ≡ number_at Male (turn % lines * LINE + 1) → sire ≡ (if turn / lines % 2 == 0 then Some (number_at Male 0) else None) → now ≡ changed was head (with_parents sire None) → now ≡ corrected book (turn + 1)
+corrected-next book was now turn lines head sire old many first given new =
+    new ∙ rw (corrected-more book turn, old, first, given, many) refl
+
+-- the frozen rows are as many as the animals
+pub length-IsFrozenFrom : (l most : ℕ) (book : Book) (rows : List Row) (n : ℕ) → IsFrozenFrom l most book rows → length book ≡ n → length rows ≡ n
+length-IsFrozenFrom l most book rows n frozen many =
+    sym (length-map rows (λ row. (row.number, row.animal))) ∙ length_permutation book (book_of rows) frozen.same ∙ many

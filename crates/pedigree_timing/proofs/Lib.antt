@@ -1,0 +1,6 @@
+mod BookFacts
+mod DayFacts
+mod DigitFacts
+mod HerdFacts
+mod NumberFacts
+mod TaskFacts

@@ -1,0 +1,3 @@
+pub mod Animals
+pub mod Books
+pub mod Task
