@@ -1,1 +1,4 @@
+pub mod CommandLine
+pub mod FaultText
 pub mod Request
+pub mod Words

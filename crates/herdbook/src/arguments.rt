@@ -1,7 +1,14 @@
 //! The words of the command line.
 
+ghost use Rattle.std.specs.Prelude.{◌≡◌, IfErr, IfOk, codes, false, map, string_bytes};
+ghost use Rattle.clap.specs.Words.{app_of, found_of, rows_of, subcommand_of, subcommand_rows_of};
+ghost use Rattle.clap.specs.declared.builder.command.Command.TheViews.{out-Command};
+ghost use Rattle.herd_animal.specs.AnimalNumber.{IsAnimalNumber};
+ghost use Rattle.herd_animal.specs.NumberFault.{IsNumberFault};
 ghost use Rattle.herd_report.specs.Run.{IsOrder};
+ghost use Rattle.herdbook.specs.CommandLine.{certificate_line, command_line, inbreeding_line, mating_line};
 ghost use Rattle.herdbook.specs.Request.{IsOrderFor};
+ghost use Rattle.herdbook.specs.Words.{IsAsked, IsAskedOfInbreeding, IsFirstFault, IsRefused, IsUnread, IsWrongNumber, text_of, texts_of};
 
 use clap::{Arg, ArgAction, ArgMatches, Command};
 use herd_animal::{AnimalNumber, NumberFault};
@@ -34,18 +41,32 @@ pub enum WordsFault {
 }
 
 impl From<clap::Error> for WordsFault {
+    ghost use Rattle.std.specs.Prelude.{◌≡◌};
+    ghost use Rattle.herdbook.specs.declared.arguments.WordsFault.TheVariants.{Words};
+
+    ghost from_gives = { λ error fault. fault ≡ Words error };
+
     fn from(error: clap::Error) -> WordsFault {
         WordsFault::Words(error)
     }
 }
 
 impl From<AllocError> for WordsFault {
+    ghost use Rattle.herdbook.specs.Words.{IsOutOfMemory};
+
+    ghost from_gives = { λ _ fault. IsOutOfMemory fault };
+
     fn from(error: AllocError) -> WordsFault {
         WordsFault::Words(clap::Error::from(error))
     }
 }
 
 impl From<NumberFault> for WordsFault {
+    ghost use Rattle.std.specs.Prelude.{◌≡◌};
+    ghost use Rattle.herdbook.specs.declared.arguments.WordsFault.TheVariants.{Number};
+
+    ghost from_gives = { λ cause fault. fault ≡ Number cause };
+
     fn from(fault: NumberFault) -> WordsFault {
         WordsFault::Number(fault)
     }
@@ -74,40 +95,70 @@ impl Request {
 }
 
 /// Reads the words of the command line, the program's own name first.
-pub fn read_words(alloc: Global, words: &[String]) -> Result<Request, WordsFault> {
+pub fn read_words(alloc: Global, words: &[String]) -> Result<Request, WordsFault>
+    ensures asked { IfOk result (IsAsked (subcommand_of command_line (map string_bytes words.now))) }
+    ensures refused { IfErr result (IsRefused (map string_bytes words.now)) }
+{
     let matches = command(alloc)?.try_get_matches_from(words)?;
+    request_of(alloc, &matches)
+}
+
+fn request_of(alloc: Global, matches: &ArgMatches<'_>) -> Result<Request, WordsFault>
+    ensures asked { IfOk result (IsAsked (subcommand_rows_of matches.now)) }
+    ensures unread { IfErr result (IsUnread (IsWrongNumber (subcommand_rows_of matches.now))) }
+{
     match matches.subcommand() {
         Some(("inbreeding", given)) => Ok(inbreeding_of(given)),
         Some(("certificate", given)) => Ok(Request::Certificate(number_of(given, "NUMBER")?)),
-        Some(("mating", given)) => mating_of(alloc, given),
+        Some(("mating", given)) => Ok(Request::Mating {
+            dam: number_of(given, "dam")?,
+            sires: sires_of(alloc, given)?,
+        }),
         Some(("inverse", _)) => Ok(Request::Inverse),
         _ => Ok(Request::File),
     }
 }
 
-fn inbreeding_of(given: &ArgMatches<'_>) -> Request {
+fn inbreeding_of(given: &ArgMatches<'_>) -> Request
+    ensures { IsAskedOfInbreeding (rows_of (found_of given.now)) result }
+{
     Request::Inbreeding {
         workers: given.get_one::<u32>("workers").unwrap_or(1),
         block: given.get_one::<u32>("block").unwrap_or(256),
     }
 }
 
-fn mating_of(alloc: Global, given: &ArgMatches<'_>) -> Result<Request, WordsFault> {
-    let dam = number_of(given, "dam")?;
-    let mut sires = Vec::new(alloc);
-    for text in given.get_strs("SIRE").unwrap_or(&[]) {
-        let sire = AnimalNumber::parse(text.as_bytes())?;
-        sires.push(sire).map_err(AllocError::from)?;
+fn sires_of(alloc: Global, given: &ArgMatches<'_>) -> Result<Vec<AnimalNumber>, WordsFault>
+    ensures read { IfOk result (λ sires. texts_of (codes "SIRE") (rows_of (found_of given.now)) ≡ sires.items) }
+    ensures unread { IfErr result (IsUnread (IsFirstFault (texts_of (codes "SIRE") (rows_of (found_of given.now))))) }
+{
+    numbers_of(alloc, given.get_strs("SIRE").unwrap_or(&[]))
+}
+
+fn numbers_of(alloc: Global, texts: &[&str]) -> Result<Vec<AnimalNumber>, WordsFault>
+    ensures read { IfOk result (λ numbers. map (λ text. text.now) texts.now ≡ numbers.items) }
+    ensures unread { IfErr result (IsUnread (IsFirstFault (map (λ text. text.now) texts.now))) }
+{
+    let mut numbers = Vec::new(alloc);
+    for text in texts {
+        let number = AnimalNumber::parse(text.as_bytes())?;
+        numbers.push(number).map_err(AllocError::from)?;
     }
-    Ok(Request::Mating { dam, sires })
+    Ok(numbers)
 }
 
 // The number under an argument that must be there.
-fn number_of(given: &ArgMatches<'_>, id: &str) -> Result<AnimalNumber, NumberFault> {
+fn number_of(given: &ArgMatches<'_>, id: &str) -> Result<AnimalNumber, NumberFault>
+    ensures read { IfOk result (λ number. text_of id.now (rows_of (found_of given.now)) ≡ number) }
+    ensures right { IfOk result IsAnimalNumber }
+    ensures fault { IfErr result (IsNumberFault (text_of id.now (rows_of (found_of given.now)))) }
+{
     AnimalNumber::parse(given.get_str(id).unwrap_or("").as_bytes())
 }
 
-fn command<'a>(alloc: Global) -> Result<Command<'a>, AllocError> {
+fn command<'a>(alloc: Global) -> Result<Command<'a>, AllocError>
+    ensures { IfOk result (λ command. app_of command ≡ command_line) }
+{
     Command::new(alloc, "herdbook")
         .about(
             "Keeps a herd book: reads a command file from standard input and writes to standard output",
@@ -124,7 +175,10 @@ fn command<'a>(alloc: Global) -> Result<Command<'a>, AllocError> {
         ))
 }
 
-fn inbreeding<'a>(alloc: Global) -> Result<Command<'a>, AllocError> {
+fn inbreeding<'a>(alloc: Global) -> Result<Command<'a>, AllocError>
+    ensures line { IfOk result (λ command. app_of command ≡ inbreeding_line) }
+    ensures globals { IfOk result (λ command. (out-Command command).has_globals ≡ false) }
+{
     let workers = Arg::new(alloc, "workers")
         .long("workers")
         .value_name("N")
@@ -143,7 +197,10 @@ fn inbreeding<'a>(alloc: Global) -> Result<Command<'a>, AllocError> {
         .arg(block)
 }
 
-fn certificate<'a>(alloc: Global) -> Result<Command<'a>, AllocError> {
+fn certificate<'a>(alloc: Global) -> Result<Command<'a>, AllocError>
+    ensures line { IfOk result (λ command. app_of command ≡ certificate_line) }
+    ensures globals { IfOk result (λ command. (out-Command command).has_globals ≡ false) }
+{
     let number = Arg::new(alloc, "NUMBER")
         .required(true)
         .help("The animal's number");
@@ -152,7 +209,10 @@ fn certificate<'a>(alloc: Global) -> Result<Command<'a>, AllocError> {
         .arg(number)
 }
 
-fn mating<'a>(alloc: Global) -> Result<Command<'a>, AllocError> {
+fn mating<'a>(alloc: Global) -> Result<Command<'a>, AllocError>
+    ensures line { IfOk result (λ command. app_of command ≡ mating_line) }
+    ensures globals { IfOk result (λ command. (out-Command command).has_globals ≡ false) }
+{
     let dam = Arg::new(alloc, "dam")
         .long("dam")
         .value_name("NUMBER")

@@ -1,30 +1,81 @@
 //! What is told on standard error.
 
-use herd_animal::NumberFault;
-use herd_report::{LineFault, RunFault};
-use std::io;
+ghost use Rattle.std.specs.Prelude.{◌≡◌};
+ghost use Rattle.herdbook.specs.FaultText.{cause_name, number_fault_code, number_fault_name};
 
-/// Tells why a run ended early.
-pub fn tell_run_fault(rt: &impl Eprint, fault: RunFault) -> io::Result<()> {
-    match fault {
-        RunFault::Line(LineFault { entry, cause }) => {
-            let code = cause.number();
-            eprintln!(rt; "herdbook: record {entry}: fault {code} {cause:?}")
+use herd_animal::NumberFault;
+use herd_report::{LineCause, LineFault, RunFault};
+use std::fmt;
+
+/// Why a run ended early.
+#[derive(Clone, Copy)]
+pub struct RunFaultText(pub RunFault);
+
+impl fmt::Display for RunFaultText {
+    ghost use Rattle.std.specs.Prelude.{Some};
+    ghost use Rattle.herdbook.specs.FaultText.{run_fault_text};
+
+    ghost output = { λ told. Some (run_fault_text told.0) };
+
+    fn fmt<W: fmt::Write>(&self, f: &mut fmt::Formatter<W>) -> fmt::Result {
+        match self.0 {
+            RunFault::Line(LineFault { entry, cause }) => {
+                let (code, name) = (cause.number(), name_of(cause));
+                write!(f, "record {entry}: fault {code} {name}")
+            }
+            RunFault::NotRegistered => f.write_str("not registered"),
+            RunFault::NoThread => f.write_str("no thread"),
+            RunFault::Memory => f.write_str("no memory"),
+            RunFault::Write => f.write_str("write fault"),
         }
-        RunFault::NotRegistered => eprintln!(rt; "herdbook: not registered"),
-        RunFault::NoThread => eprintln!(rt; "herdbook: no thread"),
-        RunFault::Memory => eprintln!(rt; "herdbook: no memory"),
-        RunFault::Write => eprintln!(rt; "herdbook: write fault"),
     }
 }
 
-/// Tells why a word is no animal number.
-pub fn tell_number_fault(rt: &impl Eprint, fault: NumberFault) -> io::Result<()> {
-    let (code, name) = match fault {
+/// Why a word is no animal number.
+#[derive(Clone, Copy)]
+pub struct NumberFaultText(pub NumberFault);
+
+impl fmt::Display for NumberFaultText {
+    ghost use Rattle.std.specs.Prelude.{Some};
+    ghost use Rattle.herdbook.specs.FaultText.{number_fault_text};
+
+    ghost output = { λ told. Some (number_fault_text told.0) };
+
+    fn fmt<W: fmt::Write>(&self, f: &mut fmt::Formatter<W>) -> fmt::Result {
+        let (code, name) = code_and_name(self.0);
+        write!(f, "animal number fault {code} {name}")
+    }
+}
+
+fn name_of(cause: LineCause) -> &'static str
+    ensures { result.now ≡ cause_name cause }
+{
+    match cause {
+        LineCause::Header => "Header",
+        LineCause::Fields => "Fields",
+        LineCause::Kind => "Kind",
+        LineCause::Animal => "Animal",
+        LineCause::Day => "Day",
+        LineCause::Sire => "Sire",
+        LineCause::Dam => "Dam",
+        LineCause::FromHerd => "FromHerd",
+        LineCause::ToHerd => "ToHerd",
+        LineCause::FieldNotUsed => "FieldNotUsed",
+        LineCause::Read => "Read",
+        LineCause::TooMany => "TooMany",
+        LineCause::Memory => "Memory",
+        LineCause::Embryo => "Embryo",
+    }
+}
+
+fn code_and_name(fault: NumberFault) -> (u8, &'static str)
+    ensures code { result.0 ≡ number_fault_code fault }
+    ensures name { result.1.now ≡ number_fault_name fault }
+{
+    match fault {
         NumberFault::Length => (1, "Length"),
         NumberFault::Letter(_) => (2, "Letter"),
         NumberFault::SexLetter => (3, "SexLetter"),
         NumberFault::NumberCharacter(_) => (4, "NumberCharacter"),
-    };
-    eprintln!(rt; "herdbook: animal number fault {code} {name}")
+    }
 }

@@ -5,7 +5,7 @@ mod arguments;
 mod faults;
 
 use arguments::{WordsFault, read_words};
-use faults::{tell_number_fault, tell_run_fault};
+use faults::{NumberFaultText, RunFaultText};
 use herd_register::Limits;
 use herd_report::run;
 use std::io;
@@ -29,7 +29,7 @@ fn main(rt: HostRuntime) -> io::Result<ExitCode> {
             return Ok(ExitCode::from(error.exit_code() as u8));
         }
         Err(WordsFault::Number(fault)) => {
-            tell_number_fault(&rt, fault)?;
+            eprintln!(rt; "herdbook: {}", NumberFaultText(fault))?;
             return Ok(ExitCode::from(USAGE));
         }
     };
@@ -43,7 +43,7 @@ fn main(rt: HostRuntime) -> io::Result<ExitCode> {
     ) {
         Ok(()) => Ok(ExitCode::SUCCESS),
         Err(fault) => {
-            tell_run_fault(&rt, fault)?;
+            eprintln!(rt; "herdbook: {}", RunFaultText(fault))?;
             Ok(ExitCode::FAILURE)
         }
     }

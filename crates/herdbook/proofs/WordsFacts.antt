@@ -1,0 +1,80 @@
+-- What the getters of `clap` tell of the words.
+use Rattle.std.proofs.Common.{◌≡◌, ℕ, ◌+◌, ◌<◌, inl, inr, List, [], Option, Some, None, option_map, unwrap_or, Bor, Result, slice_get, get_or, length, map, true, refl, subst, sym, ◌∙◌, ap, arith, Ok, Err}
+use Rattle.std.specs.Str.Parse.{ParsesUnsigned, ExplainsUnsignedError, HasUnsignedDigitsIfOk}
+use Rattle.std.specs.declared.num.ParseIntError.{ParseIntError}
+use Rattle.std.specs.Prelude.{IfErr, IsErrAnd, IsSomeAnd}
+use Rattle.std.proofs.lemmas.Bool.{cases_order}
+use Rattle.std.proofs.lemmas.Option.{slice_get-get_or, slice_get-map}
+use Rattle.clap.specs.Words.{ReadsOne, Text, first_value, is_simple, matched_of, raw_values, rows_of, subcommand_of}
+use Rattle.clap.specs.declared.parser.matches.Found as matches
+use Rattle.clap.proofs.WalkLemmas.{first_value-rows, raw_values-rows}
+use Rattle.herd_animal.specs.AnimalNumber.{IsAnimalNumber}
+use Rattle.herd_animal.specs.declared.number.NumberFault.{NumberFault}
+use Rattle.herdbook.specs.declared.arguments.WordsFault.{WordsFault}
+use Rattle.herdbook.specs.declared.arguments.WordsFault.TheVariants.{Words, Number}
+use Rattle.herdbook.specs.Words.{Found, IsNumberOr, IsRefused, IsUnread, IsWrongNumber, text_of, texts_of}
+use Rattle.herdbook.specs.CommandLine.{command_line}
+
+text_or : (found : Option (Bor Text)) (other : Bor Text) → other.now ≡ [] → unwrap_or (option_map (λ text. text.now) found) [] ≡ (unwrap_or found other).now
+text_or None other none = sym none
+text_or (Some text) other none = refl
+
+-- the text that `get_str` gives, and an empty one where it gives none
+pub text_of-found : (given : matches.Found) (id : Text) (found : Option (Bor Text)) (other : Bor Text) → option_map (λ text. text.now) found ≡ first_value given id → other.now ≡ [] → text_of id (rows_of given) ≡ (unwrap_or found other).now
+text_of-found given id found other same none =
+    ap (λ text. unwrap_or text []) (sym (first_value-rows given id) ∙ sym same) ∙ text_or found other none
+
+-- what `parse` gives at `u32`
+abbrev pub Parses : Text → Result ℕ ParseIntError → Type 0
+Parses text result = ParsesUnsigned 32 10 text result × ExplainsUnsignedError 10 text result × HasUnsignedDigitsIfOk text result
+
+-- the number that `get_one` gives, and another where it gives none
+pub IsNumberOr-found : (other : ℕ) (text : Option Text) (found : Option ℕ) (number : ℕ) → (text ≡ None → found ≡ None) → ((t : Text) → text ≡ Some t → ReadsOne Parses t found) → number ≡ unwrap_or found other → IsNumberOr other text number
+IsNumberOr-found other None found number none some is = is ∙ ap (λ o. unwrap_or o other) (none refl)
+IsNumberOr-found other (Some text) (Some value) number none some is =
+    let read = some text refl in
+    inl (read.0.0.0, sym read.0.1 ∙ sym is, omega (arith, read.0.0.1, read.0.1, is))
+IsNumberOr-found other (Some text) None number none some is = inr ((some text refl).1.0, is)
+
+texts_or : (found : Option (Bor (List (Bor Text)))) (other : Bor (List (Bor Text))) → other.now ≡ [] → unwrap_or (option_map (λ texts. map (λ text. text.now) texts.now) found) [] ≡ map (λ text. text.now) (unwrap_or found other).now
+texts_or None other none = ap (map (λ text. text.now)) (sym none)
+texts_or (Some texts) other none = refl
+
+-- the texts that `get_strs` gives, and none where it gives none
+pub texts_of-found : (given : matches.Found) (id : Text) (found : Option (Bor (List (Bor Text)))) (other : Bor (List (Bor Text))) → option_map (λ texts. map (λ text. text.now) texts.now) found ≡ option_map raw_values (matched_of given id) → other.now ≡ [] → texts_of id (rows_of given) ≡ map (λ text. text.now) (unwrap_or found other).now
+texts_of-found given id found other same none =
+    ap (λ texts. unwrap_or texts []) (sym (raw_values-rows given id) ∙ sym same) ∙ texts_or found other none
+
+-- a fault that `?` hands on is told
+pub IsUnread-number : {T : Type 0} (result : Result T WordsFault) (cause : NumberFault) (P : NumberFault → Type 0) → IsErrAnd result (λ fault. fault ≡ Number cause) → P cause → IfErr result (IsUnread P)
+IsUnread-number (Ok value) cause P told wrong = tt
+IsUnread-number (Err fault) cause P told wrong = rw told wrong
+
+-- one text more is a number
+pub right_more : (texts : List Text) (i : ℕ) (text : Text) → slice_get texts i ≡ Some text → IsAnimalNumber text
+    → ((earlier : ℕ) (other : Text) → earlier < i → slice_get texts earlier ≡ Some other → IsAnimalNumber other)
+    → (earlier : ℕ) (other : Text) → earlier < i + 1 → slice_get texts earlier ≡ Some other → IsAnimalNumber other
+right_more texts i text there right before earlier other below here =
+    elim (cases_order earlier i) [
+      | inl same ↦ let one : Some other ≡ Some text = sym here ∙ (ap (slice_get texts) same ∙ there) in let is : other ≡ text = cc in rw is right
+      | inr (inl less) ↦ before earlier other less here
+      | inr (inr more) ↦ absurd (omega arith)
+    ]
+
+pub IsSomeAnd-is : {T : Type 0} (found : Option T) (value : T) → IsSomeAnd found (λ v. v ≡ value) → found ≡ Some value
+IsSomeAnd-is None value is = absurd is
+IsSomeAnd-is (Some v) value is = ap Some is
+
+-- the text that a loop reads
+pub text_at : (texts : List (Bor Text)) (i : ℕ) (other : Bor Text) (text : Text) → i < length texts → text ≡ (get_or texts i other).now → slice_get (map (λ t. t.now) texts) i ≡ Some text
+text_at texts i other text within is =
+    slice_get-map (λ t. t.now) texts i ∙ ap (option_map (λ t. t.now)) (slice_get-get_or texts i other within) ∙ ap Some (sym is)
+
+-- a request that isn't read is refused
+pub IsRefused-unread : (words : List Text) (found : Found) (fault : WordsFault) → found ≡ subcommand_of command_line words → IsUnread (IsWrongNumber found) fault → IsRefused words fault
+IsRefused-unread words found (Words error) same unread = inl unread
+IsRefused-unread words found (Number cause) same unread = subst (λ f. IsWrongNumber f cause) same unread
+
+-- the matches of the command line are exact
+pub is_simple-command_line : is_simple command_line ≡ true
+is_simple-command_line = refl

@@ -1,0 +1,57 @@
+-- The command line, as far as `clap` reads words by it.
+use Rattle.std.specs.Prelude.{true, [], ◌∷◌, codes, Some, pos}
+use Rattle.clap.specs.Lexer.{usize_max}
+use Rattle.clap.specs.Words.{App, Rule, new_app, new_rule, with_rule, with_subcommand}
+use Rattle.clap.specs.declared.builder.action.ArgAction.TheVariants.{Append}
+use Rattle.clap.specs.declared.builder.value_parser.ValueParser.TheVariants.{Signed}
+
+abbrev pub workers_rule : Rule
+workers_rule = record (new_rule (codes "workers")) {
+  long = Some (codes "workers");
+  value_names = 1;
+  defaults = codes "1" ∷ [];
+  parser = Some (Signed (pos 1) (pos 16));
+}
+
+abbrev pub block_rule : Rule
+block_rule = record (new_rule (codes "block")) {
+  long = Some (codes "block");
+  value_names = 1;
+  defaults = codes "256" ∷ [];
+  parser = Some (Signed (pos 1) (pos 60_000));
+}
+
+abbrev pub inbreeding_line : App
+inbreeding_line = with_rule (with_rule (new_app (codes "inbreeding")) workers_rule) block_rule
+
+abbrev pub number_rule : Rule
+number_rule = record (new_rule (codes "NUMBER")) { required = true }
+
+abbrev pub certificate_line : App
+certificate_line = with_rule (new_app (codes "certificate")) number_rule
+
+abbrev pub dam_rule : Rule
+dam_rule = record (new_rule (codes "dam")) {
+  long = Some (codes "dam");
+  value_names = 1;
+  required = true;
+}
+
+abbrev pub sires_rule : Rule
+sires_rule = record (new_rule (codes "SIRE")) {
+  action = Some Append;
+  range = Some (record { start_inclusive = 1; end_inclusive = usize_max });
+  required = true;
+}
+
+abbrev pub mating_line : App
+mating_line = with_rule (with_rule (new_app (codes "mating")) dam_rule) sires_rule
+
+-- the program with its subcommands, of which one must be named
+abbrev pub program : App
+program = record (new_app (codes "herdbook")) { top = record (new_app (codes "herdbook")).top { subcommand_required = true } }
+
+abbrev pub command_line : App
+command_line =
+    with_subcommand (with_subcommand (with_subcommand (with_subcommand (with_subcommand program
+    (new_app (codes "file")).top) inbreeding_line.top) certificate_line.top) mating_line.top) (new_app (codes "inverse")).top

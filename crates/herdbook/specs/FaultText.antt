@@ -1,0 +1,49 @@
+-- What is told on standard error.
+use Rattle.std.specs.Prelude.{ℕ, List, ◌++◌, codes, decimal}
+use Rattle.herd_animal.specs.declared.number.NumberFault.{NumberFault}
+use Rattle.herd_animal.specs.declared.number.NumberFault.TheVariants.{Length, Letter, SexLetter, NumberCharacter}
+use Rattle.herd_report.specs.LineCause.{number_of}
+use Rattle.herd_report.specs.declared.line_fault.LineCause.{LineCause}
+use Rattle.herd_report.specs.declared.line_fault.LineCause.TheVariants.{Header, Fields, Kind, Animal, Day, Sire, Dam, FromHerd, ToHerd, FieldNotUsed, Read, TooMany, Memory as NoMemory, Embryo}
+use Rattle.herd_report.specs.declared.run_fault.RunFault.{RunFault}
+use Rattle.herd_report.specs.declared.run_fault.RunFault.TheVariants.{Line, NotRegistered, NoThread, Memory, Write}
+
+abbrev pub cause_name : LineCause → List ℕ
+cause_name Header = codes "Header"
+cause_name Fields = codes "Fields"
+cause_name Kind = codes "Kind"
+cause_name Animal = codes "Animal"
+cause_name Day = codes "Day"
+cause_name Sire = codes "Sire"
+cause_name Dam = codes "Dam"
+cause_name FromHerd = codes "FromHerd"
+cause_name ToHerd = codes "ToHerd"
+cause_name FieldNotUsed = codes "FieldNotUsed"
+cause_name Read = codes "Read"
+cause_name TooMany = codes "TooMany"
+cause_name NoMemory = codes "Memory"
+cause_name Embryo = codes "Embryo"
+
+abbrev pub run_fault_text : RunFault → List ℕ
+run_fault_text (Line fault) =
+    codes "record " ++ decimal fault.entry ++ codes ": fault " ++ decimal (number_of fault.cause) ++ codes " " ++ cause_name fault.cause
+run_fault_text NotRegistered = codes "not registered"
+run_fault_text NoThread = codes "no thread"
+run_fault_text Memory = codes "no memory"
+run_fault_text Write = codes "write fault"
+
+abbrev pub number_fault_code : NumberFault → ℕ
+number_fault_code Length = 1
+number_fault_code (Letter place) = 2
+number_fault_code SexLetter = 3
+number_fault_code (NumberCharacter place) = 4
+
+abbrev pub number_fault_name : NumberFault → List ℕ
+number_fault_name Length = codes "Length"
+number_fault_name (Letter place) = codes "Letter"
+number_fault_name SexLetter = codes "SexLetter"
+number_fault_name (NumberCharacter place) = codes "NumberCharacter"
+
+abbrev pub number_fault_text : NumberFault → List ℕ
+number_fault_text fault =
+    codes "animal number fault " ++ decimal (number_fault_code fault) ++ codes " " ++ number_fault_name fault
