@@ -2,10 +2,10 @@
 use Rattle.std.proofs.Common.{◌≡◌, ℕ, ◌+◌, ◌<◌, inl, inr, List, [], Option, Some, None, option_map, unwrap_or, Bor, Result, slice_get, get_or, length, map, true, refl, subst, sym, ◌∙◌, ap, arith, Ok, Err}
 use Rattle.std.specs.Str.Parse.{ParsesUnsigned, ExplainsUnsignedError, HasUnsignedDigitsIfOk}
 use Rattle.std.specs.declared.num.ParseIntError.{ParseIntError}
-use Rattle.std.specs.Prelude.{IfErr, IsErrAnd, IsSomeAnd}
+use Rattle.std.specs.Prelude.{IfErr, IfOk, IsErrAnd, IsSomeAnd}
 use Rattle.std.proofs.lemmas.Bool.{cases_order}
 use Rattle.std.proofs.lemmas.Option.{slice_get-get_or, slice_get-map}
-use Rattle.clap.specs.Words.{ReadsOne, Text, first_value, is_simple, matched_of, raw_values, rows_of, subcommand_of}
+use Rattle.clap.specs.Words.{ReadsOne, Text, first_value, is_simple, is_simple_and_free, matched_of, raw_values, rows_of, subcommand_of}
 use Rattle.clap.specs.declared.parser.matches.Found as matches
 use Rattle.clap.proofs.WalkLemmas.{first_value-rows, raw_values-rows}
 use Rattle.herd_animal.specs.AnimalNumber.{IsAnimalNumber}
@@ -78,3 +78,11 @@ IsRefused-unread words found (Number cause) same unread = subst (λ f. IsWrongNu
 -- the matches of the command line are exact
 pub is_simple-command_line : is_simple command_line ≡ true
 is_simple-command_line = refl
+
+-- and so are its faults
+pub is_free-command_line : is_simple_and_free command_line ≡ true
+is_free-command_line = refl
+
+pub IfOk-all : {T E : Type 0} (result : Result T E) (P : Type 0) → P → IfOk result (λ _. P)
+IfOk-all (Ok value) P holds = holds
+IfOk-all (Err fault) P holds = tt

@@ -1,7 +1,7 @@
 //! The words of the command line.
 
-ghost use Rattle.std.specs.Prelude.{◌≡◌, IfErr, IfOk, codes, false, map, string_bytes};
-ghost use Rattle.clap.specs.Words.{app_of, found_of, rows_of, subcommand_of, subcommand_rows_of};
+ghost use Rattle.std.specs.Prelude.{◌≡◌, [], IfErr, IfOk, codes, false, map, string_bytes};
+ghost use Rattle.clap.specs.Words.{app_of, fault_of, found_of, rows_of, subcommand_of, subcommand_rows_of};
 ghost use Rattle.clap.specs.declared.builder.command.Command.TheViews.{out-Command};
 ghost use Rattle.herd_animal.specs.AnimalNumber.{IsAnimalNumber};
 ghost use Rattle.herd_animal.specs.NumberFault.{IsNumberFault};
@@ -97,6 +97,7 @@ impl Request {
 /// Reads the words of the command line, the program's own name first.
 pub fn read_words(alloc: Global, words: &[String]) -> Result<Request, WordsFault>
     ensures asked { IfOk result (IsAsked (subcommand_of command_line (map string_bytes words.now))) }
+    ensures taken { IfOk result (λ _. fault_of command_line (map string_bytes words.now) ≡ []) }
     ensures refused { IfErr result (IsRefused (map string_bytes words.now)) }
 {
     let matches = command(alloc)?.try_get_matches_from(words)?;

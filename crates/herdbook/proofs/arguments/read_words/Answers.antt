@@ -1,9 +1,9 @@
--- What isn't read of the matches isn't read of the words.
-use Rattle.std.proofs.Common.{◌≡◌, ◌∙◌, ap, map, string_bytes}
+-- What isn't read of the matches isn't read of the words, and there are matches only where `clap` takes the words.
+use Rattle.std.proofs.Common.{◌≡◌, ◌∙◌, ap, sym, map, string_bytes}
 use Rattle.std.proofs.lemmas.Result.{IfErr-weaker}
-use Rattle.clap.specs.Words.{App, is_simple, subcommand_of, subcommand_rows_of}
+use Rattle.clap.specs.Words.{App, fault_of, is_simple, is_simple_and_free, subcommand_of, subcommand_rows_of}
 use Rattle.herdbook.specs.CommandLine.{command_line}
-use Rattle.herdbook.proofs.WordsFacts.{IsRefused-unread, is_simple-command_line}
+use Rattle.herdbook.proofs.WordsFacts.{IfOk-all, IsRefused-unread, is_free-command_line, is_simple-command_line}
 use Rattle.herdbook.proofs.arguments.read_words.Goals as goal
 
 pub returns-clause-refused : goal.returns-clause-refused
@@ -12,3 +12,9 @@ returns-clause-refused c =
     let found : subcommand_rows_of c.in_ok-matches.matches ≡ subcommand_of command_line words =
     (c.in_ok-matches.ensures.matches (ap is_simple c.in_ok-command.ensures ∙ is_simple-command_line)).1 ∙ ap (λ (a : App). subcommand_of a words) c.in_ok-command.ensures in
     IfErr-weaker c.request_of.result _ _ (λ fault unread. IsRefused-unread words _ fault found unread) c.request_of.ensures.unread
+
+pub returns-clause-taken : goal.returns-clause-taken
+returns-clause-taken c =
+    let words = map string_bytes c.args.words.now in
+    let taken = c.in_ok-matches.ensures.kinds (ap is_simple_and_free c.in_ok-command.ensures ∙ is_free-command_line) in
+    IfOk-all c.request_of.result _ (ap (λ (a : App). fault_of a words) (sym c.in_ok-command.ensures) ∙ taken)
