@@ -1,7 +1,7 @@
 -- What a log of writes takes back.
-use Rattle.std.proofs.Common.{ℕ, zero, suc, ◌-◌, ◌<◌, ◌≤◌, ◌≡◌, ◌≢◌, ⊎_elim, All, slice_index, arith, refl, sym, ap, ◌∙◌, subst, true, false, is_some, List, [], ◌∷◌, ◌++◌, Option, Some, None, length, slice_set, option_to_list}
+use Rattle.std.proofs.Common.{ℕ, ◌-◌, ◌≤◌, ◌≡◌, ◌≢◌, ⊎_elim, All, slice_index, arith, refl, sym, ap, ◌∙◌, subst, List, [], ◌∷◌, ◌++◌, Option, Some, length, slice_set}
 use Rattle.std.proofs.lemmas.Bool.{cases_eq}
-use Rattle.std.proofs.lemmas.List.{get_or-set_other, length_push, take_at, append-nil, nil_from_length}
+use Rattle.std.proofs.lemmas.List.{get_or-set_other, length_push, take_at}
 use Rattle.std.proofs.lemmas.List.Elements.{All-rest}
 use Rattle.herd_pedigree.specs.declared.animal.Animal.{Animal}
 use Rattle.herd_pedigree.specs.Book.{Book}
@@ -31,14 +31,6 @@ written-most l (write ∷ log) depths most x before =
 -- without the last element that was pushed
 pub without_last-push : {X : Type 0} (xs : List X) (x : X) → without_last (xs ++ x ∷ []) ≡ xs
 without_last-push xs x = let n = length_push xs x in take_at xs (x ∷ []) (length (xs ++ x ∷ []) - 1) (omega (arith, n))
-
-pub last_popped : {X : Type 0} (xs ys : List X) (o : Option X) → xs ≡ ys ++ option_to_list o → (0 < length xs → is_some o ≡ true) → ys ≡ without_last xs
-last_popped xs ys None e some = by (length xs) refl
-  where
-    by : (n : ℕ) → length xs ≡ n → ys ≡ without_last xs
-    by zero h = sym (append-nil ys) ∙ sym e ∙ nil_from_length xs h ∙ sym (ap (λ l. without_last l) (nil_from_length xs h))
-    by (suc n) h = let t : false ≡ true = some (omega (arith, h)) in absurd (cc)
-last_popped xs ys (Some x) e some = sym (without_last-push ys x) ∙ sym (ap (λ l. without_last l) e)
 
 -- the view after a birth
 pub birth-view : (was : Pedigree) (book entries : Book) (entry : List ℕ × Animal) → entries ≡ book ++ entry ∷ [] → book ≡ was.book → record { book = entries; before = Some (without_last entries) } ≡ changed_to was (was.book ++ entry ∷ [])

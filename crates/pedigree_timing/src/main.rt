@@ -15,3 +15,6 @@ fn main(rt: HostRuntime) -> Result<()> {
     println!(rt; "{animals}")?;
     Ok(())
 }
+
+#[cfg(test)]
+mod tests;
