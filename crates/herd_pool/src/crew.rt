@@ -1,10 +1,11 @@
 //! The threads of a level.
-ghost use Rattle.std.specs.Prelude.{◌≡◌, ℕ, ◌<◌, All, IfOk, [], length, vec_len, get_or, vec_items};
+ghost use Rattle.std.specs.Prelude.{◌≡◌, ℕ, ◌<◌, All, IfOk, IfErr, [], length, vec_capacity, vec_len, get_or, vec_items};
 ghost use Rattle.crossbeam_deque.specs.Handles.{stealer_deque, worker_deque, worker_view};
 ghost use Rattle.herd_pedigree.specs.declared.TheConstants.{DEPTH_LIMIT, MOST_ANIMALS};
 ghost use Rattle.herd_pool.specs.Blocks.{pass_view};
 ghost use Rattle.herd_pool.specs.Levels.{AreBlocks, IsComputed, KnowsBelow, numbers};
 ghost use Rattle.herd_pool.specs.Workers.{IsWorkerOutput, IsStarter, IsBlockPass};
+ghost use Rattle.herd_pool.specs.declared.pool_fault.PoolFault.{PoolFault};
 
 use crate::gate::Gate;
 use crate::level::{ComputedBlock, Level};
@@ -38,7 +39,8 @@ pub fn compute_level<R: Threads + Wait + Sync, G: Gate>(
 ) -> Result<Vec<ComputedBlock>, PoolFault>
     requires known { KnowsBelow DEPTH_LIMIT MOST_ANIMALS level.frozen.now known.now level.depth }
     requires block { 0 < level.block }
-    ensures { IfOk result (λ blocks. AreBlocks DEPTH_LIMIT level.entry.frozen.now level.entry.depth level.entry.block blocks.items) }
+    ensures blocks { IfOk result (λ blocks. AreBlocks DEPTH_LIMIT level.entry.frozen.now level.entry.depth level.entry.block blocks.items) }
+    ensures one_worker { workers ≡ 1 → IfErr result (λ fault. fault ≡ PoolFault.Memory) }
 {
     let count = level.blocks();
     if count == 0 {
@@ -103,13 +105,14 @@ fn share<R: Threads + Wait + Sync, G: Gate>(
                 known,
                 stealer,
             };
-            let (queue, started) = start_all(scope, rt, alloc, task, gate, queue, workers)?;
-            join_all(rt, alloc, task, started, queue)
+            let room = Vec::with_capacity(alloc, workers as usize)?;
+            let (queue, started) = start_all(scope, rt, alloc, task, gate, queue, room)?;
+            Ok(join_all(rt, alloc, task, started, queue)?)
         },
     )
 }
 
-// Starts this many workers, each with a pass of the queue's.
+// Starts as many workers as there is room for, each with a pass of the queue's.
 fn start_all<'s, E, R: Wait + Sync, G: Gate>(
     scope: &'s Scope<'s, E>,
     rt: &'s R,
@@ -117,23 +120,23 @@ fn start_all<'s, E, R: Wait + Sync, G: Gate>(
     task: Task<'s>,
     gate: &'s G,
     mut queue: BlockQueue,
-    workers: u32,
+    mut workers: Vec<Worker<'s>>,
 ) -> Result<(BlockQueue, Vec<Worker<'s>>), PoolFault>
     requires known { KnowsBelow DEPTH_LIMIT MOST_ANIMALS task.level.frozen.now task.known.now task.level.depth }
     requires deque { worker_deque queue ≡ stealer_deque task.stealer.now }
     requires queue { IsStarter queue (pass_view 0 (worker_view queue).pushed []) }
+    requires none { vec_len workers ≡ 0 }
     ensures deque { IfOk result (λ r. worker_deque r.0 ≡ worker_deque queue) }
-    ensures queue { IfOk result (λ r. IsStarter r.0 (pass_view workers (worker_view queue).pushed [])) }
-    ensures count { IfOk result (λ r. vec_len r.1 ≡ workers) }
-    ensures task { IfOk result (λ r. (k : ℕ) (d : _) → k < workers → (get_or (vec_items r.1) k d).promise ≡ task.entry) }
+    ensures queue { IfOk result (λ r. IsStarter r.0 (pass_view (vec_len r.1) (worker_view queue).pushed [])) }
+    ensures count { IfOk result (λ r. vec_len r.1 ≡ vec_capacity workers.entry) }
+    ensures task { IfOk result (λ r. (k : ℕ) (d : _) → k < vec_len r.1 → (get_or (vec_items r.1) k d).promise ≡ task.entry) }
+    ensures fault { IfErr result (λ fault. fault ≡ PoolFault.NoThread) }
 {
-    let mut started = Vec::new(alloc);
-    for _ in 0..workers {
+    for _ in 0..workers.capacity() {
         let pass = queue.another::<ForWorker>();
-        let worker = start(scope, rt, alloc, task, gate, pass)?;
-        started.push(worker).map_err(|_| PoolFault::Memory)?;
+        workers.push_reserved(start(scope, rt, alloc, task, gate, pass)?);
     }
-    Ok((queue, started))
+    Ok((queue, workers))
 }
 
 // Starts a worker.
@@ -147,7 +150,8 @@ fn start<'s, E, R: Wait + Sync, G: Gate>(
 ) -> Result<Worker<'s>, PoolFault>
     requires known { KnowsBelow DEPTH_LIMIT MOST_ANIMALS task.level.frozen.now task.known.now task.level.depth }
     requires pass { IsBlockPass task.stealer.now pass [] }
-    ensures { IfOk result (λ worker. worker.promise ≡ task.entry) }
+    ensures task { IfOk result (λ worker. worker.promise ≡ task.entry) }
+    ensures fault { IfErr result (λ fault. fault ≡ PoolFault.NoThread) }
 {
     let Task {
         level: Level {
@@ -191,7 +195,7 @@ fn join_all<'s, R: Threads>(
     task: Task<'s>,
     started: Vec<Worker<'s>>,
     mut queue: BlockQueue,
-) -> Result<(BlockQueue, Vec<ComputedBlock>), PoolFault>
+) -> Result<(BlockQueue, Vec<ComputedBlock>), AllocError>
     requires task { (k : ℕ) (d : _) → k < vec_len started → (get_or (vec_items started) k d).promise ≡ task }
     requires deque { worker_deque queue ≡ stealer_deque task.stealer.now }
     requires queue { IsStarter queue (pass_view (vec_len started) (worker_view queue).pushed []) }

@@ -9,11 +9,15 @@ use herd_pedigree::Frozen;
 use std::alloc::{AllocError, Global};
 
 /// A caller's part in the pool.
+///
+/// The list of coefficients is proved, whatever the gate does. That `enter` is called for each block of a level once,
+/// before the first of its animals, and `trace` for each animal once, on the thread that took its block, is not:
+/// nor is it that several threads take blocks. Gates that count and gates that wait for one another test it.
 pub trait Gate: Sync {
     /// A thread has taken this block of the level, and begins with it.
     fn enter(&self, level: u8, block: u32);
 
-    /// Traces the animal at a place, on the thread that took its block. Each animal is traced once.
+    /// Traces the animal at a place.
     fn trace(
         &self,
         alloc: Global,

@@ -4,6 +4,7 @@
 mod crew;
 mod gate;
 mod level;
+mod limits;
 mod merge;
 mod pool;
 mod pool_fault;
@@ -13,5 +14,6 @@ mod tests;
 mod worker;
 
 pub use gate::{Gate, NoGate};
+pub use limits::{DEFAULT_BLOCK, MOST_WORKERS};
 pub use pool::coefficients;
 pub use pool_fault::PoolFault;

@@ -1,7 +1,9 @@
-ghost use Rattle.std.specs.Prelude.{◌≡◌, ◌+◌, ◌<◌, ◌≤◌, IfOk, OnOk};
+ghost use Rattle.std.specs.Prelude.{◌≡◌, ◌+◌, ◌<◌, ◌≤◌, IfOk, IfErr, OnOk};
 ghost use Rattle.herd_pedigree.specs.declared.TheConstants.{DEPTH_LIMIT, MOST_ANIMALS};
 ghost use Rattle.herd_kinship.specs.Coefficients.{AreCoefficients};
 ghost use Rattle.herd_pool.specs.Levels.{KnowsBelow};
+ghost use Rattle.herd_pool.specs.declared.limits.TheConstants.{MOST_WORKERS};
+ghost use Rattle.herd_pool.specs.declared.pool_fault.PoolFault.{PoolFault};
 
 use crate::crew::compute_level;
 use crate::gate::Gate;
@@ -24,9 +26,10 @@ pub fn coefficients<R: Threads + Wait + Sync, G: Gate>(
     block: u32,
     gate: &G,
 ) -> Result<Coefficients<Global>, PoolFault>
-    requires workers { (1 ≤ workers) × (workers ≤ 16) }
+    requires workers { (1 ≤ workers) × (workers ≤ MOST_WORKERS) }
     requires block { 1 ≤ block }
-    ensures { IfOk result (AreCoefficients DEPTH_LIMIT frozen.now) }
+    ensures list { IfOk result (AreCoefficients DEPTH_LIMIT frozen.now) }
+    ensures one_worker { workers ≡ 1 → IfErr result (λ fault. fault ≡ PoolFault.Memory) }
 {
     let mut known = vec![in alloc; 0u128; frozen.len() as usize]?;
     for depth in 0..=DEPTH_LIMIT {
@@ -51,7 +54,8 @@ fn add_level<R: Threads + Wait + Sync, G: Gate>(
 ) -> Result<(), PoolFault>
     requires known { KnowsBelow DEPTH_LIMIT MOST_ANIMALS level.frozen.now known.old level.depth }
     requires block { 0 < level.block }
-    ensures { OnOk result (KnowsBelow DEPTH_LIMIT MOST_ANIMALS level.entry.frozen.now known.new (level.entry.depth + 1)) }
+    ensures known { OnOk result (KnowsBelow DEPTH_LIMIT MOST_ANIMALS level.entry.frozen.now known.new (level.entry.depth + 1)) }
+    ensures one_worker { workers ≡ 1 → IfErr result (λ fault. fault ≡ PoolFault.Memory) }
 {
     let blocks = compute_level(rt, alloc, level, known, workers, gate)?;
     write_all(known, level, &blocks);

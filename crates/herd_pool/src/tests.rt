@@ -4,10 +4,11 @@ mod books;
 mod gates;
 
 ghost use Rattle.std.specs.Prelude.{◌≤◌, ◌*◌};
+ghost use Rattle.herd_pool.specs.declared.limits.TheConstants.{MOST_WORKERS};
 
 use crate::*;
 use books::{founders, generations};
-use gates::{AtAnimals, AtBlocks, Counts, Meeting, ThirdFirst};
+use gates::{AtAnimals, AtBlocks, Counts, Meeting, OneRefused, ThirdFirst};
 use herd_kinship::{ONE, coefficients_plain};
 use herd_pedigree::Frozen;
 use std::alloc::Global;
@@ -56,7 +57,7 @@ fn expect_in_blocks<R: Threads + Wait + Abort + Sync>(
     workers: u32,
     wanted: &[u128],
 ) -> Result<(), PoolFault>
-    requires { (1 ≤ workers) × (workers ≤ 16) }
+    requires { (1 ≤ workers) × (workers ≤ MOST_WORKERS) }
 {
     for block in [1, 7, 60_000] {
         let found = coefficients(rt, alloc, frozen, workers, block, &NoGate)?;
@@ -138,6 +139,23 @@ fn each_block_and_each_animal_once(rt: HostRuntime) -> Result<(), Fail> {
     assert_eq!(rt; found.len(), 1000);
     assert!(rt; found.list().iter().all(|numerator| *numerator == 0));
     assert!(rt; gate.are_once());
+    Ok(())
+}
+
+// One tracing after another is refused memory. The second call meets no refusal.
+#[test]
+fn memory_refused_to_a_tracing(rt: HostRuntime) -> Result<(), Fail> {
+    let frozen = generations(&rt, rt.alloc(), 5)?;
+    for place in 0..10 {
+        let gate = OneRefused::of(place);
+        let refused = coefficients(&rt, rt.alloc(), &frozen, 2, 1, &gate);
+        assert!(rt;
+            matches!(&refused, Err(PoolFault::Memory)),
+            "tracing {place}"
+        );
+        let found = coefficients(&rt, rt.alloc(), &frozen, 2, 1, &gate)?;
+        assert_eq!(rt; found.list(), FIVE_GENERATIONS.as_slice());
+    }
     Ok(())
 }
 

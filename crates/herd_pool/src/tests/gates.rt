@@ -1,4 +1,4 @@
-//! Gates that hold a thread until another has come, and gates that count.
+//! Gates that hold a thread until another has come, gates that count, and gates that refuse memory.
 use crate::Gate;
 use herd_pedigree::Frozen;
 use std::alloc::{AllocError, Global};
@@ -146,6 +146,39 @@ impl Gate for Counts {
         place: u32,
     ) -> Result<u128, AllocError> {
         self.count(&self.traced, place);
+        herd_kinship::trace(alloc, frozen, known, place)
+    }
+}
+
+/// Refuses memory to one tracing, counted from 0.
+#[derive(Drop)]
+pub struct OneRefused {
+    refused: u64,
+    traced: AtomicU64,
+}
+
+impl OneRefused {
+    pub fn of(refused: u64) -> OneRefused {
+        OneRefused {
+            refused,
+            traced: AtomicU64::new(0),
+        }
+    }
+}
+
+impl Gate for OneRefused {
+    fn enter(&self, _level: u8, _block: u32) {}
+
+    fn trace(
+        &self,
+        alloc: Global,
+        frozen: &Frozen<Global>,
+        known: &[u128],
+        place: u32,
+    ) -> Result<u128, AllocError> {
+        if self.traced.fetch_add(1, Ordering::SeqCst) == self.refused {
+            return Err(AllocError);
+        }
         herd_kinship::trace(alloc, frozen, known, place)
     }
 }

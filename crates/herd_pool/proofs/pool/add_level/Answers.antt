@@ -5,10 +5,10 @@ use Rattle.herd_pool.specs.Levels.{coefficient_at}
 use Rattle.herd_pool.proofs.Writes.{HasBlocks, level_known}
 use Rattle.herd_pool.proofs.pool.add_level.Goals as goal
 
-pub returns : goal.returns
-returns g c =
+pub returns-clause-known : goal.returns-clause-known
+returns-clause-known g c =
     let level = c.args.level in
     let rows = level.frozen.now in
     let new = c.write_all.new.known in
     let written = subst (HasBlocks (coefficient_at DEPTH_LIMIT rows) level.block (level_of level.depth rows) new) c.deref.ensures.value c.write_all.ensures.written in
-    level_known DEPTH_LIMIT MOST_ANIMALS rows c.args.known.now new level.depth level.block c.in_ok-blocks.blocks.items c.requires.block (omega arith) c.requires.known c.in_ok-blocks.ensures c.write_all.ensures.kept written
+    level_known DEPTH_LIMIT MOST_ANIMALS rows c.args.known.now new level.depth level.block c.in_ok-blocks.blocks.items c.requires.block (omega arith) c.requires.known c.in_ok-blocks.ensures.blocks c.write_all.ensures.kept written

@@ -10,8 +10,8 @@ from_list-requires g c =
     known_below_one DEPTH_LIMIT MOST_ANIMALS rows _ c.len.ensures.frozen
     (all_known DEPTH_LIMIT MOST_ANIMALS rows c.loop-depth.known.items c.loop-depth.depth c.loop-depth-test.false c.loop-depth.invariant)
 
-pub returns : goal.returns
-returns g c =
+pub returns-clause-list : goal.returns-clause-list
+returns-clause-list g c =
     let rows = c.args.frozen.now in
     subst (AreCoefficients DEPTH_LIMIT rows) (sym c.from_list.ensures)
     (all_known DEPTH_LIMIT MOST_ANIMALS rows c.loop-depth.known.items c.loop-depth.depth c.loop-depth-test.false c.loop-depth.invariant)

@@ -1,0 +1,5 @@
+/// The most workers that share a book's levels.
+pub const MOST_WORKERS: u32 = 16;
+
+/// How many animals a block has where a caller doesn't say.
+pub const DEFAULT_BLOCK: u32 = 256;
