@@ -2,6 +2,7 @@ ghost use Rattle.std.specs.Prelude.{◌≡◌, ◌<◌, ◌≤◌, [], ◌++◌,
 ghost use Rattle.std.specs.Map.{keys_of};
 ghost use Rattle.herd_pedigree.specs.Book.{IsDepthOf, changed, has_calved_after, record_of, with_left, with_owner, with_parents};
 ghost use Rattle.herd_pedigree.specs.Frozen.{IsFrozenFrom};
+ghost use Rattle.herd_pedigree.specs.Lawful.{IsLawful};
 ghost use Rattle.herd_pedigree.specs.ParentFault.{is_too_deep, parent_fault};
 ghost use Rattle.herd_pedigree.specs.Places.{IsPlaceIn};
 ghost use Rattle.herd_pedigree.specs.Pedigree.{IsBirth, IsCorrection, IsExit, IsNewborn, IsPresentOn, changed_to};
@@ -270,8 +271,10 @@ impl<A: Allocator> Pedigree<A> {
         self.records.len() as u32
     }
 
-    /// The number of parent steps on an animal's longest known line.
+    /// The number of parent steps on an animal's longest known line. It also tells that the book is lawful, so that
+    /// no depth is above the limit.
     pub fn depth(&self, number: &AnimalNumber) -> Option<u8>
+        ensures lawful { IsLawful DEPTH_LIMIT MOST_ANIMALS self.now.book }
         ensures absent { IfNone result (record_of self.now.book number.now ≡ None) }
         ensures there { IfSome result (λ _. IsSome (record_of self.now.book number.now)) }
         ensures depth { IfSome result (IsDepthOf self.now.book number.now) }
