@@ -1,5 +1,6 @@
 ghost use Rattle.std.specs.Prelude.{◌≡◌, ◌≤◌, [], IfOk, length};
 ghost use Rattle.herd_pedigree.specs.Frozen.{IsFrozenFrom};
+ghost use Rattle.herd_pedigree.specs.Lawful.{IsLawful};
 ghost use Rattle.herd_pedigree.specs.declared.TheConstants.{DEPTH_LIMIT, MOST_ANIMALS};
 ghost use Rattle.herd_register.specs.Copybook.{copybook_of, set_in, taken_over};
 ghost use Rattle.herd_register.specs.Records.{records_of};
@@ -11,6 +12,7 @@ use crate::limits::Limits;
 use crate::records::Records;
 use crate::reply::Reply;
 use crate::step::Step;
+use herd_animal::AnimalNumber;
 use herd_pedigree::{Animal, Frozen, freeze_list};
 use std::alloc::{AllocError, Allocator};
 use std::marker::Model;
@@ -71,13 +73,23 @@ impl<A: Allocator> Copybook<A> {
         self.journal.len() as u64
     }
 
+    /// The records in the order of registration.
+    pub fn records(&self) -> &[(AnimalNumber, Animal)]
+        requires { IsLegal self.now.limits self.now.journal }
+        ensures value { result.now ≡ self.now.book }
+        ensures run { self.now.book ≡ run_book self.now.limits (commands_of self.now.journal) }
+        ensures lawful { IsLawful DEPTH_LIMIT MOST_ANIMALS result.now }
+    {
+        self.records.as_slice()
+    }
+
     /// The book in age order.
     pub fn freeze<B: Allocator + Clone>(&self, alloc: B) -> Result<Frozen<B>, AllocError>
         requires { IsLegal self.now.limits self.now.journal }
         ensures records { self.now.book ≡ run_book self.now.limits (commands_of self.now.journal) }
         ensures frozen { IfOk result (IsFrozenFrom DEPTH_LIMIT MOST_ANIMALS self.now.book) }
     {
-        freeze_list(alloc, self.records.as_slice())
+        freeze_list(alloc, self.records())
     }
 }
 

@@ -1,5 +1,5 @@
 ghost use Rattle.std.specs.Option.{option_copied};
-ghost use Rattle.std.specs.Prelude.{◌≡◌, ◌≤◌, ◌↔◌, IsTrue, IfOk, OnErr, OnOk, length};
+ghost use Rattle.std.specs.Prelude.{◌≡◌, ◌≢◌, ◌≤◌, ◌↔◌, IsTrue, IfOk, OnErr, OnOk, length};
 ghost use Rattle.herd_register.specs.declared.reply.Refusal.{Refusal};
 ghost use Rattle.herd_register.specs.Register.{AreLimits, book_of, new_register, step_at, with_step, without_last_step};
 ghost use Rattle.herd_register.specs.Run.{IsLegal, answer, next, step_of};
@@ -57,6 +57,7 @@ impl<A: Allocator + Copy> Register<A> {
 
         // The journal's end is asked first. A command that isn't answered changes nothing.
         ensures full { (result ≡ Err FileFault.JournalFull) ↔ (length self.old.journal ≡ self.old.limits.steps) }
+        ensures no_copies { result ≢ Err FileFault.NoReading }
         ensures fault { OnErr result (self.new ≡ self.old) }
     {
         if self.is_full() {

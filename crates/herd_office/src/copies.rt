@@ -1,0 +1,113 @@
+//! The writer of the readers' copies, as the office uses it.
+ghost use Rattle.std.specs.Prelude.{◌≡◌, ◌+◌, ◌<◌, ◌≤◌, [], ◌∷◌, ◌++◌, length, drop, Some, None, IfOk, IsOk, fold};
+ghost use Rattle.left_right.specs.Sides.{view};
+ghost use Rattle.herd_register.specs.Copybook.{copybook_of};
+ghost use Rattle.herd_office.specs.Copies.{IsTold, office_of};
+ghost use Rattle.herd_office.specs.Shelves.{state_of, after, entry_of};
+
+use crate::faults::OpenFault;
+use crate::history::Past;
+use crate::shown::{Entry, Notes, Ours, Publishes, Shown, View};
+use core::mem;
+use herd_register::Step;
+use left_right::reader::Reader;
+use left_right::writer::Writer;
+use std::alloc::{AllocError, Global};
+use std::sync::Wait;
+
+pub type Copies = Writer<Shown, Entry, View, Ours>;
+
+pub type Place = Reader<Shown, View, Ours>;
+
+/// The writer of an office, with the handle by which its drop waits for readers before it frees both copies.
+pub struct Held<R: Wait + Drop> {
+    pub writer: Copies,
+    rt: R,
+}
+
+impl<R: Wait + Drop> Drop for Held<R> {
+    fn drop(self) {
+        let Self { writer, rt } = self;
+        drop(writer.take(&rt));
+    }
+}
+
+impl<R: Wait + Drop> Held<R> {
+    pub fn new(rt: R, writer: Copies) -> Held<R>
+        ensures { result.writer ≡ writer }
+    {
+        Held { writer, rt }
+    }
+}
+
+/// A pair of these copies, with so many places for readers.
+pub fn make_copies<R: Wait>(
+    rt: &R,
+    alloc: Global,
+    first: Shown,
+    second: Shown,
+    readers: u16,
+) -> Result<Copies, OpenFault>
+    requires readers { 0 < readers }
+    requires told { IsTold first.copybook first.past }
+    requires alike { state_of first ≡ state_of second }
+    ensures state { IfOk result (λ c. state_of c.desk.shown.value ≡ state_of first) }
+    ensures pending { IfOk result (λ c. drop c.behind c.log.items ≡ []) }
+    ensures view { IfOk result (λ c. view c.desk.place ≡ Some (office_of first.past)) }
+{
+    let copies = Writer::new(alloc, first, second, usize::from(readers))?;
+    Ok(named(rt, copies))
+}
+
+// A publish of nothing, by which the writer knows the office.
+fn named<R: Wait>(rt: &R, copies: Copies) -> Copies
+    requires pending { drop copies.behind copies.log.items ≡ [] }
+    requires told { IsTold copies.desk.shown.value.copybook copies.desk.shown.value.past }
+    ensures state { state_of result.desk.shown.value ≡ state_of copies.desk.shown.value }
+    ensures pending { drop result.behind result.log.items ≡ [] }
+    ensures view { view result.desk.place ≡ Some (office_of copies.desk.shown.value.past) }
+{
+    publish(copies, rt).0
+}
+
+/// Shows readers a copy that has each operation. It is never refused.
+pub fn publish<R: Wait>(copies: Copies, rt: &R) -> (Copies, Result<(), AllocError>)
+    requires { let s = after (state_of copies.desk.shown.value) (drop copies.behind copies.log.items) in (office_of s.1 ≡ office_of copies.desk.shown.value.past) × IsTold s.0 s.1 }
+    ensures ok { IsOk result.1 }
+    ensures state { state_of result.0.desk.shown.value ≡ after (state_of copies.desk.shown.value) (drop copies.behind copies.log.items) }
+    ensures pending { drop result.0.behind result.0.log.items ≡ [] }
+    ensures view { view result.0.desk.place ≡ Some (office_of result.0.desk.shown.value.past) }
+    ensures table { result.0.desk.place.id ≡ copies.desk.place.id }
+{
+    copies.publish_as::<Publishes, R>(rt)
+}
+
+/// Publishes the step that is pending, with the history that has it.
+pub fn show<R: Wait>(rt: &R, copies: &mut Copies, step: &Step, past: Past)
+    requires pending { drop copies.old.behind copies.old.log.items ≡ entry_of step.now ∷ [] }
+    requires room { length copies.old.desk.shown.value.copybook.journal < copies.old.desk.shown.value.copybook.limits.steps }
+    requires book { past.seen.book ≡ copies.old.desk.shown.value.past.seen.book }
+    requires limits { past.limits ≡ copies.old.desk.shown.value.copybook.limits }
+    requires told { copies.old.desk.shown.value.past.limits ≡ copies.old.desk.shown.value.copybook.limits }
+    requires log { past.seen.log ≡ copies.old.desk.shown.value.copybook.journal ++ step.now ∷ [] }
+    requires behind { length copies.old.desk.shown.value.past.seen.log ≤ length copies.old.desk.shown.value.copybook.journal }
+    ensures journal { copies.new.desk.shown.value.copybook.journal ≡ copies.old.desk.shown.value.copybook.journal ++ step.now ∷ [] }
+    ensures limits { copies.new.desk.shown.value.copybook.limits ≡ copies.old.desk.shown.value.copybook.limits }
+    ensures told { copies.new.desk.shown.value.past.limits ≡ copies.new.desk.shown.value.copybook.limits }
+    ensures book { copies.new.desk.shown.value.past.seen.book ≡ copies.old.desk.shown.value.past.seen.book }
+    ensures behind { length copies.new.desk.shown.value.past.seen.log ≤ length copies.new.desk.shown.value.copybook.journal }
+    ensures pending { drop copies.new.behind copies.new.log.items ≡ [] }
+{
+    // Where there is no memory for it, readers get no reading until a later history is told.
+    let _ = copies.append(Entry::of_past(past));
+    let _ = mem::replace_with(copies, rt, publish::<R>);
+}
+
+/// What the writer knows goes to a reader.
+pub fn inform(copies: &mut Copies, place: &mut Place)
+    requires { place.old.place.table_id ≡ copies.old.desk.place.table_id }
+    ensures told { view place.new.place ≡ view copies.old.desk.place }
+    ensures kept { (copies.new.desk.shown ≡ copies.old.desk.shown) × (copies.new.log ≡ copies.old.log) × (copies.new.behind ≡ copies.old.behind) × (view copies.new.desk.place ≡ view copies.old.desk.place) }
+{
+    place.learn::<Notes>(copies.tell::<Notes>());
+}

@@ -1,0 +1,251 @@
+//! The desks, and how a command is filed.
+ghost use Rattle.std.specs.Prelude.{map, List, ◌≡◌, ℕ, ◌+◌, ◌<◌, ◌≤◌, ◌^◌, ◌↔◌, IsTrue, true, false, [], ◌∷◌, ◌++◌, length, drop, vec_len, Some, slice_get, IfOk, IfErr, OnErr};
+ghost use mathlib.Core.List.{IsPrefix};
+ghost use Rattle.herd_register.specs.Register.{with_step};
+ghost use Rattle.herd_register.specs.Run.{IsLegal, step_of};
+ghost use Rattle.herd_office.specs.Closing.{BeginsWithAll};
+ghost use Rattle.herd_office.specs.Filing.{EndsWith, answer_after, with_step_of};
+ghost use Rattle.herd_office.specs.Histories.{Apart, of_desk, times};
+
+use crate::copies::show;
+use crate::faults::OpenFault;
+use crate::history::History;
+use crate::name::OfficeName;
+use crate::office::{Inside, Office};
+use crate::shown::Entry;
+use herd_register::{Command, FileFault, Register, Reply, Step};
+use std::alloc::Global;
+use std::sync::ledger::{Book, Share};
+use std::sync::{MutexGuard, Wait};
+
+/// What a desk tells of a call that was answered: the history that ends with it.
+#[derive(Drop)]
+pub struct Slip<N: OfficeName> {
+    pub(crate) history: History<N>,
+}
+
+impl<N: OfficeName> Slip<N> {
+    /// How many steps its history has.
+    pub fn steps(&self) -> u64
+        ensures steps { result ≡ length self.now.history }
+        ensures legal { IsLegal N.limits self.now.history }
+    {
+        self.history.len()
+    }
+}
+
+/// The answer to a call.
+#[derive(Drop)]
+pub struct Filed<N: OfficeName> {
+    pub serial: u32,
+    pub reply: Reply,
+    pub slip: Slip<N>,
+}
+
+/// A desk. It counts its calls that were answered, and holds the history of the last one.
+#[derive(Drop)]
+pub struct Desk<N: OfficeName> {
+    pub(crate) number: u16,
+    pub(crate) answered: u64,
+    pub(crate) share: Share<N>,
+    pub(crate) history: History<N>,
+    pub ghost one_part: { share.parts ≡ 1 },
+    pub ghost counted: { share.amount ≡ answered },
+    pub ghost stored: { answered ≤ of_desk number history },
+}
+
+pub(crate) fn make_desks<N: OfficeName>(
+    alloc: Global,
+    count: u16,
+    rest: &mut Share<N>,
+    history: &History<N>,
+) -> Result<Vec<Desk<N>>, OpenFault>
+    requires parts { (rest.old.parts ≡ count) × (rest.old.amount ≡ 0) }
+    requires history { history.now ≡ [] }
+    ensures rest { IfOk result (λ _. (rest.new.parts ≡ 0) × (rest.new.amount ≡ 0)) }
+    ensures count { IfOk result (λ r. vec_len r ≡ count) }
+    ensures numbers { IfOk result (λ r. (k : ℕ) (d : _) → slice_get r.items k ≡ Some d → (d.number ≡ k + 1) × (d.answered ≡ 0) × (d.history ≡ [])) }
+{
+    let mut desks = Vec::new(alloc);
+    for number in 0..count {
+        let desk = make_desk(number + 1, rest.split_off(1, 0), history);
+        desks.push(desk).map_err(|_| OpenFault::Memory)?;
+    }
+    Ok(desks)
+}
+
+fn make_desk<N: OfficeName>(number: u16, share: Share<N>, history: &History<N>) -> Desk<N>
+    requires { (share.parts ≡ 1) × (share.amount ≡ 0) }
+    ensures { (result.number ≡ number) × (result.answered ≡ 0) × (result.history ≡ history.now) }
+{
+    Desk {
+        number,
+        answered: 0,
+        share,
+        history: history.again(),
+    }
+}
+
+/// Files a command at a desk, on the value under the lock. After a fault all is as it was.
+pub fn file_on<N: OfficeName, W: Wait, R: Wait + Drop>(
+    rt: &W,
+    inside: &mut Inside<N, R>,
+    desk: &mut Desk<N>,
+    command: Command,
+) -> Result<Filed<N>, FileFault>
+    ensures stored { IfOk result (λ f. inside.new.register.journal ≡ with_step_of inside.old.register.journal desk.old.number command f.reply) }
+    ensures reply { IfOk result (λ f. f.reply ≡ answer_after N.limits inside.old.register.journal command) }
+    ensures serial { IfOk result (λ f. f.serial ≡ length inside.new.register.journal) }
+    ensures total { IfOk result (λ _. inside.new.answered.total ≡ inside.old.answered.total + 1) }
+    ensures slip { IfOk result (λ f. f.slip.history ≡ inside.new.register.journal) }
+    ensures legal { IfOk result (λ f. IsLegal N.limits f.slip.history) }
+    ensures ends { IfOk result (λ f. EndsWith f.slip.history desk.old.number command f.reply) }
+    ensures begins { IfOk result (λ f. IsPrefix desk.old.history f.slip.history) }
+    ensures answered { IfOk result (λ _. desk.new.answered ≡ desk.old.answered + 1) }
+    ensures held { IfOk result (λ f. desk.new.history ≡ f.slip.history) }
+    ensures number { desk.new.number ≡ desk.old.number }
+    ensures full { (result ≡ Err FileFault.JournalFull) ↔ (length inside.old.register.journal ≡ N.limits.steps) }
+    ensures not_stored { OnErr result (inside.new.register.journal ≡ inside.old.register.journal) }
+    ensures not_counted { OnErr result (inside.new.answered.total ≡ inside.old.answered.total) }
+    ensures not_answered { OnErr result (desk.new.answered ≡ desk.old.answered) }
+    ensures not_held { OnErr result (desk.new.history ≡ desk.old.history) }
+{
+    let Inside {
+        register,
+        answered,
+        rest: _,
+        keeper,
+        copies,
+    } = inside;
+    if register.is_full() {
+        return Err(FileFault::JournalFull);
+    }
+    let _limits = register.limits();
+    let _steps = register.journal().len();
+    if !desk.history.begins(&keeper.history) || !keeper.claim() {
+        return Err(FileFault::NoReading);
+    }
+    answered.audit(&mut desk.share);
+    let step = file_in(register, desk.number, &command)?;
+    if copies.writer.append(Entry::of_step(&step)).is_err() {
+        register.withdraw();
+        return Err(FileFault::Memory);
+    }
+    let serial = register.journal().len() as u32;
+    keeper.add(&step);
+    show(rt, &mut copies.writer, &step, keeper.history.past());
+    desk.answer(answered, keeper.history.again());
+    Ok(Filed {
+        serial,
+        reply: step.reply,
+        slip: Slip {
+            history: keeper.history.again(),
+        },
+    })
+}
+
+// Files a command in the register, and gives its step.
+fn file_in(register: &mut Register<Global>, desk: u16, command: &Command) -> Result<Step, FileFault>
+    ensures step { IfOk result (λ step. step ≡ step_of desk command.now step.reply) }
+    ensures reply { IfOk result (λ step. step.reply ≡ answer_after register.old.limits register.old.journal command.now) }
+    ensures stored { IfOk result (λ step. register.new ≡ with_step register.old step) }
+    ensures full { (result ≡ Err FileFault.JournalFull) ↔ (length register.old.journal ≡ register.old.limits.steps) }
+    ensures fault { OnErr result (register.new ≡ register.old) }
+{
+    let reply = register.file(desk, *command)?;
+    Ok(Step {
+        command: *command,
+        desk,
+        reply,
+    })
+}
+
+impl<N: OfficeName> Desk<N> {
+    // Counts a call that was answered.
+    fn answer(&mut self, book: &mut Book<N>, history: History<N>)
+        requires fits { self.old.answered + 1 < 2 ^ 64 }
+        requires stored { self.old.answered + 1 ≤ of_desk self.old.number history }
+        ensures total { book.new.total ≡ book.old.total + 1 }
+        ensures answered { (self.new.answered ≡ self.old.answered + 1) × (self.new.number ≡ self.old.number) × (self.new.history ≡ history) }
+    {
+        let Desk {
+            number: _,
+            answered,
+            share,
+            history: held,
+        } = self;
+        book.add(share, 1);
+        *answered += 1;
+        *held = history;
+    }
+
+    /// Its number. The desks of an office count from 1.
+    pub fn number(&self) -> u16
+        ensures { result ≡ self.now.number }
+    {
+        self.number
+    }
+
+    /// How many of its calls were answered.
+    pub fn answered(&self) -> u64
+        ensures value { result ≡ self.now.answered }
+        ensures stored { result ≤ of_desk self.now.number self.now.history }
+    {
+        self.answered
+    }
+
+    /// Files a command. After a fault the desk is as it was.
+    pub fn file<W: Wait, R: Wait + Drop>(
+        &mut self,
+        rt: &W,
+        office: &Office<N, R>,
+        command: Command,
+    ) -> Result<Filed<N>, FileFault>
+        ensures legal { IfOk result (λ f. IsLegal N.limits f.slip.history) }
+        ensures begins { IfOk result (λ f. IsPrefix self.old.history f.slip.history) }
+        ensures ends { IfOk result (λ f. EndsWith f.slip.history self.old.number command f.reply) }
+        ensures serial { IfOk result (λ f. f.serial ≡ length f.slip.history) }
+        ensures answered { IfOk result (λ _. self.new.answered ≡ self.old.answered + 1) }
+        ensures held { IfOk result (λ f. self.new.history ≡ f.slip.history) }
+        ensures stored { self.new.answered ≤ of_desk self.new.number self.new.history }
+        ensures number { self.new.number ≡ self.old.number }
+        ensures not_answered { OnErr result (self.new.answered ≡ self.old.answered) }
+        ensures not_held { OnErr result (self.new.history ≡ self.old.history) }
+    {
+        let mut inside = office.inside.lock(rt);
+        let filed = file_on(rt, &mut *inside, self, command);
+        MutexGuard::unlock(inside);
+        filed
+    }
+}
+
+/// Whether the history begins with each desk's.
+pub(crate) fn all_begin<N: OfficeName>(desks: &[Desk<N>], history: &History<N>) -> bool
+    ensures { result ≡ true → BeginsWithAll (λ d. d.history) desks.now history.now }
+{
+    for k in 0..desks.len() {
+        if !desks[k].history.begins(history) {
+            return false;
+        }
+    }
+    true
+}
+
+/// Whether no number stands twice among the desks'.
+pub(crate) fn all_apart<N: OfficeName>(desks: &[Desk<N>]) -> bool
+    ensures { result ≡ true → Apart (map (λ d. d.number) desks.now) }
+{
+    match desks {
+        [] => true,
+        [first, rest @ ..] => has_none(rest, first.number) && all_apart(rest),
+    }
+}
+
+fn has_none<N: OfficeName>(desks: &[Desk<N>], number: u16) -> bool
+    ensures { result ≡ true → times number (map (λ d. d.number) desks.now) ≡ 0 }
+{
+    match desks {
+        [] => true,
+        [first, rest @ ..] => number != first.number && has_none(rest, number),
+    }
+}

@@ -1,0 +1,272 @@
+//! The office: what lies under its lock, and how it is opened and closed.
+ghost use Rattle.std.specs.Prelude.{map, ◌≡◌, ℕ, ◌+◌, ◌<◌, ◌≤◌, ◌^◌, ◌↔◌, IsTrue, true, false, [], ◌∷◌, ◌++◌, length, drop, vec_len, Some, slice_get, IfOk, IfErr, OnErr};
+ghost use Rattle.std.specs.List.{sum_by};
+ghost use mathlib.Core.List.{IsPrefix};
+ghost use Rattle.herd_register.specs.Copybook.{copybook_of};
+ghost use Rattle.herd_register.specs.Register.{AreLimits};
+ghost use Rattle.left_right.specs.Sides.{view as seat_view};
+ghost use Rattle.herd_office.specs.Closing.{BeginsWithAll};
+ghost use Rattle.herd_office.specs.Copies.{office_of};
+ghost use Rattle.herd_office.specs.Histories.{Apart, of_desk};
+ghost use Rattle.herd_office.specs.Parts.{AreNamed};
+ghost use Rattle.herd_office.specs.Shelves.{state_of};
+
+use crate::copies::{Held, make_copies};
+use crate::desk::{Desk, make_desks};
+use crate::faults::{Cause, OpenFault};
+use crate::history::Opened;
+use crate::inspector::{Inspector, make_inspectors};
+use crate::keeper::Keeper;
+use crate::name::{OfficeName, Whole};
+use crate::shown::Shown;
+use crate::{desk, inspector};
+use herd_register::{Limits, Register};
+use std::alloc::Global;
+use std::marker::Model;
+use std::sync::ledger::{Blank, Book, Share};
+use std::sync::{Mutex, Wait};
+
+/// What an office has before it has a name: its ledger, its empty history, and empty copies for readers.
+#[derive(Drop)]
+pub struct OfficeParts<R: Wait + Drop> {
+    blank: Blank,
+    opened: Opened,
+    copies: Held<R>,
+    limits: Limits,
+    desks: u16,
+    inspectors: u16,
+    ghost one_each: { blank.parts ≡ desks },
+    ghost some: { 0 < inspectors },
+    ghost range: { AreLimits limits },
+    ghost same_limits: { opened.past.limits ≡ limits },
+    ghost shown: { state_of copies.writer.desk.shown.value ≡ (copybook_of limits [] [], opened.past) },
+    ghost settled: { drop copies.writer.behind copies.writer.log.items ≡ [] },
+    ghost ours: { seat_view copies.writer.desk.place ≡ Some (office_of opened.past) },
+}
+
+impl<R: Wait + Drop> Model for OfficeParts<R> {
+    ghost use Rattle.herd_office.specs.Parts.{Parts, parts_of};
+
+    ghost Value = { Parts };
+
+    ghost view = { λ p. parts_of p.blank.name p.opened.past.seen.book p.limits p.desks p.inspectors };
+}
+
+impl<R: Wait + Drop> OfficeParts<R> {
+    /// Parts for an office of so many desks and inspectors.
+    pub fn new(
+        rt: R,
+        alloc: Global,
+        limits: Limits,
+        desks: u16,
+        inspectors: u16,
+    ) -> Result<OfficeParts<R>, OpenFault>
+        requires limits { AreLimits limits }
+        requires desks { (1 ≤ desks) × (desks ≤ 16) }
+        requires inspectors { (1 ≤ inspectors) × (inspectors ≤ 16) }
+        ensures limits { IfOk result (λ parts. parts.limits ≡ limits) }
+        ensures desks { IfOk result (λ parts. parts.desks ≡ desks) }
+        ensures inspectors { IfOk result (λ parts. parts.inspectors ≡ inspectors) }
+    {
+        let opened = Opened::new(limits);
+        let first = Shown::new(alloc, limits, &opened.past)?;
+        let second = Shown::new(alloc, limits, &opened.past)?;
+        let writer = make_copies(&rt, alloc, first, second, inspectors)?;
+        Ok(OfficeParts {
+            blank: Blank::new(u64::from(desks)),
+            opened,
+            copies: Held::new(rt, writer),
+            limits,
+            desks,
+            inspectors,
+        })
+    }
+}
+
+/// What lies under the lock: the register, how many calls were answered, the history, and the copies that readers take.
+///
+/// The register is legal, the total is the length of its journal, the published list is that journal, and nothing is pending.
+#[derive(Drop)]
+pub struct Inside<N: OfficeName, R: Wait + Drop> {
+    pub(crate) register: Register<Global>,
+    pub(crate) answered: Book<N>,
+    /// What the desks have no part of: nothing.
+    pub(crate) rest: Share<N>,
+    pub(crate) keeper: Keeper<N>,
+    pub(crate) copies: Held<R>,
+    pub ghost limits: { register.limits ≡ N.limits },
+    pub ghost counted: { length register.journal ≡ answered.total },
+    pub ghost published: { copies.writer.desk.shown.value.copybook.journal ≡ register.journal },
+    pub ghost settled: { drop copies.writer.behind copies.writer.log.items ≡ [] },
+    pub ghost kept: { keeper.history ≡ register.journal },
+    pub ghost none_left: { (rest.parts ≡ 0) × (rest.amount ≡ 0) },
+    pub ghost room: { copies.writer.desk.shown.value.copybook.limits ≡ N.limits },
+    pub ghost ours: { copies.writer.desk.shown.value.past.seen.book ≡ N.book },
+    pub ghost told: { copies.writer.desk.shown.value.past.limits ≡ N.limits },
+    pub ghost behind: { length copies.writer.desk.shown.value.past.seen.log ≤ length register.journal },
+}
+
+/// An office that is open.
+#[derive(Drop)]
+pub struct Office<N: OfficeName, R: Wait + Drop> {
+    pub(crate) inside: Mutex<Inside<N, R>>,
+    desks: u16,
+    inspectors: u16,
+    whole: Whole<N>,
+    ghost all: { desks ≡ N.all },
+}
+
+impl<N: OfficeName, R: Wait + Drop> Office<N, R> {
+    /// Opens the office that has these parts.
+    pub fn open(
+        alloc: Global,
+        parts: OfficeParts<R>,
+    ) -> Result<(Office<N, R>, Vec<Desk<N>>, Vec<Inspector<N>>), OpenFault>
+        requires named { AreNamed N.name N.parts N.all N.book N.limits parts }
+        ensures desks_due { IfOk result (λ r. r.0.desks ≡ parts.desks) }
+        ensures inspectors_due { IfOk result (λ r. r.0.inspectors ≡ parts.inspectors) }
+        ensures desks { IfOk result (λ r. vec_len r.1 ≡ parts.desks) }
+        ensures numbers { IfOk result (λ r. (k : ℕ) (d : _) → slice_get r.1.items k ≡ Some d → (d.number ≡ k + 1) × (d.answered ≡ 0) × (d.history ≡ [])) }
+        ensures inspectors { IfOk result (λ r. vec_len r.2 ≡ parts.inspectors) }
+        ensures unseen { IfOk result (λ r. (k : ℕ) (i : _) → slice_get r.2.items k ≡ Some i → i.history ≡ []) }
+    {
+        let OfficeParts {
+            blank,
+            opened,
+            mut copies,
+            limits,
+            desks: desk_count,
+            inspectors: inspector_count,
+        } = parts;
+        let (answered, mut rest) = blank.open::<N>();
+        let keeper = Keeper::<N>::new(opened);
+        let desks = make_desks(alloc, desk_count, &mut rest, &keeper.history)?;
+        let inspectors = make_inspectors(
+            alloc,
+            inspector_count,
+            &mut copies.writer,
+            &keeper.history,
+        )?;
+        let inside = Inside {
+            register: Register::new(alloc, limits),
+            answered,
+            rest,
+            keeper,
+            copies,
+        };
+        let office = Office {
+            inside: Mutex::new(inside),
+            desks: desk_count,
+            inspectors: inspector_count,
+            whole: Whole::new(),
+        };
+        Ok((office, desks, inspectors))
+    }
+
+    /// Gives the register back, once each desk and each inspector is handed in.
+    pub fn close<W: Wait>(
+        self,
+        rt: &W,
+        mut desks: Vec<Desk<N>>,
+        inspectors: Vec<Inspector<N>>,
+    ) -> Result<Register<Global>, Unclosed<N, R>>
+        ensures limits { IfOk result (λ r. r.limits ≡ N.limits) }
+        ensures sum { IfOk result (λ r. length r.journal ≡ sum_by (λ d. d.answered) desks.items) }
+        ensures each { IfOk result (λ r. (k : ℕ) (d : _) → slice_get desks.items k ≡ Some d → d.answered ≡ of_desk d.number r.journal) }
+        ensures desks { IfOk result (λ r. BeginsWithAll (λ d. d.history) desks.items r.journal) }
+        ensures inspectors { IfOk result (λ r. BeginsWithAll (λ i. i.history) inspectors.items r.journal) }
+        ensures all_in { IfOk result (λ _. (self.desks ≤ vec_len desks) × (self.inspectors ≤ vec_len inspectors)) }
+        ensures desk_missing { IfErr result (λ u. (u.cause ≡ Cause.DeskMissing) ↔ (vec_len desks < self.desks)) }
+        ensures inspector_missing { IfErr result (λ u. (u.cause ≡ Cause.InspectorMissing) ↔ ((self.desks ≤ vec_len desks) × (vec_len inspectors < self.inspectors))) }
+        ensures office_back { IfErr result (λ u. (u.office.desks ≡ self.desks) × (u.office.inspectors ≡ self.inspectors)) }
+        ensures desks_back { IfErr result (λ u. u.desks.items ≡ desks.items) }
+        ensures inspectors_back { IfErr result (λ u. u.inspectors.items ≡ inspectors.items) }
+    {
+        if desks.len() < usize::from(self.desks) {
+            return Err(Unclosed {
+                cause: Cause::DeskMissing,
+                office: self,
+                desks,
+                inspectors,
+            });
+        }
+        if inspectors.len() < usize::from(self.inspectors) {
+            return Err(Unclosed {
+                cause: Cause::InspectorMissing,
+                office: self,
+                desks,
+                inspectors,
+            });
+        }
+        let Office {
+            inside,
+            desks: desk_count,
+            inspectors: inspector_count,
+            whole,
+        } = self;
+        let mut inside = inside.into_inner();
+        if !inside.begins(desks.as_slice(), inspectors.as_slice()) {
+            return Err(Unclosed {
+                cause: Cause::NoReading,
+                office: Office {
+                    inside: Mutex::new(inside),
+                    desks: desk_count,
+                    inspectors: inspector_count,
+                    whole,
+                },
+                desks,
+                inspectors,
+            });
+        }
+        let mut rest = inside.rest.empty();
+        while let Some(desk) = desks.pop() {
+            let Desk {
+                number: _,
+                answered: _,
+                share,
+                history: _history,
+            } = desk;
+            rest.merge(share);
+        }
+        Ok(inside.end(rest))
+    }
+}
+
+impl<N: OfficeName, R: Wait + Drop> Inside<N, R> {
+    // Whether the journal begins with each history, and the desks' numbers differ.
+    fn begins(&self, desks: &[Desk<N>], inspectors: &[Inspector<N>]) -> bool
+        ensures apart { result ≡ true → Apart (map (λ d. d.number) desks.now) }
+        ensures desks { result ≡ true → BeginsWithAll (λ d. d.history) desks.now self.now.register.journal }
+        ensures inspectors { result ≡ true → BeginsWithAll (λ i. i.history) inspectors.now self.now.register.journal }
+    {
+        desk::all_apart(desks)
+            && desk::all_begin(desks, &self.keeper.history)
+            && inspector::all_begin(inspectors, &self.keeper.history)
+    }
+
+    // The register, once the share that is handed in has every part.
+    fn end(self, mut all: Share<N>) -> Register<Global>
+        requires { all.parts ≡ N.parts }
+        ensures register { result ≡ self.register }
+        ensures sum { length result.journal ≡ all.amount }
+    {
+        let Inside {
+            register,
+            mut answered,
+            rest: _rest,
+            keeper: _keeper,
+            copies: _copies,
+        } = self;
+        answered.audit(&mut all);
+        register
+    }
+}
+
+/// An office that was not closed, with all that was handed in.
+#[derive(Drop)]
+pub struct Unclosed<N: OfficeName, R: Wait + Drop> {
+    pub cause: Cause,
+    pub office: Office<N, R>,
+    pub desks: Vec<Desk<N>>,
+    pub inspectors: Vec<Inspector<N>>,
+}
