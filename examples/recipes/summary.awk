@@ -1,0 +1,4 @@
+# The mean coefficient, and how many animals are inbred: awk -f summary.awk LIST
+BEGIN { FS = "," }
+{ sum += $3; if ($2 != "0") inbred++ }
+END { printf "%d animals, %d inbred, mean %.2f %%\n", NR, inbred, NR ? sum / NR : 0 }
