@@ -1,19 +1,16 @@
 -- What a frozen book tells of a number and of a depth.
-use Rattle.std.proofs.Common.{ℕ, ◌+◌, ◌<◌, ◌≤◌, ◌≡◌, ⊎_elim, arith, refl, sym, ap, ◌∙◌, Bool, false, List, [], ◌∷◌, Some, None, length, slice_get, map, ◌==◌, position}
-use Rattle.std.specs.Prelude.{is_some}
-use Rattle.std.specs.Str.{bytes_eq}
+use Rattle.std.proofs.Common.{ℕ, ◌+◌, ◌<◌, ◌≤◌, ◌≡◌, ⊎_elim, arith, refl, sym, ap, ◌∙◌, Bool, false, List, [], ◌∷◌, Option, Some, None, length, slice_get, map, ◌==◌}
+use Rattle.std.specs.Prelude.{IfNone}
 use Rattle.std.specs.Map.{keys_of}
 use Rattle.std.specs.List.{filter, range_with_len}
-use Rattle.std.proofs.lemmas.Option.{slice_get-get_or, slice_get_within, get_or_from_slice_get}
-use Rattle.std.proofs.lemmas.Bool.{cases_lt, ne_eqb}
+use Rattle.std.proofs.lemmas.Option.{slice_get_within, get_or_from_slice_get}
+use Rattle.std.proofs.lemmas.Bool.{cases_lt, false_from_ne_true, ne_eqb}
 use Rattle.std.proofs.lemmas.List.{length-map, get_or-map, get_or_past}
 use Rattle.std.proofs.lemmas.List.FromFn.{length-map-range_with_len, get_or-map-range_with_len}
-use Rattle.std.proofs.lemmas.List.Quantifiers.{position-Some}
-use Rattle.indexmap.proofs.MapLemmas.{some_index}
 use Rattle.herd_pedigree.specs.declared.frozen.Row.{Row}
-use Rattle.herd_pedigree.specs.Book.{is_there}
+use Rattle.herd_pedigree.specs.Book.{is_there, record_of}
 use Rattle.herd_pedigree.specs.Frozen.{IsFrozen, book_of, numbers_of, depth_at, level_of, levels_of}
-use Rattle.herd_pedigree.proofs.BookFacts.{same_bytes, there}
+use Rattle.herd_pedigree.proofs.BookFacts.{is_some_with, key_from_entry, place_of, there}
 use Rattle.herd_pedigree.proofs.FrozenDepthFacts.{IsDepthOf-le}
 
 -- the numbers of the book are those of the rows
@@ -21,18 +18,15 @@ pub keys-book_of : (rows : List Row) → keys_of (book_of rows) ≡ numbers_of r
 keys-book_of [] = refl
 keys-book_of (row ∷ rows) = ap (λ numbers. row.number ∷ numbers) (keys-book_of rows)
 
--- a place that is found is that of the number
-pub found_at : (numbers : List (List ℕ)) (x : List ℕ) (place : ℕ) → position (bytes_eq x) numbers ≡ Some place → slice_get numbers place ≡ Some x
-found_at numbers x place e =
-    let found = position-Some (bytes_eq x) numbers place x e in
-    slice_get-get_or numbers place x found.0 ∙ ap Some (sym (same_bytes x _ found.1))
-
--- a number that isn't found isn't in the book
-pub not_found : (rows : List Row) (x : List ℕ) → position (bytes_eq x) (numbers_of rows) ≡ None → is_there (book_of rows) x ≡ false
-not_found rows x e =
-    sym (some_index (bytes_eq x) (book_of rows))
-    ∙ ap (λ numbers. is_some (position (bytes_eq x) numbers)) (keys-book_of rows)
-    ∙ ap is_some e
+-- a number that stands nowhere isn't in the book
+pub not_found : (rows : List Row) (x : List ℕ) (found : Option ℕ) → IfNone found ((place : ℕ) → slice_get (numbers_of rows) place ≡ Some x → ⊥) → IfNone found (is_there (book_of rows) x ≡ false)
+not_found rows x (Some place) nowhere = tt
+not_found rows x None nowhere =
+    false_from_ne_true (is_there (book_of rows) x)
+    (λ there_it_is.
+    let found = is_some_with (record_of (book_of rows) x) there_it_is in
+    let entry = place_of (book_of rows) x found.0 found.1 in
+    nowhere entry.0 (ap (λ numbers. slice_get numbers entry.0) (sym (keys-book_of rows)) ∙ key_from_entry (book_of rows) entry.0 x found.0 entry.1))
 
 -- the depth of a row is within the limit
 pub depth-le : (l most : ℕ) (rows : List Row) → IsFrozen l most rows → (place : ℕ) (row : Row) → slice_get rows place ≡ Some row → row.depth ≤ l

@@ -2,6 +2,7 @@ mod LineFacts
 pub mod BookFacts
 pub mod FrozenDepthFacts
 pub mod FrozenFacts
+mod IndexFacts
 pub mod AgeOrderFacts
 pub mod PermutedFacts
 pub mod RankFacts

@@ -1,11 +1,11 @@
-ghost use Rattle.std.specs.Prelude.{◌≡◌, ◌<◌, false, length, map, position, slice_get, Some, IfOk, IfSome, IfNone};
-ghost use Rattle.std.specs.Str.{bytes_eq};
+ghost use Rattle.std.specs.Prelude.{◌≡◌, ◌<◌, false, length, map, slice_get, Some, IfOk, IfSome, IfNone};
 ghost use Rattle.herd_pedigree.specs.Book.{is_there};
 ghost use Rattle.herd_pedigree.specs.Frozen.{IsFrozen, book_of, level_of, numbers_of, parents_of};
 ghost use Rattle.herd_pedigree.specs.declared.TheConstants.{DEPTH_LIMIT, MOST_ANIMALS};
 
 use crate::animal::Animal;
 use crate::levels::levels_of;
+use crate::number_index::NumberIndex;
 use herd_animal::AnimalNumber;
 use std::alloc::{AllocError, Allocator};
 use std::marker::Model;
@@ -40,12 +40,14 @@ pub struct Frozen<A: Allocator> {
     rows: Vec<Row, A>,
     parents: Vec<Parents, A>,
     levels: Vec<Vec<u32, A>, A>,
+    index: NumberIndex<A>,
 }
 
 impl<A: Allocator> Model for Frozen<A> {
-    ghost use Rattle.std.specs.Prelude.{List, ◌≡◌, map};
+    ghost use Rattle.std.specs.Prelude.{List, ◌≡◌, length, map};
     ghost use Rattle.herd_pedigree.specs.declared.frozen.Row.{Row};
-    ghost use Rattle.herd_pedigree.specs.Frozen.{IsFrozen, levels_of, parents_of};
+    ghost use Rattle.herd_pedigree.specs.Frozen.{IsFrozen, levels_of, numbers_of, parents_of};
+    ghost use Rattle.herd_pedigree.specs.NumberIndex.{IsIndexOf};
     ghost use Rattle.herd_pedigree.specs.declared.TheConstants.{DEPTH_LIMIT, MOST_ANIMALS};
 
     ghost Value = { List Row };
@@ -54,7 +56,8 @@ impl<A: Allocator> Model for Frozen<A> {
 
     ghost invariant = { λ f. IsFrozen DEPTH_LIMIT MOST_ANIMALS f.rows.items
         × (f.parents.items ≡ map parents_of f.rows.items)
-        × (map (λ level. level.items) f.levels.items ≡ levels_of DEPTH_LIMIT f.rows.items) };
+        × (map (λ level. level.items) f.levels.items ≡ levels_of DEPTH_LIMIT f.rows.items)
+        × IsIndexOf (numbers_of f.rows.items) (length f.rows.items) f.index.lasts.items f.index.earlier.items };
 }
 
 impl<A: Allocator> Frozen<A> {
@@ -74,13 +77,13 @@ impl<A: Allocator> Frozen<A> {
         &self.rows[place as usize]
     }
 
-    /// The place of an animal.
+    /// The place of an animal. It reads an index, and takes no memory.
     pub fn place(&self, number: &AnimalNumber) -> Option<u32>
         ensures place { IfSome result (λ place. slice_get (numbers_of self.now) place ≡ Some number.now) }
         ensures within { IfSome result (λ place. place < length self.now) }
         ensures absent { IfNone result (is_there (book_of self.now) number.now ≡ false) }
     {
-        Some(place_in(&self.rows, number)? as u32)
+        self.index.place(&self.rows, number)
     }
 
     /// The parents and the depth of the row at a place. It reads less memory than `row`.
@@ -109,11 +112,13 @@ impl<A: Allocator + Clone> Frozen<A> {
         ensures { IfOk result (λ frozen. frozen ≡ rows.items) }
     {
         let parents = parents_column(alloc.clone()?, &rows)?;
-        let levels = levels_of(alloc, &rows)?;
+        let levels = levels_of(alloc.clone()?, &rows)?;
+        let index = NumberIndex::of(alloc, &rows)?;
         Ok(Frozen {
             rows,
             parents,
             levels,
+            index,
         })
     }
 }
@@ -129,13 +134,4 @@ fn parents_column<A: Allocator>(alloc: A, rows: &[Row]) -> Result<Vec<Parents, A
             depth: row.depth,
         })
         .collect(alloc)
-}
-
-// The first place at which the number stands.
-fn place_in(rows: &[Row], number: &AnimalNumber) -> Option<usize>
-    ensures { result ≡ position (bytes_eq number.now) (numbers_of rows.now) }
-{
-    rows.iter()
-        .map(|row| row.number)
-        .position(|other| *number == other)
 }

@@ -11,6 +11,7 @@ mod levels;
 mod links;
 mod listed;
 mod named;
+mod number_index;
 mod parent_fault;
 mod pedigree;
 mod progeny;
@@ -24,7 +25,9 @@ pub use freeze::freeze_list;
 pub use frozen::{Frozen, Parents, Row};
 pub use parent_fault::ParentFault;
 pub use pedigree::Pedigree;
-// A crate can name a pedigree in a contract only if the types of its fields are exported.
+// A crate can name a pedigree or a frozen book in a contract only if the types of its fields are exported.
+#[doc(hidden)]
+pub use number_index::NumberIndex;
 #[doc(hidden)]
 pub use progeny::Progeny;
 #[doc(hidden)]

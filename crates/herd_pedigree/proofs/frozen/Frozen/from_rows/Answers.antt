@@ -12,4 +12,4 @@ levels_of-requires-clause-shallow g c =
     rw (c.deref-2.ensures.value, get_or_from_slice_get rows k row.0 d row.1) (depth-le 60 60_000 rows c.requires k row.0 row.1)
 
 pub invariant_of-result : goal.invariant_of-result
-invariant_of-result g c = (c.requires, rw (← c.deref.ensures.value) c.in_ok-parents.ensures, rw (← c.deref-2.ensures.value) c.in_ok-levels.ensures)
+invariant_of-result g c = (c.requires, rw (← c.deref.ensures.value) c.in_ok-parents.ensures, rw (← c.deref-2.ensures.value) c.in_ok-levels.ensures, rw (← c.deref-3.ensures.value) c.in_ok-index.ensures)
