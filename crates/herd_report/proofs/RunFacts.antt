@@ -1,5 +1,5 @@
 -- The steps of commands that are filed one after the other.
-use Rattle.std.proofs.Common.{◌≡◌, ◌≢◌, inr, ℕ, suc, ◌+◌, arith, true, false, MatchBool, Option, Some, None, List, [], ◌∷◌, ◌++◌, refl, ap, sym, subst, ◌∙◌, ⊎_elim, append_assoc, append-nil, length}
+use Rattle.std.proofs.Common.{◌≡◌, ◌≢◌, inr, ℕ, suc, ◌+◌, ◌<◌, arith, true, false, MatchBool, Option, Some, None, List, [], ◌∷◌, ◌++◌, refl, ap, sym, subst, ◌∙◌, ⊎_elim, append_assoc, append-nil, length}
 use Rattle.std.proofs.lemmas.List.Sorted.{IsPermutation-sym}
 use Rattle.std.specs.Prelude.{Bool, is_some}
 use Rattle.std.specs.Io.KnownBytes.{Appends}
@@ -28,7 +28,7 @@ use Rattle.herd_report.specs.declared.report_fault.ReportFault.TheVariants as re
 use Rattle.herd_report.specs.declared.orders.Order.{Order}
 use Rattle.herd_report.specs.declared.orders.Order.TheVariants.{File, Inbreeding, Certificate}
 use Rattle.herd_report.specs.declared.run_fault.RunFault.{RunFault}
-use Rattle.herd_report.specs.declared.run_fault.RunFault.TheVariants.{Line, NotRegistered, NoThread, Memory, Write}
+use Rattle.herd_report.specs.declared.run_fault.RunFault.TheVariants.{Line, NotRegistered, NoThread, Memory, Write, NoPlace}
 use Rattle.herd_report.proofs.OutputFacts.{front_nothing, passes_before}
 
 -- the steps of more commands come after those of the first ones
@@ -148,20 +148,22 @@ stops_replying limits file list line old new report.NotRegistered read front oth
 
 -- a run for the list of coefficients that stops
 pub stops_listing : (limits : Limits) (workers block : ℕ) (file : CommandFile) (rows : List Row) (old new : Option (List ℕ)) (fault : RunFault) →
-    IsFrozenFile limits file rows → EndsListing old new (wanted (Inbreeding workers block) limits file.commands rows) fault →
+    IsFrozenFile limits file rows → EndsListing workers old new (wanted (Inbreeding workers block) limits file.commands rows) fault →
     EndsBy limits (Inbreeding workers block) file old new fault
 stops_listing limits workers block file rows old new (Line fault) made ends = absurd ends
 stops_listing limits workers block file rows old new NotRegistered made ends = absurd ends
-stops_listing limits workers block file rows old new NoThread made ends = (tt, made.faultless, ends)
+stops_listing limits workers block file rows old new NoThread made ends = (ends.0, made.faultless, ends.1)
 stops_listing limits workers block file rows old new Memory made ends =
     (λ reports. made.faultless, inr (report_of_file limits (Inbreeding workers block) file rows (AppendsFront old new) made ends))
 stops_listing limits workers block file rows old new Write made ends =
     (λ reports. made.faultless, report_of_file limits (Inbreeding workers block) file rows (AppendsFront old new) made ends)
+stops_listing limits workers block file rows old new NoPlace made ends = absurd ends
 
 -- a list of coefficients that ends before any was written
-pub nothing_listed : (known : Option (List ℕ)) (text : List ℕ) (fault : PoolFault) → EndsListing known known text (run_fault_of_pool fault)
-nothing_listed known text pool.NoThread = refl
-nothing_listed known text pool.Memory = front_nothing known text
+pub nothing_listed : (workers : ℕ) (known : Option (List ℕ)) (text : List ℕ) (fault : PoolFault) → (fault ≡ pool.NoThread → 1 < workers) →
+    EndsListing workers known known text (run_fault_of_pool fault)
+nothing_listed workers known text pool.NoThread shared = (shared refl, refl)
+nothing_listed workers known text pool.Memory shared = front_nothing known text
 
 -- who is in a frozen book is in the book that was frozen
 pub there-frozen : (book : Book) (rows : List Row) (number : List ℕ) → IsFrozenFrom DEPTH_LIMIT MOST_ANIMALS book rows →

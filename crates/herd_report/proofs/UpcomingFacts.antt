@@ -1,9 +1,12 @@
 -- How the records that a reader has still to give change with a read.
-use Rattle.std.proofs.Common.{◌≡◌, ◌∙◌, ℕ, zero, suc, ◌+◌, ◌<◌, ◌≤◌, List, [], ◌∷◌, length, Bool, true, false, cond, ◌==◌, ◌&&◌, Option, Some, None, option_map, Result, Ok, Err, MatchResult, IfOk, OnOk, refl, sym, ap, subst, add-one, arith}
+use Rattle.std.proofs.Common.{◌≡◌, ◌∙◌, ℕ, zero, suc, ◌+◌, ◌<◌, ◌≤◌, List, [], ◌∷◌, length, Bool, true, false, cond, ◌==◌, ◌&&◌, Option, Some, None, option_map, Result, Ok, Err, MatchResult, IfOk, IfErr, OnOk, OnErr, refl, sym, ap, subst, add-one, arith}
 use Rattle.std.proofs.lemmas.Bool.{false≢true}
 use Rattle.std.specs.Result.{is_ok}
 use Rattle.csv.specs.Machine.{Read, after_end, carriage_return, line_feed, ends_at_end, ends_with, field_after, fields_after, in_field, is_byte, is_end, next_record, start_field, start_record, step}
-use Rattle.csv.specs.Reading.{NextIs, ReadRecord, ReadsNext, ReadsOn, Ready, default_config, has_failed, pending_of, reader_state, reader_trim, records_from, records_next, source_of}
+use Rattle.csv.specs.Reading.{ExplainsRead, NextIs, ReadRecord, ReadsNext, ReadsOn, Ready, default_config, error_kind, has_failed, pending_of, reader_state, reader_trim, records_from, records_next, source_of, stops_reader}
+use Rattle.csv.specs.declared.error.Error.{Error}
+use Rattle.csv.specs.declared.error.ErrorKind.{ErrorKind}
+use Rattle.csv.specs.declared.error.ErrorKind.TheVariants as error
 use Rattle.csv.specs.declared.parser.Action.{Action}
 use Rattle.csv.specs.declared.parser.Action.TheVariants as act
 use Rattle.csv.specs.declared.parser.Config.{Config}
@@ -177,3 +180,28 @@ takes_after remaining (Ok found) old new fields set_up reads =
     let next = rw set_up.config at read.0 in
     rw read.1 (takes (reader_state old) (reader_state new) (source_of remaining old) (pending_of (remaining new.rdr) new) found fields next)
 takes_after remaining (Err e) old new fields set_up reads = tt
+
+-- a read that failed was of bytes or for memory, where any number of fields is taken
+stops : {R : Type 0} (remaining : R → Option (List ℕ)) (old new : Reader R) (kind : ErrorKind) → IsSetUp old
+    → ExplainsRead remaining old new false kind → stops_reader kind ≡ true
+stops remaining old new (error.Io fault) set_up why = refl
+stops remaining old new error.OutOfMemory set_up why = refl
+stops remaining old new (error.UnequalLengths place expected length) set_up why = absurd (false≢true (sym why.0 ∙ set_up.flexible))
+stops remaining old new (error.Utf8 place fault) set_up why = absurd (false≢true why.0)
+stops remaining old new (error.Serialize text) set_up why = absurd why
+stops remaining old new (error.Deserialize place fault) set_up why = absurd why
+
+-- a reader that told an error gives no more records
+pub failed_after : {R T : Type 0} (remaining : R → Option (List ℕ)) (result : Result T Error) (old new : Reader R) → IsSetUp old
+    → IfErr result (λ e. has_failed new ≡ stops_reader (error_kind e))
+    → IfErr result (λ e. Ready old → ExplainsRead remaining old new false (error_kind e))
+    → OnErr result (has_failed new ≡ true)
+failed_after remaining (Ok found) old new set_up fails why = tt
+failed_after remaining (Err e) old new set_up fails why = fails ∙ stops remaining old new (error_kind e) set_up (why set_up.ready)
+
+-- what a call's `Err` says, after a `map_err`
+pub err_through : {T E D : Type 0} (from : Result T E) (to : Result T D) (P : Type 0) → is_ok to ≡ is_ok from → OnErr from P → OnErr to P
+err_through (Ok x) (Ok y) P variant h = tt
+err_through (Ok x) (Err d) P variant h = absurd (false≢true variant)
+err_through (Err e) (Ok y) P variant h = absurd (false≢true (sym variant))
+err_through (Err e) (Err d) P variant h = h

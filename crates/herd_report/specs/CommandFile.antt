@@ -1,5 +1,5 @@
 -- What a command file says: its commands before the first fault, and that fault.
-use Rattle.std.specs.Prelude.{◌≡◌, ◌⊎◌, ℕ, ◌+◌, List, [], ◌∷◌, ◌++◌, if◌then◌else◌, nat_lt, MatchBool, ⊤, IfSome, Option, Some, None, Result, Ok, Err, length}
+use Rattle.std.specs.Prelude.{◌≡◌, ◌⊎◌, ℕ, ◌+◌, List, [], ◌∷◌, ◌++◌, if◌then◌else◌, nat_lt, MatchBool, ⊤, Option, Some, None, Result, Ok, Err, length}
 use Rattle.std.specs.Option.{option_map_or}
 use Rattle.csv.specs.Reading.{default_config, records, strip_bom}
 use Rattle.herd_register.specs.declared.command.Command.{Command}
@@ -62,8 +62,8 @@ IsRead most file list (Some fault) =
     (IsReadBefore most fault.entry list file)
     ((list ≡ file.commands) × (file.fault ≡ Some fault))
 
--- where the records to come are known, the version whose header the first is, after which the others are still to come
+-- where the records to come are known, the version whose header the first is, and the others are still to come
 abbrev pub TakesHeader : Option (List Fields) → Option (List Fields) → Option Version → Type 0
 TakesHeader None new version = ⊤
 TakesHeader (Some []) new version = version ≡ None
-TakesHeader (Some (first ∷ rest)) new version = (version ≡ version_of first) × IfSome version (λ _. new ≡ Some rest)
+TakesHeader (Some (first ∷ rest)) new version = (version ≡ version_of first) × (new ≡ Some rest)

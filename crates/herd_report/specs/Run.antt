@@ -1,5 +1,5 @@
 -- What a run writes for a command file, and how it may end.
-use Rattle.std.specs.Prelude.{◌≡◌, ◌≢◌, ◌⊎◌, ◌≤◌, ℕ, List, [], ◌∷◌, ⊤, Option, Some, None, true, false}
+use Rattle.std.specs.Prelude.{◌≡◌, ◌≢◌, ◌⊎◌, ◌<◌, ◌≤◌, ℕ, List, [], ◌∷◌, ⊤, Option, Some, None, true, false}
 use Rattle.std.specs.Io.KnownBytes.{Appends}
 use Rattle.herd_pedigree.specs.Book.{Book, is_there}
 use Rattle.herd_pedigree.specs.Frozen.{IsFrozenFrom, book_of}
@@ -23,7 +23,7 @@ use Rattle.herd_report.specs.declared.line_fault.LineFault.{LineFault}
 use Rattle.herd_report.specs.declared.orders.Order.{Order}
 use Rattle.herd_report.specs.declared.orders.Order.TheVariants.{File, Inbreeding, Certificate, Mating, Inverse}
 use Rattle.herd_report.specs.declared.run_fault.RunFault.{RunFault}
-use Rattle.herd_report.specs.declared.run_fault.RunFault.TheVariants.{Line, NotRegistered, NoThread, Memory, Write}
+use Rattle.herd_report.specs.declared.run_fault.RunFault.TheVariants.{Line, NotRegistered, NoThread, Memory, Write, NoPlace}
 
 -- the steps of commands that are filed at desk 0 one after the other, the first with this book
 abbrev pub filed_from : Limits → Book → List Command → List Step
@@ -68,10 +68,24 @@ abbrev pub IsAbsent : Order → Book → Type 0
 IsAbsent (Certificate number) book = is_there book number ≡ false
 IsAbsent order book = ⊥
 
--- the order is that for the list of coefficients
-abbrev pub IsInbreeding : Order → Type 0
-IsInbreeding (Inbreeding workers block) = ⊤
-IsInbreeding order = ⊥
+-- the order is for a certificate
+abbrev pub IsCertificate : Order → Type 0
+IsCertificate (Certificate number) = ⊤
+IsCertificate order = ⊥
+
+-- the order is for work that more than one worker share
+abbrev pub IsShared : Order → Type 0
+IsShared (Inbreeding workers block) = 1 < workers
+IsShared order = ⊥
+
+-- a fault that an order can end by, whatever is read
+abbrev pub CanEndBy : Order → RunFault → Type 0
+CanEndBy order (Line fault) = ⊤
+CanEndBy order NotRegistered = IsCertificate order
+CanEndBy order NoThread = IsShared order
+CanEndBy order Memory = ⊤
+CanEndBy order Write = ⊤
+CanEndBy order NoPlace = ⊥
 
 -- a text that an order wants of commands passes a test; only for the replies no frozen rows are needed
 pub record IsReport (limits : Limits) (order : Order) (commands : List Command) (Passes : List ℕ → Type 0) : Type 0 where
@@ -105,7 +119,8 @@ abbrev pub EndsBy : Limits → Order → CommandFile → Option (List ℕ) → O
 EndsBy limits order file old new (Line fault) = EndsByLine limits order file fault old new
 EndsBy limits order file old new NotRegistered =
     (file.fault ≡ None) × IsAbsent order (run_book limits file.commands) × (new ≡ old)
-EndsBy limits order file old new NoThread = IsInbreeding order × (file.fault ≡ None) × (new ≡ old)
+EndsBy limits order file old new NoThread = IsShared order × (file.fault ≡ None) × (new ≡ old)
 EndsBy limits order file old new Memory =
     IsFaultlessFor order file × ((new ≡ old) ⊎ IsReport limits order file.commands (AppendsFront old new))
 EndsBy limits order file old new Write = IsFaultlessFor order file × IsReport limits order file.commands (AppendsFront old new)
+EndsBy limits order file old new NoPlace = ⊥

@@ -1,5 +1,5 @@
 -- The faults of a part of a run, as those of the run.
-use Rattle.std.specs.Prelude.{◌≡◌, ℕ, List, Option, Some, None}
+use Rattle.std.specs.Prelude.{◌≡◌, ℕ, ◌<◌, List, ⊤, Option, Some, None}
 use Rattle.herd_pool.specs.declared.pool_fault.PoolFault.{PoolFault}
 use Rattle.herd_pool.specs.declared.pool_fault.PoolFault.TheVariants as pool
 use Rattle.herd_register.specs.declared.command.Command.{Command}
@@ -9,7 +9,7 @@ use Rattle.herd_report.specs.Output.{AppendsFront}
 use Rattle.herd_report.specs.declared.report_fault.ReportFault.{ReportFault}
 use Rattle.herd_report.specs.declared.report_fault.ReportFault.TheVariants as report
 use Rattle.herd_report.specs.declared.run_fault.RunFault.{RunFault}
-use Rattle.herd_report.specs.declared.run_fault.RunFault.TheVariants.{Line, NotRegistered, NoThread, Memory, Write}
+use Rattle.herd_report.specs.declared.run_fault.RunFault.TheVariants.{Line, NotRegistered, NoThread, Memory, Write, NoPlace}
 
 abbrev pub run_fault_of : ReportFault → RunFault
 run_fault_of report.Write = Write
@@ -20,6 +20,15 @@ abbrev pub run_fault_of_pool : PoolFault → RunFault
 run_fault_of_pool pool.NoThread = NoThread
 run_fault_of_pool pool.Memory = Memory
 
+-- a fault of reading and filing
+abbrev pub CanEndFreezing : RunFault → Type 0
+CanEndFreezing (Line fault) = ⊤
+CanEndFreezing NotRegistered = ⊥
+CanEndFreezing NoThread = ⊥
+CanEndFreezing Memory = ⊤
+CanEndFreezing Write = ⊥
+CanEndFreezing NoPlace = ⊥
+
 -- why there is no frozen book: a line fault or an interruption of the reading, or where there is none a want of memory
 abbrev pub EndsFreezing : Limits → CommandFile → RunFault → Type 0
 EndsFreezing limits file (Line fault) = (commands : List Command) × IsRead limits.steps file commands (Some fault)
@@ -27,11 +36,13 @@ EndsFreezing limits file NotRegistered = ⊥
 EndsFreezing limits file NoThread = ⊥
 EndsFreezing limits file Memory = file.fault ≡ None
 EndsFreezing limits file Write = ⊥
+EndsFreezing limits file NoPlace = ⊥
 
--- how the writing of a list of coefficients may end early
-abbrev pub EndsListing : Option (List ℕ) → Option (List ℕ) → List ℕ → RunFault → Type 0
-EndsListing old new text (Line fault) = ⊥
-EndsListing old new text NotRegistered = ⊥
-EndsListing old new text NoThread = new ≡ old
-EndsListing old new text Memory = AppendsFront old new text
-EndsListing old new text Write = AppendsFront old new text
+-- how so many workers' list of coefficients may end early
+abbrev pub EndsListing : ℕ → Option (List ℕ) → Option (List ℕ) → List ℕ → RunFault → Type 0
+EndsListing workers old new text (Line fault) = ⊥
+EndsListing workers old new text NotRegistered = ⊥
+EndsListing workers old new text NoThread = (1 < workers) × (new ≡ old)
+EndsListing workers old new text Memory = AppendsFront old new text
+EndsListing workers old new text Write = AppendsFront old new text
+EndsListing workers old new text NoPlace = ⊥

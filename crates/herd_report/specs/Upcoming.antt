@@ -30,3 +30,9 @@ abbrev pub TakesRecord : Option (List Fields) → Option (List Fields) → Field
 TakesRecord None new fields found = ⊤
 TakesRecord (Some []) new fields found = found ≡ false
 TakesRecord (Some (next ∷ rest)) new fields found = (found ≡ true) × (fields ≡ next) × (new ≡ Some rest)
+
+-- where the upcoming records are known, exactly one of them was read
+abbrev pub ReadsOne : Option (List Fields) → Option (List Fields) → Type 0
+ReadsOne None new = ⊤
+ReadsOne (Some []) new = ⊥
+ReadsOne (Some (first ∷ rest)) new = new ≡ Some rest

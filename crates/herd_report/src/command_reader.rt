@@ -1,10 +1,11 @@
 // The commands of a file, one at a time.
-ghost use Rattle.std.specs.Prelude.{◌≡◌, ◌<◌, ◌≤◌, ◌+◌, List, [], IfErr, IfOk, IfSome, true};
+ghost use Rattle.std.specs.Prelude.{◌≡◌, ◌<◌, ◌≤◌, ◌+◌, List, [], IfErr, IfOk, IfSome, false, true};
+ghost use Rattle.csv.specs.Reading.{has_failed};
 ghost use Rattle.herd_register.specs.declared.command.Command.{Command};
 ghost use Rattle.herd_report.specs.CommandFile.{CommandFile, TakesHeader, commands};
 ghost use Rattle.herd_report.specs.CommandReader.{Gives, HasGiven, IsReady, Opens, TakesNext};
 ghost use Rattle.herd_report.specs.LineCause.{is_interruption};
-ghost use Rattle.herd_report.specs.Upcoming.{IsSetUp, upcoming};
+ghost use Rattle.herd_report.specs.Upcoming.{IsSetUp, ReadsOne, upcoming};
 
 use crate::columns::parse_command;
 use crate::line_fault::{LineCause, LineFault};
@@ -66,6 +67,9 @@ impl<R: Read> CommandReader<R> {
         ensures gives { (file : CommandFile) → (list : List Command) → HasGiven R.remaining file list self.old
             → Gives R.remaining self.old.most file list self.new result }
         ensures entry { IfErr result (λ fault. fault.entry ≡ self.old.given + 1) }
+        ensures interrupted { IfErr result (λ fault. is_interruption fault.cause ≡ has_failed self.new.records) }
+        ensures one { IfErr result (λ fault. is_interruption fault.cause ≡ false
+            → ReadsOne (upcoming R.remaining self.old.records) (upcoming R.remaining self.new.records)) }
     {
         let entry = self.given + 1;
         match self.read_command() {
@@ -87,6 +91,9 @@ impl<R: Read> CommandReader<R> {
         ensures room { IfOk result (λ next. IfSome next (λ _. self.old.given < self.old.most)) }
         ensures takes { TakesNext self.old.version self.old.most (self.old.given + 1)
             (upcoming R.remaining self.old.records) (upcoming R.remaining self.new.records) result }
+        ensures interrupted { IfErr result (λ cause. is_interruption cause ≡ has_failed self.new.records) }
+        ensures one { IfErr result (λ cause. is_interruption cause ≡ false
+            → ReadsOne (upcoming R.remaining self.old.records) (upcoming R.remaining self.new.records)) }
     {
         if !read_record(&mut self.records, &mut self.row)? {
             return Ok(None);

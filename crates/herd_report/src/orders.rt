@@ -1,9 +1,10 @@
-ghost use Rattle.std.specs.Prelude.{◌≡◌, ◌≢◌, ◌↔◌, false, Err, IfErr, IfOk, IfSome, OnErr, OnOk};
+ghost use Rattle.std.specs.Prelude.{◌≡◌, ◌≢◌, ◌<◌, ◌↔◌, false, Err, IfErr, IfOk, IfSome, OnErr, OnOk};
 ghost use Rattle.std.specs.Io.KnownBytes.{Appends};
 ghost use Rattle.herd_pedigree.specs.Book.{is_there};
 ghost use Rattle.herd_pedigree.specs.Frozen.{book_of};
 ghost use Rattle.herd_pedigree.specs.declared.TheConstants.{DEPTH_LIMIT};
 ghost use Rattle.herd_register.specs.Register.{AreLimits};
+ghost use Rattle.herd_kinship.specs.Coefficients.{AreCoefficients};
 ghost use Rattle.herd_kinship.specs.FrozenAncestry.{ancestry_of};
 ghost use Rattle.herd_kinship.specs.Table.{coefficient};
 ghost use Rattle.herd_report.specs.Certificate.{certificate_text};
@@ -12,8 +13,8 @@ ghost use Rattle.herd_report.specs.InbreedingList.{inbreeding_text};
 ghost use Rattle.herd_report.specs.InverseList.{inverse_text};
 ghost use Rattle.herd_report.specs.MatingList.{mating_text};
 ghost use Rattle.herd_report.specs.Output.{AppendsFront};
-ghost use Rattle.herd_report.specs.Run.{EndsBy, IsAnswered, IsFrozenFile, IsOrder};
-ghost use Rattle.herd_report.specs.RunFault.{EndsFreezing, EndsListing};
+ghost use Rattle.herd_report.specs.Run.{CanEndBy, EndsBy, IsAnswered, IsFrozenFile, IsOrder};
+ghost use Rattle.herd_report.specs.RunFault.{CanEndFreezing, EndsFreezing, EndsListing};
 
 use crate::certificate::write_certificate;
 use crate::command_file::read_commands;
@@ -25,9 +26,9 @@ use crate::replies::write_replies;
 use crate::report_fault::ReportFault;
 use crate::run_fault::RunFault;
 use herd_animal::AnimalNumber;
-use herd_kinship::coefficients_plain;
+use herd_kinship::{Coefficients, coefficients_plain};
 use herd_pedigree::Frozen;
-use herd_pool::NoGate;
+use herd_pool::{NoGate, PoolFault};
 use herd_register::Limits;
 use std::alloc::Global;
 use std::io::{Read, Write};
@@ -42,7 +43,8 @@ mod tests;
 pub enum Order<'a> {
     /// The reply to each command.
     File,
-    /// The coefficient of inbreeding of each animal, computed by 1 to 16 workers in blocks of so many animals.
+    /// The coefficient of inbreeding of each animal, computed by 1 to 16 workers. More than one share blocks of so
+    /// many animals, each on a thread of its own.
     Inbreeding {
         workers: u32,
         block: u32,
@@ -76,6 +78,7 @@ pub fn run<H: Threads + Wait + Sync, R: Read + Drop, W: Write>(
         (λ bytes. IsAnswered limits order.entry (commands bytes limits.steps) (W.contents writer.old) (W.contents writer.new))) }
     ensures err { IfErr result (λ fault. IfSome (R.remaining reader)
         (λ bytes. EndsBy limits order.entry (commands bytes limits.steps) (W.contents writer.old) (W.contents writer.new) fault)) }
+    ensures fault { IfErr result (CanEndBy order.entry) }
 {
     match order {
         Order::File => write_answers(alloc, limits, reader, writer),
@@ -110,11 +113,30 @@ fn list_inbreeding<H: Threads + Wait + Sync, W: Write>(
     requires { IsOrder (Order.Inbreeding workers block) }
     ensures ok { OnOk result (Appends (W.contents writer.old) (W.contents writer.new)
         (inbreeding_text (coefficient (ancestry_of frozen.now) DEPTH_LIMIT) frozen.now)) }
-    ensures err { IfErr result (EndsListing (W.contents writer.old) (W.contents writer.new)
+    ensures err { IfErr result (EndsListing workers (W.contents writer.old) (W.contents writer.new)
         (inbreeding_text (coefficient (ancestry_of frozen.now) DEPTH_LIMIT) frozen.now)) }
 {
-    let coefficients = herd_pool::coefficients(rt, alloc, frozen, workers, block, &NoGate)?;
+    let coefficients = shared_coefficients(rt, alloc, frozen, workers, block)?;
     Ok(write_inbreeding(alloc, frozen, &coefficients, writer)?)
+}
+
+// The coefficients of a book's animals. One worker computes them without a pool.
+fn shared_coefficients<H: Threads + Wait + Sync>(
+    rt: &H,
+    alloc: Global,
+    frozen: &Frozen<Global>,
+    workers: u32,
+    block: u32,
+) -> Result<Coefficients<Global>, PoolFault>
+    requires { IsOrder (Order.Inbreeding workers block) }
+    ensures list { IfOk result (AreCoefficients DEPTH_LIMIT frozen.now) }
+    ensures fault { IfErr result (λ fault. fault ≡ PoolFault.NoThread → 1 < workers) }
+{
+    if workers == 1 {
+        Ok(coefficients_plain(alloc, frozen)?)
+    } else {
+        herd_pool::coefficients(rt, alloc, frozen, workers, block, &NoGate)
+    }
 }
 
 // Writes an animal's certificate. Where the animal isn't in the book, nothing is computed.
@@ -181,6 +203,7 @@ fn frozen_book<R: Read + Drop>(
         (λ bytes. IsFrozenFile limits (commands bytes limits.steps) frozen)) }
     ensures err { IfErr result (λ fault. IfSome (R.remaining reader)
         (λ bytes. EndsFreezing limits (commands bytes limits.steps) fault)) }
+    ensures fault { IfErr result CanEndFreezing }
 {
     let commands = read_commands(alloc, reader, limits.steps);
     if let Some(fault) = commands.fault {
@@ -202,6 +225,7 @@ fn write_answers<R: Read + Drop, W: Write>(
         (λ bytes. IsAnswered limits Order.File (commands bytes limits.steps) (W.contents writer.old) (W.contents writer.new))) }
     ensures err { IfErr result (λ fault. IfSome (R.remaining reader)
         (λ bytes. EndsBy limits Order.File (commands bytes limits.steps) (W.contents writer.old) (W.contents writer.new) fault)) }
+    ensures fault { IfErr result (CanEndBy Order.File) }
 {
     let filed = file_commands(alloc, limits, reader)?;
     write_replies(alloc, filed.register.journal(), writer)?;

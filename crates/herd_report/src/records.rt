@@ -1,8 +1,8 @@
 // The records of a command file, one at a time.
-ghost use Rattle.std.specs.Prelude.{◌≡◌, true, IfOk, IfErr, option_map};
-ghost use Rattle.csv.specs.Reading.{default_config, records, strip_bom};
+ghost use Rattle.std.specs.Prelude.{◌≡◌, true, IfOk, IfErr, OnErr, option_map};
+ghost use Rattle.csv.specs.Reading.{default_config, error_kind, has_failed, records, strip_bom};
 ghost use Rattle.csv.specs.Records.{fields_of};
-ghost use Rattle.herd_report.specs.LineCause.{is_interruption};
+ghost use Rattle.herd_report.specs.LineCause.{interruption_of, is_interruption};
 ghost use Rattle.herd_report.specs.Upcoming.{IsSetUp, TakesRecord, upcoming};
 
 use crate::line_fault::LineCause;
@@ -29,12 +29,14 @@ pub fn read_record<R: Read>(reader: &mut Reader<R>, row: &mut ByteRecord) -> Res
     ensures takes { IfOk result (TakesRecord (upcoming R.remaining reader.old)
         (upcoming R.remaining reader.new) (fields_of row.new)) }
     ensures interrupted { IfErr result (λ cause. is_interruption cause ≡ true) }
+    ensures failed { OnErr result (has_failed reader.new ≡ true) }
 {
     reader.read_byte_record(row).map_err(interruption)
 }
 
 fn interruption(error: Error) -> LineCause
-    ensures { is_interruption result ≡ true }
+    ensures cause { result ≡ interruption_of (error_kind error) }
+    ensures interrupted { is_interruption result ≡ true }
 {
     match error.into_kind() {
         ErrorKind::OutOfMemory => LineCause::Memory,
