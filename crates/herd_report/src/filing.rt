@@ -84,6 +84,6 @@ fn file_next(register: &mut Register<Global>, command: Command) -> Result<(), Al
     match register.file(0, command) {
         Ok(_) => Ok(()),
         Err(FileFault::Memory) => Err(AllocError),
-        Err(FileFault::JournalFull) => unreachable!(),
+        Err(FileFault::JournalFull | FileFault::NoReading) => unreachable!(),
     }
 }

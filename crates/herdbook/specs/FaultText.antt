@@ -6,7 +6,7 @@ use Rattle.herd_report.specs.LineCause.{number_of}
 use Rattle.herd_report.specs.declared.line_fault.LineCause.{LineCause}
 use Rattle.herd_report.specs.declared.line_fault.LineCause.TheVariants.{Header, Fields, Kind, Animal, Day, Sire, Dam, FromHerd, ToHerd, FieldNotUsed, Read, TooMany, Memory as NoMemory, Embryo}
 use Rattle.herd_report.specs.declared.run_fault.RunFault.{RunFault}
-use Rattle.herd_report.specs.declared.run_fault.RunFault.TheVariants.{Line, NotRegistered, NoThread, Memory, Write}
+use Rattle.herd_report.specs.declared.run_fault.RunFault.TheVariants.{Line, NotRegistered, NoThread, Memory, Write, NoPlace}
 
 abbrev pub cause_name : LineCause → List ℕ
 cause_name Header = codes "Header"
@@ -31,6 +31,7 @@ run_fault_text NotRegistered = codes "not registered"
 run_fault_text NoThread = codes "no thread"
 run_fault_text Memory = codes "no memory"
 run_fault_text Write = codes "write fault"
+run_fault_text NoPlace = codes "no reader's place"
 
 abbrev pub number_fault_code : NumberFault → ℕ
 number_fault_code Length = 1

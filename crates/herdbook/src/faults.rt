@@ -27,6 +27,7 @@ impl fmt::Display for RunFaultText {
             RunFault::NoThread => f.write_str("no thread"),
             RunFault::Memory => f.write_str("no memory"),
             RunFault::Write => f.write_str("write fault"),
+            RunFault::NoPlace => f.write_str("no reader's place"),
         }
     }
 }
