@@ -8,6 +8,7 @@ use Rattle.herd_pedigree.specs.declared.animal.Animal.{Animal}
 use Rattle.herd_pedigree.specs.Lines.{has_line}
 use Rattle.herd_pedigree.specs.Book.{Book}
 use Rattle.herd_pedigree.specs.Lawful.{IsDamOf, IsLawful, IsLawfulRecord, IsSireOf}
+use Rattle.herd_pedigree.specs.declared.TheConstants.{DEPTH_LIMIT, MOST_ANIMALS}
 use Rattle.herd_pedigree.proofs.BookFacts.{place_of}
 
 abbrev bull : List ℕ
@@ -51,7 +52,7 @@ module _ (born calved : ℤ) (herd : ℕ) (older : born <ℤ calved) where
   of_place (suc (suc zero)) number animal at = subst (IsLawfulRecord family) (animal_from calf (animal_with calved herd (Some bull) (Some cow)) number animal at) offspring
   of_place (suc (suc (suc place))) number animal at = absurd (cc)
 
-  family-lawful : IsLawful 60 60_000 family
+  family-lawful : IsLawful DEPTH_LIMIT MOST_ANIMALS family
   unfolding IsDistinct has_line
   family-lawful = record {
     once = ((refl, (refl, tt)), ((refl, tt), (tt, tt)));
@@ -62,6 +63,6 @@ module _ (born calved : ℤ) (herd : ℕ) (older : born <ℤ calved) where
 
 -- also where the numbers were read
 pub read-family : (m f c : List ℕ) (born calved : ℤ) (herd : ℕ) → m ≡ bull → f ≡ cow → c ≡ calf → born <ℤ calved →
-    IsLawful 60 60_000 ((m, animal_with born herd None None) ∷ (f, animal_with born herd None None) ∷ (c, animal_with calved herd (Some m) (Some f)) ∷ [])
+    IsLawful DEPTH_LIMIT MOST_ANIMALS ((m, animal_with born herd None None) ∷ (f, animal_with born herd None None) ∷ (c, animal_with calved herd (Some m) (Some f)) ∷ [])
 read-family m f c born calved herd is_bull is_cow is_calf older =
     rw (is_bull, is_cow, is_calf) (family-lawful born calved herd older)

@@ -36,6 +36,9 @@ pub use records::{Entry, Records};
 pub use undo::Undo;
 
 /// The number of steps that the longest line of known parents may have.
+///
+/// More than 60 can't be had: a coefficient is a whole number of halves of halves, two for each step, so of units of
+/// 2^-120, and a hundred times such a number has to fit 128 bits for its percentage.
 pub const DEPTH_LIMIT: u8 = 60;
 
 /// The number of animals that a book may have.

@@ -4,6 +4,7 @@ use Rattle.herd_pedigree.specs.declared.age_order.AgeKey.{AgeKey}
 use Rattle.herd_pedigree.specs.declared.frozen.Row.{Row}
 use Rattle.herd_pedigree.specs.Freeze.{IsAgeOrder}
 use Rattle.herd_pedigree.specs.Frozen.{IsFrozenFrom}
+use Rattle.herd_pedigree.specs.declared.TheConstants.{DEPTH_LIMIT, MOST_ANIMALS}
 use Rattle.herd_pedigree.proofs.AgeOrderFacts.{length-keys, places-all}
 use Rattle.herd_pedigree.proofs.FreezeFacts.{frozen-from}
 use Rattle.herd_pedigree.proofs.freeze.frozen_from.Goals as goal
@@ -19,11 +20,11 @@ ranks_of-requires-clause-places g c =
 pub from_rows-requires : goal.from_rows-requires
 from_rows-requires g c =
     let order = subst (λ (keys : List AgeKey). IsAgeOrder c.args.records.now keys) (sym c.deref-2.ensures.value) c.in_ok-keys.ensures in
-    (frozen-from c.args.records.now c.deref-2.result.now c.in_ok-rows.rows.items order c.in_ok-rows.ensures.long c.in_ok-rows.ensures.rows 60 60_000 c.requires.lawful).frozen
+    (frozen-from c.args.records.now c.deref-2.result.now c.in_ok-rows.rows.items order c.in_ok-rows.ensures.long c.in_ok-rows.ensures.rows DEPTH_LIMIT MOST_ANIMALS c.requires.lawful).frozen
 
 pub returns : goal.returns
 returns g c =
     let order = subst (λ (keys : List AgeKey). IsAgeOrder c.args.records.now keys) (sym c.deref-2.ensures.value) c.in_ok-keys.ensures in
-    let is : IsFrozenFrom 60 60_000 c.args.records.now c.in_ok-rows.rows.items =
-    frozen-from c.args.records.now c.deref-2.result.now c.in_ok-rows.rows.items order c.in_ok-rows.ensures.long c.in_ok-rows.ensures.rows 60 60_000 c.requires.lawful in
-    IfOk-weaker c.from_rows.result _ _ (λ frozen same. subst (λ (rows : List Row). IsFrozenFrom 60 60_000 c.args.records.now rows) (sym same) is) c.from_rows.ensures
+    let is : IsFrozenFrom DEPTH_LIMIT MOST_ANIMALS c.args.records.now c.in_ok-rows.rows.items =
+    frozen-from c.args.records.now c.deref-2.result.now c.in_ok-rows.rows.items order c.in_ok-rows.ensures.long c.in_ok-rows.ensures.rows DEPTH_LIMIT MOST_ANIMALS c.requires.lawful in
+    IfOk-weaker c.from_rows.result _ _ (λ frozen same. subst (λ (rows : List Row). IsFrozenFrom DEPTH_LIMIT MOST_ANIMALS c.args.records.now rows) (sym same) is) c.from_rows.ensures

@@ -3,6 +3,7 @@ use Rattle.std.proofs.lemmas.Bool.{lt-ltb}
 use Rattle.std.proofs.lemmas.List.{append-nil, length-set}
 use Rattle.herd_pedigree.specs.Correction.{corrected}
 use Rattle.herd_pedigree.specs.Carry.{IsSettled, HaveLines}
+use Rattle.herd_pedigree.specs.declared.TheConstants.{DEPTH_LIMIT}
 use Rattle.herd_pedigree.proofs.CarryFacts.{first-line, no-lines, lines-within, some-line}
 use Rattle.herd_pedigree.proofs.correction.Correction.carry.Goals as goal
 
@@ -15,7 +16,7 @@ loop-init g c =
       long = refl;
       logged = c.requires.logged;
       undone = refl;
-      settled = subst (λ xs. IsSettled 60 (corrected x) (slice_index c.args.depths.now) xs) (sym items) c.requires.settled;
+      settled = subst (λ xs. IsSettled DEPTH_LIMIT (corrected x) (slice_index c.args.depths.now) xs) (sym items) c.requires.settled;
       lines = subst (λ xs. HaveLines (corrected x) 0 xs) (sym items) (first-line (corrected x) x.place there);
     }
 
@@ -39,7 +40,7 @@ loop-preserved g c =
       long = c.settle_all.auto.depths ∙ old.long;
       logged = subst (λ n. All (λ (write : ℕ × ℕ). write.0 < n) c.settle_all.new.log.items) old.long c.settle_all.ensures.logged;
       undone = c.settle_all.ensures.undone ∙ old.undone;
-      settled = c.in_ok-settle_all.ensures.settled (subst (λ xs. IsSettled 60 (corrected x) (slice_index c.loop.depths) xs) (sym lists) old.settled);
+      settled = c.in_ok-settle_all.ensures.settled (subst (λ xs. IsSettled DEPTH_LIMIT (corrected x) (slice_index c.loop.depths) xs) (sym lists) old.settled);
       lines =
           subst (λ k. HaveLines (corrected x) k c.settle_all.new.pending.items) next
           (c.in_ok-settle_all.ensures.lines c.loop.counter
@@ -51,6 +52,6 @@ pub returns-clause-deep : goal.returns-clause-deep
 returns-clause-deep g c =
     λ no.
     let x = c.args.self.now in
-    let end : c.loop.counter ≡ 61 = search rules in
-    some-line (corrected x) 61 c.loop.pending.items (subst (λ n. HaveLines (corrected x) n c.loop.pending.items) end c.loop.invariant.lines)
+    let end : c.loop.counter ≡ DEPTH_LIMIT + 1 = search rules in
+    some-line (corrected x) (DEPTH_LIMIT + 1) c.loop.pending.items (subst (λ n. HaveLines (corrected x) n c.loop.pending.items) end c.loop.invariant.lines)
     (λ none. let t : c.is_empty.result ≡ true = c.is_empty.ensures ∙ ap (λ xs. length xs == 0) c.as_slice.ensures.value ∙ ap (λ n. n == 0) none in absurd (cc))

@@ -3,6 +3,7 @@ use Rattle.std.proofs.Common.{◌≡◌, ◌<◌, All, length, slice_index}
 use Rattle.herd_pedigree.specs.Correction.{corrected}
 use Rattle.herd_pedigree.specs.Carry.{IsSettled, HaveLines}
 use Rattle.herd_pedigree.specs.Undo.{undone_writes}
+use Rattle.herd_pedigree.specs.declared.TheConstants.{DEPTH_LIMIT}
 use Rattle.herd_pedigree.proofs.correction.Correction.carry.Given as goal
 
 abbrev pub invariant-loop : goal.invariant-loop
@@ -10,6 +11,6 @@ invariant-loop g l = record {
   long : length l.depths ≡ length l.fn.depths;
   logged : All (λ write. write.0 < length l.fn.depths) l.log.items;
   undone : undone_writes l.log.items l.depths ≡ undone_writes l.fn.log.items l.fn.depths;
-  settled : IsSettled 60 (corrected l.self) (slice_index l.depths) l.pending.items;
+  settled : IsSettled DEPTH_LIMIT (corrected l.self) (slice_index l.depths) l.pending.items;
   lines : HaveLines (corrected l.self) l.counter l.pending.items;
 }

@@ -5,6 +5,7 @@ use Rattle.herd_pedigree.specs.Correction.{corrected}
 use Rattle.herd_pedigree.specs.Depths.{IsParent}
 use Rattle.herd_pedigree.specs.Carry.{IsSettled}
 use Rattle.herd_pedigree.specs.Undo.{undone_writes}
+use Rattle.herd_pedigree.specs.declared.TheConstants.{DEPTH_LIMIT}
 use Rattle.herd_pedigree.proofs.CarryFacts.{settled-deep, settled-shallow}
 use Rattle.herd_pedigree.proofs.UndoFacts.{written-most}
 use Rattle.herd_pedigree.proofs.correction.Correction.is_too_deep.Goals as goal
@@ -20,25 +21,25 @@ returns g c =
     let long : length depths ≡ length sires = same ∙ c.in_ok-depths.ensures.len ∙ c.requires.long ∙ sym n in
     let closed : (p y : ℕ) → IsTrue ((corrected x).is_there y) → IsParent (corrected x) p y → IsTrue ((corrected x).is_there p) =
     λ p y there is. lt-ltb p (length sires) (let w = c.requires.sound.closed p y is in omega (arith, w, n)) in
-    let settled : IsSettled 60 (corrected x) (slice_index depths) [] = c.in_ok-carry.ensures.settled c.if-not-branch.false in
+    let settled : IsSettled DEPTH_LIMIT (corrected x) (slice_index depths) [] = c.in_ok-carry.ensures.settled c.if-not-branch.false in
     record {
       deep = λ t.
           let high = c.has_greater.ensures.greater t in (
             high.0,
-            settled-deep 60 (corrected x) (slice_index depths) closed settled high.0
+            settled-deep DEPTH_LIMIT (corrected x) (slice_index depths) closed settled high.0
                 (lt-ltb high.0 (length sires) (let w = high.1 in let e = ap (λ ds. length ds) read in omega (arith, w, e, long)))
-                (subst (λ ds. 60 < slice_index ds high.0) read high.2),
+                (subst (λ ds. DEPTH_LIMIT < slice_index ds high.0) read high.2),
           );
       shallow = λ no.
-          settled-shallow 60 (corrected x) (slice_index depths) closed settled
+          settled-shallow DEPTH_LIMIT (corrected x) (slice_index depths) closed settled
           (λ y there.
-          let written : All (λ write. slice_index depths write.0 ≤ 60) c.carry.new.log.items =
-          subst (λ log. All (λ write. slice_index depths write.0 ≤ 60) log) c.deref-2.ensures.value
-          (subst (λ ds. All (λ write. slice_index ds write.0 ≤ 60) c.deref-2.result.now) read (c.has_greater.ensures.most no)) in
+          let written : All (λ write. slice_index depths write.0 ≤ DEPTH_LIMIT) c.carry.new.log.items =
+          subst (λ log. All (λ write. slice_index depths write.0 ≤ DEPTH_LIMIT) log) c.deref-2.ensures.value
+          (subst (λ ds. All (λ write. slice_index ds write.0 ≤ DEPTH_LIMIT) c.deref-2.result.now) read (c.has_greater.ensures.most no)) in
           let old : undone_writes c.carry.new.log.items depths ≡ c.args.depths.now =
           c.carry.ensures.undone ∙ ap (λ log. undone_writes log c.deref_mut.result.now) c.new-log.ensures.items
           ∙ c.deref_mut.ensures.value ∙ c.in_ok-depths.ensures.items in
           let within : y < length sires = ltb-true y (length sires) there in
-          let before : slice_index c.args.depths.now y ≤ 60 = c.requires.shallow y (let l = c.requires.long in omega (arith, within, n, l)) in
-          written-most 60 c.carry.new.log.items depths written y (subst (λ ds. slice_index ds y ≤ 60) (sym old) before));
+          let before : slice_index c.args.depths.now y ≤ DEPTH_LIMIT = c.requires.shallow y (let l = c.requires.long in omega (arith, within, n, l)) in
+          written-most DEPTH_LIMIT c.carry.new.log.items depths written y (subst (λ ds. slice_index ds y ≤ DEPTH_LIMIT) (sym old) before));
     }

@@ -3,6 +3,7 @@ use Rattle.std.proofs.lemmas.Result.{on_ok_weaker}
 use Rattle.std.proofs.lemmas.List.{set-set, set-get_or}
 use Rattle.herd_pedigree.specs.Correction.{corrected}
 use Rattle.herd_pedigree.specs.Undo.{undone_writes}
+use Rattle.herd_pedigree.specs.declared.TheConstants.{DEPTH_LIMIT}
 use Rattle.herd_pedigree.proofs.CarryFacts.{settled-same, settled-set, lines-calves}
 use Rattle.herd_pedigree.proofs.UndoFacts.{undone-last}
 use Rattle.herd_pedigree.proofs.correction.Correction.settle.Goals as goal
@@ -11,7 +12,7 @@ pub returns-then-depth-old-clause-settled : goal.returns-then-depth-old-clause-s
 returns-then-depth-old-clause-settled g c =
     λ rest s.
     let within : c.args.place < length c.args.depths.now = subst (λ n. c.args.place < n) (sym c.requires.long) c.requires.within in
-    settled-same 60 (corrected c.args.self.now) c.args.depths.now c.args.place c.depth_at-depth.result within c.depth_at-depth.ensures c.if-depth-old.true (rest ++ c.args.pending.now.items) s
+    settled-same DEPTH_LIMIT (corrected c.args.self.now) c.args.depths.now c.args.place c.depth_at-depth.result within c.depth_at-depth.ensures c.if-depth-old.true (rest ++ c.args.pending.now.items) s
 
 pub returns-clause-undone : goal.returns-clause-undone
 returns-clause-undone g c =
@@ -27,7 +28,7 @@ pub returns-clause-settled : goal.returns-clause-settled
 returns-clause-settled g c =
     let within : c.args.place < length c.args.depths.now = subst (λ n. c.args.place < n) (sym c.requires.long) c.requires.within in
     on_ok_weaker c.push_calves.result
-    (λ adds rest s. settled-set 60 (corrected c.args.self.now) c.args.depths.now c.args.place c.depth_at-depth.result within c.depth_at-depth.ensures rest c.args.pending.now.items c.push_calves.new.pending.items adds s)
+    (λ adds rest s. settled-set DEPTH_LIMIT (corrected c.args.self.now) c.args.depths.now c.args.place c.depth_at-depth.result within c.depth_at-depth.ensures rest c.args.pending.now.items c.push_calves.new.pending.items adds s)
     c.push_calves.ensures
 
 pub returns-clause-lines : goal.returns-clause-lines

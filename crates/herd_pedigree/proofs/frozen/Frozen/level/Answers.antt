@@ -4,6 +4,7 @@ use Rattle.std.proofs.lemmas.List.{length-map}
 use Rattle.std.proofs.lemmas.Option.{slice_get_read, slice_get-map}
 use Rattle.herd_pedigree.specs.declared.frozen.Row.{Row}
 use Rattle.herd_pedigree.specs.Frozen.{level_of}
+use Rattle.herd_pedigree.specs.declared.TheConstants.{DEPTH_LIMIT, MOST_ANIMALS}
 use Rattle.herd_pedigree.proofs.FrozenFacts.{level-at, level-beyond}
 use Rattle.herd_pedigree.proofs.frozen.Frozen.level.Goals as goal
 
@@ -16,7 +17,7 @@ returns-in-Some g c =
     let read : slice_get vectors depth ≡ Some level =
     subst (λ vs. slice_get vs depth ≡ Some level) c.deref.ensures.value (slice_get_read c.deref.result.now (length c.deref.result.now) depth level refl within c.in-Some.ensures.lookup.1) in
     let at : slice_get (map (λ v. v.items) vectors) depth ≡ Some level.items = slice_get-map (λ v. v.items) vectors depth ∙ rw read refl in
-    let is : level.items ≡ level_of depth c.self.inside.rows.items = level-at 60 c.self.inside.rows.items (map (λ v. v.items) vectors) c.self.invariant.2 depth level.items at in
+    let is : level.items ≡ level_of depth c.self.inside.rows.items = level-at DEPTH_LIMIT c.self.inside.rows.items (map (λ v. v.items) vectors) c.self.invariant.2 depth level.items at in
     c.as_slice.ensures.value ∙ is ∙ ap (λ (rows : List Row). level_of depth rows) c.self.view_is
 
 pub returns-in-None : goal.returns-in-None
@@ -25,5 +26,5 @@ returns-in-None g c =
     let depth : ℕ = c.args.depth in
     let past : length c.deref.result.now ≤ depth = ltb-false depth (length c.deref.result.now) (sym c.in-None.ensures.lookup.0) in
     let beyond : length (map (λ v. v.items) vectors) ≤ depth = rw length-map (subst (λ vs. length vs ≤ depth) c.deref.ensures.value past) in
-    let none : level_of depth c.self.inside.rows.items ≡ [] = level-beyond 60 60_000 c.self.inside.rows.items (map (λ v. v.items) vectors) c.self.invariant.0 c.self.invariant.2 depth beyond in
+    let none : level_of depth c.self.inside.rows.items ≡ [] = level-beyond DEPTH_LIMIT MOST_ANIMALS c.self.inside.rows.items (map (λ v. v.items) vectors) c.self.invariant.0 c.self.invariant.2 depth beyond in
     sym none ∙ ap (λ (rows : List Row). level_of depth rows) c.self.view_is

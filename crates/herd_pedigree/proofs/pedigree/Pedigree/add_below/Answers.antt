@@ -6,6 +6,7 @@ use Rattle.herd_pedigree.specs.Pedigree.{IsBirth}
 use Rattle.herd_pedigree.specs.Depths.{depth_from}
 use Rattle.herd_pedigree.specs.Places.{IsPlaceIn}
 use Rattle.herd_pedigree.specs.Undo.{IsHeld}
+use Rattle.herd_pedigree.specs.declared.TheConstants.{DEPTH_LIMIT, MOST_ANIMALS}
 use Rattle.herd_pedigree.proofs.KeptFacts.{IsHeld-push}
 use Rattle.herd_pedigree.proofs.UndoFacts.{birth-view}
 use Rattle.herd_pedigree.proofs.pedigree.Pedigree.add_below.Goals as goal
@@ -19,7 +20,7 @@ invariant_of-self-2 g c =
     let log : List (ℕ × ℕ) = c.self.inside.old_depths.items in
     let sire : Option ℕ = c.args.sire in
     let dam : Option ℕ = c.args.dam in
-    let birth : IsBirth 60 60_000 book c.args.number c.args.animal = subst (λ p. IsBirth 60 60_000 p.book c.args.number c.args.animal) (sym c.self.view_is) c.requires.birth in
+    let birth : IsBirth DEPTH_LIMIT MOST_ANIMALS book c.args.number c.args.animal = subst (λ p. IsBirth DEPTH_LIMIT MOST_ANIMALS p.book c.args.number c.args.animal) (sym c.self.view_is) c.requires.birth in
     let sire_is : IsPlaceIn (keys_of book) sire c.args.animal.sire = subst (λ p. IsPlaceIn (keys_of p.book) sire c.args.animal.sire) (sym c.self.view_is) c.requires.sire in
     let dam_is : IsPlaceIn (keys_of book) dam c.args.animal.dam = subst (λ p. IsPlaceIn (keys_of p.book) dam c.args.animal.dam) (sym c.self.view_is) c.requires.dam in
     let absent : record_of book c.args.number ≡ None = birth.absent in
@@ -28,8 +29,8 @@ invariant_of-self-2 g c =
     let dams_are : c.push-4.new.self.parents ≡ dams ++ dam ∷ [] = c.push-4.ensures ∙ ap (λ ps. ps ++ dam ∷ []) c.reserve-4.ensures.parents in
     let depth : c.depth_with-depth.result ≡ depth_from (slice_index depths) sire dam = c.depth_with-depth.ensures.depth ∙ ap (λ ds. depth_from (slice_index ds) sire dam) c.deref.ensures.value in
     let depths_are : c.push-2.new.self.items ≡ depths ++ depth_from (slice_index depths) sire dam ∷ [] = search (rules, depth) in
-    let held : IsHeld 60 60_000 c.push.new.self.book c.push-3.new.self.parents c.push-4.new.self.parents c.push-2.new.self.items log Birth =
-    rw (entries, sires_are, dams_are, depths_are) (IsHeld-push 60 60_000 book sires dams depths c.self.invariant.held.kept c.args.number c.args.animal absent sire dam sire_is dam_is birth log) in
+    let held : IsHeld DEPTH_LIMIT MOST_ANIMALS c.push.new.self.book c.push-3.new.self.parents c.push-4.new.self.parents c.push-2.new.self.items log Birth =
+    rw (entries, sires_are, dams_are, depths_are) (IsHeld-push DEPTH_LIMIT MOST_ANIMALS book sires dams depths c.self.invariant.held.kept c.args.number c.args.animal absent sire dam sire_is dam_is birth log) in
     record { held = held; room = tt }
 
 pub returns-clause-added : goal.returns-clause-added

@@ -7,6 +7,7 @@ use Rattle.herd_pedigree.specs.ParentFault.{parent_fault, first_that_holds, reco
 use Rattle.herd_pedigree.specs.Places.{IsPlaceIn}
 use Rattle.herd_pedigree.specs.declared.parent_fault.ParentFault.TheVariants.{TooDeep}
 use Rattle.herd_pedigree.specs.RecordFault.{record_faults, is_missing}
+use Rattle.herd_pedigree.specs.declared.TheConstants.{DEPTH_LIMIT, MOST_ANIMALS}
 use Rattle.herd_pedigree.proofs.CheckFacts.{fault-first, found_none, newborn-fault, none_missing}
 use Rattle.herd_pedigree.proofs.pedigree.Pedigree.add_if_sound.Goals as goal
 
@@ -19,8 +20,8 @@ returns-in-Some-clause-fault g c =
     let embryo = c.args.animal.embryo in
     let told : first_that_holds (record_faults birth s (record_named book s) d (record_named book d) embryo) ≡ Some c.in-Some.fault =
     sym (c.record_fault.ensures ∙ found_none birth book s d _ _ _ _ embryo c.find-sire.ensures.number c.find-sire.ensures.record c.find-dam.ensures.number c.find-dam.ensures.record) ∙ c.in-Some.is in
-    subst (λ p. Some c.in-Some.fault ≡ parent_fault 60 p.book c.args.number birth s d embryo) c.self.view_is
-    (fault-first 60 book c.args.number birth s d embryo c.in-Some.fault told)
+    subst (λ p. Some c.in-Some.fault ≡ parent_fault DEPTH_LIMIT p.book c.args.number birth s d embryo) c.self.view_is
+    (fault-first DEPTH_LIMIT book c.args.number birth s d embryo c.in-Some.fault told)
 
 pub returns-then-depth_with-from-clause-fault : goal.returns-then-depth_with-from-clause-fault
 returns-then-depth_with-from-clause-fault g c =
@@ -41,10 +42,10 @@ returns-then-depth_with-from-clause-fault g c =
     let depth : c.depth_with.result ≡ depth_from (slice_index depths) sire dam = c.depth_with.ensures.depth ∙ ap (λ ds. depth_from (slice_index ds) sire dam) c.deref.ensures.value in
     let limit = c.from.ensures in
     let at_limit = c.if-depth_with-from.true in
-    let fault : Some TooDeep ≡ parent_fault 60 book c.args.number birth s d embryo =
-    newborn-fault 60 60_000 book c.self.inside.sires.parents c.self.inside.dams.parents depths c.self.invariant.held.kept c.args.number absent birth s d embryo sire dam told sire_is dam_is true
-    (lt-ltb 60 (depth_from (slice_index depths) sire dam) (omega (arith, at_limit, limit, depth))) in
-    subst (λ p. Some TooDeep ≡ parent_fault 60 p.book c.args.number birth s d embryo) c.self.view_is fault
+    let fault : Some TooDeep ≡ parent_fault DEPTH_LIMIT book c.args.number birth s d embryo =
+    newborn-fault DEPTH_LIMIT MOST_ANIMALS book c.self.inside.sires.parents c.self.inside.dams.parents depths c.self.invariant.held.kept c.args.number absent birth s d embryo sire dam told sire_is dam_is true
+    (lt-ltb DEPTH_LIMIT (depth_from (slice_index depths) sire dam) (omega (arith, at_limit, limit, depth))) in
+    subst (λ p. Some TooDeep ≡ parent_fault DEPTH_LIMIT p.book c.args.number birth s d embryo) c.self.view_is fault
 
 pub add_below-requires-clause-birth : goal.add_below-requires-clause-birth
 add_below-requires-clause-birth g c =
@@ -65,13 +66,13 @@ add_below-requires-clause-birth g c =
     let depth : c.depth_with.result ≡ depth_from (slice_index depths) sire dam = c.depth_with.ensures.depth ∙ ap (λ ds. depth_from (slice_index ds) sire dam) c.deref.ensures.value in
     let limit = c.from.ensures in
     let at_limit = c.if-depth_with-from.false in
-    let fault : None ≡ parent_fault 60 book c.args.number birth s d embryo =
-    newborn-fault 60 60_000 book c.self.inside.sires.parents c.self.inside.dams.parents depths c.self.invariant.held.kept c.args.number absent birth s d embryo sire dam told sire_is dam_is false
-    (le-ltb 60 (depth_from (slice_index depths) sire dam) (omega (arith, at_limit, limit, depth))) in
+    let fault : None ≡ parent_fault DEPTH_LIMIT book c.args.number birth s d embryo =
+    newborn-fault DEPTH_LIMIT MOST_ANIMALS book c.self.inside.sires.parents c.self.inside.dams.parents depths c.self.invariant.held.kept c.args.number absent birth s d embryo sire dam told sire_is dam_is false
+    (le-ltb DEPTH_LIMIT (depth_from (slice_index depths) sire dam) (omega (arith, at_limit, limit, depth))) in
     record {
       absent = c.requires.absent;
       room = c.requires.room;
-      parents = sym (subst (λ p. None ≡ parent_fault 60 p.book c.args.number birth s d embryo) c.self.view_is fault);
+      parents = sym (subst (λ p. None ≡ parent_fault DEPTH_LIMIT p.book c.args.number birth s d embryo) c.self.view_is fault);
       since = c.requires.since;
       left = c.requires.left;
     }
@@ -127,7 +128,7 @@ returns-clause-fault g c =
     let depth : c.depth_with.result ≡ depth_from (slice_index depths) sire dam = c.depth_with.ensures.depth ∙ ap (λ ds. depth_from (slice_index ds) sire dam) c.deref.ensures.value in
     let limit = c.from.ensures in
     let at_limit = c.if-depth_with-from.false in
-    let fault : None ≡ parent_fault 60 book c.args.number birth s d embryo =
-    newborn-fault 60 60_000 book c.self.inside.sires.parents c.self.inside.dams.parents depths c.self.invariant.held.kept c.args.number absent birth s d embryo sire dam told sire_is dam_is false
-    (le-ltb 60 (depth_from (slice_index depths) sire dam) (omega (arith, at_limit, limit, depth))) in
-    subst (λ p. None ≡ parent_fault 60 p.book c.args.number birth s d embryo) c.self.view_is fault
+    let fault : None ≡ parent_fault DEPTH_LIMIT book c.args.number birth s d embryo =
+    newborn-fault DEPTH_LIMIT MOST_ANIMALS book c.self.inside.sires.parents c.self.inside.dams.parents depths c.self.invariant.held.kept c.args.number absent birth s d embryo sire dam told sire_is dam_is false
+    (le-ltb DEPTH_LIMIT (depth_from (slice_index depths) sire dam) (omega (arith, at_limit, limit, depth))) in
+    subst (λ p. None ≡ parent_fault DEPTH_LIMIT p.book c.args.number birth s d embryo) c.self.view_is fault

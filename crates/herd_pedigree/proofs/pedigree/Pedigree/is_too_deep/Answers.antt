@@ -1,4 +1,4 @@
-use Rattle.std.proofs.Common.{sym, ap, ◌∙◌, subst, arith, ◌≡◌, ◌<◌, ◌≤◌, ℕ, List, [], ◌∷◌, Option, Some, None, Bool, false, nat_lt, IsTrue, IsFalse, length, slice_index, slice_get, slice_set}
+use Rattle.std.proofs.Common.{◌+◌, sym, ap, ◌∙◌, subst, arith, ◌≡◌, ◌<◌, ◌≤◌, ℕ, List, [], ◌∷◌, Option, Some, None, Bool, false, nat_lt, IsTrue, IsFalse, length, slice_index, slice_get, slice_set}
 use Rattle.std.proofs.lemmas.Bool.{lt-ltb}
 use Rattle.std.proofs.lemmas.List.{get_or_default}
 use Rattle.std.specs.Map.{keys_of}
@@ -8,6 +8,7 @@ use Rattle.herd_pedigree.specs.ParentFault.{is_too_deep}
 use Rattle.herd_pedigree.specs.Depths.{depth_from}
 use Rattle.herd_pedigree.specs.Places.{IsPlaceIn, parentage_at}
 use Rattle.herd_pedigree.specs.Carry.{IsSettled}
+use Rattle.herd_pedigree.specs.declared.TheConstants.{DEPTH_LIMIT, MOST_ANIMALS}
 use Rattle.herd_pedigree.proofs.BookFacts.{at_position, none_if}
 use Rattle.herd_pedigree.proofs.CorrectionFacts.{parent_in, IfOk-both}
 use Rattle.herd_pedigree.proofs.CheckFacts.{too_deep-absent, not_deep-lower, too_deep-leaf, too_deep-told_by, closed-exchange, settled-exchange}
@@ -23,8 +24,8 @@ returns-in_default g c =
     let kept = c.self.invariant.held.kept in
     let depth : c.depth_with-depth.result ≡ depth_from (slice_index depths) c.args.sire c.args.dam = c.depth_with-depth.ensures.depth ∙ ap (λ ds. depth_from (slice_index ds) c.args.sire c.args.dam) c.deref.ensures.value in
     let absent : record_of book number ≡ None = none_if (record_of book number) (sym c.in_default.ensures.found) in
-    let P : Book → Type 0 = λ book. (s d : Option (List ℕ)) → IsPlaceIn (keys_of book) c.args.sire s → IsPlaceIn (keys_of book) c.args.dam d → nat_lt c.from.result c.depth_with-depth.result ≡ is_too_deep 60 book number s d in
-    let told : P book = λ s d si di. (λ i. nat_lt (c.from.ensures i) (depth i)) ∙ too_deep-absent 60 60_000 book sires dams depths kept number absent c.args.sire c.args.dam s d si di in
+    let P : Book → Type 0 = λ book. (s d : Option (List ℕ)) → IsPlaceIn (keys_of book) c.args.sire s → IsPlaceIn (keys_of book) c.args.dam d → nat_lt c.from.result c.depth_with-depth.result ≡ is_too_deep DEPTH_LIMIT book number s d in
+    let told : P book = λ s d si di. (λ i. nat_lt (c.from.ensures i) (depth i)) ∙ too_deep-absent DEPTH_LIMIT MOST_ANIMALS book sires dams depths kept number absent c.args.sire c.args.dam s d si di in
     subst (λ p. P p.book) c.self.view_is told
 
 pub returns-then-depth-from : goal.returns-then-depth-from
@@ -42,8 +43,8 @@ returns-then-depth-from g c =
     let low : depth_from (slice_index depths) c.args.sire c.args.dam ≤ slice_index depths place =
     let a = c.if-depth-from.true in let b = c.from-2.ensures in omega (arith, depth, read, a, b) in
     let at : slice_get (keys_of book) place ≡ Some number = at_position book number place (sym c.in-Some.ensures.index) in
-    let P : Book → Type 0 = λ book. (s d : Option (List ℕ)) → IsPlaceIn (keys_of book) c.args.sire s → IsPlaceIn (keys_of book) c.args.dam d → false ≡ is_too_deep 60 book number s d in
-    let told : P book = λ s d si di. sym (not_deep-lower 60 60_000 book sires dams depths kept number place at c.args.sire c.args.dam s d si di low) in
+    let P : Book → Type 0 = λ book. (s d : Option (List ℕ)) → IsPlaceIn (keys_of book) c.args.sire s → IsPlaceIn (keys_of book) c.args.dam d → false ≡ is_too_deep DEPTH_LIMIT book number s d in
+    let told : P book = λ s d si di. sym (not_deep-lower DEPTH_LIMIT MOST_ANIMALS book sires dams depths kept number place at c.args.sire c.args.dam s d si di low) in
     subst (λ p. P p.book) c.self.view_is told
 
 pub has_no_calves-requires : goal.has_no_calves-requires
@@ -61,7 +62,7 @@ has_no_calves-requires g c =
     record {
       here = here;
       wide = kept.dams_are.long ∙ sym kept.sires_are.long;
-      closed = closed-exchange 60 60_000 book sires dams depths kept place c.args.sire c.args.dam here
+      closed = closed-exchange DEPTH_LIMIT MOST_ANIMALS book sires dams depths kept place c.args.sire c.args.dam here
           (λ p e. subst (λ n. p < n) now (parent_in c.args.sire (length c.args.self.now.book) p c.requires.sire e))
           (λ p e. subst (λ n. p < n) now (parent_in c.args.dam (length c.args.self.now.book) p c.requires.dam e));
     }
@@ -77,8 +78,8 @@ returns-then-has_no_calves g c =
     let depth : c.depth_with-depth.result ≡ depth_from (slice_index depths) c.args.sire c.args.dam = c.depth_with-depth.ensures.depth ∙ ap (λ ds. depth_from (slice_index ds) c.args.sire c.args.dam) c.deref.ensures.value in
     let place : ℕ = c.in-Some.place in
     let at : slice_get (keys_of book) place ≡ Some number = at_position book number place (sym c.in-Some.ensures.index) in
-    let P : Book → Type 0 = λ book. (s d : Option (List ℕ)) → IsPlaceIn (keys_of book) c.args.sire s → IsPlaceIn (keys_of book) c.args.dam d → nat_lt c.from-then-has_no_calves.result c.depth_with-depth.result ≡ is_too_deep 60 book number s d in
-    let told : P book = λ s d si di. (λ i. nat_lt (c.from-then-has_no_calves.ensures i) (depth i)) ∙ too_deep-leaf 60 60_000 book sires dams depths kept number place at c.args.sire c.args.dam s d si di (c.has_no_calves.ensures c.if-has_no_calves.true) in
+    let P : Book → Type 0 = λ book. (s d : Option (List ℕ)) → IsPlaceIn (keys_of book) c.args.sire s → IsPlaceIn (keys_of book) c.args.dam d → nat_lt c.from-then-has_no_calves.result c.depth_with-depth.result ≡ is_too_deep DEPTH_LIMIT book number s d in
+    let told : P book = λ s d si di. (λ i. nat_lt (c.from-then-has_no_calves.ensures i) (depth i)) ∙ too_deep-leaf DEPTH_LIMIT MOST_ANIMALS book sires dams depths kept number place at c.args.sire c.args.dam s d si di (c.has_no_calves.ensures c.if-has_no_calves.true) in
     subst (λ p. P p.book) c.self.view_is told
 
 pub is_too_deep-requires-clause-sound : goal.is_too_deep-requires-clause-sound
@@ -96,7 +97,7 @@ is_too_deep-requires-clause-sound g c =
     record {
       here = here;
       wide = kept.dams_are.long ∙ sym kept.sires_are.long;
-      closed = closed-exchange 60 60_000 book sires dams depths kept place c.args.sire c.args.dam here
+      closed = closed-exchange DEPTH_LIMIT MOST_ANIMALS book sires dams depths kept place c.args.sire c.args.dam here
           (λ p e. subst (λ n. p < n) now (parent_in c.args.sire (length c.args.self.now.book) p c.requires.sire e))
           (λ p e. subst (λ n. p < n) now (parent_in c.args.dam (length c.args.self.now.book) p c.requires.dam e));
     }
@@ -113,8 +114,8 @@ is_too_deep-requires-clause-settled g c =
     let m = kept.sires_are.long in
     let here : place < length sires = let w = c.in-Some.ensures.within in omega (arith, w, m) in
     let now : length c.args.self.now.book ≡ length sires = ap (λ p. length p.book) (sym c.self.view_is) ∙ sym m in
-    subst (λ ds. IsSettled 60 (parentage_at (slice_set sires place c.args.sire) (slice_set dams place c.args.dam)) (slice_index ds) (place ∷ [])) (sym c.deref-2.ensures.value)
-    (settled-exchange 60 60_000 book sires dams depths kept place c.args.sire c.args.dam here)
+    subst (λ ds. IsSettled DEPTH_LIMIT (parentage_at (slice_set sires place c.args.sire) (slice_set dams place c.args.dam)) (slice_index ds) (place ∷ [])) (sym c.deref-2.ensures.value)
+    (settled-exchange DEPTH_LIMIT MOST_ANIMALS book sires dams depths kept place c.args.sire c.args.dam here)
 
 pub is_too_deep-requires-clause-shallow : goal.is_too_deep-requires-clause-shallow
 is_too_deep-requires-clause-shallow g c =
@@ -122,7 +123,7 @@ is_too_deep-requires-clause-shallow g c =
     let kept = c.self.invariant.held.kept in
     let long = kept.long in
     let wide = kept.sires_are.long in
-    subst (λ ds. (x : ℕ) → x < length ds → slice_index ds x ≤ 60) (sym c.deref-2.ensures.value)
+    subst (λ ds. (x : ℕ) → x < length ds → slice_index ds x ≤ DEPTH_LIMIT) (sym c.deref-2.ensures.value)
     (λ x within. kept.depths_are.most x (lt-ltb x (length sires) (omega (arith, within, long, wide))))
 
 pub returns : goal.returns
@@ -135,10 +136,10 @@ returns g c =
     let kept = c.self.invariant.held.kept in
     let place : ℕ = c.in-Some.place in
     let at : slice_get (keys_of book) place ≡ Some number = at_position book number place (sym c.in-Some.ensures.index) in
-    let P : Book → Bool → Type 0 = λ book deep. (s d : Option (List ℕ)) → IsPlaceIn (keys_of book) c.args.sire s → IsPlaceIn (keys_of book) c.args.dam d → deep ≡ is_too_deep 60 book number s d in
+    let P : Book → Bool → Type 0 = λ book deep. (s d : Option (List ℕ)) → IsPlaceIn (keys_of book) c.args.sire s → IsPlaceIn (keys_of book) c.args.dam d → deep ≡ is_too_deep DEPTH_LIMIT book number s d in
     let new = parentage_at (slice_set sires place c.args.sire) (slice_set dams place c.args.dam) in
-    let Q : Bool → Type 0 = λ deep. (IsTrue deep → (x : ℕ) × IsTrue (has_line new 61 x)) in
-    let R : Bool → Type 0 = λ deep. (IsFalse deep → (x : ℕ) → IsFalse (has_line new 61 x)) in
+    let Q : Bool → Type 0 = λ deep. (IsTrue deep → (x : ℕ) × IsTrue (has_line new (DEPTH_LIMIT + 1) x)) in
+    let R : Bool → Type 0 = λ deep. (IsFalse deep → (x : ℕ) → IsFalse (has_line new (DEPTH_LIMIT + 1) x)) in
     IfOk-both c.is_too_deep.result Q R (P c.args.self.now.book)
-    (λ deep q r. subst (λ p. P p.book deep) c.self.view_is (λ s d si di. too_deep-told_by 60 60_000 book sires dams depths kept number place at c.args.sire c.args.dam s d si di deep q r))
+    (λ deep q r. subst (λ p. P p.book deep) c.self.view_is (λ s d si di. too_deep-told_by DEPTH_LIMIT MOST_ANIMALS book sires dams depths kept number place at c.args.sire c.args.dam s d si di deep q r))
     c.is_too_deep.ensures.deep c.is_too_deep.ensures.shallow

@@ -1,9 +1,10 @@
+use Rattle.herd_pedigree.specs.declared.TheConstants.{DEPTH_LIMIT, MOST_ANIMALS}
 use Rattle.herd_pedigree.proofs.KeptFacts.{IsHeld-empty}
 use Rattle.herd_pedigree.proofs.pedigree.Pedigree.new.Goals as goal
 
 pub invariant_of-result : goal.invariant_of-result
 invariant_of-result g c =
     record {
-      held = rw (c.new.ensures, c.new-2.ensures, c.new-3.ensures, c.new-4.ensures.items) (IsHeld-empty 60 60_000 c.new-5.result.items);
+      held = rw (c.new.ensures, c.new-2.ensures, c.new-3.ensures, c.new-4.ensures.items) (IsHeld-empty DEPTH_LIMIT MOST_ANIMALS c.new-5.result.items);
       room = tt;
     }

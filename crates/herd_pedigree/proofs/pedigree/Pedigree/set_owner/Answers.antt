@@ -7,6 +7,7 @@ use Rattle.herd_pedigree.specs.Book.{Book, with_owner, changed}
 use Rattle.herd_pedigree.specs.Pedigree.{IsPresentOn, changed_to}
 use Rattle.herd_pedigree.specs.Places.{IsPlaceIn}
 use Rattle.herd_pedigree.specs.Undo.{IsHeld}
+use Rattle.herd_pedigree.specs.declared.TheConstants.{DEPTH_LIMIT, MOST_ANIMALS}
 use Rattle.herd_pedigree.proofs.BookFacts.{at_position, entry_from_both}
 use Rattle.herd_pedigree.proofs.HeldFacts.{HasRoom-same}
 use Rattle.herd_pedigree.proofs.SetFacts.{IsHeld-same, lawful-owner, record-view}
@@ -47,10 +48,10 @@ invariant_of-self g c =
     let at : slice_get book place ≡ Some (number, a) = entry_from_both book place number a (at_position book number place (sym c.in-Some.ensures.index)) c.animal_at-animal.ensures in
     let asked : IsPresentOn book number c.args.day = subst (λ p. IsPresentOn p.book number c.args.day) (sym c.self.view_is) c.requires in
     let set : c.set.new.self.book ≡ set_value_at book place (with_owner c.args.herd c.args.day a) = c.set.ensures ∙ ap (λ v. set_value_at book place v) c.with_owner.ensures in
-    let held : IsHeld 60 60_000 (set_value_at book place (with_owner c.args.herd c.args.day a)) sires dams depths c.clear.new.self.items (Record place a sire dam) =
-    IsHeld-same 60 60_000 book sires dams depths kept place number a (with_owner c.args.herd c.args.day a) at refl refl (lawful-owner 60 60_000 book sires dams depths kept place number a at c.args.herd c.args.day asked) c.clear.new.self.items c.clear.ensures.items sire dam c.parent-sire.ensures c.parent-dam.ensures in
+    let held : IsHeld DEPTH_LIMIT MOST_ANIMALS (set_value_at book place (with_owner c.args.herd c.args.day a)) sires dams depths c.clear.new.self.items (Record place a sire dam) =
+    IsHeld-same DEPTH_LIMIT MOST_ANIMALS book sires dams depths kept place number a (with_owner c.args.herd c.args.day a) at refl refl (lawful-owner DEPTH_LIMIT MOST_ANIMALS book sires dams depths kept place number a at c.args.herd c.args.day asked) c.clear.new.self.items c.clear.ensures.items sire dam c.parent-sire.ensures c.parent-dam.ensures in
     record {
-      held = subst (λ b. IsHeld 60 60_000 b sires dams depths c.clear.new.self.items (Record place a sire dam)) (sym set) held;
+      held = subst (λ b. IsHeld DEPTH_LIMIT MOST_ANIMALS b sires dams depths c.clear.new.self.items (Record place a sire dam)) (sym set) held;
       room = HasRoom-same place a sire dam c.self.inside.sires c.self.inside.dams c.parent-sire.ensures c.parent-dam.ensures;
     }
 

@@ -1,4 +1,4 @@
-use Rattle.std.proofs.Common.{sym, ap, ◌∙◌, subst, arith, ◌≡◌, ◌<◌, ℕ, List, [], ◌∷◌, Option, Some, None, IfSome, IsFalse, IsTrue, true, false, All, length, slice_index, slice_get, slice_set}
+use Rattle.std.proofs.Common.{◌+◌, sym, ap, ◌∙◌, subst, arith, ◌≡◌, ◌<◌, ℕ, List, [], ◌∷◌, Option, Some, None, IfSome, IsFalse, IsTrue, true, false, All, length, slice_index, slice_get, slice_set}
 use Rattle.std.specs.Map.{keys_of}
 use Rattle.std.specs.Vec.{with_items}
 use Rattle.std.proofs.lemmas.List.{with_items_is}
@@ -17,6 +17,7 @@ use Rattle.herd_pedigree.specs.declared.parent_fault.ParentFault.TheVariants.{To
 use Rattle.herd_pedigree.specs.Calves.{HasRoomFor}
 use Rattle.herd_pedigree.specs.Carry.{IsSettled}
 use Rattle.herd_pedigree.specs.Undo.{IsHeld}
+use Rattle.herd_pedigree.specs.declared.TheConstants.{DEPTH_LIMIT, MOST_ANIMALS}
 use Rattle.herd_pedigree.proofs.BookFacts.{at_position, entry_from_both, lookup_at}
 use Rattle.herd_pedigree.proofs.SetFacts.{record-view}
 use Rattle.herd_pedigree.proofs.CheckFacts.{closed-after, fault-first, fault-rest, found_none, none_missing, settled-exchange, too_deep-told_by}
@@ -39,8 +40,8 @@ returns-in-Some-record_fault-clause-fault g c =
     let embryo = a.embryo in
     let told : first_that_holds (record_faults birth s (record_named book s) d (record_named book d) embryo) ≡ Some c.in-Some-record_fault.fault =
     sym (c.record_fault.ensures ∙ found_none birth book s d _ _ _ _ embryo c.find-sire.ensures.number c.find-sire.ensures.record c.find-dam.ensures.number c.find-dam.ensures.record) ∙ c.in-Some-record_fault.is in
-    let told_by : IfSome (record_of book number) (λ animal. Some c.in-Some-record_fault.fault ≡ parent_fault 60 book number animal.birth s d animal.embryo) = rw there (fault-first 60 book number birth s d embryo c.in-Some-record_fault.fault told) in
-    subst (λ p. IfSome (record_of p.book number) (λ animal. Some c.in-Some-record_fault.fault ≡ parent_fault 60 p.book number animal.birth s d animal.embryo)) c.self.view_is told_by
+    let told_by : IfSome (record_of book number) (λ animal. Some c.in-Some-record_fault.fault ≡ parent_fault DEPTH_LIMIT book number animal.birth s d animal.embryo) = rw there (fault-first DEPTH_LIMIT book number birth s d embryo c.in-Some-record_fault.fault told) in
+    subst (λ p. IfSome (record_of p.book number) (λ animal. Some c.in-Some-record_fault.fault ≡ parent_fault DEPTH_LIMIT p.book number animal.birth s d animal.embryo)) c.self.view_is told_by
 
 pub carry_if_shallow-requires-clause-sound : goal.carry_if_shallow-requires-clause-sound
 carry_if_shallow-requires-clause-sound g c =
@@ -68,7 +69,7 @@ carry_if_shallow-requires-clause-sound g c =
     let sp : c.reserve_calf.new.self.parents ≡ sires = c.reserve_calf.ensures.parents in
     let dp : c.reserve_calf-2.new.self.parents ≡ dams = c.reserve_calf-2.ensures.parents in
     let P : List (Option ℕ) → List (Option ℕ) → Type 0 = λ ss ds. (p x : ℕ) → IsParent (parentage_at (slice_set ss place sire) (slice_set ds place dam)) p x → p < length ss in
-    let closed : P sires dams = closed-after 60 60_000 book sires dams depths kept number place at sire dam c.args.sire c.args.dam sire_is dam_is in
+    let closed : P sires dams = closed-after DEPTH_LIMIT MOST_ANIMALS book sires dams depths kept number place at sire dam c.args.sire c.args.dam sire_is dam_is in
     record {
       here = subst (λ ss. place < length ss) (sym sp) here;
       wide = ap (λ ds. length ds) dp ∙ kept.dams_are.long ∙ sym m ∙ sym (ap (λ ss. length ss) sp);
@@ -100,8 +101,8 @@ carry_if_shallow-requires-clause-settled g c =
     let here : place < length sires = let w = c.in-Some.ensures.within in omega (arith, w, m) in
     let sp : c.reserve_calf.new.self.parents ≡ sires = c.reserve_calf.ensures.parents in
     let dp : c.reserve_calf-2.new.self.parents ≡ dams = c.reserve_calf-2.ensures.parents in
-    let P : List (Option ℕ) → List (Option ℕ) → List ℕ → Type 0 = λ ss ds hs. IsSettled 60 (parentage_at (slice_set ss place sire) (slice_set ds place dam)) (slice_index hs) (place ∷ []) in
-    let settled : P sires dams depths = settled-exchange 60 60_000 book sires dams depths kept place sire dam here in
+    let P : List (Option ℕ) → List (Option ℕ) → List ℕ → Type 0 = λ ss ds hs. IsSettled DEPTH_LIMIT (parentage_at (slice_set ss place sire) (slice_set ds place dam)) (slice_index hs) (place ∷ []) in
+    let settled : P sires dams depths = settled-exchange DEPTH_LIMIT MOST_ANIMALS book sires dams depths kept place sire dam here in
     subst (λ ss. P ss c.reserve_calf-2.new.self.parents c.deref_mut.result.now) (sym sp)
     (subst (λ ds. P sires ds c.deref_mut.result.now) (sym dp) (subst (λ hs. P sires dams hs) (sym c.deref_mut.ensures.value) settled))
 
@@ -110,7 +111,7 @@ invariant_of-self-in_err-log g c =
     let inside = c.self.inside in
     let long : length c.carry_if_shallow.new.depths ≡ inside.depths.len = c.carry_if_shallow.auto.depths ∙ c.deref_mut.ensures.len in
     let back : (with_items inside.depths c.carry_if_shallow.new.depths).items ≡ inside.depths.items = with_items_is inside.depths c.carry_if_shallow.new.depths long ∙ c.in_err-log.ensures.err ∙ c.deref_mut.ensures.value in
-    IsWhole-more 60 60_000 inside.records.book inside.sires inside.dams c.reserve_calf.new.self c.reserve_calf-2.new.self inside.depths.items (with_items inside.depths c.carry_if_shallow.new.depths).items inside.old_depths.items inside.undo
+    IsWhole-more DEPTH_LIMIT MOST_ANIMALS inside.records.book inside.sires inside.dams c.reserve_calf.new.self c.reserve_calf-2.new.self inside.depths.items (with_items inside.depths c.carry_if_shallow.new.depths).items inside.old_depths.items inside.undo
     c.self.invariant c.reserve_calf.ensures.parents c.reserve_calf-2.ensures.parents back c.reserve_calf.ensures.spare c.reserve_calf-2.ensures.spare
 
 pub invariant_of-self-in_default-2 : goal.invariant_of-self-in_default-2
@@ -118,7 +119,7 @@ invariant_of-self-in_default-2 g c =
     let inside = c.self.inside in
     let long : length c.carry_if_shallow.new.depths ≡ inside.depths.len = c.carry_if_shallow.auto.depths ∙ c.deref_mut.ensures.len in
     let back : (with_items inside.depths c.carry_if_shallow.new.depths).items ≡ inside.depths.items = with_items_is inside.depths c.carry_if_shallow.new.depths long ∙ (rw c.in_default-2.is at c.in_ok-log.ensures.same) ∙ c.deref_mut.ensures.value in
-    IsWhole-more 60 60_000 inside.records.book inside.sires inside.dams c.reserve_calf.new.self c.reserve_calf-2.new.self inside.depths.items (with_items inside.depths c.carry_if_shallow.new.depths).items inside.old_depths.items inside.undo
+    IsWhole-more DEPTH_LIMIT MOST_ANIMALS inside.records.book inside.sires inside.dams c.reserve_calf.new.self c.reserve_calf-2.new.self inside.depths.items (with_items inside.depths c.carry_if_shallow.new.depths).items inside.old_depths.items inside.undo
     c.self.invariant c.reserve_calf.ensures.parents c.reserve_calf-2.ensures.parents back c.reserve_calf.ensures.spare c.reserve_calf-2.ensures.spare
 
 pub returns-in_default-2-clause-fault : goal.returns-in_default-2-clause-fault
@@ -147,12 +148,12 @@ returns-in_default-2-clause-fault g c =
     let dam_is : IsPlaceIn (keys_of book) dam d = c.find-dam.ensures.place (ap (λ r. is_missing d r) c.find-dam.ensures.record ∙ missing.1) in
     let sp : c.reserve_calf.new.self.parents ≡ sires = c.reserve_calf.ensures.parents in
     let dp : c.reserve_calf-2.new.self.parents ≡ dams = c.reserve_calf-2.ensures.parents in
-    let L : List (Option ℕ) → List (Option ℕ) → Type 0 = λ ss ds. (x : ℕ) × IsTrue (has_line (parentage_at (slice_set ss place sire) (slice_set ds place dam)) 61 x) in
+    let L : List (Option ℕ) → List (Option ℕ) → Type 0 = λ ss ds. (x : ℕ) × IsTrue (has_line (parentage_at (slice_set ss place sire) (slice_set ds place dam)) (DEPTH_LIMIT + 1) x) in
     let line : L sires dams = subst (λ ds. L sires ds) dp (subst (λ ss. L ss c.reserve_calf-2.new.self.parents) sp (rw c.in_default-2.is at c.in_ok-log.ensures.deep)) in
-    let deep : true ≡ is_too_deep 60 book number s d =
-    too_deep-told_by 60 60_000 book sires dams depths kept number place at sire dam s d sire_is dam_is true (λ _. line) (λ no. absurd (true≢false no)) in
-    let told_by : IfSome (record_of book number) (λ animal. Some TooDeep ≡ parent_fault 60 book number animal.birth s d animal.embryo) = rw there (fault-rest 60 book number birth s d embryo true told deep) in
-    subst (λ p. IfSome (record_of p.book number) (λ animal. Some TooDeep ≡ parent_fault 60 p.book number animal.birth s d animal.embryo)) c.self.view_is told_by
+    let deep : true ≡ is_too_deep DEPTH_LIMIT book number s d =
+    too_deep-told_by DEPTH_LIMIT MOST_ANIMALS book sires dams depths kept number place at sire dam s d sire_is dam_is true (λ _. line) (λ no. absurd (true≢false no)) in
+    let told_by : IfSome (record_of book number) (λ animal. Some TooDeep ≡ parent_fault DEPTH_LIMIT book number animal.birth s d animal.embryo) = rw there (fault-rest DEPTH_LIMIT book number birth s d embryo true told deep) in
+    subst (λ p. IfSome (record_of p.book number) (λ animal. Some TooDeep ≡ parent_fault DEPTH_LIMIT p.book number animal.birth s d animal.embryo)) c.self.view_is told_by
 
 pub set-requires-clause-sire : goal.set-requires-clause-sire
 set-requires-clause-sire g c =
@@ -210,27 +211,27 @@ invariant_of-self-2 g c =
     let written : c.set.new.self.book ≡ set_value_at book place (with_parents c.args.sire c.args.dam a) =
     c.set.ensures ∙ ap (λ v. set_value_at book place v) (c.with_parents-corrected.ensures ∙ (λ i. with_parents (c.find-sire.ensures.number i) (c.find-dam.ensures.number i) a)) in
     let there : record_of book number ≡ Some a = lookup_at book kept.lawful.once place number a entry in
-    let S : List (Option ℕ) → List (Option ℕ) → Type 0 = λ ss ds. (x : ℕ) → IsFalse (has_line (parentage_at (slice_set ss place sire) (slice_set ds place dam)) 61 x) in
+    let S : List (Option ℕ) → List (Option ℕ) → Type 0 = λ ss ds. (x : ℕ) → IsFalse (has_line (parentage_at (slice_set ss place sire) (slice_set ds place dam)) (DEPTH_LIMIT + 1) x) in
     let shallow : S sires dams = subst (λ ds. S sires ds) dp (subst (λ ss. S ss c.reserve_calf-2.new.self.parents) sp (rw c.in-Some-2.is at c.in_ok-log.ensures.shallow)) in
-    let fine : false ≡ is_too_deep 60 book number s d =
-    too_deep-told_by 60 60_000 book sires dams depths kept number place at sire dam s d sire_is dam_is false (λ yes. absurd (false≢true yes)) (λ _. shallow) in
-    let no_fault : None ≡ parent_fault 60 book number birth s d embryo = fault-rest 60 book number birth s d embryo false told fine in
-    let asked : IsCorrection 60 book number s d = record { animal = a; there = there; parents = sym no_fault } in
+    let fine : false ≡ is_too_deep DEPTH_LIMIT book number s d =
+    too_deep-told_by DEPTH_LIMIT MOST_ANIMALS book sires dams depths kept number place at sire dam s d sire_is dam_is false (λ yes. absurd (false≢true yes)) (λ _. shallow) in
+    let no_fault : None ≡ parent_fault DEPTH_LIMIT book number birth s d embryo = fault-rest DEPTH_LIMIT book number birth s d embryo false told fine in
+    let asked : IsCorrection DEPTH_LIMIT book number s d = record { animal = a; there = there; parents = sym no_fault } in
     let log : List (ℕ × ℕ) = c.in-Some-2.log.items in
     let after : List ℕ = c.carry_if_shallow.new.depths in
     let len : length c.deref_mut.result.now ≡ length depths = ap (λ hs. length hs) c.deref_mut.ensures.value in
     let long : length after ≡ length depths = c.carry_if_shallow.auto.depths ∙ len in
-    let P : List (Option ℕ) → List (Option ℕ) → Type 0 = λ ss ds. IsSettled 60 (parentage_at (slice_set ss place sire) (slice_set ds place dam)) (slice_index after) [] in
+    let P : List (Option ℕ) → List (Option ℕ) → Type 0 = λ ss ds. IsSettled DEPTH_LIMIT (parentage_at (slice_set ss place sire) (slice_set ds place dam)) (slice_index after) [] in
     let settled : P sires dams = subst (λ ds. P sires ds) dp (subst (λ ss. P ss c.reserve_calf-2.new.self.parents) sp (rw c.in-Some-2.is at c.in_ok-log.ensures.settled)) in
-    let held : IsHeld 60 60_000 (set_value_at book place (with_parents c.args.sire c.args.dam a)) (slice_set sires place sire) (slice_set dams place dam) after log (Record place a c.parent.result c.parent-2.result) =
-    IsHeld-corrected 60 60_000 book sires dams depths kept number place at a entry sire dam c.args.sire c.args.dam sire_is dam_is asked after long settled log
+    let held : IsHeld DEPTH_LIMIT MOST_ANIMALS (set_value_at book place (with_parents c.args.sire c.args.dam a)) (slice_set sires place sire) (slice_set dams place dam) after log (Record place a c.parent.result c.parent-2.result) =
+    IsHeld-corrected DEPTH_LIMIT MOST_ANIMALS book sires dams depths kept number place at a entry sire dam c.args.sire c.args.dam sire_is dam_is asked after long settled log
     (subst (λ n. All (λ (write : ℕ × ℕ). write.0 < n) log) len (rw c.in-Some-2.is at c.in_ok-log.ensures.logged))
     ((rw c.in-Some-2.is at c.in_ok-log.ensures.undone) ∙ c.deref_mut.ensures.value)
     c.parent.result c.parent-2.result (c.parent.ensures ∙ ap (λ ss. parent_at ss place) sp) (c.parent-2.ensures ∙ ap (λ ds. parent_at ds place) dp) in
     let back : (with_items c.self.inside.depths after).items ≡ after = with_items_is c.self.inside.depths after (c.carry_if_shallow.auto.depths ∙ c.deref_mut.ensures.len) in
     let sires_are : c.set-2.new.self.parents ≡ slice_set sires place sire = c.set-2.ensures.parents ∙ ap (λ ss. slice_set ss place sire) sp in
     let dams_are : c.set-3.new.self.parents ≡ slice_set dams place dam = c.set-3.ensures.parents ∙ ap (λ ds. slice_set ds place dam) dp in
-    let Q : Book → List (Option ℕ) → List (Option ℕ) → List ℕ → Type 0 = λ b ss ds hs. IsHeld 60 60_000 b ss ds hs log (Record place a c.parent.result c.parent-2.result) in
+    let Q : Book → List (Option ℕ) → List (Option ℕ) → List ℕ → Type 0 = λ b ss ds hs. IsHeld DEPTH_LIMIT MOST_ANIMALS b ss ds hs log (Record place a c.parent.result c.parent-2.result) in
     record {
       held =
           subst (λ b. Q b c.set-2.new.self.parents c.set-3.new.self.parents (with_items c.self.inside.depths after).items) (sym written)
@@ -266,13 +267,13 @@ returns-clause-fault g c =
     let dam_is : IsPlaceIn (keys_of book) dam d = c.find-dam.ensures.place (ap (λ r. is_missing d r) c.find-dam.ensures.record ∙ missing.1) in
     let sp : c.reserve_calf.new.self.parents ≡ sires = c.reserve_calf.ensures.parents in
     let dp : c.reserve_calf-2.new.self.parents ≡ dams = c.reserve_calf-2.ensures.parents in
-    let S : List (Option ℕ) → List (Option ℕ) → Type 0 = λ ss ds. (x : ℕ) → IsFalse (has_line (parentage_at (slice_set ss place sire) (slice_set ds place dam)) 61 x) in
+    let S : List (Option ℕ) → List (Option ℕ) → Type 0 = λ ss ds. (x : ℕ) → IsFalse (has_line (parentage_at (slice_set ss place sire) (slice_set ds place dam)) (DEPTH_LIMIT + 1) x) in
     let shallow : S sires dams = subst (λ ds. S sires ds) dp (subst (λ ss. S ss c.reserve_calf-2.new.self.parents) sp (rw c.in-Some-2.is at c.in_ok-log.ensures.shallow)) in
-    let fine : false ≡ is_too_deep 60 book number s d =
-    too_deep-told_by 60 60_000 book sires dams depths kept number place at sire dam s d sire_is dam_is false (λ yes. absurd (false≢true yes)) (λ _. shallow) in
-    let no_fault : None ≡ parent_fault 60 book number birth s d embryo = fault-rest 60 book number birth s d embryo false told fine in
-    let told_by : IfSome (record_of book number) (λ animal. None ≡ parent_fault 60 book number animal.birth s d animal.embryo) = rw there (no_fault) in
-    subst (λ p. IfSome (record_of p.book number) (λ animal. None ≡ parent_fault 60 p.book number animal.birth s d animal.embryo)) c.self.view_is told_by
+    let fine : false ≡ is_too_deep DEPTH_LIMIT book number s d =
+    too_deep-told_by DEPTH_LIMIT MOST_ANIMALS book sires dams depths kept number place at sire dam s d sire_is dam_is false (λ yes. absurd (false≢true yes)) (λ _. shallow) in
+    let no_fault : None ≡ parent_fault DEPTH_LIMIT book number birth s d embryo = fault-rest DEPTH_LIMIT book number birth s d embryo false told fine in
+    let told_by : IfSome (record_of book number) (λ animal. None ≡ parent_fault DEPTH_LIMIT book number animal.birth s d animal.embryo) = rw there (no_fault) in
+    subst (λ p. IfSome (record_of p.book number) (λ animal. None ≡ parent_fault DEPTH_LIMIT p.book number animal.birth s d animal.embryo)) c.self.view_is told_by
 
 pub returns-clause-set : goal.returns-clause-set
 returns-clause-set g c =
