@@ -1,19 +1,20 @@
 -- The certificate of an animal that stands at a place of a frozen book.
-use Rattle.std.proofs.Common.{◌≡◌, ◌∙◌, ℕ, ◌<◌, List, [], ◌++◌, length, slice_get, slice_index, Some, true, Contains, ap, refl, sym}
+use Rattle.std.proofs.Common.{◌≡◌, ◌∙◌, ℕ, ◌<◌, List, [], ◌++◌, length, slice_get, slice_index, Option, Some, None, true, Contains, ap, refl, sym, arith}
+use Rattle.std.proofs.lemmas.Bool.{false≢true}
 use Rattle.std.specs.Map.{keys_of}
 use Rattle.std.specs.Option.{is_some, option_map_or}
 use Rattle.std.proofs.lemmas.List.Elements.{Contains-get_or}
 use Rattle.std.proofs.lemmas.Option.{get_or_from_slice_get, slice_get_within}
 use Rattle.herd_pedigree.specs.declared.animal.Animal.{Animal}
 use Rattle.herd_pedigree.specs.declared.frozen.Row.{Row}
-use Rattle.herd_pedigree.specs.Book.{is_there}
+use Rattle.herd_pedigree.specs.Book.{Book, is_there, record_of}
 use Rattle.herd_pedigree.specs.Frozen.{IsFrozen, book_of, numbers_of}
 use Rattle.herd_kinship.specs.Coefficients.{AreCoefficients}
 use Rattle.herd_kinship.specs.FrozenAncestry.{ancestry_of, number_at}
 use Rattle.herd_kinship.specs.Table.{coefficient}
 use Rattle.herd_kinship.proofs.BookFacts.{record_there}
 use Rattle.herd_kinship.proofs.FrozenFacts.{length-numbers_of, number_at-row, numbers_are_keys, record_at-row}
-use Rattle.herd_report.specs.Certificate.{ancestors_text, animal_text, certificate_text}
+use Rattle.herd_report.specs.Certificate.{ancestors_text, animal_text, certificate_text, entry_line}
 
 -- the lines on the animal of the row there, and then those of its ancestors, are the certificate
 pub certificate_made : (l most : ℕ) (rows : List Row) → IsFrozen l most rows → (place : ℕ) (row : Row) → slice_get rows place ≡ Some row
@@ -49,3 +50,21 @@ certificate_text-number l rows numerators are place number numerator there read 
     let within : place < length rows = rw (← length-numbers_of rows) (slice_get_within (numbers_of rows) place number there) in
     let known : numerator ≡ coefficient (ancestry_of rows) l number = read ∙ are.right place within ∙ ap (coefficient (ancestry_of rows) l) found in
     rw (found, known) refl
+
+some_text : (book : Book) (numerator : ℕ) (number : List ℕ) (found : Option Animal) → is_some found ≡ true
+    → 0 < length (option_map_or (λ (animal : Animal). animal_text number animal numerator ++ ancestors_text book number) found [])
+unfolding entry_line
+some_text book numerator number None there = absurd (false≢true there)
+some_text book numerator number (Some animal) there = omega arith
+
+-- the certificate of an animal that is there isn't empty
+pub some_certificate_text : (book : Book) (numerator : ℕ) (number : List ℕ) → is_there book number ≡ true
+    → 0 < length (certificate_text book numerator number)
+some_certificate_text book numerator number there = some_text book numerator number (record_of book number) there
+
+-- nor is that of the animal at a place
+pub some_certificate_at : (l most : ℕ) (rows : List Row) → IsFrozen l most rows → (place : ℕ) (row : Row) → slice_get rows place ≡ Some row
+    → (numerator : ℕ) → 0 < length (certificate_text (book_of rows) numerator (number_at rows place))
+some_certificate_at l most rows frozen place row there numerator =
+    rw (number_at-row rows place row there)
+    (some_certificate_text (book_of rows) numerator row.number (ap is_some (record_at-row l most rows frozen place row there)))

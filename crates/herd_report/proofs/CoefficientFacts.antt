@@ -1,11 +1,14 @@
 -- The numerators of a frozen book's coefficients.
-use Rattle.std.proofs.Common.{◌≡◌, ◌∙◌, ℕ, List, slice_index, slice_get, Some, ap}
+use Rattle.std.proofs.Common.{◌≡◌, ◌∙◌, ℕ, ◌<◌, List, ◌++◌, length, slice_index, slice_get, Some, ap, arith}
+use Rattle.std.specs.Prelude.{codes}
 use Rattle.std.proofs.lemmas.Option.{slice_get_within}
 use Rattle.herd_pedigree.specs.declared.frozen.Row.{Row}
 use Rattle.herd_kinship.specs.Coefficients.{AreCoefficients}
 use Rattle.herd_kinship.specs.FrozenAncestry.{ancestry_of}
 use Rattle.herd_kinship.specs.Table.{coefficient}
 use Rattle.herd_kinship.proofs.FrozenFacts.{number_at-row}
+use Rattle.herd_report.proofs.OutputFacts.{some_after}
+use Rattle.herd_report.specs.CoefficientText.{coefficient_line, coefficient_text}
 
 -- the numerator at a place is the coefficient of the row there
 pub numerator_is : (l : ℕ) (rows : List Row) (numerators : List ℕ) → AreCoefficients l rows numerators
@@ -14,3 +17,8 @@ pub numerator_is : (l : ℕ) (rows : List Row) (numerators : List ℕ) → AreCo
 numerator_is l rows numerators are place row there =
     are.right place (slice_get_within rows place row there)
     ∙ ap (coefficient (ancestry_of rows) l) (number_at-row rows place row there)
+
+-- a line isn't empty
+pub some_coefficient_line : (number : List ℕ) (numerator : ℕ) → 0 < length (coefficient_line number numerator)
+some_coefficient_line number numerator =
+    some_after (number ++ codes "," ++ coefficient_text (codes ",") numerator) (codes "\n") (omega arith)

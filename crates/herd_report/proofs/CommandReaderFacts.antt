@@ -1,11 +1,12 @@
 -- The command of the next record, as the definition of a command file says it.
-use Rattle.std.proofs.Common.{◌≡◌, ◌∙◌, ℕ, ◌+◌, ◌≤◌, List, [], ◌∷◌, true, Option, Some, None, Result, Ok, sym, ap, ltb}
+use Rattle.std.proofs.Common.{◌≡◌, ◌∙◌, ℕ, ◌+◌, ◌<◌, ◌≤◌, List, [], ◌∷◌, ◌++◌, length, true, Option, Some, None, Result, Ok, sym, ap, ltb, length-append, arith}
 use Rattle.std.proofs.lemmas.Bool.{cond-false, false≢true, le-ltb}
 use Rattle.herd_register.specs.declared.command.Command.{Command}
-use Rattle.herd_report.specs.CommandFile.{commands_from, one_then}
-use Rattle.herd_report.specs.CommandReader.{TakesNext}
+use Rattle.herd_report.specs.CommandFile.{CommandFile, commands_from, one_then}
+use Rattle.herd_report.specs.CommandReader.{HasGiven, TakesNext}
 use Rattle.herd_report.specs.Grammar.{Fields, command_of}
 use Rattle.herd_report.specs.Upcoming.{TakesRecord}
+use Rattle.herd_report.specs.declared.command_reader.CommandReader.{CommandReader}
 use Rattle.herd_report.specs.declared.line_fault.LineCause.{LineCause}
 use Rattle.herd_report.specs.declared.version.Version.{Version}
 
@@ -28,3 +29,11 @@ module _ (version : Version) (most entry : ℕ) where
         commands_from-one first rest below
             ∙ ap (λ (outcome : Result Command LineCause). one_then entry outcome (commands_from version most (entry + 1) rest)) gives,
       )
+
+-- a file whose commands were given up to this one has some
+pub some_given : {R : Type 0} (remaining : R → Option (List ℕ)) (file : CommandFile) (list : List Command) (command : Command) (reader : CommandReader R)
+    → HasGiven remaining file (list ++ command ∷ []) reader → 0 < length file.commands
+some_given remaining file list command reader given =
+    let rest = (commands_from reader.version reader.most (reader.given + 1) given.rest).commands in
+    let whole : file.commands ≡ (list ++ command ∷ []) ++ rest = ap (λ f. f.commands) given.same in
+    rw whole (omega (arith, length-append (list ++ command ∷ []) rest, length-append list (command ∷ [])))

@@ -1,5 +1,7 @@
 -- The entries that an animal contributes.
-use Rattle.std.proofs.Common.{◌≡◌, ℕ, ◌<◌, ◌≤◌, List, [], ◌∷◌, length, map, take, max, min, Option, Some, None, All, refl, arith}
+use Rattle.std.proofs.Common.{◌≡◌, ℕ, ◌<◌, ◌≤◌, List, [], ◌∷◌, ◌++◌, length, map, take, max, min, Option, Some, None, All, refl, arith}
+use Rattle.std.specs.Prelude.{codes}
+use Rattle.std.specs.List.{flat_map}
 use Rattle.std.proofs.lemmas.List.Elements.{All-cons, All-nil}
 use Rattle.herd_pedigree.specs.declared.TheConstants.{DEPTH_LIMIT, MOST_ANIMALS}
 use Rattle.herd_pedigree.specs.declared.frozen.Row.{Row}
@@ -8,7 +10,10 @@ use Rattle.herd_kinship.specs.declared.entries.Entry.{Entry}
 use Rattle.herd_kinship.specs.Contributions.{contribution_at, contributions_of, filled, pairs_of}
 use Rattle.herd_kinship.specs.Places.{sire_place, dam_place}
 use Rattle.herd_kinship.proofs.FrozenFacts.{sire_at, dam_at}
-use Rattle.herd_report.specs.InverseList.{IsWithin}
+use Rattle.herd_kinship.specs.FrozenAncestry.{number_at}
+use Rattle.herd_report.specs.CoefficientText.{fraction_text}
+use Rattle.herd_report.proofs.OutputFacts.{some_after, some_before}
+use Rattle.herd_report.specs.InverseList.{IsWithin, contribution_line, contributions_text}
 
 -- of the six entries the first ones are those that count
 take-filled : (f : ℕ × ℕ → Entry) (i : ℕ) (s d : Option ℕ)
@@ -79,3 +84,21 @@ contributions_within rows frozen place within =
     all_within rows place within (sire_place rows place) (dam_place rows place)
     (sire_at DEPTH_LIMIT MOST_ANIMALS rows frozen place within).within
     (dam_at DEPTH_LIMIT MOST_ANIMALS rows frozen place within).within
+
+some_line : (rows : List Row) (place : ℕ) (entry : Entry) → 0 < length (contribution_line rows place entry)
+some_line rows place entry =
+    some_after
+    (number_at rows place ++ codes "," ++ number_at rows entry.row ++ codes "," ++ number_at rows entry.column ++ codes "," ++ fraction_text entry.value)
+    (codes "\n") (omega arith)
+
+some_lines : (rows : List Row) (place : ℕ) (f : ℕ × ℕ → Entry) (s d : Option ℕ)
+    → 0 < length (flat_map (contribution_line rows place) (map f (pairs_of place s d)))
+some_lines rows place f None None = some_before (contribution_line rows place (f (place, place))) _ (some_line rows place (f (place, place)))
+some_lines rows place f (Some s) None = some_before (contribution_line rows place (f (place, place))) _ (some_line rows place (f (place, place)))
+some_lines rows place f None (Some d) = some_before (contribution_line rows place (f (place, place))) _ (some_line rows place (f (place, place)))
+some_lines rows place f (Some s) (Some d) = some_before (contribution_line rows place (f (place, place))) _ (some_line rows place (f (place, place)))
+
+-- an animal contributes some lines
+pub some_contributions_text : (rows : List Row) (place : ℕ) → 0 < length (contributions_text rows place)
+unfolding contributions_of
+some_contributions_text rows place = some_lines rows place (contribution_at DEPTH_LIMIT rows place) (sire_place rows place) (dam_place rows place)

@@ -10,5 +10,6 @@ pub mod WideDecimal
 pub mod CoefficientFacts
 pub mod AncestorFacts
 pub mod CertificateFacts
+pub mod MatingFacts
 pub mod ContributionFacts
 pub mod RunFacts

@@ -1,5 +1,5 @@
 -- How a text goes to a writer, a part at a time.
-use Rattle.std.proofs.Common.{◌≡◌, ◌∙◌, ℕ, ◌-◌, ◌≤◌, List, [], ◌++◌, length, take, drop, Option, refl, ap, sym, subst, append_assoc}
+use Rattle.std.proofs.Common.{◌≡◌, ◌∙◌, ℕ, ◌-◌, ◌<◌, ◌≤◌, List, [], ◌++◌, length, take, drop, Option, refl, ap, sym, subst, append_assoc, length-append, arith}
 use Rattle.std.proofs.KnownBytes.{Appends-nil, Appends-trans}
 use Rattle.std.proofs.Math.Seq.{take-length}
 use Rattle.std.proofs.lemmas.List.{append-nil, length-drop, take-append-drop}
@@ -49,18 +49,28 @@ pub holds_passed : {old now new : Option (List ℕ)} {text waiting rest left : L
     → PassesOn now new waiting left → Holds old new text left rest
 holds_passed {rest = rest} held passed = record { passed = passes_more held.passed (passes_before rest passed) }
 
--- what was passed on is a front of the text
-pub front_passed : {old now : Option (List ℕ)} {text waiting rest : List ℕ} → Holds old now text waiting rest → AppendsFront old now text
-front_passed {waiting = waiting} {rest = rest} held = record { rest = waiting ++ rest; passed = held.passed }
+-- a text is longer than nothing where a part of it is
+pub some_before : (x y : List ℕ) → 0 < length x → 0 < length (x ++ y)
+some_before x y some = omega (arith, length-append x y)
+
+pub some_after : (x y : List ℕ) → 0 < length y → 0 < length (x ++ y)
+some_after x y some = omega (arith, length-append x y)
+
+-- what was passed on is a front of the text, where some of it isn't made yet
+pub front_passed : {old now : Option (List ℕ)} {text waiting rest : List ℕ} → Holds old now text waiting rest → 0 < length rest
+    → AppendsFront old now text
+front_passed {waiting = waiting} {rest = rest} held some =
+    record { rest = waiting ++ rest; left = some_after waiting rest some; passed = held.passed }
 
 -- and so is nothing
-pub front_nothing : (known : Option (List ℕ)) (text : List ℕ) → AppendsFront known known text
-front_nothing known text = front_passed (holds_nothing known text)
+pub front_nothing : (known : Option (List ℕ)) (text : List ℕ) → 0 < length text → AppendsFront known known text
+front_nothing known text some = front_passed (holds_nothing known text) some
 
 -- with a front of what waits it is one too
 pub front_waiting : {old now new : Option (List ℕ)} {text waiting rest : List ℕ} → Holds old now text waiting rest
     → AppendsFront now new waiting → AppendsFront old new text
-front_waiting held front = front_passed (holds_passed held front.passed)
+front_waiting {rest = rest} held front =
+    record { rest = front.rest ++ rest; left = some_before front.rest rest front.left; passed = (holds_passed held front.passed).passed }
 
 -- the whole text is made, and what waited was written
 pub appends_waiting : {old now : Option (List ℕ)} {text waiting : List ℕ} (new : Option (List ℕ)) → Holds old now text waiting []

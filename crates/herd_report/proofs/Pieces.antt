@@ -4,7 +4,7 @@ use Rattle.std.specs.List.{flat_map, range_with_len}
 use Rattle.std.proofs.lemmas.List.{drop_more}
 use Rattle.std.proofs.lemmas.List.FromFn.{get_or-range_with_len, length-range_with_len}
 use Rattle.std.proofs.lemmas.Option.{slice_get_within, slice_get-get_or, get_or_from_slice_get}
-use Rattle.herd_report.proofs.OutputFacts.{Holds, holds_piece}
+use Rattle.herd_report.proofs.OutputFacts.{Holds, holds_piece, some_before}
 
 -- the element that a loop over the list reads stands at the place
 pub slice_get-item : {X : Type 0} (xs : List X) (place : ℕ) (x : X) → place < length xs → x ≡ get_or xs place x → slice_get xs place ≡ Some x
@@ -29,3 +29,8 @@ pub holds_element : {X : Type 0} {old now : Option (List ℕ)} {text waiting pus
     → Holds old now text pushed (flat_map f (drop (place + 1) xs))
 holds_element f xs place x held there joined =
     holds_piece (f x) (flat_map f (drop (place + 1) xs)) held (flat_map-drop f xs place x there) joined
+
+-- the piece of the element at a place is still to be made
+pub some_left : {X : Type 0} (f : X → List ℕ) (xs : List X) (place : ℕ) (x : X) → slice_get xs place ≡ Some x → 0 < length (f x)
+    → 0 < length (flat_map f (drop place xs))
+some_left f xs place x there some = rw (flat_map-drop f xs place x there) (some_before (f x) (flat_map f (drop (place + 1) xs)) some)

@@ -1,5 +1,5 @@
 -- The steps of commands that are filed one after the other.
-use Rattle.std.proofs.Common.{◌≡◌, ◌≢◌, inr, ℕ, suc, ◌+◌, ◌<◌, arith, true, false, MatchBool, Option, Some, None, List, [], ◌∷◌, ◌++◌, refl, ap, sym, subst, ◌∙◌, ⊎_elim, append_assoc, append-nil, length}
+use Rattle.std.proofs.Common.{◌≡◌, ◌≢◌, ◌↔◌, inl, inr, ℕ, suc, ◌+◌, ◌<◌, arith, true, false, MatchBool, Option, Some, None, Result, Err, List, [], ◌∷◌, ◌++◌, refl, ap, sym, subst, ◌∙◌, ⊎_elim, append_assoc, append-nil, length, length-append}
 use Rattle.std.proofs.lemmas.List.Sorted.{IsPermutation-sym}
 use Rattle.std.specs.Prelude.{Bool, is_some}
 use Rattle.std.specs.Io.KnownBytes.{Appends}
@@ -20,8 +20,8 @@ use Rattle.herd_report.specs.CommandFile.{CommandFile, IsRead, IsReadBefore, com
 use Rattle.herd_report.specs.LineCause.{is_interruption}
 use Rattle.herd_report.specs.Output.{AppendsFront}
 use Rattle.herd_report.specs.Replies.{reply_line, reply_lines_from, replies_text}
-use Rattle.herd_report.specs.Run.{EndsBy, HasFiled, IsAnswered, IsFrozenFile, IsReport, IsThere, filed_from, replies_to, wanted}
-use Rattle.herd_report.specs.RunFault.{EndsListing, run_fault_of, run_fault_of_pool}
+use Rattle.herd_report.specs.Run.{EndsBy, HasFiled, IsAnswered, IsFrozenFile, IsReport, IsThere, NeedsMemory, StopsWriting, filed_from, replies_to, wanted}
+use Rattle.herd_report.specs.RunFault.{EndsListing, EndsReport, run_fault_of, run_fault_of_pool}
 use Rattle.herd_report.specs.declared.line_fault.LineFault.{LineFault}
 use Rattle.herd_report.specs.declared.report_fault.ReportFault.{ReportFault}
 use Rattle.herd_report.specs.declared.report_fault.ReportFault.TheVariants as report
@@ -29,7 +29,7 @@ use Rattle.herd_report.specs.declared.orders.Order.{Order}
 use Rattle.herd_report.specs.declared.orders.Order.TheVariants.{File, Inbreeding, Certificate}
 use Rattle.herd_report.specs.declared.run_fault.RunFault.{RunFault}
 use Rattle.herd_report.specs.declared.run_fault.RunFault.TheVariants.{Line, NotRegistered, NoThread, Memory, Write, NoPlace}
-use Rattle.herd_report.proofs.OutputFacts.{front_nothing, passes_before}
+use Rattle.herd_report.proofs.OutputFacts.{passes_before, some_before}
 
 -- the steps of more commands come after those of the first ones
 pub filed_from-append : (limits : Limits) (book : Book) (first rest : List Command) →
@@ -99,7 +99,7 @@ replies_to-append limits first rest =
 
 -- a front of a text is one of a longer text
 pub longer_text : (old new : Option (List ℕ)) (text more : List ℕ) → AppendsFront old new text → AppendsFront old new (text ++ more)
-longer_text old new text more front = record { rest = front.rest ++ more; passed = passes_before more front.passed }
+longer_text old new text more front = record { rest = front.rest ++ more; left = some_before front.rest more front.left; passed = passes_before more front.passed }
 
 -- commands that were read are the first of the file's
 pub first_commands : (most : ℕ) (file : CommandFile) (list : List Command) (fault : Option LineFault) → IsRead most file list fault →
@@ -127,6 +127,12 @@ pub report_of_file : (limits : Limits) (order : Order) (file : CommandFile) (row
     IsFrozenFile limits file rows → Passes (wanted order limits file.commands rows) → IsReport limits order file.commands Passes
 report_of_file limits order file rows Passes made passes = record { rows = rows; frozen = λ other. made.frozen; passes = passes }
 
+-- no front of no text leaves some of it
+none_left : (old new : Option (List ℕ)) → AppendsFront old new [] → ⊥
+none_left old new front =
+    let short = ap length front.passed.split in
+    absurd (omega (arith, short, front.left, length-append front.passed.front front.rest))
+
 -- a front of the replies to what was read is one of the replies to the file
 pub replies_of_file : (limits : Limits) (file : CommandFile) (list : List Command) (fault : Option LineFault) (old new : Option (List ℕ)) →
     IsRead limits.steps file list fault → AppendsFront old new (replies_to limits list) → IsReport limits File file.commands (AppendsFront old new)
@@ -139,12 +145,41 @@ replies_of_file limits file list fault old new read front =
       passes = subst (λ t. AppendsFront old new t) (sym (ap (replies_to limits) rest.1 ∙ more.1)) (longer_text old new (replies_to limits list) more.0 front);
     }
 
+-- a front of the replies to a file's commands is none of no commands
+some_commands : (limits : Limits) (file : CommandFile) (old new : Option (List ℕ)) → IsReport limits File file.commands (AppendsFront old new) →
+    0 < length file.commands
+some_commands limits file old new report =
+    let front = report.passes in
+    elim file.commands as (λ l. AppendsFront old new (replies_to limits l) → 0 < length l) [
+      | [] ↦ λ front. absurd (none_left old new front)
+      | command ∷ rest ↦ λ front. omega arith
+    ] front
+
 -- a run for the replies that stops while it writes
 pub stops_replying : (limits : Limits) (file : CommandFile) (list : List Command) (line : Option LineFault) (old new : Option (List ℕ)) (fault : ReportFault) →
     IsRead limits.steps file list line → AppendsFront old new (replies_to limits list) → fault ≢ report.NotRegistered → EndsBy limits File file old new (run_fault_of fault)
-stops_replying limits file list line old new report.Write read front other = (λ reports. absurd (reports refl), replies_of_file limits file list line old new read front)
-stops_replying limits file list line old new report.Memory read front other = (λ reports. absurd (reports refl), inr (replies_of_file limits file list line old new read front))
+stops_replying limits file list line old new report.Write read front other =
+    (λ reports. absurd (reports refl), record { there = tt; front = replies_of_file limits file list line old new read front })
+stops_replying limits file list line old new report.Memory read front other =
+    let written = replies_of_file limits file list line old new read front in
+    (λ reports. absurd (reports refl), some_commands limits file old new written, inr (record { there = tt; front = written }))
 stops_replying limits file list line old new report.NotRegistered read front other = absurd (other refl)
+
+-- what was written of a report of a file's commands, where some of its end wasn't
+stopped : (limits : Limits) (order : Order) (file : CommandFile) (rows : List Row) (old new : Option (List ℕ)) →
+    IsFrozenFile limits file rows → IsThere order (run_book limits file.commands) → AppendsFront old new (wanted order limits file.commands rows) →
+    StopsWriting limits order file old new
+stopped limits order file rows old new made there front = record { there = there; front = report_of_file limits order file rows (AppendsFront old new) made front }
+
+-- a run for another report that stops
+pub stops_reporting : (limits : Limits) (order : Order) (file : CommandFile) (rows : List Row) (old new : Option (List ℕ)) (fault : ReportFault) →
+    IsFrozenFile limits file rows → IsThere order (run_book limits file.commands) → NeedsMemory order file.commands →
+    EndsReport old new (wanted order limits file.commands rows) fault → EndsBy limits order file old new (run_fault_of fault)
+stops_reporting limits order file rows old new report.Write made there needs ends =
+    (λ reports. made.faultless, stopped limits order file rows old new made there ends)
+stops_reporting limits order file rows old new report.Memory made there needs ends =
+    (λ reports. made.faultless, needs, ⊎_elim (λ none. inl none) (λ front. inr (stopped limits order file rows old new made there front)) ends)
+stops_reporting limits order file rows old new report.NotRegistered made there needs ends = absurd ends
 
 -- a run for the list of coefficients that stops
 pub stops_listing : (limits : Limits) (workers block : ℕ) (file : CommandFile) (rows : List Row) (old new : Option (List ℕ)) (fault : RunFault) →
@@ -153,17 +188,15 @@ pub stops_listing : (limits : Limits) (workers block : ℕ) (file : CommandFile)
 stops_listing limits workers block file rows old new (Line fault) made ends = absurd ends
 stops_listing limits workers block file rows old new NotRegistered made ends = absurd ends
 stops_listing limits workers block file rows old new NoThread made ends = (ends.0, made.faultless, ends.1)
-stops_listing limits workers block file rows old new Memory made ends =
-    (λ reports. made.faultless, inr (report_of_file limits (Inbreeding workers block) file rows (AppendsFront old new) made ends))
-stops_listing limits workers block file rows old new Write made ends =
-    (λ reports. made.faultless, report_of_file limits (Inbreeding workers block) file rows (AppendsFront old new) made ends)
+stops_listing limits workers block file rows old new Memory made ends = stops_reporting limits (Inbreeding workers block) file rows old new report.Memory made tt tt ends
+stops_listing limits workers block file rows old new Write made ends = stops_reporting limits (Inbreeding workers block) file rows old new report.Write made tt tt ends
 stops_listing limits workers block file rows old new NoPlace made ends = absurd ends
 
 -- a list of coefficients that ends before any was written
 pub nothing_listed : (workers : ℕ) (known : Option (List ℕ)) (text : List ℕ) (fault : PoolFault) → (fault ≡ pool.NoThread → 1 < workers) →
     EndsListing workers known known text (run_fault_of_pool fault)
 nothing_listed workers known text pool.NoThread shared = (shared refl, refl)
-nothing_listed workers known text pool.Memory shared = front_nothing known text
+nothing_listed workers known text pool.Memory shared = inl refl
 
 -- who is in a frozen book is in the book that was frozen
 pub there-frozen : (book : Book) (rows : List Row) (number : List ℕ) → IsFrozenFrom DEPTH_LIMIT MOST_ANIMALS book rows →
@@ -171,17 +204,30 @@ pub there-frozen : (book : Book) (rows : List Row) (number : List ℕ) → IsFro
 there-frozen book rows number frozen =
     sym (ap is_some (record_of-permuted (book_of rows) book frozen.frozen.lawful.once (IsPermutation-sym book (book_of rows) frozen.same) number))
 
+true_else_false : (b : Bool) → (b ≡ false → ⊥) → b ≡ true
+true_else_false true other = refl
+true_else_false false other = absurd (other refl)
+
+-- an error tells one thing
+pub err_same : {T E : Type 0} (x y : E) → ◌≡◌ {A = Result T E} (Err x) (Err y) → x ≡ y
+err_same x y e = cc
+
 -- a run for a certificate that ends early
 pub stops_certifying : (limits : Limits) (number : List ℕ) (file : CommandFile) (rows : List Row) (old new : Option (List ℕ)) (fault : ReportFault) →
-    IsFrozenFile limits file rows → AppendsFront old new (wanted (Certificate number) limits file.commands rows) →
-    (fault ≡ report.NotRegistered → is_there (book_of rows) number ≡ false) → (is_there (book_of rows) number ≡ false → new ≡ old) →
+    IsFrozenFile limits file rows → (fault ≢ report.NotRegistered → AppendsFront old new (wanted (Certificate number) limits file.commands rows)) →
+    (fault ≡ report.NotRegistered ↔ is_there (book_of rows) number ≡ false) → (is_there (book_of rows) number ≡ false → new ≡ old) →
     EndsBy limits (Certificate number) file old new (run_fault_of fault)
-stops_certifying limits number file rows old new report.Write made front absent untouched =
-    (λ reports. made.faultless, report_of_file limits (Certificate number) file rows (AppendsFront old new) made front)
-stops_certifying limits number file rows old new report.Memory made front absent untouched =
-    (λ reports. made.faultless, inr (report_of_file limits (Certificate number) file rows (AppendsFront old new) made front))
-stops_certifying limits number file rows old new report.NotRegistered made front absent untouched =
-    (made.faultless, sym (there-frozen (run_book limits file.commands) rows number made.frozen) ∙ absent refl, untouched (absent refl))
+stops_certifying limits number file rows old new fault made front absent untouched =
+    let found : is_there (book_of rows) number ≡ is_there (run_book limits file.commands) number = there-frozen (run_book limits file.commands) rows number made.frozen in
+    let there : fault ≢ report.NotRegistered → is_there (run_book limits file.commands) number ≡ true =
+    λ other. sym found ∙ true_else_false (is_there (book_of rows) number) (λ gone. other (absent.1 gone)) in
+    let stops : fault ≢ report.NotRegistered → StopsWriting limits (Certificate number) file old new =
+    λ other. stopped limits (Certificate number) file rows old new made (there other) (front other) in
+    elim fault as (λ f. (f ≢ report.NotRegistered → StopsWriting limits (Certificate number) file old new) → (f ≡ report.NotRegistered → is_there (book_of rows) number ≡ false) → EndsBy limits (Certificate number) file old new (run_fault_of f)) [
+      | report.Write ↦ λ stops gone. (λ reports. made.faultless, stops (λ e. absurd (cc e)))
+      | report.Memory ↦ λ stops gone. (λ reports. made.faultless, tt, inr (stops (λ e. absurd (cc e))))
+      | report.NotRegistered ↦ λ stops gone. (made.faultless, sym found ∙ gone refl, untouched (gone refl))
+    ] stops absent.0
 
 -- a run for a report that comes to its end
 pub reported : (limits : Limits) (order : Order) (file : CommandFile) (rows : List Row) (old new : Option (List ℕ)) →
@@ -189,10 +235,6 @@ pub reported : (limits : Limits) (order : Order) (file : CommandFile) (rows : Li
     IsAnswered limits order file old new
 reported limits order file rows old new made there written =
     record { faultless = made.faultless; there = there; written = report_of_file limits order file rows (Appends old new) made written }
-
-true_else_false : (b : Bool) → (b ≡ false → ⊥) → b ≡ true
-true_else_false true other = refl
-true_else_false false other = absurd (other refl)
 
 -- a run for a certificate that comes to its end
 pub certified : (limits : Limits) (number : List ℕ) (file : CommandFile) (rows : List Row) (old new : Option (List ℕ)) →

@@ -1,5 +1,5 @@
 -- What a run writes for a command file, and how it may end.
-use Rattle.std.specs.Prelude.{◌≡◌, ◌≢◌, ◌⊎◌, ◌<◌, ◌≤◌, ℕ, List, [], ◌∷◌, ⊤, Option, Some, None, true, false}
+use Rattle.std.specs.Prelude.{◌≡◌, ◌≢◌, ◌⊎◌, ◌<◌, ◌≤◌, ℕ, List, [], ◌∷◌, ⊤, Option, Some, None, true, false, length}
 use Rattle.std.specs.Io.KnownBytes.{Appends}
 use Rattle.herd_pedigree.specs.Book.{Book, is_there}
 use Rattle.herd_pedigree.specs.Frozen.{IsFrozenFrom, book_of}
@@ -114,13 +114,25 @@ pub record EndsByLine (limits : Limits) (order : Order) (file : CommandFile) (fa
 abbrev pub IsFaultlessFor : Order → CommandFile → Type 0
 IsFaultlessFor order file = order ≢ File → file.fault ≡ None
 
--- how a run may end early
+-- where replies alone are asked for, memory is needed only if there are commands
+abbrev pub NeedsMemory : Order → List Command → Type 0
+NeedsMemory File commands = 0 < length commands
+NeedsMemory order commands = ⊤
+
+-- what the order wants was written, but for some of its end
+pub record StopsWriting (limits : Limits) (order : Order) (file : CommandFile) (old new : Option (List ℕ)) : Type 0 where
+  pub there : IsThere order (run_book limits file.commands)
+  pub front : IsReport limits order file.commands (AppendsFront old new)
+
+-- how a run may end early. The faults come in this order: `Line`, after the replies where they are asked for;
+-- `Memory` while the commands are filed; `NotRegistered`; `NoThread` or `Memory` while coefficients are computed;
+-- `Memory` or `Write` while the report is written
 abbrev pub EndsBy : Limits → Order → CommandFile → Option (List ℕ) → Option (List ℕ) → RunFault → Type 0
 EndsBy limits order file old new (Line fault) = EndsByLine limits order file fault old new
 EndsBy limits order file old new NotRegistered =
     (file.fault ≡ None) × IsAbsent order (run_book limits file.commands) × (new ≡ old)
 EndsBy limits order file old new NoThread = IsShared order × (file.fault ≡ None) × (new ≡ old)
 EndsBy limits order file old new Memory =
-    IsFaultlessFor order file × ((new ≡ old) ⊎ IsReport limits order file.commands (AppendsFront old new))
-EndsBy limits order file old new Write = IsFaultlessFor order file × IsReport limits order file.commands (AppendsFront old new)
+    IsFaultlessFor order file × NeedsMemory order file.commands × ((new ≡ old) ⊎ StopsWriting limits order file old new)
+EndsBy limits order file old new Write = IsFaultlessFor order file × StopsWriting limits order file old new
 EndsBy limits order file old new NoPlace = ⊥

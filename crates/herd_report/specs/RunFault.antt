@@ -1,5 +1,5 @@
 -- The faults of a part of a run, as those of the run.
-use Rattle.std.specs.Prelude.{◌≡◌, ℕ, ◌<◌, List, ⊤, Option, Some, None}
+use Rattle.std.specs.Prelude.{◌≡◌, ◌⊎◌, ℕ, ◌<◌, List, ⊤, Option, Some, None}
 use Rattle.herd_pool.specs.declared.pool_fault.PoolFault.{PoolFault}
 use Rattle.herd_pool.specs.declared.pool_fault.PoolFault.TheVariants as pool
 use Rattle.herd_register.specs.declared.command.Command.{Command}
@@ -38,11 +38,17 @@ EndsFreezing limits file Memory = file.fault ≡ None
 EndsFreezing limits file Write = ⊥
 EndsFreezing limits file NoPlace = ⊥
 
+-- how a report whose coefficients are computed first may end early
+abbrev pub EndsReport : Option (List ℕ) → Option (List ℕ) → List ℕ → ReportFault → Type 0
+EndsReport old new text report.Write = AppendsFront old new text
+EndsReport old new text report.Memory = (new ≡ old) ⊎ AppendsFront old new text
+EndsReport old new text report.NotRegistered = ⊥
+
 -- how so many workers' list of coefficients may end early
 abbrev pub EndsListing : ℕ → Option (List ℕ) → Option (List ℕ) → List ℕ → RunFault → Type 0
 EndsListing workers old new text (Line fault) = ⊥
 EndsListing workers old new text NotRegistered = ⊥
 EndsListing workers old new text NoThread = (1 < workers) × (new ≡ old)
-EndsListing workers old new text Memory = AppendsFront old new text
+EndsListing workers old new text Memory = (new ≡ old) ⊎ AppendsFront old new text
 EndsListing workers old new text Write = AppendsFront old new text
 EndsListing workers old new text NoPlace = ⊥

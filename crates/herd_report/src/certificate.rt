@@ -35,7 +35,7 @@ pub fn write_certificate<W: Write, A: Allocator, F: Allocator, C: Allocator>(
     requires { AreCoefficients DEPTH_LIMIT frozen.now coefficients.now }
     ensures ok { OnOk result (Appends (W.contents writer.old) (W.contents writer.new)
         (certificate_text (book_of frozen.now) (coefficient (ancestry_of frozen.now) DEPTH_LIMIT number) number)) }
-    ensures err { OnErr result (AppendsFront (W.contents writer.old) (W.contents writer.new)
+    ensures err { IfErr result (λ fault. fault ≢ ReportFault.NotRegistered → AppendsFront (W.contents writer.old) (W.contents writer.new)
         (certificate_text (book_of frozen.now) (coefficient (ancestry_of frozen.now) DEPTH_LIMIT number) number)) }
     ensures absent { (result ≡ Err ReportFault.NotRegistered) ↔ (is_there (book_of frozen.now) number ≡ false) }
     ensures untouched { is_there (book_of frozen.now) number ≡ false → writer.new ≡ writer.old }

@@ -1,5 +1,5 @@
 // Filing commands in a register, one after the other at desk 0.
-ghost use Rattle.std.specs.Prelude.{◌≡◌, ◌<◌, ◌≤◌, [], IfOk, IfSome, OnOk, length};
+ghost use Rattle.std.specs.Prelude.{◌≡◌, ◌<◌, ◌≤◌, [], IfOk, IfSome, OnErr, OnOk, length};
 ghost use Rattle.herd_register.specs.Register.{AreLimits, book_of, with_step};
 ghost use Rattle.herd_register.specs.Run.{answer, commands_of, step_of};
 ghost use Rattle.herd_report.specs.CommandFile.{CommandFile, IsRead, commands};
@@ -29,6 +29,7 @@ pub(crate) fn file_commands<R: Read + Drop>(
     ensures file { IfOk result (λ filed. IfSome (R.remaining reader)
         (λ bytes. IsRead limits.steps (commands bytes limits.steps) (commands_of filed.register.journal) filed.fault)) }
     ensures filed { IfOk result (λ filed. HasFiled limits (commands_of filed.register.journal) filed.register) }
+    ensures some { OnErr result (IfSome (R.remaining reader) (λ bytes. 0 < length (commands bytes limits.steps).commands)) }
 {
     let mut register = Register::new(alloc, limits);
     let fault = match CommandReader::open(alloc, reader, limits.steps) {
@@ -48,6 +49,7 @@ fn file_each<R: Read>(
     ensures file { IfOk result (λ fault. (file : CommandFile) → HasGiven R.remaining file [] commands.old
         → IsRead register.old.limits.steps file (commands_of register.new.journal) fault) }
     ensures filed { OnOk result (HasFiled register.old.limits (commands_of register.new.journal) register.new) }
+    ensures some { OnErr result ((file : CommandFile) → HasGiven R.remaining file [] commands.old → 0 < length file.commands) }
 {
     loop {
         match commands.next_command() {

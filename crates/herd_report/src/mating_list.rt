@@ -32,7 +32,7 @@ pub fn write_mating<W: Write, A: Allocator + Clone, F: Allocator, C: Allocator>(
     ensures err { OnErr result (AppendsFront (W.contents writer.old) (W.contents writer.new) (mating_text (book_of frozen.now) dam sires.now)) }
     ensures fault { IfErr result (λ fault. fault ≢ ReportFault.NotRegistered) }
 {
-    let mut output = Output::new(alloc.clone()?);
+    let mut output = Output::new(&alloc);
     for sire in sires {
         output.pass_on(writer)?;
         push_advice(&mut output, &alloc, frozen, coefficients, *sire, dam)?;
@@ -42,7 +42,7 @@ pub fn write_mating<W: Write, A: Allocator + Clone, F: Allocator, C: Allocator>(
 
 // Adds the line of a sire.
 fn push_advice<A: Allocator + Clone, F: Allocator, C: Allocator>(
-    output: &mut Output<A>,
+    output: &mut Output<&A>,
     alloc: &A,
     frozen: &Frozen<F>,
     coefficients: &Coefficients<C>,

@@ -14,7 +14,7 @@ ghost use Rattle.herd_report.specs.InverseList.{inverse_text};
 ghost use Rattle.herd_report.specs.MatingList.{mating_text};
 ghost use Rattle.herd_report.specs.Output.{AppendsFront};
 ghost use Rattle.herd_report.specs.Run.{CanEndBy, EndsBy, IsAnswered, IsFrozenFile, IsOrder};
-ghost use Rattle.herd_report.specs.RunFault.{CanEndFreezing, EndsFreezing, EndsListing};
+ghost use Rattle.herd_report.specs.RunFault.{CanEndFreezing, EndsFreezing, EndsListing, EndsReport};
 
 use crate::certificate::write_certificate;
 use crate::command_file::read_commands;
@@ -148,7 +148,7 @@ fn certify<W: Write>(
 ) -> Result<(), ReportFault>
     ensures ok { OnOk result (Appends (W.contents writer.old) (W.contents writer.new)
         (certificate_text (book_of frozen.now) (coefficient (ancestry_of frozen.now) DEPTH_LIMIT number) number)) }
-    ensures err { OnErr result (AppendsFront (W.contents writer.old) (W.contents writer.new)
+    ensures err { IfErr result (λ fault. fault ≢ ReportFault.NotRegistered → AppendsFront (W.contents writer.old) (W.contents writer.new)
         (certificate_text (book_of frozen.now) (coefficient (ancestry_of frozen.now) DEPTH_LIMIT number) number)) }
     ensures absent { (result ≡ Err ReportFault.NotRegistered) ↔ (is_there (book_of frozen.now) number ≡ false) }
     ensures untouched { is_there (book_of frozen.now) number ≡ false → writer.new ≡ writer.old }
@@ -171,8 +171,7 @@ fn advise<W: Write>(
     writer: &mut W,
 ) -> Result<(), ReportFault>
     ensures ok { OnOk result (Appends (W.contents writer.old) (W.contents writer.new) (mating_text (book_of frozen.now) dam sires.now)) }
-    ensures err { OnErr result (AppendsFront (W.contents writer.old) (W.contents writer.new) (mating_text (book_of frozen.now) dam sires.now)) }
-    ensures fault { IfErr result (λ fault. fault ≢ ReportFault.NotRegistered) }
+    ensures err { IfErr result (EndsReport (W.contents writer.old) (W.contents writer.new) (mating_text (book_of frozen.now) dam sires.now)) }
 {
     let coefficients = coefficients_plain(alloc, frozen)?;
     write_mating(alloc, frozen, &coefficients, dam, sires, writer)
@@ -185,8 +184,7 @@ fn list_inverse<W: Write>(
     writer: &mut W,
 ) -> Result<(), ReportFault>
     ensures ok { OnOk result (Appends (W.contents writer.old) (W.contents writer.new) (inverse_text frozen.now)) }
-    ensures err { OnErr result (AppendsFront (W.contents writer.old) (W.contents writer.new) (inverse_text frozen.now)) }
-    ensures fault { IfErr result (λ fault. fault ≢ ReportFault.NotRegistered) }
+    ensures err { IfErr result (EndsReport (W.contents writer.old) (W.contents writer.new) (inverse_text frozen.now)) }
 {
     let coefficients = coefficients_plain(alloc, frozen)?;
     write_inverse(alloc, frozen, &coefficients, writer)

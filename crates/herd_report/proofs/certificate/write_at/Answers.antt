@@ -2,7 +2,7 @@ use Rattle.std.proofs.Common.{subst}
 use Rattle.std.proofs.lemmas.Result.{err_from_is_err_and, on_err_weaker, on_ok_weaker}
 use Rattle.std.specs.Io.KnownBytes.{Appends}
 use Rattle.herd_pedigree.specs.declared.TheConstants.{DEPTH_LIMIT, MOST_ANIMALS}
-use Rattle.herd_report.proofs.CertificateFacts.{certificate_made}
+use Rattle.herd_report.proofs.CertificateFacts.{certificate_made, some_certificate_at}
 use Rattle.herd_report.proofs.OutputFacts.{front_nothing}
 use Rattle.herd_report.specs.Output.{AppendsFront}
 use Rattle.herd_report.proofs.certificate.write_at.Goals as goal
@@ -10,12 +10,14 @@ use Rattle.herd_report.proofs.certificate.write_at.Goals as goal
 pub returns-in_err-push_animal-clause-err : goal.returns-in_err-push_animal-clause-err
 returns-in_err-push_animal-clause-err g c =
     let exit = err_from_is_err_and c.from_residual.result c.from_residual.ensures.1 in
-    rw exit.1 (front_nothing _ _)
+    let some = some_certificate_at DEPTH_LIMIT MOST_ANIMALS c.args.frozen.now c.len.ensures.frozen c.args.place c.row.result.now c.row.ensures c.args.numerator in
+    rw exit.1 (front_nothing _ _ some)
 
 pub returns-in_err-push_ancestors-clause-err : goal.returns-in_err-push_ancestors-clause-err
 returns-in_err-push_ancestors-clause-err g c =
     let exit = err_from_is_err_and c.from_residual-in_err-push_ancestors.result c.from_residual-in_err-push_ancestors.ensures.1 in
-    rw exit.1 (front_nothing _ _)
+    let some = some_certificate_at DEPTH_LIMIT MOST_ANIMALS c.args.frozen.now c.len.ensures.frozen c.args.place c.row.result.now c.row.ensures c.args.numerator in
+    rw exit.1 (front_nothing _ _ some)
 
 pub returns-clause-ok : goal.returns-clause-ok
 returns-clause-ok g c =

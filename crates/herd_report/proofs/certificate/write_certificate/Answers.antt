@@ -1,6 +1,6 @@
 use Rattle.std.proofs.Common.{◌≡◌, ◌∙◌, refl, subst, sym}
 use Rattle.std.proofs.lemmas.Bool.{false≢true}
-use Rattle.std.proofs.lemmas.Result.{IfErr-at_err, on_err_weaker, on_ok_weaker}
+use Rattle.std.proofs.lemmas.Result.{IfErr-at_err, IfErr-weaker, on_ok_weaker}
 use Rattle.std.specs.Io.KnownBytes.{Appends}
 use Rattle.herd_pedigree.specs.declared.TheConstants.{DEPTH_LIMIT}
 use Rattle.herd_report.proofs.CertificateFacts.{certificate_text-number, number_is_there}
@@ -19,7 +19,8 @@ pub returns-in-Some-clause-err : goal.returns-in-Some-clause-err
 returns-in-Some-clause-err g c =
     let text = certificate_text-number DEPTH_LIMIT c.args.frozen.now c.args.coefficients.now c.requires c.in-Some.place c.args.number c.numerator.result
     c.in-Some.ensures.place c.numerator.ensures.value in
-    on_err_weaker c.write_at.result (subst (AppendsFront (g.W.Write.contents c.args.writer.now) (g.W.Write.contents c.write_at.new.writer)) text) c.write_at.ensures.err
+    IfErr-weaker c.write_at.result _ _
+    (λ fault front other. subst (AppendsFront (g.W.Write.contents c.args.writer.now) (g.W.Write.contents c.write_at.new.writer)) text front) c.write_at.ensures.err
 
 pub returns-in-Some-clause-absent : goal.returns-in-Some-clause-absent
 returns-in-Some-clause-absent g c =

@@ -1,8 +1,10 @@
 -- A command that was filed is the last of those that the reader gave.
 use Rattle.std.proofs.Common.{◌≡◌, ◌∙◌, ◌+◌, ◌++◌, ◌∷◌, [], ap, length}
 use Rattle.std.proofs.lemmas.List.{length_push}
+use Rattle.std.proofs.lemmas.Result.{err_from_is_err_and}
 use Rattle.herd_register.specs.Register.{Register}
 use Rattle.herd_register.specs.Run.{commands_of}
+use Rattle.herd_report.proofs.CommandReaderFacts.{some_given}
 use Rattle.herd_report.proofs.RunFacts.{commands_of-filed, filed-more}
 use Rattle.herd_report.proofs.filing.file_each.Goals as goal
 
@@ -29,3 +31,10 @@ pub returns-in-Ok-None-clause-file : goal.returns-in-Ok-None-clause-file
 returns-in-Ok-None-clause-file g c =
     let ends = rw c.in-Ok-None.field-0-is at c.in-Ok-None.ensures.gives in
     λ file before. ends file (commands_of c.loop-command.register.journal) (c.loop-command.invariant.gives file before)
+
+pub returns-in_err-file_next-in-Ok-Some-clause-some : goal.returns-in_err-file_next-in-Ok-Some-clause-some
+returns-in_err-file_next-in-Ok-Some-clause-some g c =
+    let exit = err_from_is_err_and c.from_residual.result c.from_residual.ensures.1 in
+    let gives = rw c.in-Ok-Some.field-0-is at c.in-Ok-Some.ensures.gives in
+    let list = commands_of c.loop-command.register.journal in
+    rw exit.1 (λ file before. some_given g.R.Read.remaining file list c.in-Ok-Some.command _ (gives file list (c.loop-command.invariant.gives file before)))

@@ -4,9 +4,9 @@ use Rattle.herd_pedigree.specs.declared.TheConstants.{DEPTH_LIMIT}
 use Rattle.herd_pedigree.specs.declared.frozen.Row.{Row}
 use Rattle.herd_kinship.specs.FrozenAncestry.{ancestry_of}
 use Rattle.herd_kinship.specs.Table.{coefficient}
-use Rattle.herd_report.proofs.CoefficientFacts.{numerator_is}
+use Rattle.herd_report.proofs.CoefficientFacts.{numerator_is, some_coefficient_line}
 use Rattle.herd_report.proofs.OutputFacts.{front_passed, front_waiting, holds_passed}
-use Rattle.herd_report.proofs.Pieces.{holds_element}
+use Rattle.herd_report.proofs.Pieces.{holds_element, some_left}
 use Rattle.herd_report.specs.CoefficientText.{coefficient_line}
 use Rattle.herd_report.proofs.inbreeding_list.write_inbreeding.Goals as goal
 
@@ -18,7 +18,11 @@ returns-in_err-pass_on-clause-err g c =
 pub returns-in_err-push_coefficient_line-clause-err : goal.returns-in_err-push_coefficient_line-clause-err
 returns-in_err-push_coefficient_line-clause-err g c =
     let exit = err_from_is_err_and c.from_residual-in_err-push_coefficient_line.result c.from_residual-in_err-push_coefficient_line.ensures.1 in
-    rw exit.1 (front_passed (holds_passed c.loop-place.invariant c.in_ok-pass_on.ensures.ok))
+    let row = c.row.result.now in
+    let rows = c.args.frozen.now in
+    let line = λ (r : Row). coefficient_line r.number (coefficient (ancestry_of rows) DEPTH_LIMIT r.number) in
+    let some = some_left line rows c.loop-place.place row c.row.ensures (some_coefficient_line row.number (coefficient (ancestry_of rows) DEPTH_LIMIT row.number)) in
+    rw exit.1 (front_passed (holds_passed c.loop-place.invariant c.in_ok-pass_on.ensures.ok) some)
 
 pub loop-place-preserved : goal.loop-place-preserved
 loop-place-preserved g c =

@@ -4,7 +4,8 @@ use Rattle.std.proofs.lemmas.List.{drop_all}
 use Rattle.std.proofs.lemmas.List.FromFn.{length-range_with_len}
 use Rattle.std.proofs.lemmas.Result.{err_from_is_err_and, on_err_weaker, on_ok_weaker}
 use Rattle.herd_report.proofs.OutputFacts.{appends_waiting, front_passed, front_waiting, holds_passed}
-use Rattle.herd_report.proofs.Pieces.{holds_element, slice_get-range}
+use Rattle.herd_report.proofs.Pieces.{holds_element, slice_get-range, some_left}
+use Rattle.herd_report.proofs.ContributionFacts.{some_contributions_text}
 use Rattle.herd_report.specs.InverseList.{contributions_text}
 use Rattle.herd_report.proofs.inverse_list.write_inverse.Goals as goal
 
@@ -16,7 +17,11 @@ returns-in_err-pass_on-clause-err g c =
 pub returns-in_err-push_contributions-clause-err : goal.returns-in_err-push_contributions-clause-err
 returns-in_err-push_contributions-clause-err g c =
     let exit = err_from_is_err_and c.from_residual-in_err-push_contributions.result c.from_residual-in_err-push_contributions.ensures.1 in
-    rw exit.1 (front_passed (holds_passed c.loop-place.invariant c.in_ok-pass_on.ensures.ok))
+    let rows = c.args.frozen.now in
+    let place = c.loop-place.place in
+    let within : place < length rows = omega arith in
+    let some = some_left (contributions_text rows) (range_with_len 0 (length rows)) place place (slice_get-range (length rows) place within) (some_contributions_text rows place) in
+    rw exit.1 (front_passed (holds_passed c.loop-place.invariant c.in_ok-pass_on.ensures.ok) some)
 
 pub loop-place-preserved : goal.loop-place-preserved
 loop-place-preserved g c =

@@ -2,14 +2,19 @@
 use Rattle.std.proofs.Common.{◌∙◌, sym}
 use Rattle.std.proofs.lemmas.Bool.{false≢true}
 use Rattle.std.proofs.lemmas.Result.{err_from_is_err_and}
-use Rattle.herd_report.proofs.CertificateFacts.{number_is_there}
+use Rattle.herd_pedigree.specs.Frozen.{book_of}
+use Rattle.herd_pedigree.specs.declared.TheConstants.{DEPTH_LIMIT}
+use Rattle.herd_kinship.specs.FrozenAncestry.{ancestry_of}
+use Rattle.herd_kinship.specs.Table.{coefficient}
+use Rattle.herd_report.proofs.CertificateFacts.{number_is_there, some_certificate_text}
 use Rattle.herd_report.proofs.OutputFacts.{front_nothing}
 use Rattle.herd_report.proofs.orders.certify.Goals as goal
 
 pub returns-in_err-coefficients-in-Some-clause-err : goal.returns-in_err-coefficients-in-Some-clause-err
 returns-in_err-coefficients-in-Some-clause-err g c =
     let exit = err_from_is_err_and c.from_residual.result c.from_residual.ensures.1 in
-    rw exit.1 (front_nothing _ _)
+    let there = number_is_there c.args.frozen.now c.in-Some.field-0 c.args.number c.in-Some.ensures.place in
+    rw exit.1 (λ other. front_nothing _ _ (some_certificate_text (book_of c.args.frozen.now) (coefficient (ancestry_of c.args.frozen.now) DEPTH_LIMIT c.args.number) c.args.number there))
 
 pub returns-in_err-coefficients-in-Some-clause-absent : goal.returns-in_err-coefficients-in-Some-clause-absent
 returns-in_err-coefficients-in-Some-clause-absent g c =
