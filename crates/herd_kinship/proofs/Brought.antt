@@ -88,7 +88,7 @@ cond_le : (t : Bool) (a b m : ℕ) → a ≤ m → b ≤ m → cond t a b ≤ m
 cond_le true a b m la lb = la
 cond_le false a b m la lb = lb
 
-option_cases : {A : Type 0} (o : Option A) → (o ≡ None) ⊎ ((p : A) × (o ≡ Some p))
+pub option_cases : {A : Type 0} (o : Option A) → (o ≡ None) ⊎ ((p : A) × (o ≡ Some p))
 option_cases None = inl refl
 option_cases (Some p) = inr (p, refl)
 

@@ -39,7 +39,7 @@ shared-swap kin l x y =
     (λ j _. omega arith)
 
 -- 2 t u m where 2 u is a + b
-term_halved : (t u a b m : ℕ) → 2 * u ≡ a + b → 2 * (t * u * m) ≡ t * a * m + t * b * m
+pub term_halved : (t u a b m : ℕ) → 2 * u ≡ a + b → 2 * (t * u * m) ≡ t * a * m + t * b * m
 term_halved t u a b m e =
     let left : 2 * (t * u * m) ≡ t * (2 * u) * m = omega arith in
     rw (left, e) (omega arith)

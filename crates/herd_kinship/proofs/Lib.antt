@@ -26,3 +26,8 @@ pub mod MatingFacts
 pub mod ContributionFacts
 pub mod PendingFacts
 pub mod UnderWayFacts
+pub mod ColumnSums
+pub mod ColumnFacts
+pub mod PassedOn
+pub mod Collecting
+pub mod BySires

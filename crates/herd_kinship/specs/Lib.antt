@@ -11,3 +11,4 @@ pub mod Tracing
 pub mod Fraction
 pub mod Mating
 pub mod Contributions
+pub mod Columns

@@ -2,6 +2,7 @@
 
 ghost use Rattle.std.specs.Prelude.{◌<◌, length};
 ghost use Rattle.herd_pedigree.specs.declared.TheConstants.{DEPTH_LIMIT};
+ghost use Rattle.herd_kinship.specs.Columns.{IsColumn};
 ghost use Rattle.herd_kinship.specs.FrozenAncestry.{number_at};
 ghost use Rattle.herd_kinship.specs.Laws.{KeepsHalves, IsBounded, IsDecomposed, IsDiagonalised};
 
@@ -40,6 +41,15 @@ pub fn inverse_rows<A: Allocator>(frozen: &Frozen<A>, x: u32, y: u32)
     requires first { x < length frozen.now }
     requires second { y < length frozen.now }
     ensures { IsDiagonalised DEPTH_LIMIT frozen.now (number_at frozen.now x) (number_at frozen.now y) }
+{
+    frozen.len();
+}
+
+/// The relationships of an animal with all others are passed on from parents to offspring.
+pub fn column<A: Allocator>(frozen: &Frozen<A>, s: u32, j: u32)
+    requires first { s < length frozen.now }
+    requires second { j < length frozen.now }
+    ensures { IsColumn DEPTH_LIMIT frozen.now s j }
 {
     frozen.len();
 }

@@ -2,6 +2,7 @@
 #![tactic(auto)]
 
 mod coefficients;
+mod columns;
 mod entries;
 mod fractions;
 mod inverse;
