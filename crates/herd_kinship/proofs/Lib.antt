@@ -26,8 +26,10 @@ pub mod MatingFacts
 pub mod ContributionFacts
 pub mod PendingFacts
 pub mod UnderWayFacts
+pub mod ParentsFacts
 pub mod ColumnSums
 pub mod ColumnFacts
 pub mod PassedOn
 pub mod Collecting
+pub mod CalfFacts
 pub mod BySires

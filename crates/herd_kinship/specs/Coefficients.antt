@@ -4,6 +4,7 @@ use Rattle.herd_pedigree.specs.declared.frozen.Row.{Row}
 use Rattle.herd_kinship.specs.Ancestry.{IsAncestor}
 use Rattle.herd_kinship.specs.Table.{coefficient}
 use Rattle.herd_kinship.specs.FrozenAncestry.{ancestry_of, number_at}
+use Rattle.herd_kinship.specs.Places.{sire_place, dam_place}
 
 -- there is a numerator for each animal, and it is its coefficient
 pub record AreCoefficients (l : ℕ) (rows : List Row) (numerators : List ℕ) : Type 0 where
@@ -25,3 +26,12 @@ quarter_of l known (Some p) = (2 ^ (2 * l) + slice_index known p) / 4
 pub record IsKnownParent (l : ℕ) (known : List ℕ) (parent : ℕ) : Type 0 where
   pub within : parent < length known
   pub below_one : slice_index known parent < 2 ^ (2 * l)
+
+-- a parent of the animal is unknown, or its sire stands below the border
+abbrev pub IsReached : List Row → ℕ → ℕ → Type 0
+IsReached rows border x = (s d : ℕ) → sire_place rows x ≡ Some s → dam_place rows x ≡ Some d → s < border
+
+-- there is a numerator for each animal, and at those that are reached it is their coefficient
+pub record KnowsReached (l : ℕ) (rows : List Row) (border : ℕ) (known : List ℕ) : Type 0 where
+  pub each : length known ≡ length rows
+  pub right : (x : ℕ) → x < length rows → IsReached rows border x → slice_index known x ≡ coefficient (ancestry_of rows) l (number_at rows x)

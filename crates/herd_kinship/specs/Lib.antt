@@ -12,3 +12,5 @@ pub mod Fraction
 pub mod Mating
 pub mod Contributions
 pub mod Columns
+pub mod CalfLinks
+pub mod Mates

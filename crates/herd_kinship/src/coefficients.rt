@@ -1,8 +1,11 @@
-ghost use Rattle.std.specs.Prelude.{◌≡◌, ◌*◌, ◌^◌, ◌<◌, All, length, slice_index, IfOk};
+ghost use Rattle.std.specs.Prelude.{◌≡◌, ◌+◌, ◌*◌, ◌^◌, ◌<◌, All, length, slice_index, IfOk};
 ghost use Rattle.herd_pedigree.specs.declared.TheConstants.{DEPTH_LIMIT};
-ghost use Rattle.herd_kinship.specs.Coefficients.{AreCoefficients};
+ghost use Rattle.herd_kinship.specs.CalfLinks.{AreLinked};
+ghost use Rattle.herd_kinship.specs.Coefficients.{AreCoefficients, KnowsReached};
+ghost use Rattle.herd_kinship.specs.Mates.{IsReady};
 
-use crate::tracing::{inbred, trace};
+use crate::calves::Calves;
+use crate::mates::Mates;
 use herd_pedigree::Frozen;
 use std::alloc::{AllocError, Allocator};
 use std::marker::Model;
@@ -58,16 +61,45 @@ impl<A: Allocator> Coefficients<A> {
     }
 }
 
-/// The coefficients of all animals, traced one after another.
+/// Writes the coefficients of a sire's calves, by those of its ancestors.
+fn write_calves<F: Allocator, C: Allocator, A: Allocator + Clone>(
+    alloc: A,
+    frozen: &Frozen<F>,
+    calves: &Calves<C>,
+    mates: &mut Mates<A>,
+    sire: u32,
+    known: &mut [u128],
+) -> Result<(), AllocError>
+    requires sire { sire < length frozen.now }
+    requires calves { AreLinked frozen.now (length frozen.now) calves.now.latest.items calves.now.earlier.items }
+    requires ready { IsReady (length frozen.now) mates.old.marked.words.items mates.old.column.items }
+    requires known { KnowsReached DEPTH_LIMIT frozen.now sire known.old }
+    ensures ready { IfOk result (λ _. IsReady (length frozen.now) mates.new.marked.words.items mates.new.column.items) }
+    ensures known { IfOk result (λ _. KnowsReached DEPTH_LIMIT frozen.now (sire + 1) known.new) }
+{
+    frozen.len();
+    if calves.latest[sire as usize].is_some() {
+        mates.relate_to(alloc, frozen, calves, known, sire)?;
+        calves.write_coefficients(frozen, sire, &mates.column, known);
+    }
+    Ok(())
+}
+
+/// The coefficients of all animals.
+///
+/// The sires are gone through in age order, each once: half its relationship with a mate is the coefficient of
+/// their calf (Colleau 2002; Sargolzaei, Iwaisaki and Colleau 2005).
 pub fn coefficients_plain<F: Allocator, A: Allocator + Clone>(
     alloc: A,
     frozen: &Frozen<F>,
 ) -> Result<Coefficients<A>, AllocError>
     ensures { IfOk result (AreCoefficients DEPTH_LIMIT frozen.now) }
 {
+    let calves = Calves::of(alloc.clone()?, frozen)?;
+    let mut mates = Mates::with_room(alloc.clone()?, frozen.len())?;
     let mut known = vec![in alloc.clone()?; 0u128; frozen.len() as usize]?;
-    for place in 0..frozen.len() {
-        known[place as usize] = inbred(trace(alloc.clone()?, frozen, &known, place)?);
+    for sire in 0..frozen.len() {
+        write_calves(alloc.clone()?, frozen, &calves, &mut mates, sire, &mut known)?;
     }
     Ok(Coefficients::from_list(known))
 }

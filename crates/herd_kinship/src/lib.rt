@@ -1,12 +1,14 @@
 //! Relationships of a frozen book's animals: the laws of their table, tracing, mating and contributions.
 #![tactic(auto)]
 
+mod calves;
 mod coefficients;
 mod columns;
 mod entries;
 mod fractions;
 mod inverse;
 pub mod laws;
+mod mates;
 mod mating_advice;
 mod numerators;
 mod pending;

@@ -109,7 +109,7 @@ impl<A: Allocator> Tracing<A> {
 }
 
 /// The parents and the depth of the animal at a place.
-fn parents_at<F: Allocator>(frozen: &Frozen<F>, place: u32) -> Parents
+pub fn parents_at<F: Allocator>(frozen: &Frozen<F>, place: u32) -> Parents
     requires { place < length frozen.now }
     ensures { AreParentsAt frozen.now place result }
 {

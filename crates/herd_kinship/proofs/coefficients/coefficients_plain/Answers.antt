@@ -1,31 +1,37 @@
-use Rattle.std.proofs.Common.{◌≡◌, ℕ, ◌-◌, ◌^◌, ◌<◌, List, length, min, arith, sym, ap, subst, ◌∙◌}
-use Rattle.std.proofs.lemmas.List.{length-set}
-use Rattle.std.proofs.lemmas.List.Elements.{All-set}
+use Rattle.std.proofs.Common.{◌≡◌, ℕ, ◌*◌, ◌^◌, ◌<◌, length, replicate, arith, sym, ◌∙◌, ap, subst}
+use Rattle.std.proofs.lemmas.List.{get_or-replicate, length-replicate}
 use Rattle.herd_pedigree.specs.declared.TheConstants.{DEPTH_LIMIT, MOST_ANIMALS}
-use Rattle.herd_kinship.specs.Coefficients.{KnowsAncestors}
-use Rattle.herd_kinship.specs.FrozenAncestry.{ancestry_of, number_at}
-use Rattle.herd_kinship.specs.Table.{coefficient}
-use Rattle.herd_kinship.proofs.KnownFacts.{frozen-inbred_value, known-from_below, right-more}
+use Rattle.herd_kinship.specs.Coefficients.{AreCoefficients, KnowsReached}
+use Rattle.herd_kinship.proofs.BySires.{reached-start, reached-end, coefficients-below_one}
 use Rattle.herd_kinship.proofs.coefficients.coefficients_plain.Goals as goal
 
-pub trace-requires-clause-known : goal.trace-requires-clause-known
-trace-requires-clause-known g c =
-    subst (λ known. KnowsAncestors DEPTH_LIMIT c.args.frozen.now known c.loop-place.place) (sym c.deref.ensures.value)
-    (known-from_below DEPTH_LIMIT MOST_ANIMALS c.args.frozen.now c.len.ensures.frozen c.loop-place.known.items c.loop-place.place
-    (let end = c.loop-place-test.true in let all = c.len-place-end.ensures.value in omega arith) c.loop-place.invariant.each c.loop-place.invariant.right)
-
-pub loop-place-preserved : goal.loop-place-preserved
-loop-place-preserved g c =
+pub loop-sire-init : goal.loop-sire-init
+loop-sire-init g c =
     let rows = c.args.frozen.now in
-    let xs : List ℕ = c.loop-place.known.items in
-    let i : ℕ = c.loop-place.place in
-    let each : length xs ≡ length rows = c.loop-place.invariant.each in
-    let within : i < length rows = (let end = c.loop-place-test.true in let all = c.len-place-end.ensures.value in omega arith) in
-    let right : c.inbred.result ≡ coefficient (ancestry_of rows) DEPTH_LIMIT (number_at rows i) =
-    c.inbred.ensures.value ∙ (ap (λ v. min (v - 2 ^ 120) (2 ^ 120 - 1)) c.in_ok-trace.ensures
-    ∙ frozen-inbred_value DEPTH_LIMIT MOST_ANIMALS rows c.len.ensures.frozen i within) in
+    let all = c.len-2.ensures.value in
+    let items = c.in_ok-known.ensures.items_if_clones_equal (λ y e. e) in
     record {
-      each = length-set xs i c.inbred.result ∙ each;
-      below_one = All-set (λ n. n < 2 ^ 120) xs i c.inbred.result c.inbred.ensures.below_one c.loop-place.invariant.below_one;
-      right = right-more xs (λ p. coefficient (ancestry_of rows) DEPTH_LIMIT (number_at rows p)) i c.inbred.result (omega arith) right c.loop-place.invariant.right;
+      ready = rw (← c.len.ensures.value) c.in_ok-mates.ensures;
+      known = rw (items, all) (reached-start DEPTH_LIMIT MOST_ANIMALS rows c.len.ensures.frozen (replicate (length rows) 0) (length-replicate (length rows) 0)
+          (λ x lx. get_or-replicate (length rows) x 0 0 lx));
     }
+
+pub from_list-requires : goal.from_list-requires
+from_list-requires g c =
+    let rows = c.args.frozen.now in
+    let end = c.len-sire-end.ensures.value in
+    let past = c.loop-sire-test.false in
+    let within = c.loop-sire.auto.sire-end in
+    let all : c.loop-sire.sire ≡ length rows = omega arith in
+    coefficients-below_one DEPTH_LIMIT MOST_ANIMALS rows c.len.ensures.frozen c.loop-sire.known.items
+    (reached-end DEPTH_LIMIT MOST_ANIMALS rows c.len.ensures.frozen c.loop-sire.known.items (subst (λ n. KnowsReached DEPTH_LIMIT rows n c.loop-sire.known.items) all c.loop-sire.invariant.known))
+
+pub returns : goal.returns
+returns g c =
+    let rows = c.args.frozen.now in
+    let end = c.len-sire-end.ensures.value in
+    let past = c.loop-sire-test.false in
+    let within = c.loop-sire.auto.sire-end in
+    let all : c.loop-sire.sire ≡ length rows = omega arith in
+    rw c.from_list.ensures
+    (reached-end DEPTH_LIMIT MOST_ANIMALS rows c.len.ensures.frozen c.loop-sire.known.items (subst (λ n. KnowsReached DEPTH_LIMIT rows n c.loop-sire.known.items) all c.loop-sire.invariant.known))

@@ -1,0 +1,20 @@
+-- What the parents and the depth of a row say of its place.
+use Rattle.std.proofs.Common.{ℕ, ◌<◌, ◌≡◌, List, length, refl, sym, ◌∙◌, ap}
+use Rattle.std.proofs.lemmas.Option.{slice_get_within}
+use Rattle.herd_pedigree.specs.declared.frozen.Parents.{Parents}
+use Rattle.herd_pedigree.specs.declared.frozen.Row.{Row}
+use Rattle.herd_pedigree.specs.Frozen.{depth_at}
+use Rattle.herd_kinship.specs.Places.{AreParentsAt, sire_place, dam_place}
+use Rattle.herd_kinship.proofs.FrozenDepths.{depth_at-row}
+
+pub parents-sire : (rows : List Row) (i : ℕ) (parents : Parents) → AreParentsAt rows i parents → sire_place rows i ≡ parents.sire
+parents-sire rows i parents at = rw (at.there, at.same) refl
+
+pub parents-dam : (rows : List Row) (i : ℕ) (parents : Parents) → AreParentsAt rows i parents → dam_place rows i ≡ parents.dam
+parents-dam rows i parents at = rw (at.there, at.same) refl
+
+pub parents-depth : (rows : List Row) (i : ℕ) (parents : Parents) → AreParentsAt rows i parents → depth_at rows i ≡ parents.depth
+parents-depth rows i parents at = depth_at-row rows i at.row at.there ∙ sym (ap (λ p. p.depth) at.same)
+
+pub parents-within : (rows : List Row) (i : ℕ) (parents : Parents) → AreParentsAt rows i parents → i < length rows
+parents-within rows i parents at = slice_get_within rows i at.row at.there

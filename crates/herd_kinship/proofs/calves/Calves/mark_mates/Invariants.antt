@@ -1,0 +1,16 @@
+use Rattle.std.proofs.Common.{◌≡◌, ℕ, ◌*◌, ◌-◌, ◌<◌, ◌≤◌, length, Some}
+use Rattle.herd_kinship.specs.Pending.{mark}
+use Rattle.herd_kinship.specs.Places.{dam_place}
+use Rattle.herd_kinship.proofs.CalfFacts.{left_from, IsWalked}
+use Rattle.herd_kinship.proofs.calves.Calves.mark_mates.Given as goal
+
+-- the dams of the calves so far are marked
+abbrev pub invariant-loop-link : goal.invariant-loop-link
+invariant-loop-link g l = record {
+  room : l.last < 64 * length l.marked.words.items;
+  near : (e : ℕ) → mark l.marked.words.items e ≡ 1 → e ≤ l.last;
+  walked : IsWalked l.frozen l.sire l.link (λ x. (d : ℕ) → dam_place l.frozen x ≡ Some d → mark l.marked.words.items (l.last - d) ≡ 1);
+}
+
+abbrev pub decreases-loop-link : goal.decreases-loop-link
+decreases-loop-link g l = left_from l.link

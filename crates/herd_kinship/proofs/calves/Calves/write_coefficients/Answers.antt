@@ -1,0 +1,83 @@
+use Rattle.std.proofs.Common.{◌≡◌, ℕ, ◌+◌, ◌/◌, ◌<◌, inr, List, length, get_or, None, Some, arith, refl, sym, ◌∙◌, ap, subst}
+use Rattle.std.proofs.lemmas.List.{get_or-set_same, get_or-set_other, length-set}
+use Rattle.herd_pedigree.specs.declared.TheConstants.{DEPTH_LIMIT, MOST_ANIMALS}
+use Rattle.herd_kinship.specs.CalfLinks.{IsCalf, IsLink}
+use Rattle.herd_kinship.specs.Columns.{at_parent}
+use Rattle.herd_kinship.specs.Places.{dam_place}
+use Rattle.herd_kinship.proofs.CalfFacts.{calf-within, latest-link, left_from, left-smaller, next-link, IsWalked, walked-start, walked-next}
+use Rattle.herd_kinship.proofs.FrozenFacts.{frozen-placed}
+use Rattle.herd_kinship.proofs.ParentsFacts.{parents-dam}
+use Rattle.herd_kinship.proofs.calves.Calves.write_coefficients.Goals as goal
+
+pub loop-link-init : goal.loop-link-init
+loop-link-init g c =
+    let rows = c.args.frozen.now in
+    let s : ℕ = c.args.sire in
+    let is = latest-link rows s c.args.self.now.latest.items c.args.self.now.earlier.items c.index-link.result.now c.requires.sire c.requires.calves c.index-link.ensures in
+    record {
+      each = c.requires.known;
+      others = λ x none. refl;
+      walked = walked-start rows s c.index-link.result.now _ is;
+    }
+
+pub parents_at-requires : goal.parents_at-requires
+parents_at-requires g c = calf-within c.args.frozen.now c.args.sire c.in-Some.calf (c.loop-link.invariant.walked.next c.in-Some.calf c.in-Some.is)
+
+pub with_parent-requires : goal.with_parent-requires
+with_parent-requires g c =
+    let rows = c.args.frozen.now in
+    let z : ℕ = c.in-Some.calf in
+    let lz : z < length rows = calf-within rows c.args.sire z (c.loop-link.invariant.walked.next z c.in-Some.is) in
+    let column : length c.args.column.now ≡ length rows = c.requires.column in
+    λ d e.
+    let lower : d < z = (frozen-placed DEPTH_LIMIT MOST_ANIMALS rows c.len.ensures.frozen).below z d lz (inr (parents-dam rows z c.parents_at.result c.parents_at.ensures ∙ e)) in
+    omega arith
+
+pub bounds-known-calf : goal.bounds-known-calf
+bounds-known-calf g c =
+    let rows = c.args.frozen.now in
+    let z : ℕ = c.in-Some.calf in
+    let lz : z < length rows = calf-within rows c.args.sire z (c.loop-link.invariant.walked.next z c.in-Some.is) in
+    let each : length c.loop-link.known ≡ length rows = c.loop-link.invariant.each in
+    omega arith
+
+pub index-link-requires-in-Some : goal.index-link-requires-in-Some
+index-link-requires-in-Some g c =
+    let rows = c.args.frozen.now in
+    let z : ℕ = c.in-Some.calf in
+    let lz : z < length rows = calf-within rows c.args.sire z (c.loop-link.invariant.walked.next z c.in-Some.is) in
+    let each : length c.args.self.now.earlier.items ≡ length rows = c.requires.calves.each_calf in
+    let ok = c.args.self.now.earlier.ok in
+    omega arith
+
+pub loop-link-smaller : goal.loop-link-smaller
+loop-link-smaller g c =
+    let rows = c.args.frozen.now in
+    let z : ℕ = c.in-Some.calf in
+    let is : IsLink rows c.args.sire z c.index-link-in-Some.result.now =
+    next-link rows c.args.sire z c.args.self.now.latest.items c.args.self.now.earlier.items c.index-link-in-Some.result.now c.requires.calves
+    (c.loop-link.invariant.walked.next z c.in-Some.is) c.index-link-in-Some.ensures in
+    subst (λ o. left_from c.index-link-in-Some.result.now < left_from o) (sym c.in-Some.is) (left-smaller rows c.args.sire z c.index-link-in-Some.result.now is)
+
+pub loop-link-preserved : goal.loop-link-preserved
+loop-link-preserved g c =
+    let rows = c.args.frozen.now in
+    let z : ℕ = c.in-Some.calf in
+    let known : List ℕ = c.loop-link.known in
+    let value : ℕ = c.with_parent.result / 2 in
+    let calf : IsCalf rows c.args.sire z = c.loop-link.invariant.walked.next z c.in-Some.is in
+    let lz : z < length rows = calf-within rows c.args.sire z calf in
+    let each : length known ≡ length rows = c.loop-link.invariant.each in
+    let is : IsLink rows c.args.sire z c.index-link-in-Some.result.now =
+    next-link rows c.args.sire z c.args.self.now.latest.items c.args.self.now.earlier.items c.index-link-in-Some.result.now c.requires.calves calf c.index-link-in-Some.ensures in
+    let right : value ≡ at_parent c.args.column.now (dam_place rows z) / 2 =
+    ap (λ v. v / 2) c.with_parent.ensures ∙ ap (λ o. at_parent c.args.column.now o / 2) (sym (parents-dam rows z c.parents_at.result c.parents_at.ensures)) in
+    record {
+      each = length-set known z value ∙ each;
+      others = λ x none.
+          get_or-set_other known z x value 0 (λ same. none (subst (λ v. IsCalf rows c.args.sire v) (sym same) calf)) ∙ c.loop-link.invariant.others x none;
+      walked = walked-next rows c.args.sire z c.index-link-in-Some.result.now (λ x. get_or known x 0 ≡ at_parent c.args.column.now (dam_place rows x) / 2) _ is
+          (λ x zx done. get_or-set_other known z x value 0 (λ same. omega arith) ∙ done)
+          (get_or-set_same known z value 0 (omega arith) ∙ right)
+          (subst (λ o. IsWalked rows c.args.sire o (λ x. get_or known x 0 ≡ at_parent c.args.column.now (dam_place rows x) / 2)) c.in-Some.is c.loop-link.invariant.walked);
+    }

@@ -1,0 +1,21 @@
+-- The calves of each sire of which the dam is known too, linked from the youngest to the oldest. Animals are named
+-- by their places.
+use Rattle.std.specs.Prelude.{◌≡◌, ℕ, ◌<◌, ◌≤◌, List, length, slice_index_or, Option, None, Some}
+use Rattle.herd_pedigree.specs.declared.frozen.Row.{Row}
+use Rattle.herd_kinship.specs.Places.{sire_place, dam_place}
+
+-- x is a calf of s and of a known dam
+abbrev pub IsCalf : List Row → ℕ → ℕ → Type 0
+IsCalf rows s x = (sire_place rows x ≡ Some s) × (d : ℕ) × (dam_place rows x ≡ Some d)
+
+-- the link leads to the youngest calf of s below a border, if there is one
+pub record IsLink (rows : List Row) (s border : ℕ) (link : Option ℕ) : Type 0 where
+  pub calf : (y : ℕ) → link ≡ Some y → (y < border) × IsCalf rows s y
+  pub youngest : (x : ℕ) → x < border → IsCalf rows s x → (y : ℕ) × (link ≡ Some y) × (x ≤ y)
+
+-- the links among the calves below a border
+pub record AreLinked (rows : List Row) (border : ℕ) (latest earlier : List (Option ℕ)) : Type 0 where
+  pub each_sire : length latest ≡ length rows
+  pub each_calf : length earlier ≡ length rows
+  pub latest_is : (s : ℕ) → s < length rows → IsLink rows s border (slice_index_or latest s None)
+  pub earlier_is : (s x : ℕ) → x < border → IsCalf rows s x → IsLink rows s x (slice_index_or earlier x None)

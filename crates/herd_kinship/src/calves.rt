@@ -1,0 +1,100 @@
+ghost use Rattle.std.specs.Prelude.{◌≡◌, ℕ, ◌+◌, ◌*◌, ◌-◌, ◌/◌, ◌<◌, ◌≤◌, ◌⊎◌, is_some, length, slice_index, true, IfOk, IfSome, IfNone, None, Some};
+ghost use Rattle.herd_kinship.specs.CalfLinks.{AreLinked, IsCalf};
+ghost use Rattle.herd_kinship.specs.Pending.{mark};
+ghost use Rattle.herd_kinship.specs.Places.{sire_place, dam_place};
+
+use crate::columns::{mark_parent, with_parent};
+use crate::pending::Pending;
+use crate::tracing::parents_at;
+use herd_pedigree::{Frozen, Parents};
+use std::alloc::{AllocError, Allocator};
+
+/// The calves of each sire, those of which the dam is known too, linked from the youngest to the oldest.
+#[derive(Drop)]
+pub struct Calves<A: Allocator> {
+    /// By the sire's place, its youngest calf.
+    pub latest: Vec<Option<u32>, A>,
+    /// By the calf's place, the next older calf of its sire.
+    pub earlier: Vec<Option<u32>, A>,
+}
+
+/// The sire, where the dam is known too.
+fn sire_of_pair(parents: Parents) -> Option<u32>
+    ensures sire { IfSome result (λ sire. parents.sire ≡ Some sire) }
+    ensures dam { IfSome result (λ _. is_some parents.dam ≡ true) }
+    ensures unknown { IfNone result ((parents.sire ≡ None) ⊎ (parents.dam ≡ None)) }
+{
+    match parents.dam {
+        Some(_) => parents.sire,
+        None => None,
+    }
+}
+
+impl<A: Allocator + Clone> Calves<A> {
+    /// The calves of a frozen book.
+    pub fn of<F: Allocator>(alloc: A, frozen: &Frozen<F>) -> Result<Calves<A>, AllocError>
+        ensures { IfOk result (λ calves. AreLinked frozen.now (length frozen.now) calves.latest.items calves.earlier.items) }
+    {
+        let animals = frozen.len() as usize;
+        let mut latest = vec![in alloc.clone()?; None; animals]?;
+        let mut earlier = vec![in alloc; None; animals]?;
+        for calf in 0..frozen.len() {
+            if let Some(sire) = sire_of_pair(parents_at(frozen, calf)) {
+                earlier[calf as usize] = latest[sire as usize];
+                latest[sire as usize] = Some(calf);
+            }
+        }
+        Ok(Calves { latest, earlier })
+    }
+}
+
+impl<A: Allocator> Calves<A> {
+    /// Marks the mates of a sire by their distances from the last place.
+    pub fn mark_mates<F: Allocator, P: Allocator>(
+        &self,
+        frozen: &Frozen<F>,
+        sire: u32,
+        last: u32,
+        marked: &mut Pending<P>,
+    )
+        requires calves { AreLinked frozen.now (length frozen.now) self.now.latest.items self.now.earlier.items }
+        requires sire { sire < length frozen.now }
+        requires last { last + 1 ≡ length frozen.now }
+        requires room { last < 64 * length marked.old.words.items }
+        requires empty { (distance : ℕ) → mark marked.old.words.items distance ≡ 0 }
+        ensures room { last < 64 * length marked.new.words.items }
+        ensures near { (distance : ℕ) → mark marked.new.words.items distance ≡ 1 → distance ≤ last }
+        ensures mates { (calf dam : ℕ) → sire_place frozen.now calf ≡ Some sire → dam_place frozen.now calf ≡ Some dam → mark marked.new.words.items (last - dam) ≡ 1 }
+    {
+        frozen.len();
+        let mut link = self.latest[sire as usize];
+        while let Some(calf) = link {
+            mark_parent(marked, last, parents_at(frozen, calf).dam);
+            link = self.earlier[calf as usize];
+        }
+    }
+
+    /// Writes the coefficients of a sire's calves, half its relationships with their dams.
+    pub fn write_coefficients<F: Allocator>(
+        &self,
+        frozen: &Frozen<F>,
+        sire: u32,
+        column: &[u128],
+        known: &mut [u128],
+    )
+        requires calves { AreLinked frozen.now (length frozen.now) self.now.latest.items self.now.earlier.items }
+        requires sire { sire < length frozen.now }
+        requires column { length column.now ≡ length frozen.now }
+        requires known { length known.old ≡ length frozen.now }
+        ensures long { length known.new ≡ length known.old }
+        ensures calves { (calf dam : ℕ) → sire_place frozen.now calf ≡ Some sire → dam_place frozen.now calf ≡ Some dam → slice_index known.new calf ≡ slice_index column.now dam / 2 }
+        ensures others { (other : ℕ) → (IsCalf frozen.now sire other → ⊥) → slice_index known.new other ≡ slice_index known.old other }
+    {
+        frozen.len();
+        let mut link = self.latest[sire as usize];
+        while let Some(calf) = link {
+            known[calf as usize] = with_parent(column, parents_at(frozen, calf).dam) / 2;
+            link = self.earlier[calf as usize];
+        }
+    }
+}
