@@ -38,6 +38,12 @@ impl<R: Wait + Drop> Held<R> {
     {
         Held { writer, rt }
     }
+
+    /// Frees both copies.
+    pub fn free<W: Wait>(self, rt: &W) {
+        let Held { writer, rt: _own } = self;
+        drop(writer.take(rt));
+    }
 }
 
 /// A pair of these copies, with so many places for readers.

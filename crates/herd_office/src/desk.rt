@@ -1,20 +1,20 @@
 //! The desks, and how a command is filed.
 ghost use Rattle.std.specs.Prelude.{map, List, ◌≡◌, ℕ, ◌+◌, ◌<◌, ◌≤◌, ◌^◌, ◌↔◌, IsTrue, true, false, [], ◌∷◌, ◌++◌, length, drop, vec_len, Some, slice_get, IfOk, IfErr, OnErr};
 ghost use mathlib.Core.List.{IsPrefix};
-ghost use Rattle.herd_register.specs.Register.{with_step};
 ghost use Rattle.herd_register.specs.Run.{IsLegal, step_of};
 ghost use Rattle.herd_office.specs.Closing.{BeginsWithAll};
 ghost use Rattle.herd_office.specs.Filing.{EndsWith, answer_after, with_step_of};
 ghost use Rattle.herd_office.specs.Histories.{Apart, of_desk, times};
+ghost use Rattle.herd_office.specs.Shelves.{entry_of};
 
-use crate::copies::show;
+use crate::copies::{Copies, show};
 use crate::faults::OpenFault;
 use crate::history::History;
 use crate::name::OfficeName;
 use crate::office::{Inside, Office};
 use crate::shown::Entry;
 use herd_register::{Command, FileFault, Register, Reply, Step};
-use std::alloc::Global;
+use std::alloc::Allocator;
 use std::sync::ledger::{Book, Share};
 use std::sync::{MutexGuard, Wait};
 
@@ -54,12 +54,12 @@ pub struct Desk<N: OfficeName> {
     pub ghost stored: { answered ≤ of_desk number history },
 }
 
-pub(crate) fn make_desks<N: OfficeName>(
-    alloc: Global,
+pub(crate) fn make_desks<N: OfficeName, A: Allocator>(
+    alloc: A,
     count: u16,
     rest: &mut Share<N>,
     history: &History<N>,
-) -> Result<Vec<Desk<N>>, OpenFault>
+) -> Result<Vec<Desk<N>, A>, OpenFault>
     requires parts { (rest.old.parts ≡ count) × (rest.old.amount ≡ 0) }
     requires history { history.now ≡ [] }
     ensures rest { IfOk result (λ _. (rest.new.parts ≡ 0) × (rest.new.amount ≡ 0)) }
@@ -87,9 +87,9 @@ fn make_desk<N: OfficeName>(number: u16, share: Share<N>, history: &History<N>) 
 }
 
 /// Files a command at a desk, on the value under the lock. After a fault all is as it was.
-pub fn file_on<N: OfficeName, W: Wait, R: Wait + Drop>(
+pub fn file_on<N: OfficeName, W: Wait, R: Wait + Drop, A: Allocator + Copy>(
     rt: &W,
-    inside: &mut Inside<N, R>,
+    inside: &mut Inside<N, R, A>,
     desk: &mut Desk<N>,
     command: Command,
 ) -> Result<Filed<N>, FileFault>
@@ -121,22 +121,17 @@ pub fn file_on<N: OfficeName, W: Wait, R: Wait + Drop>(
         return Err(FileFault::JournalFull);
     }
     let _limits = register.limits();
-    let _steps = register.journal().len();
+    let steps = register.journal().len();
     if !desk.history.begins(&keeper.history) || !keeper.claim() {
         return Err(FileFault::NoReading);
     }
     answered.audit(&mut desk.share);
-    let step = file_in(register, desk.number, &command)?;
-    if copies.writer.append(Entry::of_step(&step)).is_err() {
-        register.withdraw();
-        return Err(FileFault::Memory);
-    }
-    let serial = register.journal().len() as u32;
+    let step = file_in(register, &mut copies.writer, desk.number, &command)?;
     keeper.add(&step);
     show(rt, &mut copies.writer, &step, keeper.history.past());
     desk.answer(answered, keeper.history.again());
     Ok(Filed {
-        serial,
+        serial: steps as u32 + 1,
         reply: step.reply,
         slip: Slip {
             history: keeper.history.again(),
@@ -144,20 +139,37 @@ pub fn file_on<N: OfficeName, W: Wait, R: Wait + Drop>(
     })
 }
 
-// Files a command in the register, and gives its step.
-fn file_in(register: &mut Register<Global>, desk: u16, command: &Command) -> Result<Step, FileFault>
+// Files a command in the register, and appends its step for the copies; or does neither.
+fn file_in<A: Allocator + Copy>(
+    register: &mut Register<A>,
+    copies: &mut Copies,
+    desk: u16,
+    command: &Command,
+) -> Result<Step, FileFault>
+    requires { drop copies.old.behind copies.old.log.items ≡ [] }
     ensures step { IfOk result (λ step. step ≡ step_of desk command.now step.reply) }
     ensures reply { IfOk result (λ step. step.reply ≡ answer_after register.old.limits register.old.journal command.now) }
-    ensures stored { IfOk result (λ step. register.new ≡ with_step register.old step) }
+    ensures stored { IfOk result (λ step. register.new.journal ≡ register.old.journal ++ step ∷ []) }
+    ensures pending { IfOk result (λ step. drop copies.new.behind copies.new.log.items ≡ entry_of step ∷ []) }
+    ensures legal { IfOk result (λ _. IsLegal register.new.limits register.new.journal) }
+    ensures limits { register.new.limits ≡ register.old.limits }
+    ensures shown { copies.new.desk ≡ copies.old.desk }
     ensures full { (result ≡ Err FileFault.JournalFull) ↔ (length register.old.journal ≡ register.old.limits.steps) }
-    ensures fault { OnErr result (register.new ≡ register.old) }
+    ensures not_stored { OnErr result (register.new.journal ≡ register.old.journal) }
+    ensures not_pending { OnErr result (drop copies.new.behind copies.new.log.items ≡ []) }
 {
     let reply = register.file(desk, *command)?;
-    Ok(Step {
+    let step = Step {
         command: *command,
         desk,
         reply,
-    })
+    };
+    if copies.append(Entry::of_step(&step)).is_err() {
+        register.withdraw();
+        return Err(FileFault::Memory);
+    }
+    let _legal = register.journal();
+    Ok(step)
 }
 
 impl<N: OfficeName> Desk<N> {
@@ -195,10 +207,10 @@ impl<N: OfficeName> Desk<N> {
     }
 
     /// Files a command. After a fault the desk is as it was.
-    pub fn file<W: Wait, R: Wait + Drop>(
+    pub fn file<W: Wait, R: Wait + Drop, A: Allocator + Copy>(
         &mut self,
         rt: &W,
-        office: &Office<N, R>,
+        office: &Office<N, R, A>,
         command: Command,
     ) -> Result<Filed<N>, FileFault>
         ensures legal { IfOk result (λ f. IsLegal N.limits f.slip.history) }

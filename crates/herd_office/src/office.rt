@@ -21,7 +21,7 @@ use crate::name::{OfficeName, Whole};
 use crate::shown::Shown;
 use crate::{desk, inspector};
 use herd_register::{Limits, Register};
-use std::alloc::Global;
+use std::alloc::{Allocator, Global};
 use std::marker::Model;
 use std::sync::ledger::{Blank, Book, Share};
 use std::sync::{Mutex, Wait};
@@ -87,8 +87,8 @@ impl<R: Wait + Drop> OfficeParts<R> {
 ///
 /// The register is legal, the total is the length of its journal, the published list is that journal, and nothing is pending.
 #[derive(Drop)]
-pub struct Inside<N: OfficeName, R: Wait + Drop> {
-    pub(crate) register: Register<Global>,
+pub struct Inside<N: OfficeName, R: Wait + Drop, A: Allocator = Global> {
+    pub(crate) register: Register<A>,
     pub(crate) answered: Book<N>,
     /// What the desks have no part of: nothing.
     pub(crate) rest: Share<N>,
@@ -108,20 +108,20 @@ pub struct Inside<N: OfficeName, R: Wait + Drop> {
 
 /// An office that is open.
 #[derive(Drop)]
-pub struct Office<N: OfficeName, R: Wait + Drop> {
-    pub(crate) inside: Mutex<Inside<N, R>>,
+pub struct Office<N: OfficeName, R: Wait + Drop, A: Allocator = Global> {
+    pub(crate) inside: Mutex<Inside<N, R, A>>,
     desks: u16,
     inspectors: u16,
     whole: Whole<N>,
     ghost all: { desks ≡ N.all },
 }
 
-impl<N: OfficeName, R: Wait + Drop> Office<N, R> {
+impl<N: OfficeName, R: Wait + Drop, A: Allocator + Copy> Office<N, R, A> {
     /// Opens the office that has these parts.
     pub fn open(
-        alloc: Global,
+        alloc: A,
         parts: OfficeParts<R>,
-    ) -> Result<(Office<N, R>, Vec<Desk<N>>, Vec<Inspector<N>>), OpenFault>
+    ) -> Result<(Office<N, R, A>, Vec<Desk<N>, A>, Vec<Inspector<N>, A>), OpenFault>
         requires named { AreNamed N.name N.parts N.all N.book N.limits parts }
         ensures desks_due { IfOk result (λ r. r.0.desks ≡ parts.desks) }
         ensures inspectors_due { IfOk result (λ r. r.0.inspectors ≡ parts.inspectors) }
@@ -167,9 +167,9 @@ impl<N: OfficeName, R: Wait + Drop> Office<N, R> {
     pub fn close<W: Wait>(
         self,
         rt: &W,
-        mut desks: Vec<Desk<N>>,
-        inspectors: Vec<Inspector<N>>,
-    ) -> Result<Register<Global>, Unclosed<N, R>>
+        mut desks: Vec<Desk<N>, A>,
+        inspectors: Vec<Inspector<N>, A>,
+    ) -> Result<Register<A>, Unclosed<N, R, A>>
         ensures limits { IfOk result (λ r. r.limits ≡ N.limits) }
         ensures sum { IfOk result (λ r. length r.journal ≡ sum_by (λ d. d.answered) desks.items) }
         ensures each { IfOk result (λ r. (k : ℕ) (d : _) → slice_get desks.items k ≡ Some d → d.answered ≡ of_desk d.number r.journal) }
@@ -228,11 +228,11 @@ impl<N: OfficeName, R: Wait + Drop> Office<N, R> {
             } = desk;
             rest.merge(share);
         }
-        Ok(inside.end(rest))
+        Ok(inside.end(rt, rest))
     }
 }
 
-impl<N: OfficeName, R: Wait + Drop> Inside<N, R> {
+impl<N: OfficeName, R: Wait + Drop, A: Allocator> Inside<N, R, A> {
     // Whether the journal begins with each history, and the desks' numbers differ.
     fn begins(&self, desks: &[Desk<N>], inspectors: &[Inspector<N>]) -> bool
         ensures apart { result ≡ true → Apart (map (λ d. d.number) desks.now) }
@@ -245,7 +245,7 @@ impl<N: OfficeName, R: Wait + Drop> Inside<N, R> {
     }
 
     // The register, once the share that is handed in has every part.
-    fn end(self, mut all: Share<N>) -> Register<Global>
+    fn end<W: Wait>(self, rt: &W, mut all: Share<N>) -> Register<A>
         requires { all.parts ≡ N.parts }
         ensures register { result ≡ self.register }
         ensures sum { length result.journal ≡ all.amount }
@@ -255,18 +255,19 @@ impl<N: OfficeName, R: Wait + Drop> Inside<N, R> {
             mut answered,
             rest: _rest,
             keeper: _keeper,
-            copies: _copies,
+            copies,
         } = self;
         answered.audit(&mut all);
+        copies.free(rt);
         register
     }
 }
 
 /// An office that was not closed, with all that was handed in.
 #[derive(Drop)]
-pub struct Unclosed<N: OfficeName, R: Wait + Drop> {
+pub struct Unclosed<N: OfficeName, R: Wait + Drop, A: Allocator = Global> {
     pub cause: Cause,
-    pub office: Office<N, R>,
-    pub desks: Vec<Desk<N>>,
-    pub inspectors: Vec<Inspector<N>>,
+    pub office: Office<N, R, A>,
+    pub desks: Vec<Desk<N>, A>,
+    pub inspectors: Vec<Inspector<N>, A>,
 }
