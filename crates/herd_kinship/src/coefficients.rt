@@ -99,7 +99,14 @@ pub fn coefficients_plain<F: Allocator, A: Allocator + Clone>(
     let mut mates = Mates::with_room(alloc.clone()?, frozen.len())?;
     let mut known = vec![in alloc.clone()?; 0u128; frozen.len() as usize]?;
     for sire in 0..frozen.len() {
-        write_calves(alloc.clone()?, frozen, &calves, &mut mates, sire, &mut known)?;
+        write_calves(
+            alloc.clone()?,
+            frozen,
+            &calves,
+            &mut mates,
+            sire,
+            &mut known,
+        )?;
     }
     Ok(Coefficients::from_list(known))
 }

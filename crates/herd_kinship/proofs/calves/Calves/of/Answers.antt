@@ -39,15 +39,15 @@ loop-calf-preserved g c =
     let earlier : List (Option ℕ) = c.loop-calf.earlier.items in
     let li : i < length rows = parents-within rows i c.parents_at.result c.parents_at.ensures in
     elim c.match-sire_of_pair.branch [
-      in-Some w ↦
-        (let p : ℕ = w.in-Some.sire in
-        let calf : IsCalf rows p i = calf-pair rows i p c.parents_at.result c.parents_at.ensures w.in-Some.ensures.sire w.in-Some.ensures.dam in
-        let lower : p < i = (frozen-placed DEPTH_LIMIT MOST_ANIMALS rows c.len-animals.ensures.frozen).below i p li (inl calf.0) in
-        let each : length latest ≡ length rows = c.loop-calf.invariant.each_sire in
-        let read = get_or_read latest p w.index.result.now (omega arith) w.index.ensures None in
-        rw (w.latest-is, w.earlier-is, read) (linked-calf rows i p latest earlier li (omega arith) calf c.loop-calf.invariant))
-    | in_default w ↦
-        rw (w.latest-is, w.earlier-is) (linked-other rows i latest earlier (no-calf rows i c.parents_at.result c.parents_at.ensures w.in_default.ensures.unknown) c.loop-calf.invariant)
+      | in-Some w ↦
+          (let p : ℕ = w.in-Some.sire in
+          let calf : IsCalf rows p i = calf-pair rows i p c.parents_at.result c.parents_at.ensures w.in-Some.ensures.sire w.in-Some.ensures.dam in
+          let lower : p < i = (frozen-placed DEPTH_LIMIT MOST_ANIMALS rows c.len-animals.ensures.frozen).below i p li (inl calf.0) in
+          let each : length latest ≡ length rows = c.loop-calf.invariant.each_sire in
+          let read = get_or_read latest p w.index.result.now (omega arith) w.index.ensures None in
+          rw (w.latest-is, w.earlier-is, read) (linked-calf rows i p latest earlier li (omega arith) calf c.loop-calf.invariant))
+      | in_default w ↦
+          rw (w.latest-is, w.earlier-is) (linked-other rows i latest earlier (no-calf rows i c.parents_at.result c.parents_at.ensures w.in_default.ensures.unknown) c.loop-calf.invariant)
     ]
 
 pub returns : goal.returns
