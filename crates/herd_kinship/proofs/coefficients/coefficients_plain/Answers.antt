@@ -1,7 +1,7 @@
-use Rattle.std.proofs.Common.{◌≡◌, ℕ, ◌*◌, ◌^◌, ◌<◌, length, replicate, arith, sym, ◌∙◌, ap, subst}
+use Rattle.std.proofs.Common.{◌≡◌, length, replicate, arith, subst}
 use Rattle.std.proofs.lemmas.List.{get_or-replicate, length-replicate}
 use Rattle.herd_pedigree.specs.declared.TheConstants.{DEPTH_LIMIT, MOST_ANIMALS}
-use Rattle.herd_kinship.specs.Coefficients.{AreCoefficients, KnowsReached}
+use Rattle.herd_kinship.specs.Coefficients.{KnowsReached}
 use Rattle.herd_kinship.proofs.BySires.{reached-start, reached-end, coefficients-below_one}
 use Rattle.herd_kinship.proofs.coefficients.coefficients_plain.Goals as goal
 

@@ -1,7 +1,5 @@
-use Rattle.std.proofs.Common.{◌≡◌, ℕ, ◌/◌, ◌<◌, List, length, Option, None, Some, false, is_some, arith, sym, ◌∙◌, ap, subst}
-use Rattle.std.proofs.lemmas.List.{get_or_read}
+use Rattle.std.proofs.Common.{◌≡◌, ◌/◌, false, is_some, arith, ◌∙◌, ap}
 use Rattle.herd_pedigree.specs.declared.TheConstants.{DEPTH_LIMIT, MOST_ANIMALS}
-use Rattle.herd_kinship.specs.CalfLinks.{IsLink}
 use Rattle.herd_kinship.proofs.BySires.{reached-ancestors, reached-next, reached-none}
 use Rattle.herd_kinship.proofs.CalfFacts.{latest-link, link-none}
 use Rattle.herd_kinship.proofs.coefficients.write_calves.Goals as goal

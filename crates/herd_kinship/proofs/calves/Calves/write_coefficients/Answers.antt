@@ -1,4 +1,4 @@
-use Rattle.std.proofs.Common.{◌≡◌, ℕ, ◌+◌, ◌/◌, ◌<◌, inr, List, length, get_or, None, Some, arith, refl, sym, ◌∙◌, ap, subst}
+use Rattle.std.proofs.Common.{◌≡◌, ℕ, ◌/◌, ◌<◌, inr, List, length, get_or, arith, refl, sym, ◌∙◌, ap, subst}
 use Rattle.std.proofs.lemmas.List.{get_or-set_same, get_or-set_other, length-set}
 use Rattle.herd_pedigree.specs.declared.TheConstants.{DEPTH_LIMIT, MOST_ANIMALS}
 use Rattle.herd_kinship.specs.CalfLinks.{IsCalf, IsLink}
