@@ -30,6 +30,7 @@ pub mod ParentsFacts
 pub mod ColumnSums
 pub mod ColumnFacts
 pub mod PassedOn
+pub mod RelationshipFacts
 pub mod Collecting
 pub mod CalfFacts
 pub mod BySires

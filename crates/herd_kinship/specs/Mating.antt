@@ -7,6 +7,7 @@ use Rattle.herd_pedigree.specs.declared.frozen.Row.{Row}
 use Rattle.herd_pedigree.specs.Frozen.{IsFrozen, book_of, depth_at}
 use Rattle.herd_pedigree.specs.Lines.{has_line}
 use Rattle.herd_pedigree.specs.ParentFault.{first_that_holds}
+use Rattle.herd_kinship.specs.Columns.{AreRelationships}
 use Rattle.herd_kinship.specs.FrozenAncestry.{number_at}
 use Rattle.herd_kinship.specs.declared.mating_advice.MatingFault.{MatingFault}
 use Rattle.herd_kinship.specs.declared.mating_advice.MatingFault.TheVariants.{SireMissing, DamMissing, SireNotMale, DamNotFemale, TooDeep, Memory}
@@ -48,3 +49,8 @@ pub record ArePair (l : ℕ) (rows : List Row) (sire dam : List ℕ) (sire_place
   pub dam_in : dam_place < length rows
   pub dam_is : number_at rows dam_place ≡ dam
   pub dam_less_deep : depth_at rows dam_place < l
+
+-- they are the relationships of the animal of this number, if it is in the book
+abbrev pub AreRelationshipsOf : ℕ → List Row → List ℕ → List ℕ → Type 0
+AreRelationshipsOf l rows number relationships =
+    (place : ℕ) → place < length rows → number_at rows place ≡ number → AreRelationships l rows place relationships

@@ -12,6 +12,7 @@ mod mates;
 mod mating_advice;
 mod numerators;
 mod pending;
+mod relationships;
 #[cfg(test)]
 mod tests;
 mod tracing;
@@ -21,8 +22,9 @@ pub use entries::{Contributions, Entry};
 pub use fractions::Fraction;
 use herd_pedigree::DEPTH_LIMIT;
 pub use inverse::contributions;
-pub use mating_advice::{MatingFault, mating};
+pub use mating_advice::{MatingFault, mating, mating_by};
 pub use numerators::{fraction, hundredths};
+pub use relationships::Relationships;
 pub use tracing::{inbred, mendelian, trace};
 
 /// The whole, in the unit of all numerators.

@@ -4,11 +4,12 @@ ghost use Rattle.herd_pedigree.specs.declared.TheConstants.{DEPTH_LIMIT};
 ghost use Rattle.herd_pedigree.specs.Frozen.{book_of};
 ghost use Rattle.herd_kinship.specs.Coefficients.{AreCoefficients};
 ghost use Rattle.herd_kinship.specs.FrozenAncestry.{ancestry_of, number_at};
-ghost use Rattle.herd_kinship.specs.Mating.{ArePair, mating_fault, number_of};
+ghost use Rattle.herd_kinship.specs.Mating.{ArePair, AreRelationshipsOf, mating_fault, number_of};
 ghost use Rattle.herd_kinship.specs.Table.{entry};
 ghost use Rattle.herd_kinship.specs.Tracing.{share_at};
 
 use crate::coefficients::Coefficients;
+use crate::relationships::Relationships;
 use crate::tracing::{Tracing, mendelian, shares_of, term};
 use herd_animal::{AnimalNumber, Sex};
 use herd_pedigree::{DEPTH_LIMIT, Frozen};
@@ -157,4 +158,22 @@ pub fn mating<F: Allocator, C: Allocator, A: Allocator + Clone>(
         Ok(value) => Ok(value / 2),
         Err(AllocError) => Err(MatingFault::Memory),
     }
+}
+
+/// The coefficient that a calf of the two would have, by the relationships of the dam.
+///
+/// It is `mating` for many sires of one dam: it traces nobody and takes no memory.
+pub fn mating_by<F: Allocator, A: Allocator>(
+    frozen: &Frozen<F>,
+    relationships: &Relationships<A>,
+    sire: &AnimalNumber,
+    dam: &AnimalNumber,
+) -> Result<u128, MatingFault>
+    requires { AreRelationshipsOf DEPTH_LIMIT frozen.now dam.now relationships.now }
+    ensures value { IfOk result (λ value. value ≡ entry (ancestry_of frozen.now) (2 * DEPTH_LIMIT - 1) (Some sire.now) (Some dam.now)) }
+    ensures allowed { IfOk result (λ _. mating_fault DEPTH_LIMIT (book_of frozen.now) sire.now dam.now ≡ None) }
+    ensures refused { IfErr result (λ fault. mating_fault DEPTH_LIMIT (book_of frozen.now) sire.now dam.now ≡ Some fault) }
+{
+    let pair = pair_of(frozen, sire, dam)?;
+    Ok(relationships.with(pair.sire) / 2)
 }

@@ -1,15 +1,11 @@
-use Rattle.std.proofs.Common.{◌≡◌, ℕ, ◌-◌, ◌<◌, ◌≤◌, ◌++◌, inr, Contains, List, length, get_or, take, drop, Some, arith, ◌∙◌, ap, subst}
-use Rattle.std.proofs.lemmas.List.{take_all, take-append-le}
+use Rattle.std.proofs.Common.{◌≡◌, ℕ, ◌-◌, ◌<◌, ◌≤◌, inr, Contains, List, length, get_or, Some, arith, ◌∙◌, ap, subst}
 use Rattle.herd_pedigree.specs.declared.TheConstants.{DEPTH_LIMIT, MOST_ANIMALS}
 use Rattle.herd_kinship.specs.Columns.{related, HasAll}
 use Rattle.herd_kinship.proofs.CalfFacts.{calf-within}
 use Rattle.herd_kinship.proofs.FrozenFacts.{frozen-placed}
 use Rattle.herd_kinship.proofs.PassedOn.{has-all}
+use Rattle.herd_kinship.proofs.RelationshipFacts.{written}
 use Rattle.herd_kinship.proofs.mates.Mates.relate_to.Goals as goal
-
--- a list whose slice is written as a whole
-written : (n : ℕ) (new old : List ℕ) → n ≡ length new → take n (new ++ drop (length new) old) ≡ new
-written n new old is = take-append-le n new (drop (length new) old) (omega arith) ∙ take_all n new (omega arith)
 
 pub returns-clause-related : goal.returns-clause-related
 returns-clause-related g c =

@@ -1,0 +1,112 @@
+ghost use Rattle.std.specs.Prelude.{◌≡◌, ℕ, ◌<◌, length, slice_index, IfOk, Some};
+ghost use Rattle.herd_pedigree.specs.declared.TheConstants.{DEPTH_LIMIT};
+ghost use Rattle.herd_kinship.specs.Coefficients.{AreCoefficients};
+ghost use Rattle.herd_kinship.specs.Columns.{related, inherited, AreRelationships};
+ghost use Rattle.herd_kinship.specs.Mating.{AreRelationshipsOf};
+
+use crate::coefficients::Coefficients;
+use crate::columns::{with_parent, write_parts};
+use crate::tracing::parents_at;
+use herd_animal::AnimalNumber;
+use herd_pedigree::Frozen;
+use std::alloc::{AllocError, Allocator};
+use std::marker::Model;
+
+/// The relationships of one animal with all animals of a frozen book, by their places.
+#[derive(Drop)]
+pub struct Relationships<A: Allocator> {
+    column: Vec<u128, A>,
+}
+
+impl<A: Allocator> Model for Relationships<A> {
+    ghost use Rattle.std.specs.Prelude.{List, ℕ};
+
+    ghost Value = { List ℕ };
+
+    ghost view = { λ relationships. relationships.column.items };
+}
+
+impl<A: Allocator + Clone> Relationships<A> {
+    /// The relationships of the animal at a place, by one tracing and one pass over the book.
+    pub fn of<F: Allocator, C: Allocator>(
+        alloc: A,
+        frozen: &Frozen<F>,
+        coefficients: &Coefficients<C>,
+        place: u32,
+    ) -> Result<Relationships<A>, AllocError>
+        requires place { place < length frozen.now }
+        requires coefficients { AreCoefficients DEPTH_LIMIT frozen.now coefficients.now }
+        ensures { IfOk result (AreRelationships DEPTH_LIMIT frozen.now place) }
+    {
+        let mut column = vec![in alloc.clone()?; 0u128; frozen.len() as usize]?;
+        relate_all(alloc, frozen, coefficients.list(), place, &mut column)?;
+        Ok(Relationships { column })
+    }
+}
+
+impl<A: Allocator + Clone> Relationships<A> {
+    /// The relationships of an animal, and none where it isn't in the book.
+    pub fn of_number<F: Allocator, C: Allocator>(
+        alloc: A,
+        frozen: &Frozen<F>,
+        coefficients: &Coefficients<C>,
+        number: &AnimalNumber,
+    ) -> Result<Relationships<A>, AllocError>
+        requires { AreCoefficients DEPTH_LIMIT frozen.now coefficients.now }
+        ensures { IfOk result (AreRelationshipsOf DEPTH_LIMIT frozen.now number.now) }
+    {
+        frozen.len();
+        match frozen.place(number) {
+            Some(place) => Relationships::of(alloc, frozen, coefficients, place),
+            None => Ok(Relationships {
+                column: Vec::new(alloc),
+            }),
+        }
+    }
+}
+
+impl<A: Allocator> Relationships<A> {
+    /// The relationship with the animal at a place.
+    pub fn with(&self, place: u32) -> u128
+        requires { place < length self.now }
+        ensures { result ≡ slice_index self.now place }
+    {
+        self.column[place as usize]
+    }
+}
+
+/// Writes the relationships of the animal at a place with all.
+fn relate_all<F: Allocator, A: Allocator + Clone>(
+    alloc: A,
+    frozen: &Frozen<F>,
+    known: &[u128],
+    place: u32,
+    column: &mut [u128],
+) -> Result<(), AllocError>
+    requires place { place < length frozen.now }
+    requires known { AreCoefficients DEPTH_LIMIT frozen.now known.now }
+    requires long { length column.old ≡ length frozen.now }
+    requires zero { (j : ℕ) → j < length frozen.now → slice_index column.old j ≡ 0 }
+    ensures long { length column.new ≡ length column.old }
+    ensures related { IfOk result (λ _. (j : ℕ) → j < length frozen.now → slice_index column.new j ≡ related DEPTH_LIMIT frozen.now place (Some j)) }
+{
+    write_parts(alloc, frozen, known, place, column)?;
+    pass_on(frozen, place, column);
+    Ok(())
+}
+
+/// Makes the relationships of the animal at a place with all, from what it has of their Mendelian parts.
+fn pass_on<F: Allocator>(frozen: &Frozen<F>, place: u32, column: &mut [u128])
+    requires place { place < length frozen.now }
+    requires long { length column.old ≡ length frozen.now }
+    requires parts { (j : ℕ) → j < length frozen.now → slice_index column.old j ≡ inherited DEPTH_LIMIT frozen.now place j }
+    ensures long { length column.new ≡ length column.old }
+    ensures related { (j : ℕ) → j < length frozen.now → slice_index column.new j ≡ related DEPTH_LIMIT frozen.now place (Some j) }
+{
+    frozen.len();
+    for j in 0..frozen.len() {
+        let parents = parents_at(frozen, j);
+        let both = with_parent(column, parents.sire) + with_parent(column, parents.dam);
+        column[j as usize] += both / 2;
+    }
+}
