@@ -332,7 +332,10 @@ fn advises(
     expected: Result<(u128, u128), u8>,
 ) -> Result<(), Fail> {
     let coefficients = coefficients_plain(alloc, frozen)?;
-    match mating(alloc, frozen, &coefficients, &sire, &dam) {
+    let relationships = Relationships::of_number(alloc, frozen, &coefficients, &dam)?;
+    let told = mating(alloc, frozen, &coefficients, &sire, &dam);
+    assert_eq!(rt; mating_by(frozen, &relationships, &sire, &dam), told);
+    match told {
         Ok(value) => {
             assert!(rt; value < ONE);
             let told = fraction(value);
