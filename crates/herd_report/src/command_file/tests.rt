@@ -1,5 +1,6 @@
 use super::*;
 use crate::breaks_after::BreaksAfter;
+use crate::test_books::TRANSFERS;
 use herd_animal::{AnimalNumber, Day, Herd};
 use std::io;
 use std::io::Cursor;
@@ -11,18 +12,6 @@ const HEADER: &[u8] = b"kind,animal,day,sire,dam,from,to\n";
 const NEW_HEADER: &[u8] = b"kind,animal,day,sire,dam,from,to,embryo\n";
 
 const BIRTH: &[u8] = b"birth,HOLGBRM000000000001,2000-01-01,0,0,,1\n";
-
-// The header, and nine commands.
-const TRANSFERS: &[u8] = b"kind,animal,day,sire,dam,from,to\n\
-    birth,HOLGBRM000000000001,2000-01-01,0,0,,1\n\
-    transfer,HOLGBRM000000000001,2001-05-01,,,1,2\n\
-    transfer,HOLGBRM000000000001,2001-05-01,,,1,2\n\
-    transfer,HOLGBRM000000000001,2001-06-01,,,2,2\n\
-    transfer,HOLGBRM000000000001,2001-04-30,,,2,3\n\
-    exit,HOLGBRM000000000001,2001-04-30,,,,\n\
-    exit,HOLGBRM000000000001,2002-01-01,,,,\n\
-    transfer,HOLGBRM000000000001,2002-02-01,,,2,3\n\
-    exit,HOLGBRM000000000009,2002-01-01,,,,\n";
 
 fn number(rt: &impl Abort, text: &[u8]) -> AnimalNumber {
     AnimalNumber::parse(text).expect(rt, "an animal number")
@@ -47,24 +36,12 @@ fn founder(rt: &impl Abort, animal: &[u8], embryo: bool) -> Command {
     }
 }
 
-// Memory may run out (`rt try --test --fail-alloc N`).
-fn ran_out(answer: &Commands) -> bool {
-    answer
-        .fault
-        .is_some_and(|fault| fault.cause == LineCause::Memory)
-}
-
-// Where memory ran out, that is the fault, and the list is a part.
 fn expect(rt: &impl Abort, answer: &Commands, list: &[Command], fault: Option<(u32, u8)>) {
     let told = answer
         .fault
         .map(|fault| (fault.entry, fault.cause.number()));
-    if ran_out(answer) {
-        assert!(rt; list.starts_with(answer.list.as_slice()));
-    } else {
-        assert_eq!(rt; answer.list.as_slice(), list);
-        assert_eq!(rt; told, fault);
-    }
+    assert_eq!(rt; answer.list.as_slice(), list);
+    assert_eq!(rt; told, fault);
 }
 
 #[test]
@@ -204,27 +181,30 @@ fn stops_after_so_many_commands(rt: HostRuntime) {
     expect(&rt, &answer, &births, None);
 }
 
+// After the command that is one too many the reader isn't asked for more, and its failure isn't met.
+#[test]
+fn reads_no_record_after_too_many(rt: HostRuntime) {
+    let file = HEADER.chain(BIRTH).chain(BIRTH).chain(BIRTH);
+    let answer = read_commands(rt.alloc(), file.chain(BreaksAfter::new(b"", 0)), 2);
+    let births = [founder(&rt, b"HOLGBRM000000000001", false); 2];
+    expect(&rt, &answer, &births, Some((3, 12)));
+}
+
 #[test]
 fn reads_files_that_were_cut(rt: HostRuntime) {
     let whole = read_commands(rt.alloc(), TRANSFERS, 9);
-    if ran_out(&whole) {
-        return;
-    }
+    assert_eq!(rt; whole.list.len(), 9);
     let end = TRANSFERS.len();
     let without_line_feed = read_commands(rt.alloc(), &TRANSFERS[..end - 1], 9);
     expect(&rt, &without_line_feed, whole.list.as_slice(), None);
     let without_comma = read_commands(rt.alloc(), &TRANSFERS[..end - 2], 9);
-    assert_eq!(rt; whole.list.len(), 9);
     expect(&rt, &without_comma, &whole.list[..8], Some((9, 2)));
 }
 
 #[test]
 fn stops_where_the_reader_fails(rt: HostRuntime) -> Result<(), Fail> {
     let whole = read_commands(rt.alloc(), TRANSFERS, 9);
-    if ran_out(&whole) {
-        return Ok(());
-    }
-    for left in 0..TRANSFERS.len() + 1 {
+    for left in 0..=TRANSFERS.len() {
         let reader = BreaksAfter::new(TRANSFERS, left);
         let answer = read_commands(rt.alloc(), reader, 9);
         let given = &TRANSFERS[..left];
@@ -235,4 +215,14 @@ fn stops_where_the_reader_fails(rt: HostRuntime) -> Result<(), Fail> {
         expect(&rt, &answer, &whole.list[..commands], Some((entry, 11)));
     }
     Ok(())
+}
+
+// Where a growth is refused (`rt try --test --fail-alloc N`), that is the fault, and the list is a part.
+#[test]
+fn tells_memory_or_reads_all(rt: HostRuntime) {
+    let answer = read_commands(rt.alloc(), TRANSFERS, 9);
+    match answer.fault {
+        None => assert_eq!(rt; answer.list.len(), 9),
+        Some(fault) => assert_eq!(rt; fault.cause, LineCause::Memory),
+    }
 }
