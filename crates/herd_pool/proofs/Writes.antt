@@ -53,24 +53,24 @@ place_written f old known places numerators n m place value is more within at_pl
     )
 
 -- these blocks of a level have f of their places
-abbrev pub HasBlocks : (ℕ → ℕ) → ℕ → List ℕ → List ℕ → List ComputedBlock → Type 0
+abbrev pub HasBlocks : {A : Type 0} → (ℕ → ℕ) → ℕ → List ℕ → List ℕ → List (ComputedBlock A) → Type 0
 HasBlocks f len level known blocks = All (λ block. HasAt f known (block_of len block.number level)) blocks
 
 -- the blocks that are written on the way, after n of them
-pub record HasWritten (f : ℕ → ℕ) (len : ℕ) (level old known : List ℕ) (blocks : List ComputedBlock) (n : ℕ) : Type 0 where
+pub record HasWritten {A : Type 0} (f : ℕ → ℕ) (len : ℕ) (level old known : List ℕ) (blocks : List (ComputedBlock A)) (n : ℕ) : Type 0 where
   pub kept : Keeps f old known
   pub written : HasBlocks f len level known (take n blocks)
 
 -- one more block is written
-pub block_written : (f : ℕ → ℕ) (len : ℕ) (level : List ℕ) (blocks : List ComputedBlock) (n : ℕ) (block : ComputedBlock) (old known new places numerators : List ℕ) → n < length blocks → block ≡ get_or blocks n block → places ≡ block_of len block.number level → numerators ≡ block.numerators.items
-    → All (λ (b : ComputedBlock). b.numerators.items ≡ map f (block_of len b.number level)) blocks
+pub block_written : {A : Type 0} (f : ℕ → ℕ) (len : ℕ) (level : List ℕ) (blocks : List (ComputedBlock A)) (n : ℕ) (block : ComputedBlock A) (old known new places numerators : List ℕ) → n < length blocks → block ≡ get_or blocks n block → places ≡ block_of len block.number level → numerators ≡ block.numerators.items
+    → All (λ (b : ComputedBlock A). b.numerators.items ≡ map f (block_of len b.number level)) blocks
     → (numerators ≡ map f places → Keeps f known new × HasAt f new places)
     → HasWritten f len level old known blocks n
     → HasWritten f len level old new blocks (n + 1)
-block_written f len level blocks n block old known new places numerators below at is_places is_numerators all write was =
-    let Old : ComputedBlock → Type 0 = λ b. HasAt f known (block_of len b.number level) in
-    let New : ComputedBlock → Type 0 = λ b. HasAt f new (block_of len b.number level) in
-    let Right : ComputedBlock → Type 0 = λ b. b.numerators.items ≡ map f (block_of len b.number level) in
+block_written {A = A} f len level blocks n block old known new places numerators below at is_places is_numerators all write was =
+    let Old : ComputedBlock A → Type 0 = λ b. HasAt f known (block_of len b.number level) in
+    let New : ComputedBlock A → Type 0 = λ b. HasAt f new (block_of len b.number level) in
+    let Right : ComputedBlock A → Type 0 = λ b. b.numerators.items ≡ map f (block_of len b.number level) in
     let right : Right block = subst Right (sym at) (all n block below) in
     let now = write (is_numerators ∙ right ∙ ap (map f) (sym is_places)) in
     let mine : New (get_or blocks n block) = subst New at (subst (HasAt f new) is_places now.1) in
@@ -79,11 +79,11 @@ block_written f len level blocks n block old known new places numerators below a
       written = All-more New blocks n block below (All-weaker Old New (λ b h i low. stays f known new now.0 (slice_index (block_of len b.number level) i) (h i low)) (take n blocks) was.written) mine;
     }
 
-times_tail : (x : ℕ) (b : ComputedBlock) (bs : List ComputedBlock) → (b.number ≡ x → ⊥) → 0 < times x (numbers (b ∷ bs)) → 0 < times x (numbers bs)
+times_tail : {A : Type 0} (x : ℕ) (b : ComputedBlock A) (bs : List (ComputedBlock A)) → (b.number ≡ x → ⊥) → 0 < times x (numbers (b ∷ bs)) → 0 < times x (numbers bs)
 times_tail x b bs ne some = grind (arith, nat_tests)
 
 -- a number that stands in the list stands at some place
-times_has : (x : ℕ) (blocks : List ComputedBlock) → 0 < times x (numbers blocks) → (k : ℕ) × (k < length blocks) × ((d : ComputedBlock) → (get_or blocks k d).number ≡ x)
+times_has : {A : Type 0} (x : ℕ) (blocks : List (ComputedBlock A)) → 0 < times x (numbers blocks) → (k : ℕ) × (k < length blocks) × ((d : ComputedBlock A) → (get_or blocks k d).number ≡ x)
 times_has x [] some = absurd (omega arith)
 times_has x (b ∷ bs) some =
     ⊎_elim (λ (e : b.number ≡ x). (0, omega arith, λ d. e))
@@ -92,7 +92,7 @@ times_has x (b ∷ bs) some =
     (suc rest.0, omega (arith, rest.1), rest.2)) (cases_eq b.number x)
 
 -- what holds of each block holds of the one with this number
-with_number : (P : ℕ → Type 0) (x : ℕ) (blocks : List ComputedBlock) → 0 < times x (numbers blocks) → All (λ b. P b.number) blocks → P x
+with_number : {A : Type 0} (P : ℕ → Type 0) (x : ℕ) (blocks : List (ComputedBlock A)) → 0 < times x (numbers blocks) → All (λ b. P b.number) blocks → P x
 with_number P x [] some all = absurd (omega arith)
 with_number P x (b ∷ bs) some all =
     let found = times_has x (b ∷ bs) some in
@@ -115,7 +115,7 @@ once_within : (x n : ℕ) → x < n → once_below x n ≡ 1
 once_within x n below = grind (arith, nat_tests)
 
 -- where each block of a level is written, the level is known
-pub level_known : (l most : ℕ) (rows : List Row) (known new : List ℕ) (depth len : ℕ) (blocks : List ComputedBlock) → 0 < len → length new ≡ length known → KnowsBelow l most rows known depth → AreBlocks l rows depth len blocks
+pub level_known : {A : Type 0} (l most : ℕ) (rows : List Row) (known new : List ℕ) (depth len : ℕ) (blocks : List (ComputedBlock A)) → 0 < len → length new ≡ length known → KnowsBelow l most rows known depth → AreBlocks l rows depth len blocks
     → Keeps (coefficient_at l rows) known new → HasBlocks (coefficient_at l rows) len (level_of depth rows) new blocks
     → KnowsBelow l most rows new (depth + 1)
 level_known l most rows known new depth len blocks some same knows are kept written =

@@ -24,15 +24,15 @@ pub record KnowsBelow (l most : ℕ) (rows : List Row) (known : List ℕ) (depth
   pub right : (place : ℕ) → place < length rows → depth_at rows place < depth → slice_index known place ≡ coefficient_at l rows place
 
 -- the block has the coefficients of its places
-abbrev pub IsComputed : ℕ → List Row → ℕ → ℕ → ComputedBlock → Type 0
+abbrev pub IsComputed : {A : Type 0} → ℕ → List Row → ℕ → ℕ → ComputedBlock A → Type 0
 IsComputed l rows depth len block =
     block.numerators.items ≡ map (coefficient_at l rows) (block_of len block.number (level_of depth rows))
 
-abbrev pub numbers : List ComputedBlock → List ℕ
+abbrev pub numbers : {A : Type 0} → List (ComputedBlock A) → List ℕ
 numbers blocks = map (λ block. block.number) blocks
 
 -- these are the blocks of the level, each once and computed
-pub record AreBlocks (l : ℕ) (rows : List Row) (depth len : ℕ) (blocks : List ComputedBlock) : Type 0 where
+pub record AreBlocks {A : Type 0} (l : ℕ) (rows : List Row) (depth len : ℕ) (blocks : List (ComputedBlock A)) : Type 0 where
   pub each_once : (number : ℕ) → times number (numbers blocks) ≡ once_below number (div_ceil (length (level_of depth rows)) len)
   pub computed : All (IsComputed l rows depth len) blocks
 

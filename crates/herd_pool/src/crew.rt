@@ -1,4 +1,5 @@
 //! The threads of a level.
+ghost use denote.Param.Send.{Frees, IsSync};
 ghost use Rattle.std.specs.Prelude.{◌≡◌, ℕ, ◌<◌, All, IfOk, IfErr, [], length, vec_capacity, vec_len, get_or, vec_items};
 ghost use Rattle.crossbeam_deque.specs.Handles.{stealer_deque, worker_deque, worker_view};
 ghost use Rattle.herd_pedigree.specs.declared.TheConstants.{DEPTH_LIMIT, MOST_ANIMALS};
@@ -12,12 +13,13 @@ use crate::level::{ComputedBlock, Level};
 use crate::pool_fault::PoolFault;
 use crate::queue::{BlockPass, BlockQueue, ForWorker, filled};
 use crate::worker::{Task, WorkerOutput, finish, work};
-use std::alloc::{AllocError, Global};
+use std::alloc::{AllocError, Allocator};
 use std::sync::Wait;
 use std::thread;
 use std::thread::{Promise, PromisedHandle, Scope, Threads};
 
-impl<'a> Promise<Result<WorkerOutput, AllocError>> for Task<'a> {
+impl<'a, F: Allocator, A: Allocator> Promise<Result<WorkerOutput<A>, AllocError>>
+    for Task<'a, F, A> {
     ghost use Rattle.std.specs.Prelude.{IfOk};
     ghost use Rattle.herd_pedigree.specs.declared.TheConstants.{DEPTH_LIMIT};
     ghost use Rattle.herd_pool.specs.Workers.{IsWorkerOutput};
@@ -26,17 +28,22 @@ impl<'a> Promise<Result<WorkerOutput, AllocError>> for Task<'a> {
 }
 
 /// A worker's thread, which promises to bring back what its task asks for.
-pub type Worker<'a> = PromisedHandle<Result<WorkerOutput, AllocError>, Task<'a>>;
+pub type Worker<'a, F, A> = PromisedHandle<Result<WorkerOutput<A>, AllocError>, Task<'a, F, A>>;
 
 /// Computes the blocks of a level, each once, by this many workers.
-pub fn compute_level<R: Threads + Wait + Sync, G: Gate>(
+pub fn compute_level<
+    R: Threads + Wait + Sync,
+    F: Allocator + Sync,
+    A: Allocator + Copy + Send + Sync,
+    G: Gate,
+>(
     rt: &R,
-    alloc: Global,
-    level: Level<'_>,
+    alloc: A,
+    level: Level<'_, F>,
     known: &[u128],
     workers: u32,
     gate: &G,
-) -> Result<Vec<ComputedBlock>, PoolFault>
+) -> Result<Vec<ComputedBlock<A>, A>, PoolFault>
     requires known { KnowsBelow DEPTH_LIMIT MOST_ANIMALS level.frozen.now known.now level.depth }
     requires block { 0 < level.block }
     ensures blocks { IfOk result (λ blocks. AreBlocks DEPTH_LIMIT level.entry.frozen.now level.entry.depth level.entry.block blocks.items) }
@@ -61,14 +68,14 @@ pub fn compute_level<R: Threads + Wait + Sync, G: Gate>(
 }
 
 // Shares the blocks of the queue among this many workers. All have ended when it returns.
-fn share<R: Threads + Wait + Sync, G: Gate>(
+fn share<R: Threads + Wait + Sync, F: Allocator + Sync, A: Allocator + Copy + Send + Sync, G: Gate>(
     rt: &R,
-    alloc: Global,
-    task: Task<'_>,
+    alloc: A,
+    task: Task<'_, F, A>,
     gate: &G,
-    queue: BlockQueue,
+    queue: BlockQueue<A>,
     workers: u32,
-) -> Result<(BlockQueue, Vec<ComputedBlock>), PoolFault>
+) -> Result<(BlockQueue<A>, Vec<ComputedBlock<A>, A>), PoolFault>
     requires known { KnowsBelow DEPTH_LIMIT MOST_ANIMALS task.level.frozen.now task.known.now task.level.depth }
     requires deque { worker_deque queue ≡ stealer_deque task.stealer.now }
     requires queue { IsStarter queue (pass_view 0 (worker_view queue).pushed []) }
@@ -88,7 +95,8 @@ fn share<R: Threads + Wait + Sync, G: Gate>(
     thread::scope(
         thread::scope_env(),
         rt,
-        |scope| -> Result<(BlockQueue, Vec<ComputedBlock>), PoolFault>
+        |scope| -> Result<(BlockQueue<A>, Vec<ComputedBlock<A>, A>), PoolFault>
+            requires shared { IsSync F.row × IsSync A.row × IsSync G.row × Frees F.Allocator F.dealloc_token × Frees A.Allocator A.dealloc_token }
             requires known { KnowsBelow DEPTH_LIMIT MOST_ANIMALS frozen.now known.now depth }
             requires deque { worker_deque queue ≡ stealer_deque stealer.now }
             requires queue { IsStarter queue (pass_view 0 (worker_view queue).pushed []) }
@@ -113,15 +121,22 @@ fn share<R: Threads + Wait + Sync, G: Gate>(
 }
 
 // Starts as many workers as there is room for, each with a pass of the queue's.
-fn start_all<'s, E, R: Wait + Sync, G: Gate>(
+fn start_all<
+    's,
+    E,
+    R: Wait + Sync,
+    F: Allocator + Sync,
+    A: Allocator + Copy + Send + Sync,
+    G: Gate,
+>(
     scope: &'s Scope<'s, E>,
     rt: &'s R,
-    alloc: Global,
-    task: Task<'s>,
+    alloc: A,
+    task: Task<'s, F, A>,
     gate: &'s G,
-    mut queue: BlockQueue,
-    mut workers: Vec<Worker<'s>>,
-) -> Result<(BlockQueue, Vec<Worker<'s>>), PoolFault>
+    mut queue: BlockQueue<A>,
+    mut workers: Vec<Worker<'s, F, A>, A>,
+) -> Result<(BlockQueue<A>, Vec<Worker<'s, F, A>, A>), PoolFault>
     requires known { KnowsBelow DEPTH_LIMIT MOST_ANIMALS task.level.frozen.now task.known.now task.level.depth }
     requires deque { worker_deque queue ≡ stealer_deque task.stealer.now }
     requires queue { IsStarter queue (pass_view 0 (worker_view queue).pushed []) }
@@ -140,14 +155,14 @@ fn start_all<'s, E, R: Wait + Sync, G: Gate>(
 }
 
 // Starts a worker.
-fn start<'s, E, R: Wait + Sync, G: Gate>(
+fn start<'s, E, R: Wait + Sync, F: Allocator + Sync, A: Allocator + Copy + Send + Sync, G: Gate>(
     scope: &'s Scope<'s, E>,
     rt: &'s R,
-    alloc: Global,
-    task: Task<'s>,
+    alloc: A,
+    task: Task<'s, F, A>,
     gate: &'s G,
-    pass: BlockPass,
-) -> Result<Worker<'s>, PoolFault>
+    pass: BlockPass<A>,
+) -> Result<Worker<'s, F, A>, PoolFault>
     requires known { KnowsBelow DEPTH_LIMIT MOST_ANIMALS task.level.frozen.now task.known.now task.level.depth }
     requires pass { IsBlockPass task.stealer.now pass [] }
     ensures task { IfOk result (λ worker. worker.promise ≡ task.entry) }
@@ -164,7 +179,7 @@ fn start<'s, E, R: Wait + Sync, G: Gate>(
     } = task;
     let started = scope.spawn_with(
         task,
-        move || -> Result<WorkerOutput, AllocError>
+        move || -> Result<WorkerOutput<A>, AllocError>
             requires known { KnowsBelow DEPTH_LIMIT MOST_ANIMALS frozen.now known.now depth }
             requires pass { IsBlockPass stealer.now pass [] }
             ensures { IfOk result (IsWorkerOutput DEPTH_LIMIT frozen.entry.now depth block stealer.entry.now) }
@@ -189,13 +204,13 @@ fn start<'s, E, R: Wait + Sync, G: Gate>(
 }
 
 // Joins each worker of this task, and takes its pass back.
-fn join_all<'s, R: Threads>(
+fn join_all<'s, R: Threads, F: Allocator, A: Allocator + Copy>(
     rt: &R,
-    alloc: Global,
-    task: Task<'s>,
-    started: Vec<Worker<'s>>,
-    mut queue: BlockQueue,
-) -> Result<(BlockQueue, Vec<ComputedBlock>), AllocError>
+    alloc: A,
+    task: Task<'s, F, A>,
+    started: Vec<Worker<'s, F, A>, A>,
+    mut queue: BlockQueue<A>,
+) -> Result<(BlockQueue<A>, Vec<ComputedBlock<A>, A>), AllocError>
     requires task { (k : ℕ) (d : _) → k < vec_len started → (get_or (vec_items started) k d).promise ≡ task }
     requires deque { worker_deque queue ≡ stealer_deque task.stealer.now }
     requires queue { IsStarter queue (pass_view (vec_len started) (worker_view queue).pushed []) }

@@ -6,7 +6,7 @@ ghost use Rattle.herd_kinship.specs.FrozenAncestry.{ancestry_of, number_at};
 ghost use Rattle.herd_kinship.specs.Table.{entry};
 
 use herd_pedigree::Frozen;
-use std::alloc::{AllocError, Global};
+use std::alloc::{AllocError, Allocator};
 
 /// A caller's part in the pool.
 ///
@@ -18,10 +18,10 @@ pub trait Gate: Sync {
     fn enter(&self, level: u8, block: u32);
 
     /// Traces the animal at a place.
-    fn trace(
+    fn trace<F: Allocator, A: Allocator + Clone>(
         &self,
-        alloc: Global,
-        frozen: &Frozen<Global>,
+        alloc: A,
+        frozen: &Frozen<F>,
         known: &[u128],
         place: u32,
     ) -> Result<u128, AllocError>

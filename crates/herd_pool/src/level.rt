@@ -8,25 +8,25 @@ ghost use Rattle.herd_pool.specs.Levels.{block_of, IsComputed, KnowsBelow};
 use crate::gate::Gate;
 use herd_kinship::inbred;
 use herd_pedigree::Frozen;
-use std::alloc::{AllocError, Global};
+use std::alloc::{AllocError, Allocator};
 
 /// The numerators of a block's animals.
 #[derive(Drop)]
-pub struct ComputedBlock {
+pub struct ComputedBlock<A: Allocator> {
     pub number: u32,
-    pub numerators: Vec<u128>,
+    pub numerators: Vec<u128, A>,
 }
 
 /// The animals of a depth, cut into blocks.
-#[derive(Clone, Copy)]
-pub struct Level<'a> {
-    pub frozen: &'a Frozen<Global>,
+#[derive_where(Clone, Copy)]
+pub struct Level<'a, F: Allocator> {
+    pub frozen: &'a Frozen<F>,
     pub depth: u8,
     /// How many animals a block has. The last may have fewer.
     pub block: u32,
 }
 
-impl<'a> Level<'a> {
+impl<'a, F: Allocator> Level<'a, F> {
     /// How many blocks there are.
     pub fn blocks(&self) -> u32
         requires frozen { IsFrozen DEPTH_LIMIT MOST_ANIMALS self.now.frozen.now }
@@ -48,13 +48,13 @@ impl<'a> Level<'a> {
     }
 
     /// Computes a block.
-    pub fn compute<G: Gate>(
+    pub fn compute<A: Allocator + Copy, G: Gate>(
         &self,
-        alloc: Global,
+        alloc: A,
         known: &[u128],
         gate: &G,
         number: u32,
-    ) -> Result<ComputedBlock, AllocError>
+    ) -> Result<ComputedBlock<A>, AllocError>
         requires { KnowsBelow DEPTH_LIMIT MOST_ANIMALS self.now.frozen.now known.now self.now.depth }
         ensures number { IfOk result (λ block. block.number ≡ number) }
         ensures computed { IfOk result (λ block. IsComputed DEPTH_LIMIT self.now.frozen.now self.now.depth self.now.block block) }

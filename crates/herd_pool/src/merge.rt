@@ -5,9 +5,14 @@ ghost use Rattle.herd_pedigree.specs.declared.TheConstants.{DEPTH_LIMIT};
 ghost use Rattle.herd_pool.specs.Levels.{block_of, coefficient_at, HasAt, IsComputed, Keeps};
 
 use crate::level::{ComputedBlock, Level};
+use std::alloc::Allocator;
 
 /// Writes the numerators of these blocks of a level.
-pub fn write_all(known: &mut [u128], level: Level<'_>, blocks: &[ComputedBlock])
+pub fn write_all<F: Allocator, A: Allocator>(
+    known: &mut [u128],
+    level: Level<'_, F>,
+    blocks: &[ComputedBlock<A>],
+)
     requires known { length known.old ≡ length level.frozen.now }
     requires computed { All (IsComputed DEPTH_LIMIT level.frozen.now level.depth level.block) blocks.now }
     ensures kept { Keeps (coefficient_at DEPTH_LIMIT level.entry.frozen.now) known.old known.new }

@@ -12,20 +12,25 @@ use crate::merge::write_all;
 use crate::pool_fault::PoolFault;
 use herd_kinship::Coefficients;
 use herd_pedigree::{DEPTH_LIMIT, Frozen};
-use std::alloc::Global;
+use std::alloc::Allocator;
 use std::sync::Wait;
 use std::thread::Threads;
 
 /// The coefficients of a book, by this many workers, who take the blocks of each level from a queue. One worker is
 /// the calling thread itself, and so it is for a level of one block. When the call returns all threads have ended.
-pub fn coefficients<R: Threads + Wait + Sync, G: Gate>(
+pub fn coefficients<
+    R: Threads + Wait + Sync,
+    F: Allocator + Sync,
+    A: Allocator + Copy + Send + Sync,
+    G: Gate,
+>(
     rt: &R,
-    alloc: Global,
-    frozen: &Frozen<Global>,
+    alloc: A,
+    frozen: &Frozen<F>,
     workers: u32,
     block: u32,
     gate: &G,
-) -> Result<Coefficients<Global>, PoolFault>
+) -> Result<Coefficients<A>, PoolFault>
     requires workers { (1 ≤ workers) × (workers ≤ MOST_WORKERS) }
     requires block { 1 ≤ block }
     ensures list { IfOk result (AreCoefficients DEPTH_LIMIT frozen.now) }
@@ -44,10 +49,15 @@ pub fn coefficients<R: Threads + Wait + Sync, G: Gate>(
 }
 
 // Computes and writes a level, where all levels below are known.
-fn add_level<R: Threads + Wait + Sync, G: Gate>(
+fn add_level<
+    R: Threads + Wait + Sync,
+    F: Allocator + Sync,
+    A: Allocator + Copy + Send + Sync,
+    G: Gate,
+>(
     rt: &R,
-    alloc: Global,
-    level: Level<'_>,
+    alloc: A,
+    level: Level<'_, F>,
     known: &mut [u128],
     workers: u32,
     gate: &G,

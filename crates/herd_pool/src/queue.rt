@@ -5,7 +5,7 @@ ghost use Rattle.herd_pool.specs.Blocks.{pass_view, times, once_below, EachOnce}
 
 use crossbeam_deque::protocol::{Join, Outcome, Protocol, Split};
 use crossbeam_deque::{Pass, Stealer, Worker};
-use std::alloc::{AllocError, Global};
+use std::alloc::{AllocError, Allocator};
 use std::collections::LinkedList;
 
 /// What a pass knows: how many passes are out, how many blocks were pushed, and the numbers of the blocks that it
@@ -75,21 +75,21 @@ impl Join<PassView> for ForWorker {
 }
 
 /// The starter's end of the queue.
-pub type BlockQueue = Worker<u32, Global, PassView, EachBlockOnce>;
+pub type BlockQueue<A> = Worker<u32, A, PassView, EachBlockOnce>;
 
 /// What the workers steal from.
-pub type BlockStealer = Stealer<u32, Global, PassView, EachBlockOnce>;
+pub type BlockStealer<A> = Stealer<u32, A, PassView, EachBlockOnce>;
 
 /// What a worker shows to steal.
-pub type BlockPass = Pass<u32, PassView>;
+pub type BlockPass<A> = Pass<u32, PassView, A>;
 
 /// A queue with the blocks below `count`, in ascending order.
-pub fn filled(alloc: Global, count: u32) -> Result<BlockQueue, AllocError>
+pub fn filled<A: Allocator + Copy>(alloc: A, count: u32) -> Result<BlockQueue<A>, AllocError>
     ensures flavor { IfOk result (λ queue. worker_flavor queue ≡ 0) }
     ensures port { IfOk result (λ queue. worker_port queue ≡ 0) }
     ensures view { IfOk result (λ queue. worker_view queue ≡ pass_view 0 count []) }
 {
-    let mut queue = BlockQueue::fifo_as(alloc, count as usize)?;
+    let mut queue = BlockQueue::<A>::fifo_as(alloc, count as usize)?;
     for block in 0..count {
         match queue.push_as::<Pushed>(block) {
             Ok(()) => {}

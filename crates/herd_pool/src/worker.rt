@@ -10,32 +10,32 @@ use crate::gate::Gate;
 use crate::level::{ComputedBlock, Level};
 use crate::queue::{BlockPass, BlockQueue, BlockStealer, Popped, Stolen};
 use crossbeam_deque::Steal;
-use std::alloc::{AllocError, Global};
+use std::alloc::{AllocError, Allocator};
 use std::sync::Wait;
 
 /// A worker's task: to take blocks of a level, and to compute them by the numerators that are known.
-#[derive(Clone, Copy)]
-pub struct Task<'a> {
-    pub level: Level<'a>,
+#[derive_where(Clone, Copy)]
+pub struct Task<'a, F: Allocator, A: Allocator> {
+    pub level: Level<'a, F>,
     pub known: &'a [u128],
-    pub stealer: &'a BlockStealer,
+    pub stealer: &'a BlockStealer<A>,
 }
 
 /// What a worker brings back: its pass, and the blocks that it took.
 #[derive(Drop)]
-pub struct WorkerOutput {
-    pub pass: BlockPass,
-    pub blocks: Vec<ComputedBlock>,
+pub struct WorkerOutput<A: Allocator> {
+    pub pass: BlockPass<A>,
+    pub blocks: Vec<ComputedBlock<A>, A>,
 }
 
 /// Takes blocks until the queue is empty, and computes each.
-pub fn work<R: Wait, G: Gate>(
+pub fn work<R: Wait, F: Allocator, A: Allocator + Copy, G: Gate>(
     rt: &R,
-    alloc: Global,
-    task: Task<'_>,
+    alloc: A,
+    task: Task<'_, F, A>,
     gate: &G,
-    mut pass: BlockPass,
-) -> Result<WorkerOutput, AllocError>
+    mut pass: BlockPass<A>,
+) -> Result<WorkerOutput<A>, AllocError>
     requires known { KnowsBelow DEPTH_LIMIT MOST_ANIMALS task.level.frozen.now task.known.now task.level.depth }
     requires pass { IsBlockPass task.stealer.now pass [] }
     ensures { IfOk result (IsWorkerOutput DEPTH_LIMIT task.entry.level.frozen.now task.entry.level.depth task.entry.level.block task.entry.stealer.now) }
@@ -54,15 +54,15 @@ pub fn work<R: Wait, G: Gate>(
 }
 
 /// Computes the blocks that are left in the queue, once all workers have ended.
-pub fn finish<R: Wait, G: Gate>(
+pub fn finish<R: Wait, F: Allocator, A: Allocator + Copy, G: Gate>(
     rt: &R,
-    alloc: Global,
-    level: Level<'_>,
+    alloc: A,
+    level: Level<'_, F>,
     known: &[u128],
     gate: &G,
-    mut queue: BlockQueue,
-    mut blocks: Vec<ComputedBlock>,
-) -> Result<Vec<ComputedBlock>, AllocError>
+    mut queue: BlockQueue<A>,
+    mut blocks: Vec<ComputedBlock<A>, A>,
+) -> Result<Vec<ComputedBlock<A>, A>, AllocError>
     requires known { KnowsBelow DEPTH_LIMIT MOST_ANIMALS level.frozen.now known.now level.depth }
     requires queue { IsStarter queue (pass_view 0 (worker_view queue).pushed (numbers blocks.items)) }
     requires computed { All (IsComputed DEPTH_LIMIT level.frozen.now level.depth level.block) blocks.items }

@@ -1,7 +1,7 @@
 //! Gates that hold a thread until another has come, gates that count, and gates that refuse memory.
 use crate::Gate;
 use herd_pedigree::Frozen;
-use std::alloc::{AllocError, Global};
+use std::alloc::{AllocError, Allocator, Global};
 use std::sync::atomic::{AtomicBool, AtomicU64, Ordering};
 use std::thread;
 
@@ -62,10 +62,10 @@ pub struct AtAnimals(pub Meeting);
 impl Gate for AtAnimals {
     fn enter(&self, _level: u8, _block: u32) {}
 
-    fn trace(
+    fn trace<F: Allocator, A: Allocator + Clone>(
         &self,
-        alloc: Global,
-        frozen: &Frozen<Global>,
+        alloc: A,
+        frozen: &Frozen<F>,
         known: &[u128],
         place: u32,
     ) -> Result<u128, AllocError> {
@@ -82,10 +82,10 @@ pub struct ThirdFirst(pub Meeting);
 impl Gate for ThirdFirst {
     fn enter(&self, _level: u8, _block: u32) {}
 
-    fn trace(
+    fn trace<F: Allocator, A: Allocator + Clone>(
         &self,
-        alloc: Global,
-        frozen: &Frozen<Global>,
+        alloc: A,
+        frozen: &Frozen<F>,
         known: &[u128],
         place: u32,
     ) -> Result<u128, AllocError> {
@@ -138,10 +138,10 @@ impl Gate for Counts {
         }
     }
 
-    fn trace(
+    fn trace<F: Allocator, A: Allocator + Clone>(
         &self,
-        alloc: Global,
-        frozen: &Frozen<Global>,
+        alloc: A,
+        frozen: &Frozen<F>,
         known: &[u128],
         place: u32,
     ) -> Result<u128, AllocError> {
@@ -169,10 +169,10 @@ impl OneRefused {
 impl Gate for OneRefused {
     fn enter(&self, _level: u8, _block: u32) {}
 
-    fn trace(
+    fn trace<F: Allocator, A: Allocator + Clone>(
         &self,
-        alloc: Global,
-        frozen: &Frozen<Global>,
+        alloc: A,
+        frozen: &Frozen<F>,
         known: &[u128],
         place: u32,
     ) -> Result<u128, AllocError> {

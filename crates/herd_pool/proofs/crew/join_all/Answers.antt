@@ -1,4 +1,4 @@
-use Rattle.std.proofs.Common.{rules, ◌≡◌, ◌++◌, ◌+◌, ◌-◌, ap, subst, ◌∙◌, sym}
+use Rattle.std.proofs.Common.{rules, arith, suc, List, get_or, ◌≡◌, ◌++◌, ◌-◌, ap, subst, ◌∙◌, sym}
 use Rattle.std.specs.List.{All}
 use Rattle.std.specs.Vec.Iter.{into_iter_len}
 use Rattle.std.proofs.lemmas.List.Elements.{All-append, All-same}
@@ -17,10 +17,11 @@ absorb-requires-clause-rule g c = merges _ _ _ _ c.loop-worker.invariant.queue.f
 pub loop-worker-preserved : goal.loop-worker-preserved
 loop-worker-preserved g c =
     let was = c.loop-worker.invariant in
+    let step = c.in-Some.ensures.steps in
     let mine : c.in-Some.worker.promise ≡ c.args.task = let h = was.task 0 c.in-Some.worker in grind rules in
-    let IsRight : ComputedBlock → Type 0 = IsComputed DEPTH_LIMIT c.args.task.level.frozen.now c.args.task.level.depth c.args.task.level.block in
+    let IsRight : ComputedBlock _ → Type 0 = IsComputed DEPTH_LIMIT c.args.task.level.frozen.now c.args.task.level.depth c.args.task.level.block in
     let came : All IsRight c.in_ok-pass.field-0.blocks.items =
-    subst (λ (s : Task). All (IsComputed DEPTH_LIMIT s.level.frozen.now s.level.depth s.level.block) c.in_ok-pass.field-0.blocks.items) mine c.in_ok-pass.ensures.computed in
+    subst (λ (s : Task _ _). All (IsComputed DEPTH_LIMIT s.level.frozen.now s.level.depth s.level.block) c.in_ok-pass.field-0.blocks.items) mine c.in_ok-pass.ensures.computed in
     let joined : c.append.new.self.items ≡ c.loop-worker.all.items ++ c.in_ok-pass.field-0.blocks.items = search rules in
     let left : into_iter_len c.next.new.self ≡ into_iter_len c.loop-worker.worker-iterator - 1 = grind rules in
     record {
@@ -33,5 +34,5 @@ loop-worker-preserved g c =
             ∙ ap (λ n. pass_view n (worker_view c.args.queue).pushed (numbers c.append.new.self.items)) (sym left);
       };
       computed = All-same IsRight _ _ joined (All-append IsRight _ _ was.computed came);
-      task = λ k d below. let h = was.task (k + 1) d in grind rules;
+      task = λ k d below. subst (λ (left : List _). (get_or left (suc k) d).promise ≡ c.args.task) step.0 (was.task (suc k) d (omega (arith, step.1)));
     }

@@ -5,5 +5,5 @@ use Rattle.herd_pool.proofs.Writes.{HasWritten}
 use Rattle.herd_pool.proofs.merge.write_all.Given as goal
 
 abbrev pub invariant-loop-block : goal.invariant-loop-block
-invariant-loop-block l =
+invariant-loop-block g l =
     HasWritten (coefficient_at DEPTH_LIMIT l.level.frozen.now) l.level.block (level_of l.level.depth l.level.frozen.now) l.initial.known l.known l.blocks l.block-index

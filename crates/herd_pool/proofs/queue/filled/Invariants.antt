@@ -4,7 +4,7 @@ use Rattle.herd_pool.specs.Blocks.{pass_view}
 use Rattle.herd_pool.proofs.queue.filled.Given as goal
 
 abbrev pub invariant-loop-block : goal.invariant-loop-block
-invariant-loop-block l = record {
+invariant-loop-block g l = record {
   flavor : worker_flavor l.queue ≡ 0;
   port : worker_port l.queue ≡ 0;
   view : worker_view l.queue ≡ pass_view 0 l.block [];

@@ -1,5 +1,9 @@
-use Rattle.std.proofs.Common.{rules, inl}
-use Rattle.herd_pool.proofs.Passes.{all_taken, finds, takes}
+use Rattle.std.proofs.Common.{rules, inl, ◌≡◌, ◌++◌, [], ◌∷◌}
+use Rattle.std.proofs.lemmas.List.Elements.{All-push, All-same}
+use Rattle.herd_pedigree.specs.declared.TheConstants.{DEPTH_LIMIT}
+use Rattle.herd_pool.specs.Levels.{IsComputed}
+use Rattle.herd_pool.specs.declared.level.ComputedBlock.{ComputedBlock}
+use Rattle.herd_pool.proofs.Passes.{all_taken, finds, one_more, takes}
 use Rattle.herd_pool.proofs.worker.finish.Goals as goal
 use Rattle.herd_pool.proofs.worker.finish.Goals.{in-None, in-Some+in-None-pop_as}
 
@@ -8,6 +12,22 @@ pop_as-requires-clause-fifo g c = λ _. takes _ _ (inl c.loop.invariant.queue.fi
 
 pub pop_as-requires-clause-empty : goal.pop_as-requires-clause-empty
 pop_as-requires-clause-empty g c = finds _ _ c.loop.invariant.queue.first
+
+pub loop-preserved : goal.loop-preserved
+loop-preserved g c =
+    let was = c.loop.invariant in
+    let block = c.in_ok-compute-in-Some-pop_as.field-0 in
+    let joined : c.push.new.self.items ≡ c.loop.blocks.items ++ block ∷ [] = search rules in
+    let level = c.args.level in
+    let IsRight : ComputedBlock _ → Type 0 = IsComputed DEPTH_LIMIT level.frozen.now level.depth level.block in
+    record {
+      queue = record {
+        fifo = search rules;
+        first = search rules;
+        view = one_more _ _ _ _ _ _ _ block was.queue.view c.in-Some-pop_as.ensures.rule c.in_ok-compute-in-Some-pop_as.ensures.number joined;
+      };
+      computed = All-same IsRight _ _ joined (All-push IsRight _ block was.computed c.in_ok-compute-in-Some-pop_as.ensures.computed);
+    }
 
 pub returns-clause-each_once : goal.returns-clause-each_once
 returns-clause-each_once g c =

@@ -1,6 +1,25 @@
-use Rattle.std.proofs.Common.{arith, inr, ap}
-use Rattle.herd_pool.proofs.Passes.{takes}
+use Rattle.std.proofs.Common.{rules, arith, inr, ap, ◌≡◌, ◌++◌, [], ◌∷◌}
+use Rattle.std.proofs.lemmas.List.Elements.{All-push, All-same}
+use Rattle.herd_pedigree.specs.declared.TheConstants.{DEPTH_LIMIT}
+use Rattle.herd_pool.specs.Levels.{IsComputed}
+use Rattle.herd_pool.specs.declared.level.ComputedBlock.{ComputedBlock}
+use Rattle.herd_pool.proofs.Passes.{one_more, takes}
 use Rattle.herd_pool.proofs.worker.work.Goals as goal
 
 pub steal_as-requires-clause-takes : goal.steal_as-requires-clause-takes
 steal_as-requires-clause-takes g c = let out = ap (λ v. v.out) c.loop.invariant.pass.view in takes _ _ (inr (omega arith))
+
+pub loop-preserved-in_ok-push-in-Success : goal.loop-preserved-in_ok-push-in-Success
+loop-preserved-in_ok-push-in-Success g c =
+    let was = c.loop.invariant in
+    let block = c.in_ok-compute-in-Success.field-0 in
+    let joined : c.push.new.self.items ≡ c.loop.blocks.items ++ block ∷ [] = search rules in
+    let level = c.args.task.level in
+    let IsRight : ComputedBlock _ → Type 0 = IsComputed DEPTH_LIMIT level.frozen.now level.depth level.block in
+    record {
+      pass = record {
+        queue = search rules;
+        view = one_more _ _ _ _ _ _ _ block was.pass.view c.in-Success.ensures.rule c.in_ok-compute-in-Success.ensures.number joined;
+      };
+      computed = All-same IsRight _ _ joined (All-push IsRight _ block was.computed c.in_ok-compute-in-Success.ensures.computed);
+    }

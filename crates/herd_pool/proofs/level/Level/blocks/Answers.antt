@@ -5,7 +5,7 @@ use Rattle.herd_pool.proofs.LevelFacts.{length-level_of}
 use Rattle.herd_pool.proofs.level.Level.blocks.Goals as goal
 
 pub overflow_cast-result : goal.overflow_cast-result
-overflow_cast-result c =
+overflow_cast-result g c =
     let rows = c.args.self.now.frozen.now in
     let level = ap length c.level-places.ensures in
     let all = length-level_of c.args.self.now.depth rows in
