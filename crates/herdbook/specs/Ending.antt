@@ -1,0 +1,45 @@
+-- How the program ends.
+use Rattle.std.specs.Prelude.{◌≡◌, ◌≢◌, ℕ, Bool, true, false, List, [], ◌++◌, codes, Option, Some, None}
+use Rattle.clap.specs.Words.{kind_of}
+use Rattle.clap.specs.declared.error.kind.ErrorKind.TheVariants.{DisplayHelp, OutOfMemory}
+use Rattle.herd_report.specs.declared.run_fault.RunFault.TheVariants.{Memory, Write}
+use Rattle.herdbook.specs.FaultText.{number_fault_text, run_fault_text}
+use Rattle.herdbook.specs.declared.arguments.WordsFault.{WordsFault}
+use Rattle.herdbook.specs.declared.arguments.WordsFault.TheVariants.{Words, Number as NotNumber}
+use Rattle.herdbook.specs.declared.ending.Ending.{Ending}
+use Rattle.herdbook.specs.declared.ending.Ending.TheVariants.{Done, Help, Usage, NotText, Number, Run}
+
+abbrev pub status_of : Ending → ℕ
+status_of Done = 0
+status_of (Help error) = 0
+status_of (Run fault) = 1
+status_of (Usage error) = 2
+status_of NotText = 2
+status_of (Number fault) = 2
+
+-- what is told on standard error; of the text of `clap` nothing is said
+abbrev pub told : Ending → Option (List ℕ)
+told Done = Some []
+told (Help error) = Some []
+told (Usage error) = None
+told NotText = Some (codes "herdbook: a word isn't UTF-8 text\n")
+told (Number fault) = Some (codes "herdbook: " ++ number_fault_text fault ++ codes "\n")
+told (Run fault) = Some (codes "herdbook: " ++ run_fault_text fault ++ codes "\n")
+
+-- the end where the words can't be read: memory ran out, or one isn't UTF-8
+abbrev pub end_of_unread : Bool → Ending
+end_of_unread true = Run Memory
+end_of_unread false = NotText
+
+-- the end after help was printed, or couldn't be
+abbrev pub end_of_help : Bool → Ending
+end_of_help true = Done
+end_of_help false = Run Write
+
+-- the end tells why words ask for nothing: memory ran out, they ask for help, or they are wrong
+abbrev pub Explains : WordsFault → Ending → Type 0
+Explains (Words error) (Run fault) = (fault ≡ Memory) × (kind_of error ≡ OutOfMemory)
+Explains (Words error) (Help text) = (text ≡ error) × (kind_of error ≡ DisplayHelp)
+Explains (Words error) (Usage text) = (text ≡ error) × (kind_of error ≢ OutOfMemory) × (kind_of error ≢ DisplayHelp)
+Explains (Words error) ending = ⊥
+Explains (NotNumber fault) ending = ending ≡ Number fault

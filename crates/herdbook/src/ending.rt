@@ -1,0 +1,100 @@
+//! How the program ends: with which status, and what it tells on standard error.
+
+ghost use Rattle.std.specs.Prelude.{◌≡◌};
+ghost use Rattle.herdbook.specs.Ending.{Explains, end_of_help, end_of_unread, status_of};
+
+use crate::arguments::WordsFault;
+use crate::faults::{NumberFaultText, RunFaultText};
+use clap::error::ErrorKind;
+use herd_animal::NumberFault;
+use herd_report::RunFault;
+use std::fmt;
+
+/// How the program ends, once it has written what it writes to standard output.
+#[derive(Drop)]
+pub enum Ending {
+    /// What was asked for is written.
+    Done,
+    /// The words ask for help, which `clap` has as a text for standard output.
+    Help(clap::Error),
+    /// The words aren't a command line. `clap` says why.
+    Usage(clap::Error),
+    /// A word isn't UTF-8.
+    NotText,
+    /// A word is no animal number.
+    Number(NumberFault),
+    /// What was asked for ended early.
+    Run(RunFault),
+}
+
+impl Ending {
+    /// The end after words that can't be read: memory ran out, or one isn't UTF-8.
+    pub fn of_unread(is_memory: bool) -> Ending
+        ensures { result ≡ end_of_unread is_memory }
+    {
+        if is_memory {
+            Ending::Run(RunFault::Memory)
+        } else {
+            Ending::NotText
+        }
+    }
+
+    /// The end after words that ask for nothing.
+    pub fn of_words(fault: WordsFault) -> Ending
+        ensures { Explains fault result }
+    {
+        match fault {
+            WordsFault::Words(error) => match error.kind() {
+                ErrorKind::OutOfMemory => Ending::Run(RunFault::Memory),
+                ErrorKind::DisplayHelp => Ending::Help(error),
+                _ => Ending::Usage(error),
+            },
+            WordsFault::Number(fault) => Ending::Number(fault),
+        }
+    }
+
+    /// The end after help was printed, or couldn't be.
+    pub fn of_help(is_printed: bool) -> Ending
+        ensures { result ≡ end_of_help is_printed }
+    {
+        if is_printed {
+            Ending::Done
+        } else {
+            Ending::Run(RunFault::Write)
+        }
+    }
+
+    /// The status of the process.
+    pub fn status(&self) -> u8
+        ensures { result ≡ status_of self.now }
+    {
+        match self {
+            Ending::Done | Ending::Help(_) => 0,
+            Ending::Run(_) => 1,
+            Ending::Usage(_) | Ending::NotText | Ending::Number(_) => 2,
+        }
+    }
+}
+
+/// What is told on standard error: nothing, `clap`'s text, or a line.
+impl fmt::Display for Ending {
+    ghost use Rattle.herdbook.specs.Ending.{told};
+
+    ghost output = { told };
+
+    fn fmt<W: fmt::Write>(&self, f: &mut fmt::Formatter<W>) -> fmt::Result {
+        match self {
+            Ending::Done | Ending::Help(_) => Ok(()),
+            Ending::Usage(error) => write!(f, "{error}"),
+            Ending::NotText => f.write_str("herdbook: a word isn't UTF-8 text\n"),
+            Ending::Number(fault) => {
+                let text = NumberFaultText(*fault);
+                write!(f, "herdbook: {text}\n")
+            }
+            Ending::Run(fault) => {
+                let text = RunFaultText(*fault);
+                write!(f, "herdbook: {text}\n")
+            }
+        }
+    }
+}

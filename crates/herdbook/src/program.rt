@@ -1,0 +1,43 @@
+//! What the program does, but for printing help and what it tells on standard error.
+
+ghost use Rattle.std.specs.Prelude.{◌≡◌, IfSome, map, string_bytes};
+ghost use Rattle.herdbook.specs.Program.{IsEnded, IsUntouchedUnlessAsked};
+ghost use Rattle.herdbook.specs.declared.program.TheConstants.{LIMITS};
+
+use crate::arguments::read_words;
+use crate::ending::Ending;
+use herd_register::Limits;
+use herd_report::run;
+use std::alloc::Global;
+use std::io::{Read, Write};
+use std::sync::Wait;
+use std::thread::Threads;
+
+/// What the book and its journal may hold.
+pub const LIMITS: Limits = Limits {
+    animals: 60_000,
+    steps: 1_000_000,
+};
+
+/// Reads the words of the command line, the program's own name first, and does what they ask for. Where they ask for
+/// nothing, nothing is read or written.
+pub fn carry_out<H: Threads + Wait + Sync, R: Read + Drop, W: Write>(
+    rt: &H,
+    alloc: Global,
+    words: &[String],
+    reader: R,
+    writer: &mut W,
+) -> Ending
+    ensures ended { IfSome (R.remaining reader)
+        (λ bytes. IsEnded LIMITS (map string_bytes words.now) bytes (W.contents writer.old) (W.contents writer.new) result) }
+    ensures unasked { IsUntouchedUnlessAsked (writer.new ≡ writer.old) result }
+{
+    let request = match read_words(alloc, words) {
+        Ok(request) => request,
+        Err(fault) => return Ending::of_words(fault),
+    };
+    match run(rt, alloc, LIMITS, request.order(), reader, writer) {
+        Ok(()) => Ending::Done,
+        Err(fault) => Ending::Run(fault),
+    }
+}

@@ -1,0 +1,372 @@
+#!/usr/bin/env python3
+"""program.py PROGRAM: tries the built herd book program from outside.
+
+It runs the examples of the README as they stand there, each order on the sample books beside `reference.py`, each
+status and text of the README's table, and then each order on a small book with the nth growth of memory, read, write or
+start of a thread refused (`refuse.c`), for n from 1 until a run meets no refusal. The last line is
+`N passed, M failed`; the status is 1 if anything failed.
+"""
+import concurrent.futures
+import os
+import pathlib
+import re
+import resource
+import shlex
+import subprocess
+import sys
+import tempfile
+
+import reference
+
+TOP = pathlib.Path(__file__).resolve().parent.parent
+BOOKS = [TOP / "examples" / name for name in ("first.csv", "ayrshire.csv")]
+HEADER = "kind,animal,day,sire,dam,from,to\n"
+SECONDS = 60
+
+# The texts of the README's table, and the check that provokes each here.
+TEXTS = {
+    "herdbook: record ENTRY: fault CAUSE NAME": "line_faults",
+    "herdbook: not registered": "other_statuses",
+    "herdbook: no thread": "refused_threads",
+    "herdbook: no reader's place": "none: no call from outside brings it about",
+    "herdbook: write fault": "failing_writes",
+    "herdbook: no memory": "refused_growths",
+    "herdbook: animal number fault FAULT NAME": "wrong_numbers",
+    "herdbook: a word isn't UTF-8 text": "words",
+}
+
+
+class Done:
+    """What a run ended with."""
+
+    def __init__(self, status, out, err):
+        self.status, self.out, self.err = status, out, err
+
+    def __eq__(self, other):
+        return (self.status, self.out, self.err) == (other.status, other.out, other.err)
+
+    def __repr__(self):
+        return f"status {self.status}, output {self.out[-160:]!r}, error {self.err[-160:]!r}"
+
+
+def wrote(out, err="", status=0):
+    return Done(status, out.encode(), err.encode())
+
+
+def fault(text, out="", status=1):
+    return wrote(out, f"herdbook: {text}\n", status)
+
+
+def founder(number):
+    return f"birth,{number},2000-01-01,0,0,,1\n"
+
+
+def animal(sex, number):
+    return f"HOLGBR{sex}{number:012}"
+
+
+def full_sibs(generations):
+    """A male and a female in each generation, both of the pair before."""
+    lines = [HEADER]
+    for one in range(generations):
+        parents = (animal("M", 2 * one - 1), animal("F", 2 * one)) if one else ("0", "0")
+        for sex, number in (("M", 2 * one + 1), ("F", 2 * one + 2)):
+            lines.append(f"birth,{animal(sex, number)},{2000 + one}-01-01,{parents[0]},{parents[1]},,1\n")
+    return "".join(lines)
+
+
+class Checks:
+    def __init__(self, program, room):
+        self.program, self.room = program, pathlib.Path(room)
+        self.passed = self.failed = 0
+
+    def run(self, words, given="", out=subprocess.PIPE, err=subprocess.PIPE, refuse=None, before=None):
+        """Runs the program on some text, bytes or an open file. `refuse` is what `refuse.c` reads."""
+        env = {"PATH": "/usr/bin:/bin", "LANG": "C.UTF-8"}
+        if refuse:
+            env |= {"LD_PRELOAD": str(self.room / "refuse.so")} | {name: str(value) for name, value in refuse.items()}
+        source = {"stdin": given} if hasattr(given, "fileno") else {"input": given if isinstance(given, bytes) else given.encode()}
+        done = subprocess.run(
+            [self.program, *words], stdout=out, stderr=err, env=env, timeout=SECONDS, preexec_fn=before, **source
+        )
+        return Done(done.returncode, done.stdout or b"", done.stderr or b"")
+
+    def count(self, right, what):
+        self.passed, self.failed = self.passed + bool(right), self.failed + (not right)
+        if not right:
+            print(f"FAILED {what}", flush=True)
+
+    def expect(self, what, wanted, words, given="", **how):
+        found = self.run(words, given, **how)
+        self.count(found == wanted, f"{what}: {' '.join(map(repr, words))}: {found}; wanted {wanted}")
+
+    # -- the README
+
+    def readme(self):
+        text = (TOP / "README.md").read_text()
+        blocks = re.findall(r"((?:^    .*\n)+)((?:(?!    ).*\n)*)", text, re.M)
+        shown = 0
+        for (command, between), (printed, _) in zip(blocks, blocks[1:]):
+            line = command.strip()
+            if line.startswith("./herdbook") and "print" in between:
+                words, _, name = line.removeprefix("./herdbook").partition("<")
+                given = (TOP / name.strip()).read_text() if name else ""
+                self.expect("README", wrote(re.sub("(?m)^    ", "", printed)), shlex.split(words), given)
+                shown += 1
+        self.count(shown >= 2, f"README: {shown} examples were found")
+        table = re.search(r"\| status \| when \| standard error \|\n(.*?)\n\n", text, re.S).group(1)
+        for told in re.findall("`(herdbook: [^`]*)`", table):
+            self.count(told in TEXTS, f"README: no check of `{told}`")
+
+    # -- each order, beside the reference
+
+    def orders(self):
+        for path in BOOKS:
+            self.orders_on(path.name, path.read_text())
+        self.orders_on("full sibs", full_sibs(7))
+        self.orders_on("no records", HEADER)
+
+    def orders_on(self, name, text):
+        numbers = sorted(reference.filed(text)[0].animals)
+        self.expect(name, wrote(reference.replies(text)), ["file"], text)
+        for words in [], ["--workers", "1"], ["--workers", "2", "--block", "1"], ["--workers", "16", "--block", "7"]:
+            self.expect(name, wrote(reference.inbreeding(text)), ["inbreeding", *words], text)
+        self.expect(name, wrote(reference.inverse(text)), ["inverse"], text)
+        for number in numbers:
+            self.expect(name, wrote(reference.certificate(text, number)), ["certificate", number], text)
+        absent = animal("M", 999)
+        for dam in numbers[:: max(1, len(numbers) // 8)] + [absent]:
+            sires = [*numbers, absent]
+            self.expect(name, wrote(reference.mating(text, dam, sires)), ["mating", "--dam", dam, *sires], text)
+        everything = ["--base", "1000000"]
+        for desks in 1, 2, 16:
+            wanted = wrote(reference.clerks(text, desks, 1_000_000))
+            self.expect(name, wanted, ["clerks", "--desks", str(desks), *everything], text)
+        self.expect(name, wrote(reference.clerks(text, 2, 1_000_000)), ["clerks", *everything], text)
+
+    def clerks(self):
+        # founders are accepted in any order
+        for count in 0, 1, 3, 40, 1000:
+            text = HEADER + "".join(founder(animal("MF"[one % 2], one)) for one in range(count))
+            for desks in 1, 2, 3, 4, 16:
+                for base in 0, 1, 2, 10, 1_000_000:
+                    wanted = wrote(reference.clerks(text, desks, base))
+                    self.expect("clerks", wanted, ["clerks", "--desks", str(desks), "--base", str(base)], text)
+        one_number = HEADER + founder(animal("M", 1)) * 16
+        self.expect("clerks of one birth", wrote(reference.clerks(one_number, 16)), ["clerks", "--desks", "16"], one_number)
+
+    # -- the table of statuses
+
+    def words(self):
+        asked_for_help = self.run(["--help"])
+        self.count(asked_for_help.status == 0 and asked_for_help.out and not asked_for_help.err, "--help")
+        for words in [
+            [], ["sell"], ["file", "x"], ["inbreeding", "--workers", "17"], ["inbreeding", "--workers", "0"],
+            ["inbreeding", "--block", "0"], ["inbreeding", "--block", "60001"], ["inbreeding", "--workers", "many"],
+            ["certificate"], ["mating", "--dam", animal("F", 1)], ["mating", animal("M", 1)], ["inverse", "--desks", "1"],
+            ["clerks", "--desks", "0"], ["clerks", "--desks", "17"], ["clerks", "--base", "1000001"], ["clerks", "--base", "-1"],
+        ]:  # fmt: skip
+            done = self.run(words, HEADER)
+            told = done.err.startswith(b"error: ") or b"Usage" in done.err
+            self.count(done.status == 2 and not done.out and told, f"no command line: {words}: {done}")
+        for words in [b"\xff"], [b"certificate", b"HOLGBRM00000000000\xff"], [b"mating", b"--dam", b"\xc3", b"M"]:
+            self.expect("words", fault("a word isn't UTF-8 text", status=2), words)
+
+    def wrong_numbers(self):
+        right = animal("F", 2)
+        for number, told in [
+            ("HOLGBRM1", "1 Length"), ("", "1 Length"), ("HoLGBRM000000000001", "2 Letter"), ("HOLGB1M000000000001", "2 Letter"),
+            ("HOLGBRX000000000001", "3 SexLetter"), ("HOLGBRM00000000000a", "4 NumberCharacter"),
+        ]:  # fmt: skip
+            wanted = fault(f"animal number fault {told}", status=2)
+            self.expect("number", wanted, ["certificate", number], "not read")
+            self.expect("number", wanted, ["mating", "--dam", right, animal("M", 1), number, "HOLGBRX000000000001"])
+            self.expect("number", wanted, ["mating", "--dam", number, "HOLGBRM1"])
+
+    def line_faults(self):
+        good = HEADER + founder(animal("M", 1))
+        birth = "birth,HOLGBRM000000000002,2000-01-01,0,0,,1"
+        embryo = HEADER.replace("to\n", "to,embryo\n")
+        cases = [
+            ("", 0, "1 Header"), ("kind\n", 0, "1 Header"), (good + "birth,HOLGBRM0000", 2, "2 Fields"),
+            (good + "sale,HOLGBRM000000000002,,,,,", 2, "3 Kind"), (good + birth.replace("M", "X"), 2, "4 Animal"),
+            (good + birth.replace("2000-01-01", "2023-02-29"), 2, "5 Day"), (good + birth.replace(",0,0,", ",x,0,"), 2, "6 Sire"),
+            (good + birth.replace(",0,0,", ",0,x,"), 2, "7 Dam"), (good + f"transfer,{animal('M', 1)},2001-01-01,,,0,1", 2, "8 FromHerd"),
+            (good + birth + "00000000", 2, "9 ToHerd"), (good + f"exit,{animal('M', 1)},2001-01-01,,,,1", 2, "10 FieldNotUsed"),
+            (embryo + birth + ",x", 1, "14 Embryo"),
+        ]  # fmt: skip
+        for text, entry, told in cases:
+            answered = "1,accepted\n" if entry == 2 else ""
+            self.expect("line fault", fault(f"record {entry}: fault {told}", answered), ["file"], text)
+            for words in ["inbreeding"], ["inverse"], ["clerks"], ["certificate", animal("M", 9)], ["mating", "--dam", animal("F", 2), animal("M", 1)]:
+                self.expect("line fault", fault(f"record {entry}: fault {told}"), words, text)
+        many = HEADER + f"exit,{animal('M', 1)},2000-01-01,,,,\n" * 1_000_001
+        answers = "".join(f"{serial},refused,11\n" for serial in range(1, 1_000_001))
+        self.expect("too many", fault("record 1000001: fault 12 TooMany", answers), ["file"], many)
+        self.expect("too many", fault("record 1000001: fault 12 TooMany"), ["clerks"], many)
+
+    def other_statuses(self):
+        text = BOOKS[1].read_text()
+        self.expect("absent", fault("not registered"), ["certificate", animal("M", 9)], text)
+        # what can't be read at all
+        with open(self.room / "closed") as unread:
+            for words in ["file"], ["clerks"]:
+                self.expect("a closed input", fault("record 0: fault 11 Read"), words, unread, before=lambda: os.close(0))
+        self.expect("a folder for input", fault("record 0: fault 11 Read"), ["file"], Folder(self.room))
+
+    def failing_writes(self):
+        text = SMALL
+        for words in [*each_order(), ["--help"], ["mating", "--help"]]:
+            with open("/dev/full", "wb") as full:
+                self.expect("a full disk", fault("write fault"), words, text, out=full)
+                wanted = self.run(words, text)
+                unheard = self.run(words, text, err=full)
+                self.count((unheard.status, unheard.out) == (wanted.status, wanted.out), f"standard error full: {words}: {unheard}")
+            reader, writer = os.pipe()
+            os.close(reader)
+            self.expect("a closed pipe", fault("write fault"), words, text, out=writer)
+            os.close(writer)
+            self.expect("a closed output", fault("write fault"), words, text, before=lambda: os.close(1))
+        for words, given in [(["sell"], ""), (["certificate", "M"], ""), (["file"], ""), (["certificate", animal("M", 9)], text), ([b"\xff"], "")]:
+            wanted = self.run(words, given)
+            with open("/dev/full", "wb") as full:
+                for how in {"err": full}, {"before": lambda: os.close(2)}:
+                    unheard = self.run(words, given, **how)
+                    self.count((unheard.status, unheard.out) == (wanted.status, wanted.out), f"standard error not writable: {words}: {unheard}")
+                both = self.run(words, given, out=full, err=full)
+                self.count(both.status == wanted.status or wanted.out, f"nothing writable: {words}: {both}")
+
+    # -- refusals
+
+    def until_none(self, what, words, text, refuse, is_right):
+        """Refuses the first call, the second and so on, until a run meets no refusal."""
+        wanted = self.run(words, text)
+
+        def one(nth):
+            met = self.room / f"met-{what}-{nth}"
+            done = self.run(words, text, refuse={"REFUSE_NTH": nth, "REFUSE_MET": met} | refuse)
+            is_met = met.exists()
+            met.unlink(missing_ok=True)
+            return is_met, done
+
+        with concurrent.futures.ThreadPoolExecutor(os.cpu_count()) as pool:
+            for first in range(1, 20_000, 64):
+                for nth, (is_met, done) in enumerate(pool.map(one, range(first, first + 64)), first):
+                    right = is_right(wanted, done) if is_met else done == wanted
+                    self.count(right, f"{what} {nth} refused: {words}: {done}")
+                    if not is_met:
+                        return nth - 1
+        self.count(False, f"{what}: {words}: still refused")
+
+    def refused_growths(self):
+        def is_right(order):
+            faults = [r"no memory", r"record (\d+): fault 13 Memory"]
+            faults += ["no thread"] if order in ("inbreeding", "clerks") else []
+            faults += ["no reader's place"] if order == "clerks" else []
+            return lambda wanted, done: done == wanted or is_fault(order, wanted, done, faults)
+
+        for words in each_order():
+            refused = self.until_none("growth", words, SMALL, {"REFUSE": "growth"}, is_right(words[0]))
+            self.count(refused, f"no growth was refused: {words}")
+            self.until_none("all growths from", words, SMALL, {"REFUSE": "growth", "REFUSE_LAST": 1 << 40}, is_right(words[0]))
+        for words in ["--help"], ["clerks", "--help"], ["inbreeding", "--workers", "17"], ["certificate", "M"], [b"\xff"], []:
+            self.until_none("growth", words, "", {"REFUSE": "growth"}, is_right(""))
+
+    def refused_reads(self):
+        for words in each_order():
+            right = lambda wanted, done: is_fault(words[0], wanted, done, [r"record (\d+): fault 11 Read"])
+            self.count(self.until_none("read", words, SMALL, {"REFUSE": "read"}, right), f"no read was refused: {words}")
+
+    def refused_writes(self):
+        for words in [*each_order(), ["--help"]]:
+            right = lambda wanted, done: is_fault(words[0], wanted, done, ["write fault"])
+            self.count(self.until_none("write", words, SMALL, {"REFUSE": "write"}, right), f"no write was refused: {words}")
+            self.until_none("write of nothing", words, SMALL, {"REFUSE": "write", "REFUSE_AS": 0}, right)
+            every = {"REFUSE": "write", "REFUSE_NTH": 1, "REFUSE_LAST": 1 << 40, "REFUSE_AS": 1}
+            self.expect("a byte a write", self.run(words, SMALL), words, SMALL, refuse=every)
+        for words in ["sell"], ["certificate", "M"], ["certificate", animal("M", 9)]:
+            kept = lambda wanted, done: (done.status, done.out) == (wanted.status, wanted.out)
+            self.count(self.until_none("told", words, SMALL, {"REFUSE": "told"}, kept), f"nothing was told: {words}")
+
+    def refused_threads(self):
+        right = lambda wanted, done: done == fault("no thread")
+        for words in ["inbreeding", "--workers", "4", "--block", "1"], ["clerks", "--desks", "4"]:
+            refused = self.until_none("thread", words, SMALL, {"REFUSE": "thread"}, right)
+            self.count(refused, f"no thread was refused: {words}")
+
+    def little_memory(self):
+        """The system itself refuses memory, at each of some sizes of the address space."""
+        for words in each_order():
+            wanted = self.run(words, SMALL)
+            for kilobytes in range(2_000, 40_000, 2_000):
+                limit = lambda: resource.setrlimit(resource.RLIMIT_AS, (kilobytes * 1024, kilobytes * 1024))
+                done = self.run(words, SMALL, before=limit)
+                faults = ["no memory", r"record (\d+): fault 13 Memory", "no thread", "no reader's place"]
+                began = done.status in (0, 1) and not done.err.startswith(b"error while loading")
+                right = done == wanted or not began or is_fault(words[0], wanted, done, faults)
+                self.count(right or b"libc" in done.err or done.status < 0 and kilobytes < 4_000, f"{kilobytes} kB: {words}: {done}")
+
+
+class Folder:
+    """A folder as standard input."""
+
+    def __init__(self, path):
+        self.file = os.open(path, os.O_RDONLY)
+
+    def fileno(self):
+        return self.file
+
+
+SMALL = full_sibs(4) + f"exit,{animal('M', 1)},2010-01-01,,,,\nparents,{animal('F', 8)},,{animal('M', 1)},0,,\n" + founder(animal("M", 1))
+
+
+def each_order():
+    return [
+        ["file"],
+        ["inbreeding"],
+        ["inbreeding", "--workers", "3", "--block", "1"],
+        ["certificate", animal("M", 7)],
+        ["mating", "--dam", animal("F", 6), animal("M", 5), animal("F", 8), animal("M", 7)],
+        ["inverse"],
+        ["clerks", "--desks", "1"],
+        ["clerks", "--desks", "3", "--base", "8"],
+    ]
+
+
+def is_fault(order, wanted, done, faults):
+    """One of these faults is told, and what was written is what is allowed before it."""
+    told = re.fullmatch("herdbook: (.*)\n", done.err.decode(errors="replace"))
+    kind = told and next((it for it in (re.fullmatch(one, told.group(1)) for one in faults) if it), None)
+    if not kind or done.status != 1:
+        return False
+    if kind.groups():
+        # a line fault: the replies to the commands before it, or nothing
+        before = max(0, int(kind.group(1)) - 1) if order == "file" else 0
+        return done.out == b"".join(wanted.out.splitlines(keepends=True)[:before])
+    if kind.group(0) in ("no thread", "no reader's place"):
+        return not done.out
+    return wanted.out.startswith(done.out)
+
+
+def main(program):
+    with tempfile.TemporaryDirectory(prefix="herdbook-tests-") as room:
+        (pathlib.Path(room) / "closed").touch()
+        subprocess.run(["cc", "-O1", "-shared", "-fPIC", "-o", f"{room}/refuse.so", TOP / "tests/refuse.c", "-ldl"], check=True)
+        checks = Checks(program, room)
+        for group in [
+            checks.readme, checks.orders, checks.clerks, checks.words, checks.wrong_numbers, checks.line_faults, checks.other_statuses,
+            checks.failing_writes, checks.refused_growths, checks.refused_reads, checks.refused_writes, checks.refused_threads,
+            checks.little_memory,
+        ]:  # fmt: skip
+            before = checks.passed, checks.failed
+            try:
+                group()
+            except (OSError, subprocess.SubprocessError) as error:
+                checks.count(False, f"{group.__name__}: {error}")
+            print(f"{group.__name__}: {checks.passed - before[0]} passed, {checks.failed - before[1]} failed", flush=True)
+    print(f"{checks.passed} passed, {checks.failed} failed")
+    return 1 if checks.failed else 0
+
+
+if __name__ == "__main__":
+    sys.exit(main(os.path.abspath(sys.argv[1]) if len(sys.argv) == 2 else sys.exit("which program?")))
