@@ -3,6 +3,7 @@ ghost use Rattle.std.specs.Io.KnownBytes.{Appends};
 ghost use Rattle.herd_pedigree.specs.declared.TheConstants.{DEPTH_LIMIT};
 ghost use Rattle.herd_pedigree.specs.Frozen.{book_of};
 ghost use Rattle.herd_kinship.specs.Coefficients.{AreCoefficients};
+ghost use Rattle.herd_kinship.specs.Mating.{AreRelationshipsOf};
 ghost use Rattle.herd_report.specs.MatingList.{mating_line, mating_text, refused_line};
 ghost use Rattle.herd_report.specs.Output.{AppendsFront};
 
@@ -10,7 +11,7 @@ use crate::coefficient_text::push_coefficient_line;
 use crate::output::Output;
 use crate::report_fault::ReportFault;
 use herd_animal::AnimalNumber;
-use herd_kinship::{Coefficients, MatingFault, mating};
+use herd_kinship::{Coefficients, MatingFault, Relationships, mating_by};
 use herd_pedigree::Frozen;
 use std::alloc::{AllocError, Allocator};
 use std::io::Write;
@@ -19,6 +20,8 @@ use std::io::Write;
 mod tests;
 
 /// Writes for each sire the coefficient that a calf of it and the dam would have, or why there is none.
+///
+/// The dam's relationships with all animals are computed once for all sires, by one tracing and one pass over the book.
 pub fn write_mating<W: Write, A: Allocator + Clone, F: Allocator, C: Allocator>(
     alloc: A,
     frozen: &Frozen<F>,
@@ -32,29 +35,31 @@ pub fn write_mating<W: Write, A: Allocator + Clone, F: Allocator, C: Allocator>(
     ensures err { OnErr result (AppendsFront (W.contents writer.old) (W.contents writer.new) (mating_text (book_of frozen.now) dam sires.now)) }
     ensures fault { IfErr result (λ fault. fault ≢ ReportFault.NotRegistered) }
 {
+    let Some(_first) = sires.first() else {
+        return Ok(());
+    };
+    let relationships = Relationships::of_number(alloc.clone()?, frozen, coefficients, &dam)?;
     let mut output = Output::new(&alloc);
     for sire in sires {
         output.pass_on(writer)?;
-        push_advice(&mut output, &alloc, frozen, coefficients, *sire, dam)?;
+        push_advice(&mut output, frozen, &relationships, *sire, dam)?;
     }
     output.finish(writer)
 }
 
 // Adds the line of a sire.
-fn push_advice<A: Allocator + Clone, F: Allocator, C: Allocator>(
-    output: &mut Output<&A>,
-    alloc: &A,
+fn push_advice<A: Allocator, F: Allocator, R: Allocator>(
+    output: &mut Output<A>,
     frozen: &Frozen<F>,
-    coefficients: &Coefficients<C>,
+    relationships: &Relationships<R>,
     sire: AnimalNumber,
     dam: AnimalNumber,
 ) -> Result<(), AllocError>
-    requires { AreCoefficients DEPTH_LIMIT frozen.now coefficients.now }
+    requires { AreRelationshipsOf DEPTH_LIMIT frozen.now dam relationships.now }
     ensures { OnOk result (output.new ≡ output.old ++ mating_line (book_of frozen.now) dam sire) }
 {
-    match mating(alloc.clone()?, frozen, coefficients, &sire, &dam) {
+    match mating_by(frozen, relationships, &sire, &dam) {
         Ok(numerator) => push_coefficient_line(output, sire, numerator),
-        Err(MatingFault::Memory) => Err(AllocError),
         Err(fault) => push_refused(output, sire, fault),
     }
 }
