@@ -52,3 +52,6 @@ pub use history::History;
 pub use inspector::Inspector;
 pub use name::OfficeName;
 pub use office::{Inside, Office, OfficeParts, Unclosed};
+
+#[cfg(test)]
+mod tests;
