@@ -290,7 +290,7 @@ class Checks:
 
     def refused_threads(self):
         right = lambda wanted, done: done == fault("no thread")
-        for words in ["inbreeding", "--workers", "4", "--block", "1"], ["clerks", "--desks", "4"]:
+        for words in ["inbreeding", "--workers", "4", "--block", "1"], ["clerks", "--desks", "4", "--base", "1000000"]:
             refused = self.until_none("thread", words, SMALL, {"REFUSE": "thread"}, right)
             self.count(refused, f"no thread was refused: {words}")
 

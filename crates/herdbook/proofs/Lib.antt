@@ -1,1 +1,3 @@
+mod ProgramFacts
+mod SummaryFacts
 mod WordsFacts

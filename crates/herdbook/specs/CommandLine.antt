@@ -47,11 +47,33 @@ sires_rule = record (new_rule (codes "SIRE")) {
 abbrev pub mating_line : App
 mating_line = with_rule (with_rule (new_app (codes "mating")) dam_rule) sires_rule
 
+abbrev pub desks_rule : Rule
+desks_rule = record (new_rule (codes "desks")) {
+  long = Some (codes "desks");
+  value_names = 1;
+  defaults = codes "2" ∷ [];
+  parser = Some (Signed (pos 1) (pos 16));
+}
+
+abbrev pub base_rule : Rule
+base_rule = record (new_rule (codes "base")) {
+  long = Some (codes "base");
+  value_names = 1;
+  defaults = codes "0" ∷ [];
+  parser = Some (Signed (pos 0) (pos 1_000_000));
+}
+
+abbrev pub clerks_line : App
+clerks_line = with_rule (with_rule (new_app (codes "clerks")) desks_rule) base_rule
+
 -- the program with its subcommands, of which one must be named
 abbrev pub program : App
 program = record (new_app (codes "herdbook")) { top = record (new_app (codes "herdbook")).top { subcommand_required = true } }
 
-abbrev pub command_line : App
-command_line =
+abbrev pub runs_line : App
+runs_line =
     with_subcommand (with_subcommand (with_subcommand (with_subcommand (with_subcommand program
     (new_app (codes "file")).top) inbreeding_line.top) certificate_line.top) mating_line.top) (new_app (codes "inverse")).top
+
+abbrev pub command_line : App
+command_line = with_subcommand runs_line clerks_line.top

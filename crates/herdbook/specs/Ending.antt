@@ -1,7 +1,8 @@
 -- How the program ends.
-use Rattle.std.specs.Prelude.{◌≡◌, ◌≢◌, ℕ, Bool, true, false, List, [], ◌++◌, codes, Option, Some, None}
+use Rattle.std.specs.Prelude.{◌≡◌, ◌≢◌, ℕ, Bool, true, false, List, [], ◌++◌, codes, Option, Some, None, Result, Ok, Err}
 use Rattle.clap.specs.Words.{kind_of}
 use Rattle.clap.specs.declared.error.kind.ErrorKind.TheVariants.{DisplayHelp, OutOfMemory}
+use Rattle.herd_report.specs.declared.run_fault.RunFault.{RunFault}
 use Rattle.herd_report.specs.declared.run_fault.RunFault.TheVariants.{Memory, Write}
 use Rattle.herdbook.specs.FaultText.{number_fault_text, run_fault_text}
 use Rattle.herdbook.specs.declared.arguments.WordsFault.{WordsFault}
@@ -30,6 +31,11 @@ told (Run fault) = Some (codes "herdbook: " ++ run_fault_text fault ++ codes "\n
 abbrev pub end_of_unread : Bool → Ending
 end_of_unread true = Run Memory
 end_of_unread false = NotText
+
+-- the end after what was asked for was begun
+abbrev pub end_of_run : {T : Type 0} → Result T RunFault → Ending
+end_of_run (Ok done) = Done
+end_of_run (Err fault) = Run fault
 
 -- the end after help was printed, or couldn't be
 abbrev pub end_of_help : Bool → Ending

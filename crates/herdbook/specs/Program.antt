@@ -1,30 +1,52 @@
 -- How the program ends for its words and the bytes of a command file.
 use Rattle.std.specs.Prelude.{◌≡◌, ◌⊎◌, ℕ, List, [], Option}
-use Rattle.clap.specs.Words.{HasKind, fault_of, kind_of, subcommand_of}
-use Rattle.clap.specs.declared.error.kind.ErrorKind.TheVariants.{DisplayHelp, OutOfMemory}
+use Rattle.clap.specs.Words.{fault_of, subcommand_of}
 use Rattle.herd_register.specs.declared.limits.Limits.{Limits}
 use Rattle.herd_report.specs.CommandFile.{CommandFile, commands}
 use Rattle.herd_report.specs.Run.{EndsBy, IsAnswered}
-use Rattle.herd_report.specs.declared.orders.Order.{Order}
 use Rattle.herd_report.specs.declared.run_fault.RunFault.{RunFault}
-use Rattle.herd_report.specs.declared.run_fault.RunFault.TheVariants.{Memory}
+use Rattle.herdbook.specs.Clerks.{EndsClerks, IsFiledBy}
 use Rattle.herdbook.specs.CommandLine.{command_line}
-use Rattle.herdbook.specs.Request.{IsOrderFor}
+use Rattle.herdbook.specs.Ending.{Explains}
+use Rattle.herdbook.specs.Request.{IsTaskFor}
 use Rattle.herdbook.specs.Words.{IsAsked, IsRefused}
 use Rattle.herdbook.specs.declared.arguments.Request.{Request}
+use Rattle.herdbook.specs.declared.arguments.Task.{Task}
+use Rattle.herdbook.specs.declared.arguments.Task.TheVariants as task
 use Rattle.herdbook.specs.declared.arguments.WordsFault.{WordsFault}
 use Rattle.herdbook.specs.declared.ending.Ending.{Ending}
-use Rattle.herdbook.specs.declared.ending.Ending.TheVariants.{Done, Help, Usage, NotText, Number, Run}
-use Rattle.herdbook.specs.Ending.{Explains}
+use Rattle.herdbook.specs.declared.ending.Ending.TheVariants.{Done, Run}
 
--- `clap` takes the words, they ask for an order, and a fact holds of it
-pub record Asks (words : List (List ℕ)) (IsOrdered : Order → Type 0) : Type 0 where
+-- a task was carried out on a command file
+abbrev pub IsCarriedOut : Task → Limits → CommandFile → Option (List ℕ) → Option (List ℕ) → Type 0
+IsCarriedOut (task.Run order) limits file old new = IsAnswered limits order file old new
+IsCarriedOut (task.Clerks desks base) limits file old new = IsFiledBy limits file old new
+
+-- how it may end early
+abbrev pub EndsCarrying : Task → Limits → CommandFile → Option (List ℕ) → Option (List ℕ) → RunFault → Type 0
+EndsCarrying (task.Run order) limits file old new fault = EndsBy limits order file old new fault
+EndsCarrying (task.Clerks desks base) limits file old new fault = EndsClerks limits file old new fault
+
+-- a task for the request, of which a fact holds
+pub record HasTask (request : Request) (Holds : Task → Type 0) : Type 0 where
+  pub task : Task
+  pub for : IsTaskFor request task
+  pub holds : Holds task
+
+-- what a request asks for was carried out on a command file
+abbrev pub IsServed : Request → Limits → CommandFile → Option (List ℕ) → Option (List ℕ) → Type 0
+IsServed request limits file old new = HasTask request (λ task. IsCarriedOut task limits file old new)
+
+-- it ended early
+abbrev pub EndsServing : Request → Limits → CommandFile → Option (List ℕ) → Option (List ℕ) → RunFault → Type 0
+EndsServing request limits file old new fault = HasTask request (λ task. EndsCarrying task limits file old new fault)
+
+-- `clap` takes the words, and a fact holds of the request that they make
+pub record Asks (words : List (List ℕ)) (Holds : Request → Type 0) : Type 0 where
   pub request : Request
-  pub order : Order
   pub taken : fault_of command_line words ≡ []
   pub asked : IsAsked (subcommand_of command_line words) request
-  pub ordered : IsOrderFor request order
-  pub holds : IsOrdered order
+  pub holds : Holds request
 
 -- the words ask for nothing, which the end explains
 pub record AsksNothing (words : List (List ℕ)) (ending : Ending) : Type 0 where
@@ -34,9 +56,9 @@ pub record AsksNothing (words : List (List ℕ)) (ending : Ending) : Type 0 wher
 
 -- the program did what the words ask for with a command file, or it ended early, or the words ask for nothing
 abbrev pub IsEndedWith : Limits → List (List ℕ) → CommandFile → Option (List ℕ) → Option (List ℕ) → Ending → Type 0
-IsEndedWith limits words file old new Done = Asks words (λ order. IsAnswered limits order file old new)
+IsEndedWith limits words file old new Done = Asks words (λ request. IsServed request limits file old new)
 IsEndedWith limits words file old new (Run fault) =
-    Asks words (λ order. EndsBy limits order file old new fault) ⊎ AsksNothing words (Run fault)
+    Asks words (λ request. EndsServing request limits file old new fault) ⊎ AsksNothing words (Run fault)
 IsEndedWith limits words file old new ending = AsksNothing words ending
 
 abbrev pub IsEnded : Limits → List (List ℕ) → List ℕ → Option (List ℕ) → Option (List ℕ) → Ending → Type 0

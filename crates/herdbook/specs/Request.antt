@@ -1,9 +1,12 @@
 -- What the words of the command line ask of a run.
-use Rattle.std.specs.Prelude.{◌≡◌, ℕ, List, max, min}
+use Rattle.std.specs.Prelude.{◌≡◌, ◌≤◌, ℕ, List, max, min}
 use Rattle.herd_report.specs.declared.orders.Order.{Order}
 use Rattle.herd_report.specs.declared.orders.Order.TheVariants.{File, Inbreeding, Certificate, Mating, Inverse}
 use Rattle.herdbook.specs.declared.arguments.Request.{Request}
-use Rattle.herdbook.specs.declared.arguments.Request.TheVariants.{File as FileAsked, Inbreeding as InbreedingAsked, Certificate as CertificateAsked, Mating as MatingAsked, Inverse as InverseAsked}
+use Rattle.herdbook.specs.declared.arguments.Request.TheVariants.{File as FileAsked, Inbreeding as InbreedingAsked, Certificate as CertificateAsked, Mating as MatingAsked, Inverse as InverseAsked, Clerks as ClerksAsked}
+use Rattle.herdbook.specs.declared.arguments.Task.{Task}
+use Rattle.herdbook.specs.declared.arguments.Task.TheVariants.{Run, Clerks}
+use Rattle.herd_report.specs.Run.{IsOrder}
 
 -- mating advice is ordered for this dam and these sires
 abbrev pub IsAdvice : List ℕ → List (List ℕ) → Order → Type 0
@@ -17,3 +20,15 @@ IsOrderFor (InbreedingAsked workers block) order = order ≡ Inbreeding (max 1 (
 IsOrderFor (CertificateAsked number) order = order ≡ Certificate number
 IsOrderFor (MatingAsked dam sires) order = IsAdvice dam sires.items order
 IsOrderFor InverseAsked order = order ≡ Inverse
+IsOrderFor (ClerksAsked desks base) order = ⊥
+
+-- what is carried out for a request: a run, or clerks at 1 to 16 desks
+abbrev pub IsTaskFor : Request → Task → Type 0
+IsTaskFor request (Run order) = IsOrderFor request order
+IsTaskFor (ClerksAsked desks base) (Clerks at most) = (at ≡ max 1 (min 16 desks)) × (most ≡ base)
+IsTaskFor request (Clerks at most) = ⊥
+
+-- a task that can be carried out
+abbrev pub IsTask : Task → Type 0
+IsTask (Run order) = IsOrder order
+IsTask (Clerks desks base) = (1 ≤ desks) × (desks ≤ 16)

@@ -8,7 +8,7 @@ use Rattle.herd_animal.specs.NumberFault.{IsNumberFault}
 use Rattle.herd_animal.specs.declared.number.NumberFault.{NumberFault}
 use Rattle.herdbook.specs.CommandLine.{command_line}
 use Rattle.herdbook.specs.declared.arguments.Request.{Request}
-use Rattle.herdbook.specs.declared.arguments.Request.TheVariants.{File, Inbreeding, Certificate, Mating, Inverse}
+use Rattle.herdbook.specs.declared.arguments.Request.TheVariants.{File, Inbreeding, Certificate, Mating, Inverse, Clerks}
 use Rattle.herdbook.specs.declared.arguments.WordsFault.{WordsFault}
 use Rattle.herdbook.specs.declared.arguments.WordsFault.TheVariants.{Words, Number}
 
@@ -42,10 +42,16 @@ IsAskedOfInbreeding rows (Inbreeding workers block) =
     IsNumberOr 1 (one_of (codes "workers") rows) workers × IsNumberOr 256 (one_of (codes "block") rows) block
 IsAskedOfInbreeding rows request = ⊥
 
+abbrev pub IsAskedOfClerks : List Row → Request → Type 0
+IsAskedOfClerks rows (Clerks desks base) =
+    IsNumberOr 2 (one_of (codes "desks") rows) desks × IsNumberOr 0 (one_of (codes "base") rows) base
+IsAskedOfClerks rows request = ⊥
+
 abbrev pub IsAsked : Found → Request → Type 0
 IsAsked found File =
     (name_in found ≢ Some (codes "inbreeding")) × (name_in found ≢ Some (codes "certificate"))
     × (name_in found ≢ Some (codes "mating")) × (name_in found ≢ Some (codes "inverse"))
+    × (name_in found ≢ Some (codes "clerks"))
 IsAsked found (Inbreeding workers block) =
     (name_in found ≡ Some (codes "inbreeding")) × IsAskedOfInbreeding (rows_in found) (Inbreeding workers block)
 IsAsked found (Certificate number) =
@@ -55,6 +61,8 @@ IsAsked found (Mating dam sires) =
     × (text_of (codes "dam") (rows_in found) ≡ dam)
     × (texts_of (codes "SIRE") (rows_in found) ≡ sires.items)
 IsAsked found Inverse = name_in found ≡ Some (codes "inverse")
+IsAsked found (Clerks desks base) =
+    (name_in found ≡ Some (codes "clerks")) × IsAskedOfClerks (rows_in found) (Clerks desks base)
 
 -- the fault is that of the first text that is no animal number
 pub record IsFirstFault (texts : List Text) (fault : NumberFault) : Type 0 where

@@ -5,10 +5,9 @@ ghost use Rattle.clap.specs.Words.{app_of, fault_of, found_of, rows_of, subcomma
 ghost use Rattle.clap.specs.declared.builder.command.Command.TheViews.{out-Command};
 ghost use Rattle.herd_animal.specs.AnimalNumber.{IsAnimalNumber};
 ghost use Rattle.herd_animal.specs.NumberFault.{IsNumberFault};
-ghost use Rattle.herd_report.specs.Run.{IsOrder};
-ghost use Rattle.herdbook.specs.CommandLine.{certificate_line, command_line, inbreeding_line, mating_line};
-ghost use Rattle.herdbook.specs.Request.{IsOrderFor};
-ghost use Rattle.herdbook.specs.Words.{IsAsked, IsAskedOfInbreeding, IsFirstFault, IsRefused, IsUnread, IsWrongNumber, text_of, texts_of};
+ghost use Rattle.herdbook.specs.CommandLine.{certificate_line, clerks_line, command_line, inbreeding_line, mating_line, runs_line};
+ghost use Rattle.herdbook.specs.Request.{IsTask, IsTaskFor};
+ghost use Rattle.herdbook.specs.Words.{IsAsked, IsAskedOfClerks, IsAskedOfInbreeding, IsFirstFault, IsRefused, IsUnread, IsWrongNumber, text_of, texts_of};
 
 use clap::{Arg, ArgAction, ArgMatches, Command};
 use herd_animal::{AnimalNumber, NumberFault};
@@ -29,6 +28,17 @@ pub enum Request {
         sires: Vec<AnimalNumber>,
     },
     Inverse,
+    Clerks {
+        desks: u32,
+        base: u32,
+    },
+}
+
+/// What is carried out for a request.
+pub enum Task<'a> {
+    Run(Order<'a>),
+    /// The commands are filed at 1 to 16 desks, the first so many of them at the first desk.
+    Clerks { desks: u16, base: u32 },
 }
 
 /// Why the words ask for nothing.
@@ -73,23 +83,27 @@ impl From<NumberFault> for WordsFault {
 }
 
 impl Request {
-    /// What `run` is asked for.
-    pub fn order(&self) -> Order<'_>
-        ensures asked { IsOrderFor self.now result }
-        ensures possible { IsOrder result }
+    /// What is carried out for it.
+    pub fn task(&self) -> Task<'_>
+        ensures asked { IsTaskFor self.now result }
+        ensures possible { IsTask result }
     {
         match self {
-            Request::File => Order::File,
-            Request::Inbreeding { workers, block } => Order::Inbreeding {
+            Request::File => Task::Run(Order::File),
+            Request::Inbreeding { workers, block } => Task::Run(Order::Inbreeding {
                 workers: (*workers).clamp(1, 16),
                 block: (*block).max(1),
-            },
-            Request::Certificate(number) => Order::Certificate(*number),
-            Request::Mating { dam, sires } => Order::Mating {
+            }),
+            Request::Certificate(number) => Task::Run(Order::Certificate(*number)),
+            Request::Mating { dam, sires } => Task::Run(Order::Mating {
                 dam: *dam,
                 sires: sires.as_slice(),
+            }),
+            Request::Inverse => Task::Run(Order::Inverse),
+            Request::Clerks { desks, base } => Task::Clerks {
+                desks: (*desks).clamp(1, 16) as u16,
+                base: *base,
             },
-            Request::Inverse => Order::Inverse,
         }
     }
 }
@@ -116,6 +130,7 @@ fn request_of(alloc: Global, matches: &ArgMatches<'_>) -> Result<Request, WordsF
             sires: sires_of(alloc, given)?,
         }),
         Some(("inverse", _)) => Ok(Request::Inverse),
+        Some(("clerks", given)) => Ok(clerks_of(given)),
         _ => Ok(Request::File),
     }
 }
@@ -126,6 +141,15 @@ fn inbreeding_of(given: &ArgMatches<'_>) -> Request
     Request::Inbreeding {
         workers: given.get_one::<u32>("workers").unwrap_or(1),
         block: given.get_one::<u32>("block").unwrap_or(256),
+    }
+}
+
+fn clerks_of(given: &ArgMatches<'_>) -> Request
+    ensures { IsAskedOfClerks (rows_of (found_of given.now)) result }
+{
+    Request::Clerks {
+        desks: given.get_one::<u32>("desks").unwrap_or(2),
+        base: given.get_one::<u32>("base").unwrap_or(0),
     }
 }
 
@@ -159,6 +183,13 @@ fn number_of(given: &ArgMatches<'_>, id: &str) -> Result<AnimalNumber, NumberFau
 
 fn command<'a>(alloc: Global) -> Result<Command<'a>, AllocError>
     ensures { IfOk result (λ command. app_of command ≡ command_line) }
+{
+    runs(alloc)?.subcommand(clerks(alloc)?)
+}
+
+// The program with the subcommands of one thread that files.
+fn runs<'a>(alloc: Global) -> Result<Command<'a>, AllocError>
+    ensures { IfOk result (λ command. app_of command ≡ runs_line) }
 {
     Command::new(alloc, "herdbook")
         .about(
@@ -228,4 +259,28 @@ fn mating<'a>(alloc: Global) -> Result<Command<'a>, AllocError>
         .about("Writes the inbreeding coefficient that a calf of the dam would have by each sire")
         .arg(dam)?
         .arg(sires)
+}
+
+fn clerks<'a>(alloc: Global) -> Result<Command<'a>, AllocError>
+    ensures line { IfOk result (λ command. app_of command ≡ clerks_line) }
+    ensures globals { IfOk result (λ command. (out-Command command).has_globals ≡ false) }
+{
+    let desks = Arg::new(alloc, "desks")
+        .long("desks")
+        .value_name("K")
+        .value_parser(clap::value_parser!(u32).range(1..=16))
+        .default_value("2")
+        .help("The number of desks, from 1 to 16, each with a thread of its own");
+    let base = Arg::new(alloc, "base")
+        .long("base")
+        .value_name("M")
+        .value_parser(clap::value_parser!(u32).range(0..=1_000_000))
+        .default_value("0")
+        .help(
+            "The number of commands that desk 1 files before the others begin, from 0 to 1,000,000",
+        );
+    Command::new(alloc, "clerks")
+        .about("Files the commands at several desks and writes how many each has filed")
+        .arg(desks)?
+        .arg(base)
 }

@@ -1,7 +1,7 @@
 //! How the program ends: with which status, and what it tells on standard error.
 
 ghost use Rattle.std.specs.Prelude.{◌≡◌};
-ghost use Rattle.herdbook.specs.Ending.{Explains, end_of_help, end_of_unread, status_of};
+ghost use Rattle.herdbook.specs.Ending.{Explains, end_of_help, end_of_run, end_of_unread, status_of};
 
 use crate::arguments::WordsFault;
 use crate::faults::{NumberFaultText, RunFaultText};
@@ -50,6 +50,16 @@ impl Ending {
                 _ => Ending::Usage(error),
             },
             WordsFault::Number(fault) => Ending::Number(fault),
+        }
+    }
+
+    /// The end after what was asked for was begun.
+    pub fn of_run(ended: Result<(), RunFault>) -> Ending
+        ensures { result ≡ end_of_run ended }
+    {
+        match ended {
+            Ok(()) => Ending::Done,
+            Err(fault) => Ending::Run(fault),
         }
     }
 

@@ -2,51 +2,50 @@
 #![tactic(auto)]
 
 mod arguments;
+mod clerk;
+mod clerk_fault;
+mod crew;
+mod desks;
+mod ending;
 mod faults;
+mod program;
+mod summary;
 
-use arguments::{WordsFault, read_words};
-use faults::{NumberFaultText, RunFaultText};
-use herd_register::Limits;
-use herd_report::run;
+use ending::Ending;
+use program::carry_out;
+use std::env::Env;
 use std::io;
 use std::process::ExitCode;
 
-/// What the book and its journal may hold.
-const LIMITS: Limits = Limits {
-    animals: 60_000,
-    steps: 1_000_000,
-};
-
-/// The words aren't a command line.
-const USAGE: u8 = 2;
-
-fn main(rt: HostRuntime) -> io::Result<ExitCode> {
-    let words: Vec<String> = std::env::args(&rt)?.collect(rt.alloc())?;
-    let request = match read_words(rt.alloc(), words.as_slice()) {
-        Ok(request) => request,
-        Err(WordsFault::Words(error)) => {
-            error.print(&rt)?;
-            return Ok(ExitCode::from(error.exit_code() as u8));
-        }
-        Err(WordsFault::Number(fault)) => {
-            eprintln!(rt; "herdbook: {}", NumberFaultText(fault))?;
-            return Ok(ExitCode::from(USAGE));
-        }
+fn main(rt: HostRuntime) -> ExitCode {
+    let ending = match words(&rt) {
+        Ok(words) => carry_out(
+            &rt,
+            rt.alloc(),
+            words.as_slice(),
+            rt.reader(),
+            &mut io::writer(&rt),
+        ),
+        Err(error) => Ending::of_unread(error.kind() == io::ErrorKind::OutOfMemory),
     };
-    match run(
-        &rt,
-        rt.alloc(),
-        LIMITS,
-        request.order(),
-        rt.reader(),
-        &mut io::writer(&rt),
-    ) {
-        Ok(()) => Ok(ExitCode::SUCCESS),
-        Err(fault) => {
-            eprintln!(rt; "herdbook: {}", RunFaultText(fault))?;
-            Ok(ExitCode::FAILURE)
-        }
+    tell(&rt, ending)
+}
+
+fn words<R: Env + Alloc>(rt: &R) -> io::Result<Vec<String<R::A>, R::A>> {
+    Ok(std::env::args(rt)?.collect(rt.alloc())?)
+}
+
+// Prints help, or tells on standard error how the program ends. What standard error can't take changes nothing.
+fn tell<R: Print + Eprint>(rt: &R, ending: Ending) -> ExitCode {
+    let ending = match ending {
+        Ending::Help(text) => Ending::of_help(rt.print(&text).is_ok()),
+        ending => ending,
+    };
+    let status = ending.status();
+    if status != 0 {
+        let _ = rt.eprint(&ending);
     }
+    ExitCode::from(status)
 }
 
 #[cfg(test)]

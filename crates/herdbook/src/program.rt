@@ -1,13 +1,15 @@
 //! What the program does, but for printing help and what it tells on standard error.
 
-ghost use Rattle.std.specs.Prelude.{◌≡◌, IfSome, map, string_bytes};
-ghost use Rattle.herdbook.specs.Program.{IsEnded, IsUntouchedUnlessAsked};
+ghost use Rattle.std.specs.Prelude.{◌≡◌, IfErr, IfSome, OnOk, map, string_bytes};
+ghost use Rattle.herd_report.specs.CommandFile.{commands};
+ghost use Rattle.herdbook.specs.Program.{EndsServing, IsEnded, IsServed, IsUntouchedUnlessAsked};
 ghost use Rattle.herdbook.specs.declared.program.TheConstants.{LIMITS};
 
-use crate::arguments::read_words;
+use crate::arguments::{Request, Task, read_words};
+use crate::desks::clerks;
 use crate::ending::Ending;
 use herd_register::Limits;
-use herd_report::run;
+use herd_report::{RunFault, run};
 use std::alloc::Global;
 use std::io::{Read, Write};
 use std::sync::Wait;
@@ -36,8 +38,24 @@ pub fn carry_out<H: Threads + Wait + Sync, R: Read + Drop, W: Write>(
         Ok(request) => request,
         Err(fault) => return Ending::of_words(fault),
     };
-    match run(rt, alloc, LIMITS, request.order(), reader, writer) {
-        Ok(()) => Ending::Done,
-        Err(fault) => Ending::Run(fault),
+    Ending::of_run(served(rt, alloc, &request, reader, writer))
+}
+
+// Does what is asked for.
+fn served<H: Threads + Wait + Sync, R: Read + Drop, W: Write>(
+    rt: &H,
+    alloc: Global,
+    request: &Request,
+    reader: R,
+    writer: &mut W,
+) -> Result<(), RunFault>
+    ensures ok { OnOk result (IfSome (R.remaining reader)
+        (λ bytes. IsServed request.now LIMITS (commands bytes LIMITS.steps) (W.contents writer.old) (W.contents writer.new))) }
+    ensures err { IfErr result (λ fault. IfSome (R.remaining reader)
+        (λ bytes. EndsServing request.now LIMITS (commands bytes LIMITS.steps) (W.contents writer.old) (W.contents writer.new) fault)) }
+{
+    match request.task() {
+        Task::Run(order) => run(rt, alloc, LIMITS, order, reader, writer),
+        Task::Clerks { desks, base } => clerks(rt, alloc, LIMITS, desks, base, reader, writer),
     }
 }

@@ -1,0 +1,49 @@
+-- What clerks write for a command file, and how they may end.
+use Rattle.std.specs.Prelude.{◌≡◌, ℕ, max, List, length, Option, Some, None}
+use Rattle.std.specs.Io.KnownBytes.{Appends}
+use Rattle.herd_register.specs.declared.limits.Limits.{Limits}
+use Rattle.herd_report.specs.CommandFile.{CommandFile, IsRead}
+use Rattle.herd_report.specs.Output.{AppendsFront}
+use Rattle.herd_report.specs.declared.line_fault.LineFault.{LineFault}
+use Rattle.herd_report.specs.declared.run_fault.RunFault.{RunFault}
+use Rattle.herd_report.specs.declared.run_fault.RunFault.TheVariants.{Line, NotRegistered, NoThread, Memory, Write, NoPlace}
+use Rattle.herd_register.specs.declared.command.Command.{Command}
+use Rattle.herdbook.specs.Summary.{TellsOf}
+use Rattle.herdbook.specs.declared.clerk_fault.ClerkFault.{ClerkFault}
+use Rattle.herdbook.specs.declared.clerk_fault.ClerkFault.TheVariants as clerk
+
+-- the fault of a run for one of clerks
+abbrev pub told_of : ClerkFault → RunFault
+told_of clerk.NoThread = NoThread
+told_of clerk.Memory = Memory
+told_of clerk.NoPlace = NoPlace
+
+-- the limits of an office for so many commands: a step for each, and one at least
+abbrev pub office_limits : ℕ → ℕ → Limits
+office_limits animals commands = record { animals = animals; steps = max commands 1 }
+
+-- the file has no fault, and a text that tells of its commands passes a test
+pub record IsTold (limits : Limits) (file : CommandFile) (Passes : List ℕ → Type 0) : Type 0 where
+  pub text : List ℕ
+  pub faultless : file.fault ≡ None
+  pub tells : TellsOf (office_limits limits.animals (length file.commands)) (length file.commands) text
+  pub passes : Passes text
+
+-- the summary of the file's commands was written
+abbrev pub IsFiledBy : Limits → CommandFile → Option (List ℕ) → Option (List ℕ) → Type 0
+IsFiledBy limits file old new = IsTold limits file (Appends old new)
+
+-- a line fault, or an interruption of the reading, was met after some commands, and nothing was written
+pub record EndsByLine (limits : Limits) (file : CommandFile) (fault : LineFault) (old new : Option (List ℕ)) : Type 0 where
+  pub commands : List Command
+  pub read : IsRead limits.steps file commands (Some fault)
+  pub unwritten : new ≡ old
+
+-- how clerks may end early
+abbrev pub EndsClerks : Limits → CommandFile → Option (List ℕ) → Option (List ℕ) → RunFault → Type 0
+EndsClerks limits file old new (Line fault) = EndsByLine limits file fault old new
+EndsClerks limits file old new NotRegistered = ⊥
+EndsClerks limits file old new NoThread = (file.fault ≡ None) × (new ≡ old)
+EndsClerks limits file old new NoPlace = (file.fault ≡ None) × (new ≡ old)
+EndsClerks limits file old new Memory = (file.fault ≡ None) × (new ≡ old)
+EndsClerks limits file old new Write = IsTold limits file (AppendsFront old new)

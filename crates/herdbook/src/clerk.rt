@@ -1,0 +1,70 @@
+//! A clerk, who files commands at a desk one after the other.
+ghost use Rattle.std.specs.Prelude.{◌≡◌, ◌+◌, ◌≤◌, length, None, OnOk};
+
+use crate::clerk_fault::ClerkFault;
+use herd_office::{Desk, Filed, Office, OfficeName, Slip};
+use herd_register::Command;
+use std::sync::Wait;
+
+/// A clerk at a desk, who keeps the slip of the last command that was filed there.
+#[derive(Drop)]
+pub struct Clerk<N: OfficeName> {
+    pub desk: Desk<N>,
+    pub slip: Option<Slip<N>>,
+}
+
+/// The commands that fall to a desk: from the first on, every so many-th.
+#[derive(Clone, Copy)]
+pub struct Turn<'a> {
+    pub commands: &'a [Command],
+    pub first: usize,
+    pub step: usize,
+}
+
+impl<N: OfficeName> Clerk<N> {
+    /// A clerk at a desk where nothing was filed yet.
+    pub fn new(desk: Desk<N>) -> Clerk<N>
+        ensures desk { result.desk ≡ desk }
+        ensures slip { result.slip ≡ None }
+    {
+        Clerk { desk, slip: None }
+    }
+
+    // Files a command.
+    fn file<H: Wait, R: Wait + Drop>(
+        &mut self,
+        rt: &H,
+        office: &Office<N, R>,
+        command: Command,
+    ) -> Result<(), ClerkFault>
+        ensures number { self.new.desk.number ≡ self.old.desk.number }
+        ensures answered { OnOk result (self.new.desk.answered ≡ self.old.desk.answered + 1) }
+    {
+        let Filed {
+            serial: _,
+            reply: _,
+            slip,
+        } = self.desk.file(rt, office, command)?;
+        self.slip = Some(slip);
+        Ok(())
+    }
+
+    /// Files the commands of a turn, in their order.
+    pub fn file_turn<H: Wait, R: Wait + Drop>(
+        &mut self,
+        rt: &H,
+        office: &Office<N, R>,
+        turn: Turn<'_>,
+    ) -> Result<(), ClerkFault>
+        requires step { (1 ≤ turn.step) × (turn.step ≤ 16) }
+        requires few { length turn.commands.now ≤ 1_000_000 }
+        ensures number { self.new.desk.number ≡ self.old.desk.number }
+    {
+        let mut place = turn.first;
+        while place < turn.commands.len() {
+            self.file(rt, office, turn.commands[place])?;
+            place += turn.step;
+        }
+        Ok(())
+    }
+}

@@ -1,0 +1,65 @@
+//! Why clerks end early.
+ghost use Rattle.std.specs.Prelude.{◌≡◌};
+ghost use Rattle.herdbook.specs.Clerks.{told_of};
+
+use herd_office::{FreezeFault, OpenFault};
+use herd_register::FileFault;
+use herd_report::RunFault;
+use std::alloc::AllocError;
+
+/// Why clerks end early.
+#[derive(Clone, Copy, Debug, PartialEq, Eq, Drop)]
+pub enum ClerkFault {
+    /// A thread couldn't be started.
+    NoThread,
+    /// A growth of memory was refused.
+    Memory,
+    /// An office lacks a reader's place, or gives no reading.
+    NoPlace,
+}
+
+impl ClerkFault {
+    /// As the fault of a run.
+    pub fn told(self) -> RunFault
+        ensures { result ≡ told_of self }
+    {
+        match self {
+            ClerkFault::NoThread => RunFault::NoThread,
+            ClerkFault::Memory => RunFault::Memory,
+            ClerkFault::NoPlace => RunFault::NoPlace,
+        }
+    }
+}
+
+impl From<AllocError> for ClerkFault {
+    fn from(_refused: AllocError) -> ClerkFault {
+        ClerkFault::Memory
+    }
+}
+
+impl From<OpenFault> for ClerkFault {
+    fn from(fault: OpenFault) -> ClerkFault {
+        match fault {
+            OpenFault::Memory => ClerkFault::Memory,
+            OpenFault::NoPlace => ClerkFault::NoPlace,
+        }
+    }
+}
+
+impl From<FileFault> for ClerkFault {
+    fn from(fault: FileFault) -> ClerkFault {
+        match fault {
+            FileFault::Memory => ClerkFault::Memory,
+            FileFault::JournalFull | FileFault::NoReading => ClerkFault::NoPlace,
+        }
+    }
+}
+
+impl From<FreezeFault> for ClerkFault {
+    fn from(fault: FreezeFault) -> ClerkFault {
+        match fault {
+            FreezeFault::Memory => ClerkFault::Memory,
+            FreezeFault::NoReading => ClerkFault::NoPlace,
+        }
+    }
+}
