@@ -216,7 +216,7 @@ fn inbreeding<'a>(alloc: Global) -> Result<Command<'a>, AllocError>
         .value_name("N")
         .value_parser(clap::value_parser!(u32).range(1..=16))
         .default_value("1")
-        .help("The number of threads, from 1 to 16");
+        .help("From 1 to 16 threads: one goes sire by sire, more share blocks by tracing");
     let block = Arg::new(alloc, "block")
         .long("block")
         .value_name("N")
