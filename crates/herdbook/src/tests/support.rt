@@ -83,7 +83,7 @@ macro_rules! ran {
         let outcome = herd_report::run(
             $rt,
             $rt.alloc(),
-            $crate::LIMITS,
+            $crate::program::LIMITS,
             $order,
             $bytes,
             &mut written,
