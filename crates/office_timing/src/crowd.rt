@@ -1,0 +1,86 @@
+//! Births at many desks beside inspectors, each on a thread of its own.
+
+ghost use Rattle.std.specs.Prelude.{◌≡◌, ◌≤◌};
+ghost use Rattle.herd_office.specs.Parts.{AreNamed};
+
+use crate::filing::{Told, file_births, part, steps_at_close};
+use crate::founders::Founders;
+use crate::freezing::freeze_until;
+use anyhow::Result;
+use herd_office::{Desk, FreezeFault, Inspector, Office, OfficeName, OfficeParts};
+use herd_register::FileFault;
+use std::alloc::Global;
+use std::sync::Wait;
+use std::sync::atomic::{AtomicBool, Ordering};
+use std::thread::{Threads, join, map_vec};
+
+type Filed<N> = Result<(Desk<N>, u64), FileFault>;
+
+/// Births in as many parts as there are desks, while all inspectors freeze, or none where `freezing` is false.
+pub fn file_crowded<N: OfficeName + Send + Sync, R: Threads + Wait + Sync>(
+    rt: &R,
+    alloc: Global,
+    parts: OfficeParts<&R>,
+    births: u32,
+    freezing: bool,
+) -> Result<Told>
+    requires { AreNamed N.name N.parts N.all N.book N.limits parts }
+{
+    let founders = Founders::new()?;
+    let (office, desks, mut inspectors) = Office::<N, &R>::open(alloc, parts)?;
+    let mut idle = Vec::new(alloc);
+    if !freezing {
+        idle.append(&mut inspectors)?;
+    }
+    let count = desks.len() as u16;
+    let shared = &office;
+    let done = AtomicBool::new(false);
+    let flag = &done;
+    let (filed, frozen) = join(
+        rt,
+        move || {
+            let filed = map_vec(
+                rt,
+                desks,
+                &|desk| file_part(rt, shared, desk, founders, births, count),
+            );
+            flag.store(true, Ordering::SeqCst);
+            filed
+        },
+        move || map_vec(
+            rt,
+            inspectors,
+            &|inspector| freeze_until(alloc, inspector, flag),
+        ),
+    );
+    let (desks, accepted) = gathered(alloc, filed?)?;
+    for inspector in frozen? {
+        idle.push(inspector?)?;
+    }
+    let steps = steps_at_close(rt, office, desks, idle)?;
+    Ok(Told { accepted, steps })
+}
+
+fn file_part<N: OfficeName, R: Wait>(
+    rt: &R,
+    office: &Office<N, &R>,
+    desk: Desk<N>,
+    founders: Founders,
+    births: u32,
+    desks: u16,
+) -> Filed<N> {
+    let places = part(births, desk.number().max(1), desks.max(1));
+    file_births(rt, office, desk, founders, places)
+}
+
+// The desks, and how many births were accepted at all of them.
+fn gathered<N: OfficeName>(alloc: Global, filed: Vec<Filed<N>>) -> Result<(Vec<Desk<N>>, u64)> {
+    let mut desks = Vec::new(alloc);
+    let mut accepted = 0_u64;
+    for one in filed {
+        let (desk, more) = one?;
+        desks.push(desk)?;
+        accepted = accepted.saturating_add(more);
+    }
+    Ok((desks, accepted))
+}
