@@ -2,7 +2,7 @@
 """Measures what an office takes for births at desks on threads, beside inspectors who freeze without pause.
 
     office.sh PROGRAM HERDBOOK [--million] [--runs 5] [--desks 1,2,4,16] [--inspectors 0,1,4]
-              [--before 40000] [--timed 10000]
+              [--before 20000] [--timed 40000]
 
 PROGRAM is the executable of the crate office_timing, HERDBOOK that of herdbook, as `rt run` leaves
 them; nothing is proved or built. The births are of founders. `--million` adds a million calls: a
@@ -113,8 +113,8 @@ def main():
     takes.add_argument("--runs", type=int, default=5)
     takes.add_argument("--desks", default="1,2,4,16")
     takes.add_argument("--inspectors", default="0,1,4")
-    takes.add_argument("--before", type=int, default=40_000)
-    takes.add_argument("--timed", type=int, default=10_000)
+    takes.add_argument("--before", type=int, default=20_000)
+    takes.add_argument("--timed", type=int, default=40_000)
     given = takes.parse_args()
     well = True
     print("| births | desks | inspectors | calls a second | cpu, µs | by file | memory, MB |")
