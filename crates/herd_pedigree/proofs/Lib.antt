@@ -11,7 +11,6 @@ pub mod RowFacts
 pub mod LevelFacts
 pub mod FreezeFacts
 pub mod LinkFacts
-pub mod ListedFacts
 mod PlaceFacts
 mod DepthFacts
 mod FaultFacts

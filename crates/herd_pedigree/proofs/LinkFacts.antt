@@ -1,21 +1,20 @@
 -- The links of a book, from the places of its numbers.
-use Rattle.std.proofs.Common.{ℕ, ◌+◌, ◌<◌, ◌≤◌, ◌≡◌, ⊎_elim, arith, refl, sym, ap, ◌∙◌, subst, true, false, cond, List, Option, Some, None, slice_get, map}
+use Rattle.std.proofs.Common.{ℕ, ◌+◌, ◌<◌, ◌≤◌, ◌≡◌, ⊎_elim, arith, refl, sym, ap, ◌∙◌, subst, true, false, cond, List, Option, Some, None, slice_get}
 use Rattle.std.specs.List.{IsDistinct}
 use Rattle.std.specs.Map.{keys_of}
 use Rattle.std.specs.Option.{option_and_then}
 use Rattle.std.specs.Str.{bytes_eq}
 use Rattle.std.proofs.lemmas.Bool.{cases_lt}
 use Rattle.std.proofs.lemmas.Cmp.{nat_list_eq_equiv}
-use Rattle.std.proofs.lemmas.List.{length-map}
 use Rattle.std.proofs.lemmas.Map.Keys.{apart_from_distinct}
-use Rattle.std.proofs.lemmas.Option.{get_or_from_slice_get, same_Some, slice_get-map, slice_get_within}
+use Rattle.std.proofs.lemmas.Option.{get_or_from_slice_get, same_Some, slice_get_within}
 use Rattle.herd_pedigree.specs.declared.animal.Animal.{Animal}
-use Rattle.herd_pedigree.specs.declared.links.Link.{Link}
 use Rattle.herd_pedigree.specs.Book.{Book, record_of}
 use Rattle.herd_pedigree.specs.Freeze.{FindsPlaces, link_by}
-use Rattle.herd_pedigree.specs.Lawful.{IsLawful, IsLawfulRecord}
+use Rattle.herd_pedigree.specs.Lawful.{IsLawfulRecord}
 use Rattle.herd_pedigree.specs.Places.{IsPlaceIn}
-use Rattle.herd_pedigree.specs.Links.{AreLinks}
+use Rattle.herd_pedigree.specs.Links.{IsLinkAt}
+use Rattle.herd_pedigree.specs.Listed.{IsListed}
 use Rattle.herd_pedigree.proofs.BookFacts.{bytes_itself, key_from_entry, lookup_at, place_of}
 
 -- what is found under the numbers before i is their places
@@ -49,20 +48,16 @@ parent-placed book find finds (Some p) known =
     let numbered : slice_get (keys_of book) at.0 ≡ Some p = key_from_entry book at.0 p record_known.0 at.1 in
     rw (finds at.0 p numbered) numbered
 
--- the links that are made of the places found are the book's
-pub links-found : (l most : ℕ) (book : Book) (find : List ℕ → Option ℕ) → IsLawful l most book → FindsPlaces (keys_of book) find → AreLinks book (map (λ entry. link_by find entry.1) book)
-links-found l most book find lawful finds =
-    let link_of : List ℕ × Animal → Link = λ entry. link_by find entry.1 in
-    let lawful_at : (c : ℕ) (entry : List ℕ × Animal) → slice_get book c ≡ Some entry → IsLawfulRecord book entry.1 =
-    λ c entry at. lawful.records entry.0 entry.1 (lookup_at book lawful.once c entry.0 entry.1 at) in
-    let same : (c : ℕ) (entry : List ℕ × Animal) (link : Link) → slice_get book c ≡ Some entry → slice_get (map link_of book) c ≡ Some link → link_of entry ≡ link =
-    λ c entry link at at_link. same_Some (link_of entry) link (sym (slice_get-map link_of book c ∙ rw at refl) ∙ at_link) in
+-- the link that is made of the places found is that of the record
+pub link-found : (l most : ℕ) (book : Book) (find : List ℕ → Option ℕ) → IsListed l most book find → (place : ℕ) (entry : List ℕ × Animal) → slice_get book place ≡ Some entry → IsLinkAt book place (link_by find entry.1)
+link-found l most book find listed place entry at =
+    let lawful : IsLawfulRecord book entry.1 = listed.lawful.records entry.0 entry.1 (lookup_at book listed.lawful.once place entry.0 entry.1 at) in
+    let same : (other : List ℕ × Animal) → slice_get book place ≡ Some other → entry.1 ≡ other.1 = λ other there. ap (λ (e : List ℕ × Animal). e.1) (same_Some entry other (sym at ∙ there)) in
     record {
-      long = length-map book link_of;
-      sires = λ c entry link at at_link.
-          subst (λ (k : Link). IsPlaceIn (keys_of book) k.sire entry.1.sire) (same c entry link at at_link)
-          (parent-placed book find finds entry.1.sire (λ p e. let sire = (lawful_at c entry at).sire p e in (sire.sire, sire.there)));
-      dams = λ c entry link at at_link.
-          subst (λ (k : Link). IsPlaceIn (keys_of book) k.dam entry.1.dam) (same c entry link at at_link)
-          (parent-placed book find finds entry.1.dam (λ p e. let dam = (lawful_at c entry at).dam p e in (dam.dam, dam.there)));
+      sire = λ other there.
+          subst (λ (a : Animal). IsPlaceIn (keys_of book) (option_and_then find entry.1.sire) a.sire) (same other there)
+          (parent-placed book find listed.finds entry.1.sire (λ p e. let sire = lawful.sire p e in (sire.sire, sire.there)));
+      dam = λ other there.
+          subst (λ (a : Animal). IsPlaceIn (keys_of book) (option_and_then find entry.1.dam) a.dam) (same other there)
+          (parent-placed book find listed.finds entry.1.dam (λ p e. let dam = lawful.dam p e in (dam.dam, dam.there)));
     }

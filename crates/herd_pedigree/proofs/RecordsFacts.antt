@@ -10,6 +10,7 @@ use Rattle.std.proofs.lemmas.Option.{same_Some, slice_get_within}
 use Rattle.indexmap.specs.IndexMap.{set_value_at}
 use Rattle.herd_pedigree.specs.declared.animal.Animal.{Animal}
 use Rattle.herd_pedigree.specs.declared.records.Entry.{Entry}
+use Rattle.herd_pedigree.specs.Links.{IsLinkAt}
 use Rattle.herd_pedigree.specs.Places.{IsPlaceIn}
 use Rattle.herd_pedigree.specs.Records.{AreClosed, NamesItsOwn, StandAmong, book_of, book_with, named, number_at}
 use Rattle.herd_pedigree.specs.Undo.{without_last}
@@ -165,6 +166,31 @@ module _ (es : List (List ℕ × Entry)) where
       ))
       (λ old. let parents = h place entry old.1 in (further entry.1.sire (omega (arith, same)) parents.0, further entry.1.dam (omega (arith, same)) parents.1))
       (set_value-cases es i place e entry at)
+
+-- a place that is kept is that of the number it gives
+place-named : (numbers : List (List ℕ)) (o : Option ℕ) → IfSome o (λ p. p < length numbers) → IsPlaceIn numbers o (number_at numbers o)
+place-named numbers None h = tt
+place-named numbers (Some p) h = let n = there numbers p h in subst (λ o. IsPlaceIn numbers (Some p) o) (sym n.1) n.1
+
+entry_with : (es : List (List ℕ × Entry)) (i : ℕ) (e : Entry) → slice_get (values_of es) i ≡ Some e → (x : List ℕ) × (slice_get es i ≡ Some (x, e))
+entry_with [] i e at = absurd (cc)
+entry_with (first ∷ es) zero e at = (first.0, ap (λ v. Some (first.0, v)) (same_Some _ _ at))
+entry_with (first ∷ es) (suc i) e at = entry_with es i e at
+
+-- the places that an entry keeps are those of its record's parents
+pub link-kept : (es : List (List ℕ × Entry)) (i : ℕ) (e : Entry) → slice_get (values_of es) i ≡ Some e → AreClosed es → IsLinkAt (book_of es) i (record { sire = e.sire; dam = e.dam })
+link-kept es i e at closed =
+    let numbers : List (List ℕ) = keys_of es in
+    let its = entry_with es i e at in
+    let parents = closed i (its.0, e) its.1 in
+    let here : slice_get (book_of es) i ≡ Some (its.0, named numbers e) = entry-book_with numbers es i ∙ ap (λ o. option_map (λ (k : List ℕ × Entry). (k.0, named numbers k.1)) o) its.1 in
+    let told : (o : Option ℕ) → IfSome o (λ p. p < length es) → IsPlaceIn (keys_of (book_of es)) o (number_at numbers o) = λ o h.
+    subst (λ l. IsPlaceIn l o (number_at numbers o)) (sym (keys-book_of es)) (place-named numbers o (subst (λ n. IfSome o (λ p. p < n)) (sym (length-keys es)) h)) in
+    let same : (entry : List ℕ × Animal) → slice_get (book_of es) i ≡ Some entry → named numbers e ≡ entry.1 = λ entry stands. ap (λ (p : List ℕ × Animal). p.1) (same_Some (its.0, named numbers e) entry (sym here ∙ stands)) in
+    record {
+      sire = λ entry stands. subst (λ (a : Animal). IsPlaceIn (keys_of (book_of es)) e.sire a.sire) (same entry stands) (told e.sire parents.0);
+      dam = λ entry stands. subst (λ (a : Animal). IsPlaceIn (keys_of (book_of es)) e.dam a.dam) (same entry stands) (told e.dam parents.1);
+    }
 
 -- where a place gives a number that stands among the first, it is one of the first
 among_first : (numbers : List (List ℕ)) (x : List ℕ) → IsDistinct bytes_eq (numbers ++ x ∷ []) → (o : Option ℕ) → IfSome o (λ p. p < length (numbers ++ x ∷ []))

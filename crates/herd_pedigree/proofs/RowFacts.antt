@@ -13,6 +13,7 @@ use Rattle.herd_pedigree.specs.Book.{Book, IsDepthOf, parentage_of, record_of}
 use Rattle.herd_pedigree.specs.Lawful.{IsLawfulRecord}
 use Rattle.herd_pedigree.specs.Frozen.{depth_at}
 use Rattle.herd_pedigree.specs.Freeze.{AreRows, IsAbove, IsRanked, IsRowOf, places_of}
+use Rattle.herd_pedigree.specs.Links.{IsLinkAt}
 use Rattle.herd_pedigree.specs.Places.{IsPlaceIn}
 use Rattle.herd_pedigree.proofs.AgeOrderFacts.{IsKeyOf, key-at, length-keys, older-before}
 use Rattle.herd_pedigree.proofs.BookFacts.{key_from_entry, entry_from_key, lookup_at, there}
@@ -30,7 +31,7 @@ pub record IsParentOf (book : Book) (keys : List AgeKey) (ranks : List ℕ) (row
   pub earlier : IfSome (option_and_then (slice_get ranks) place) (λ rank. rank < length rows)
   pub above : IsAbove (parentage_of book) parent (option_map_or (λ rank. depth_at rows rank + 1) (option_and_then (slice_get ranks) place) 0)
 
-module _ (l most : ℕ) (book : Book) (links : List Link) (keys : List AgeKey) (ranks : List ℕ) (rows : List Row) (is : IsRanked l most book links keys ranks) (made : AreRows book keys rows) where
+module _ (l most : ℕ) (book : Book) (keys : List AgeKey) (ranks : List ℕ) (rows : List Row) (is : IsRanked l most book keys ranks) (made : AreRows book keys rows) where
   -- the depths so far are within the limit
   pub rows-shallow : length rows ≤ length keys → All (λ row. row.depth ≤ l) rows
   rows-shallow few i d h =
@@ -78,46 +79,40 @@ module _ (l most : ℕ) (book : Book) (links : List Link) (keys : List AgeKey) (
           above = rw rank.1 (row.0.depth, deep, ap (λ n. n + 1) depth);
         }
 
-    -- what is known of the record whose turn it is
-    pub record IsNext : Type 0 where
-      pub animal : Animal
+    -- the record whose turn it is is in the book
+    pub place-within : key.place < length book
+    place-within = let its_key : IsKeyOf book key = key-at book keys is.ordered (length rows) key at in slice_get_within book key.place (key.number, its_key.animal) its_key.entry
+
+    -- what is known of it, with the places of its parents
+    pub record IsNext (animal : Animal) (link : Link) : Type 0 where
       pub entry : slice_get book key.place ≡ Some (key.number, animal)
-      pub link : Link
-      pub linked : slice_get links key.place ≡ Some link
-      pub read : (other : Link) → get_or links key.place other ≡ link
       pub sire : IsParentOf book keys ranks rows link.sire animal.sire
       pub dam : IsParentOf book keys ranks rows link.dam animal.dam
 
-    pub next : IsNext
-    next =
+    pub next : (entry : List ℕ × Animal) (link : Link) → slice_get book key.place ≡ Some entry → IsLinkAt book key.place link → IsNext entry.1 link
+    next entry link there linked =
         let its_key : IsKeyOf book key = key-at book keys is.ordered (length rows) key at in
-        let animal : Animal = its_key.animal in
-        let within : key.place < length book = slice_get_within book key.place (key.number, animal) its_key.entry in
-        let long = is.linked.long in
-        let link = there links key.place (omega arith) in
-        let found : record_of book key.number ≡ Some animal = lookup_at book is.lawful.once key.place key.number animal its_key.entry in
-        let lawful : IsLawfulRecord book animal = is.lawful.records key.number animal found in
+        let animal : its_key.animal ≡ entry.1 = ap (λ (e : List ℕ × Animal). e.1) (same_Some (key.number, its_key.animal) entry (sym its_key.entry ∙ there)) in
+        let here : slice_get book key.place ≡ Some (key.number, entry.1) = its_key.entry ∙ ap (λ (a : Animal). Some (key.number, a)) animal in
+        let lawful : IsLawfulRecord book entry.1 = is.lawful.records key.number entry.1 (lookup_at book is.lawful.once key.place key.number entry.1 here) in
+        let born : key.birth ≡ entry.1.birth = its_key.birth ∙ ap (λ (a : Animal). a.birth) animal in
         record {
-          animal = animal;
-          entry = its_key.entry;
-          link = link.0;
-          linked = link.1;
-          read = λ other. get_or_from_slice_get links key.place link.0 other link.1;
+          entry = here;
           sire =
-              parent-found link.0.sire animal.sire (is.linked.sires key.place (key.number, animal) link.0 its_key.entry link.1)
-              (λ p e. let sire = lawful.sire p e in (sire.sire, sire.there, subst (λ birth. sire.sire.birth <ℤ birth) (sym its_key.birth) sire.older));
+              parent-found link.sire entry.1.sire (linked.sire entry there)
+              (λ p e. let sire = lawful.sire p e in (sire.sire, sire.there, subst (λ birth. sire.sire.birth <ℤ birth) (sym born) sire.older));
           dam =
-              parent-found link.0.dam animal.dam (is.linked.dams key.place (key.number, animal) link.0 its_key.entry link.1)
-              (λ p e. let dam = lawful.dam p e in (dam.dam, dam.there, subst (λ birth. dam.dam.birth <ℤ birth) (sym its_key.birth) dam.older));
+              parent-found link.dam entry.1.dam (linked.dam entry there)
+              (λ p e. let dam = lawful.dam p e in (dam.dam, dam.there, subst (λ birth. dam.dam.birth <ℤ birth) (sym born) dam.older));
         }
 
     -- its row
-    pub row-next : (row : Row) → (n : IsNext) → row.number ≡ key.number → row.animal ≡ n.animal →
-        row.sire ≡ option_and_then (slice_get ranks) n.link.sire → row.dam ≡ option_and_then (slice_get ranks) n.link.dam →
+    pub row-next : (animal : Animal) (link : Link) → IsNext animal link → (row : Row) → row.number ≡ key.number → row.animal ≡ animal →
+        row.sire ≡ option_and_then (slice_get ranks) link.sire → row.dam ≡ option_and_then (slice_get ranks) link.dam →
         row.depth ≡ max (option_map_or (λ rank. depth_at rows rank + 1) row.sire 0) (option_map_or (λ rank. depth_at rows rank + 1) row.dam 0) →
         IsRowOf book keys key row
-    row-next row n number animal sire dam depth =
-        let found : record_of book row.number ≡ Some row.animal = ap (λ x. record_of book x) number ∙ lookup_at book is.lawful.once key.place key.number n.animal n.entry ∙ ap Some (sym animal) in
+    row-next its link n row number animal sire dam depth =
+        let found : record_of book row.number ≡ Some row.animal = ap (λ x. record_of book x) number ∙ lookup_at book is.lawful.once key.place key.number its n.entry ∙ ap Some (sym animal) in
         let by_sire : IsAbove (parentage_of book) row.animal.sire (option_map_or (λ rank. depth_at rows rank + 1) row.sire 0) = rw (animal, sire) n.sire.above in
         let by_dam : IsAbove (parentage_of book) row.animal.dam (option_map_or (λ rank. depth_at rows rank + 1) row.dam 0) = rw (animal, dam) n.dam.above in
         record {
@@ -128,12 +123,9 @@ module _ (l most : ℕ) (book : Book) (links : List Link) (keys : List AgeKey) (
           depth = subst (λ d. IsDepthOf book row.number d) (sym depth) (depth-found row.number row.animal found _ _ by_sire by_dam);
         }
 
--- the same where the key was read
-pub next-read : (l most : ℕ) (book : Book) (links : List Link) (keys : List AgeKey) (ranks : List ℕ) (rows : List Row) (is : IsRanked l most book links keys ranks) (made : AreRows book keys rows) →
-    length rows < length keys → (key : AgeKey) → key ≡ get_or keys (length rows) key → (at : slice_get keys (length rows) ≡ Some key) × IsNext l most book links keys ranks rows is made key at
-next-read l most book links keys ranks rows is made more key read =
-    let at : slice_get keys (length rows) ≡ Some key = slice_get_read keys (length keys) (length rows) key refl more read in
-    (at, next l most book links keys ranks rows is made key at)
+-- the key whose turn it is
+pub key-read : (keys : List AgeKey) (rows : List Row) → length rows < length keys → (key : AgeKey) → key ≡ get_or keys (length rows) key → slice_get keys (length rows) ≡ Some key
+key-read keys rows more key read = slice_get_read keys (length keys) (length rows) key refl more read
 
 push_cases : {X : Type 0} (xs : List X) (y x : X) (i : ℕ) → slice_get (xs ++ y ∷ []) i ≡ Some x → (slice_get xs i ≡ Some x) ⊎ ((i ≡ length xs) × (y ≡ x))
 push_cases [] y x zero at = inr (refl, same_Some y x at)

@@ -13,7 +13,6 @@ use Rattle.herd_pedigree.specs.Book.{Book, IsDepthOf}
 use Rattle.herd_pedigree.specs.Lawful.{IsLawful}
 use Rattle.herd_pedigree.specs.Lines.{Parentage, IsDepth}
 use Rattle.herd_pedigree.specs.Places.{IsPlaceIn}
-use Rattle.herd_pedigree.specs.Links.{AreLinks}
 
 -- a record with its place of registration, by what its age is compared by
 abbrev pub age_key : ℕ × (List ℕ × Animal) → AgeKey
@@ -37,10 +36,9 @@ pub record AreRanks (keys : List AgeKey) (ranks : List ℕ) : Type 0 where
   pub long : length ranks ≡ length keys
   pub each : (place rank : ℕ) → slice_get ranks place ≡ Some rank → slice_get (places_of keys) rank ≡ Some place
 
--- a lawful book with its links, its keys in age order and their ranks
-pub record IsRanked (l most : ℕ) (book : Book) (links : List Link) (keys : List AgeKey) (ranks : List ℕ) : Type 0 where
+-- a lawful book with its keys in age order and their ranks
+pub record IsRanked (l most : ℕ) (book : Book) (keys : List AgeKey) (ranks : List ℕ) : Type 0 where
   pub lawful : IsLawful l most book
-  pub linked : AreLinks book links
   pub ordered : IsAgeOrder book keys
   pub ranked : AreRanks keys ranks
 

@@ -1,13 +1,11 @@
--- The parents of animals by place as links.
-use Rattle.std.specs.Prelude.{◌≡◌, ℕ, List, map, Option}
-use Rattle.std.specs.List.{range_with_len}
-use Rattle.herd_pedigree.specs.declared.links.Link.{Link}
-use Rattle.herd_pedigree.specs.Places.{parent_at}
+-- A list of records whose parents are looked up by number.
+use Rattle.std.specs.Prelude.{ℕ, List, Option}
+use Rattle.std.specs.Map.{keys_of}
+use Rattle.herd_pedigree.specs.Book.{Book}
+use Rattle.herd_pedigree.specs.Freeze.{FindsPlaces}
+use Rattle.herd_pedigree.specs.Lawful.{IsLawful}
 
--- the parents of the animal at a place
-abbrev pub link_at : List (Option ℕ) → List (Option ℕ) → ℕ → Link
-link_at sires dams place = record { sire = parent_at sires place; dam = parent_at dams place }
-
--- the links are the parents of the first n animals
-abbrev pub AreLinksBy : List (Option ℕ) → List (Option ℕ) → ℕ → List Link → Type 0
-AreLinksBy sires dams n links = links ≡ map (link_at sires dams) (range_with_len 0 n)
+-- the book is lawful, and what is found under each of its numbers is its place
+pub record IsListed (l most : ℕ) (book : Book) (find : List ℕ → Option ℕ) : Type 0 where
+  pub lawful : IsLawful l most book
+  pub finds : FindsPlaces (keys_of book) find

@@ -3,7 +3,7 @@ ghost use Rattle.std.specs.List.{range_with_len};
 ghost use Rattle.herd_pedigree.specs.Freeze.{AreRanks, IsAgeOrder, places_of};
 ghost use Rattle.herd_pedigree.specs.declared.TheConstants.{MOST_ANIMALS};
 
-use crate::animal::Animal;
+use crate::registered::Registered;
 use herd_animal::{AnimalNumber, Day};
 use std::alloc::{AllocError, Allocator};
 
@@ -16,18 +16,20 @@ pub(crate) struct AgeKey {
 }
 
 /// The keys of the records, in age order.
-pub(crate) fn by_age<A: Allocator>(
+pub(crate) fn by_age<A: Allocator, S: Registered>(
     alloc: A,
-    records: &[(AnimalNumber, Animal)],
+    records: &S,
 ) -> Result<Vec<AgeKey, A>, AllocError>
-    requires { length records.now ≤ MOST_ANIMALS }
-    ensures { IfOk result (λ keys. IsAgeOrder records.now keys.items) }
+    requires { length (S.book records.now) ≤ MOST_ANIMALS }
+    ensures { IfOk result (λ keys. IsAgeOrder (S.book records.now) keys.items) }
 {
-    let mut keys = Vec::with_capacity(alloc, records.len())?;
-    for (place, (number, animal)) in records.iter().enumerate() {
+    let count = records.count();
+    let mut keys = Vec::with_capacity(alloc, count)?;
+    for place in 0..count {
+        let entry = records.record_at(place);
         keys.push(AgeKey {
-            birth: animal.birth,
-            number: *number,
+            birth: entry.1.birth,
+            number: entry.0,
             place: place as u32,
         })?;
     }

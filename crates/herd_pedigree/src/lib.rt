@@ -16,6 +16,7 @@ mod parent_fault;
 mod pedigree;
 mod progeny;
 mod records;
+mod registered;
 #[cfg(test)]
 mod tests;
 mod undo;

@@ -1,48 +1,79 @@
-//! The records and the parents of a pedigree as lists, in order of registration.
-ghost use Rattle.std.specs.Prelude.{◌≡◌, length, IfOk};
-ghost use Rattle.herd_pedigree.specs.Listed.{AreLinksBy};
+//! A list of records, with the places of their numbers.
+ghost use Rattle.std.specs.Prelude.{◌≡◌, ◌≤◌, length, IfOk};
+ghost use Rattle.std.specs.HashMap.{get};
+ghost use Rattle.std.specs.List.{IsDistinct};
+ghost use Rattle.std.specs.Map.{keys_of};
+ghost use Rattle.std.specs.Option.{option_and_then};
+ghost use Rattle.std.specs.Str.{bytes_eq};
+ghost use Rattle.herd_pedigree.specs.Freeze.{FindsPlaces, link_by};
+ghost use Rattle.herd_pedigree.specs.declared.TheConstants.{MOST_ANIMALS};
 
 use crate::animal::Animal;
 use crate::links::Link;
-use crate::progeny::Progeny;
-use crate::records::Records;
+use crate::registered::Registered;
 use herd_animal::AnimalNumber;
 use std::alloc::{AllocError, Allocator};
+use std::collections::HashMap;
+use std::hash::{BuildHasherDefault, FoldHasher};
 
-/// The records.
-pub(crate) fn records_in_order<A: Allocator, B: Allocator>(
-    alloc: B,
-    records: &Records<A>,
-) -> Result<Vec<(AnimalNumber, Animal), B>, AllocError>
-    ensures { IfOk result (λ list. list.items ≡ records.now.book) }
-{
-    let mut list = Vec::with_capacity(alloc, records.len())?;
-    for place in 0..records.len() {
-        let Some(entry) = records.entry_at(place) else {
-            unreachable!();
-        };
-        list.push(entry)?;
-    }
-    Ok(list)
+pub(crate) type Places<A> = HashMap<AnimalNumber, u32, BuildHasherDefault<FoldHasher>, A>;
+
+/// The records in order of registration, and the place of each number.
+#[derive(Drop)]
+pub(crate) struct Listed<'a, A: Allocator> {
+    pub(crate) records: &'a [(AnimalNumber, Animal)],
+    pub(crate) places: &'a Places<A>,
 }
 
-/// The parents of each animal.
-pub(crate) fn links_in_order<A: Allocator, B: Allocator>(
-    alloc: B,
-    sires: &Progeny<A>,
-    dams: &Progeny<A>,
-    animals: u32,
-) -> Result<Vec<Link, B>, AllocError>
-    requires sires { length sires.now.parents ≡ animals }
-    requires dams { length dams.now.parents ≡ animals }
-    ensures { IfOk result (λ links. AreLinksBy sires.now.parents dams.now.parents animals links.items) }
-{
-    let mut links = Vec::with_capacity(alloc, animals as usize)?;
-    for place in 0..animals {
-        links.push(Link {
-            sire: sires.parent(place),
-            dam: dams.parent(place),
-        })?;
+impl<A: Allocator> Registered for Listed<'_, A> {
+    ghost use Rattle.herd_pedigree.specs.Listed.{IsListed};
+    ghost use Rattle.herd_pedigree.specs.declared.TheConstants.{DEPTH_LIMIT, MOST_ANIMALS};
+
+    ghost book = { λ listed. listed.records.now };
+
+    ghost knows_parents = { λ listed. IsListed DEPTH_LIMIT MOST_ANIMALS listed.records.now (get bytes_eq listed.places.now) };
+
+    fn count(&self) -> usize {
+        self.records.len()
     }
-    Ok(links)
+
+    fn record_at(&self, place: usize) -> (AnimalNumber, Animal) {
+        self.records[place]
+    }
+
+    fn link_at(&self, place: usize) -> Link {
+        link_of(self.places, &self.records[place].1)
+    }
+}
+
+/// The place of registration of each number.
+pub(crate) fn places_by_number<A: Allocator + Clone>(
+    alloc: A,
+    records: &[(AnimalNumber, Animal)],
+) -> Result<Places<A>, AllocError>
+    requires once { IsDistinct bytes_eq (keys_of records.now) }
+    requires few { length records.now ≤ MOST_ANIMALS }
+    ensures { IfOk result (λ places. FindsPlaces (keys_of records.now) (get bytes_eq places)) }
+{
+    let mut places = HashMap::with_capacity(alloc, records.len())?;
+    for (place, (number, _)) in records.iter().enumerate() {
+        places.insert(*number, place as u32)?;
+    }
+    Ok(places)
+}
+
+fn link_of<A: Allocator>(places: &Places<A>, animal: &Animal) -> Link
+    ensures { result ≡ link_by (get bytes_eq places.now) animal.now }
+{
+    Link {
+        sire: place_of(places, animal.sire),
+        dam: place_of(places, animal.dam),
+    }
+}
+
+fn place_of<A: Allocator>(places: &Places<A>, parent: Option<AnimalNumber>) -> Option<u32>
+    ensures { result ≡ option_and_then (get bytes_eq places.now) parent }
+{
+    let parent = parent?;
+    places.get(&parent).copied()
 }

@@ -14,7 +14,6 @@ use crate::correction::Correction;
 use crate::depth::{depth_with, undo_writes};
 use crate::freeze::frozen_from;
 use crate::frozen::Frozen;
-use crate::listed::{links_in_order, records_in_order};
 use crate::named::{find, record_fault};
 use crate::parent_fault::ParentFault;
 use crate::progeny::Progeny;
@@ -386,9 +385,7 @@ impl<A: Allocator> Pedigree<A> {
     pub fn freeze<B: Allocator + Clone>(&self, alloc: B) -> Result<Frozen<B>, AllocError>
         ensures { IfOk result (IsFrozenFrom DEPTH_LIMIT MOST_ANIMALS self.now.book) }
     {
-        let records = records_in_order(alloc.clone()?, &self.records)?;
-        let links = links_in_order(alloc.clone()?, &self.sires, &self.dams, self.len())?;
-        frozen_from(alloc, &records, &links)
+        frozen_from(alloc, &self.records)
     }
 }
 

@@ -5,11 +5,13 @@ ghost use Rattle.std.specs.Map.{keys_of, values_of};
 ghost use Rattle.std.specs.Str.{bytes_eq};
 ghost use Rattle.indexmap.specs.IndexMap.{set_value_at};
 ghost use Rattle.herd_pedigree.specs.Book.{is_there, record_of};
+ghost use Rattle.herd_pedigree.specs.Links.{IsLinkAt};
 ghost use Rattle.herd_pedigree.specs.Places.{IsPlaceIn};
 ghost use Rattle.herd_pedigree.specs.Records.{NamesItsOwn, named, number_at};
 ghost use Rattle.herd_pedigree.specs.Undo.{without_last};
 
 use crate::animal::Animal;
+use crate::links::Link;
 use herd_animal::{AnimalNumber, Day, Herd};
 use indexmap::IndexMap;
 use std::alloc::{AllocError, Allocator};
@@ -128,6 +130,19 @@ impl<A: Allocator> Records<A> {
         let (number, entry) = self.entries.get_index(place)?;
         let animal = self.named(entry);
         Some((*number, animal))
+    }
+
+    /// The places of the parents of the animal at a place.
+    #[inline(always)]
+    pub(crate) fn parents_at(&self, place: usize) -> Link
+        requires { place < length self.now.book }
+        ensures { IsLinkAt self.now.book place result }
+    {
+        let entry = &self.entries[place];
+        Link {
+            sire: entry.sire,
+            dam: entry.dam,
+        }
     }
 
     // The record that an entry is of.

@@ -8,7 +8,7 @@ use Rattle.herd_pedigree.proofs.freeze.rows_of.Goals as goal
 
 pub next_row-row-requires-clause-rows : goal.next_row-row-requires-clause-rows
 next_row-row-requires-clause-rows g c =
-    subst (λ (rows : List Row). AreRows c.args.records.now c.args.keys.now rows) (sym c.deref.ensures.value) c.loop.invariant.1
+    subst (λ (rows : List Row). AreRows (g.S.Registered.book c.args.records.now) c.args.keys.now rows) (sym c.deref.ensures.value) c.loop.invariant.1
 
 pub next_row-row-requires-clause-more : goal.next_row-row-requires-clause-more
 next_row-row-requires-clause-more g c =
@@ -20,5 +20,5 @@ pub loop-preserved : goal.loop-preserved
 loop-preserved g c =
     let rows = c.loop.rows.items in
     let row = c.next_row-row.result in
-    let made = rows-more c.args.records.now c.args.keys.now rows row c.loop.invariant.1 (subst (λ (so_far : List Row). IfSome (slice_get c.args.keys.now (length so_far)) (λ key. IsRowOf c.args.records.now c.args.keys.now key row)) c.deref.ensures.value c.next_row-row.ensures) in
+    let made = rows-more (g.S.Registered.book c.args.records.now) c.args.keys.now rows row c.loop.invariant.1 (subst (λ (so_far : List Row). IfSome (slice_get c.args.keys.now (length so_far)) (λ key. IsRowOf (g.S.Registered.book c.args.records.now) c.args.keys.now key row)) c.deref.ensures.value c.next_row-row.ensures) in
     rw c.in_ok-push.ensures.items (length_push rows row ∙ ap (λ n. n + 1) c.loop.invariant.0, made)

@@ -6,7 +6,7 @@ use Rattle.std.proofs.lemmas.List.{length-map}
 use Rattle.std.proofs.lemmas.Option.{slice_get_read, slice_get_within}
 use Rattle.herd_pedigree.proofs.BookFacts.{key_from_entry}
 use Rattle.herd_pedigree.proofs.LinkFacts.{places-more}
-use Rattle.herd_pedigree.proofs.freeze.places_by_number.Goals as goal
+use Rattle.herd_pedigree.proofs.listed.places_by_number.Goals as goal
 
 pub loop-place-preserved : goal.loop-place-preserved
 loop-place-preserved g c =
