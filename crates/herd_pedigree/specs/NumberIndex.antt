@@ -1,14 +1,14 @@
 -- An index of numbers by buckets, which are followed from the last place to the first.
-use Rattle.std.specs.Prelude.{◌≡◌, ℕ, ◌+◌, ◌<◌, ◌≤◌, ◌%◌, List, length, slice_get, slice_index, Some}
+use Rattle.std.specs.Prelude.{◌≡◌, ℕ, ◌+◌, ◌<◌, ◌≤◌, ◌*◌, ◌/◌, ◌^◌, List, length, slice_get, slice_index, Some}
 use Rattle.std.specs.Hash.FoldHasher.{finish, initial, write}
 
 -- the hash of a number
 unfoldable pub hash_of : List ℕ → ℕ
 hash_of number = finish (write initial number)
 
--- its bucket, of so many
+-- its bucket, of so many: as far among them as the hash is among all 2^64
 unfoldable pub bucket_of : ℕ → List ℕ → ℕ
-bucket_of count number = hash_of number % count
+bucket_of count number = hash_of number * count / 2 ^ 64
 
 -- one more than the last place of a bucket before the bound, and 0 where it has none
 pub record IsAfterLast (numbers : List (List ℕ)) (count bound bucket after : ℕ) : Type 0 where

@@ -55,13 +55,14 @@ impl<A: Allocator> NumberIndex<A> {
     }
 }
 
-// The bucket of a number, by its hash.
+// The bucket of a number: as far among the buckets as its hash is among all hashes, which takes no division.
 fn bucket_of(number: &AnimalNumber, buckets: usize) -> usize
     requires { 0 < buckets }
     ensures bucket { result ≡ bucket_of buckets number.now }
     ensures within { result < buckets }
 {
-    (hash_of(number) % buckets as u64) as usize
+    let hash = u128::from(hash_of(number));
+    (hash * buckets as u128 / (1 << 64)) as usize
 }
 
 fn hash_of(number: &AnimalNumber) -> u64
