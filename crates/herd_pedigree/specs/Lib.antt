@@ -7,6 +7,7 @@ pub mod Places
 pub mod Links
 pub mod Listed
 pub mod Frozen
+pub mod Packed
 pub mod NumberIndex
 pub mod Freeze
 pub mod Depths

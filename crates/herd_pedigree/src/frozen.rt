@@ -1,6 +1,7 @@
-ghost use Rattle.std.specs.Prelude.{◌≡◌, ◌<◌, false, length, map, slice_get, Some, IfOk, IfSome, IfNone};
+ghost use Rattle.std.specs.Prelude.{◌≡◌, ◌≢◌, ◌<◌, false, length, map, slice_get, None, Some, IfOk, IfSome, IfNone};
 ghost use Rattle.herd_pedigree.specs.Book.{is_there};
 ghost use Rattle.herd_pedigree.specs.Frozen.{IsFrozen, book_of, level_of, numbers_of, parents_of};
+ghost use Rattle.herd_pedigree.specs.Packed.{packed_of, unknown};
 ghost use Rattle.herd_pedigree.specs.declared.TheConstants.{DEPTH_LIMIT, MOST_ANIMALS};
 
 use crate::animal::Animal;
@@ -34,11 +35,19 @@ pub struct Parents {
     pub depth: u8,
 }
 
+/// What is kept of a row's parents: the place of each, and `u32::MAX` for one that isn't known.
+#[derive(Clone, Copy)]
+pub struct PackedParents {
+    pub(crate) sire: u32,
+    pub(crate) dam: u32,
+    pub(crate) depth: u8,
+}
+
 /// A book in age order, which doesn't change any more.
 #[derive(Drop)]
 pub struct Frozen<A: Allocator> {
     rows: Vec<Row, A>,
-    parents: Vec<Parents, A>,
+    parents: Vec<PackedParents, A>,
     levels: Vec<Vec<u32, A>, A>,
     index: NumberIndex<A>,
 }
@@ -46,7 +55,8 @@ pub struct Frozen<A: Allocator> {
 impl<A: Allocator> Model for Frozen<A> {
     ghost use Rattle.std.specs.Prelude.{List, ◌≡◌, length, map};
     ghost use Rattle.herd_pedigree.specs.declared.frozen.Row.{Row};
-    ghost use Rattle.herd_pedigree.specs.Frozen.{IsFrozen, levels_of, numbers_of, parents_of};
+    ghost use Rattle.herd_pedigree.specs.Frozen.{IsFrozen, levels_of, numbers_of};
+    ghost use Rattle.herd_pedigree.specs.Packed.{packed_of};
     ghost use Rattle.herd_pedigree.specs.NumberIndex.{IsIndexOf};
     ghost use Rattle.herd_pedigree.specs.declared.TheConstants.{DEPTH_LIMIT, MOST_ANIMALS};
 
@@ -55,7 +65,7 @@ impl<A: Allocator> Model for Frozen<A> {
     ghost view = { λ f. f.rows.items };
 
     ghost invariant = { λ f. IsFrozen DEPTH_LIMIT MOST_ANIMALS f.rows.items
-        × (f.parents.items ≡ map parents_of f.rows.items)
+        × (f.parents.items ≡ map packed_of f.rows.items)
         × (map (λ level. level.items) f.levels.items ≡ levels_of DEPTH_LIMIT f.rows.items)
         × IsIndexOf (numbers_of f.rows.items) (length f.rows.items) f.index.lasts.items f.index.earlier.items };
 }
@@ -91,7 +101,12 @@ impl<A: Allocator> Frozen<A> {
         requires { place < length self.now }
         ensures { slice_get (map parents_of self.now) place ≡ Some result }
     {
-        self.parents[place as usize]
+        let packed = self.parents[place as usize];
+        Parents {
+            sire: unpacked(packed.sire),
+            dam: unpacked(packed.dam),
+            depth: packed.depth,
+        }
     }
 
     /// The places of the animals of a depth, ascending; none beyond the limit.
@@ -124,14 +139,23 @@ impl<A: Allocator + Clone> Frozen<A> {
 }
 
 // The rows without their records.
-fn parents_column<A: Allocator>(alloc: A, rows: &[Row]) -> Result<Vec<Parents, A>, AllocError>
-    ensures { IfOk result (λ parents. parents.items ≡ map parents_of rows.now) }
+fn parents_column<A: Allocator>(alloc: A, rows: &[Row]) -> Result<Vec<PackedParents, A>, AllocError>
+    ensures { IfOk result (λ parents. parents.items ≡ map packed_of rows.now) }
 {
     rows.iter()
-        .map(|row| Parents {
-            sire: row.sire,
-            dam: row.dam,
+        .map(|row| PackedParents {
+            sire: row.sire.unwrap_or(u32::MAX),
+            dam: row.dam.unwrap_or(u32::MAX),
             depth: row.depth,
         })
         .collect(alloc)
+}
+
+// The place of a parent by what is kept of it.
+#[inline(always)]
+fn unpacked(place: u32) -> Option<u32>
+    ensures unknown { place ≡ unknown → result ≡ None }
+    ensures known { place ≢ unknown → result ≡ Some place }
+{
+    if place == u32::MAX { None } else { Some(place) }
 }

@@ -28,6 +28,8 @@ pub use parent_fault::ParentFault;
 pub use pedigree::Pedigree;
 // A crate can name a pedigree or a frozen book in a contract only if the types of its fields are exported.
 #[doc(hidden)]
+pub use frozen::PackedParents;
+#[doc(hidden)]
 pub use number_index::NumberIndex;
 #[doc(hidden)]
 pub use progeny::Progeny;
