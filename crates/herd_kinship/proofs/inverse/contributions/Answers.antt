@@ -1,4 +1,4 @@
-use Rattle.std.proofs.Common.{◌^◌, Some, None, false, lit<, arith, ap, ◌∙◌}
+use Rattle.std.proofs.Common.{◌*◌, ◌^◌, Some, None, false, lit<, arith, ap, ◌∙◌}
 use Rattle.herd_pedigree.specs.declared.TheConstants.{DEPTH_LIMIT, MOST_ANIMALS}
 use Rattle.herd_kinship.specs.Fraction.{halved}
 use Rattle.herd_kinship.proofs.ContributionFacts.{AreWeights, listed-are}
@@ -22,7 +22,7 @@ returns-in-None-None g c =
     c.mendelian.result c.mendelian.ensures c.mendelian.type_inv c.of-weights.result.alpha c.of-weights.result.minus_half c.of-weights.result.quarter weights
     None None c.in-None-None.is-0 c.in-None-None.is-1 c.without_parents.result c.without_parents.ensures in
     record {
-      alpha = c.without_parents.ensures.alpha_is ∙ (c.of-weights.ensures.alpha ∙ ap (λ part. halved false (2 ^ 120) part) c.mendelian.ensures);
+      alpha = c.without_parents.ensures.alpha_is ∙ (c.of-weights.ensures.alpha ∙ ap (λ part. halved false (2 ^ (2 * DEPTH_LIMIT)) part) c.mendelian.ensures);
       count = listed.count;
       entries = listed.entries;
       lowest = listed.lowest;
@@ -40,7 +40,7 @@ returns-in-None-Some g c =
     c.mendelian.result c.mendelian.ensures c.mendelian.type_inv c.of-weights.result.alpha c.of-weights.result.minus_half c.of-weights.result.quarter weights
     None (Some c.in-None-Some.parent) c.in-None-Some.is-0 c.in-None-Some.is-1 c.with_one_parent.result c.with_one_parent.ensures in
     record {
-      alpha = c.with_one_parent.ensures.alpha_is ∙ (c.of-weights.ensures.alpha ∙ ap (λ part. halved false (2 ^ 120) part) c.mendelian.ensures);
+      alpha = c.with_one_parent.ensures.alpha_is ∙ (c.of-weights.ensures.alpha ∙ ap (λ part. halved false (2 ^ (2 * DEPTH_LIMIT)) part) c.mendelian.ensures);
       count = listed.count;
       entries = listed.entries;
       lowest = listed.lowest;
@@ -58,7 +58,7 @@ returns-in-Some-None g c =
     c.mendelian.result c.mendelian.ensures c.mendelian.type_inv c.of-weights.result.alpha c.of-weights.result.minus_half c.of-weights.result.quarter weights
     (Some c.in-Some-None.parent) None c.in-Some-None.is-0 c.in-Some-None.is-1 c.with_one_parent-in-Some-None.result c.with_one_parent-in-Some-None.ensures in
     record {
-      alpha = c.with_one_parent-in-Some-None.ensures.alpha_is ∙ (c.of-weights.ensures.alpha ∙ ap (λ part. halved false (2 ^ 120) part) c.mendelian.ensures);
+      alpha = c.with_one_parent-in-Some-None.ensures.alpha_is ∙ (c.of-weights.ensures.alpha ∙ ap (λ part. halved false (2 ^ (2 * DEPTH_LIMIT)) part) c.mendelian.ensures);
       count = listed.count;
       entries = listed.entries;
       lowest = listed.lowest;
@@ -76,7 +76,7 @@ returns-in-Some-Some g c =
     c.mendelian.result c.mendelian.ensures c.mendelian.type_inv c.of-weights.result.alpha c.of-weights.result.minus_half c.of-weights.result.quarter weights
     (Some c.in-Some-Some.sire) (Some c.in-Some-Some.dam) c.in-Some-Some.is-0 c.in-Some-Some.is-1 c.with_both_parents.result c.with_both_parents.ensures in
     record {
-      alpha = c.with_both_parents.ensures.alpha_is ∙ (c.of-weights.ensures.alpha ∙ ap (λ part. halved false (2 ^ 120) part) c.mendelian.ensures);
+      alpha = c.with_both_parents.ensures.alpha_is ∙ (c.of-weights.ensures.alpha ∙ ap (λ part. halved false (2 ^ (2 * DEPTH_LIMIT)) part) c.mendelian.ensures);
       count = listed.count;
       entries = listed.entries;
       lowest = listed.lowest;

@@ -1,11 +1,12 @@
-use Rattle.std.proofs.Common.{inl, refl}
+use Rattle.std.proofs.Common.{◌*◌, ◌-◌, inl, refl}
+use Rattle.herd_pedigree.specs.declared.TheConstants.{DEPTH_LIMIT}
 use Rattle.herd_kinship.proofs.inverse.Weights.of.Goals as goal
 
 pub lowest-requires-clause-power : goal.lowest-requires-clause-power
-lowest-requires-clause-power c = inl (120, refl)
+lowest-requires-clause-power c = inl (2 * DEPTH_LIMIT, refl)
 
 pub lowest-requires-2-clause-power : goal.lowest-requires-2-clause-power
-lowest-requires-2-clause-power c = inl (119, refl)
+lowest-requires-2-clause-power c = inl (2 * DEPTH_LIMIT - 1, refl)
 
 pub lowest-requires-3-clause-power : goal.lowest-requires-3-clause-power
-lowest-requires-3-clause-power c = inl (118, refl)
+lowest-requires-3-clause-power c = inl (2 * DEPTH_LIMIT - 2, refl)
