@@ -1,6 +1,6 @@
--- The relationship of two animals by the shares of the first and a tracing of the second, and the faults of a mating.
-use Rattle.std.proofs.Common.{ℕ, suc, ◌+◌, ◌*◌, ◌-◌, ◌/◌, ◌^◌, ◌<◌, ◌≤◌, ◌≡◌, ◌||◌, ⊎_elim, List, [], length, slice_get, get_or, Some, None, true, false, arith, refl, sym, ap, subst, ◌∙◌}
-use Rattle.std.proofs.lemmas.Bool.{cases_lt, false_from_ne_true, le-leb, lt-leb}
+-- The faults of a mating, and the coefficient of a calf by the relationship of its parents.
+use Rattle.std.proofs.Common.{ℕ, suc, ◌*◌, ◌-◌, ◌/◌, ◌<◌, ◌≤◌, ◌≡◌, ◌||◌, List, [], length, slice_get, Some, None, true, false, arith, refl, sym, ap, subst, ◌∙◌}
+use Rattle.std.proofs.lemmas.Bool.{false_from_ne_true}
 use Rattle.std.proofs.lemmas.Option.{get_or_from_slice_get, slice_get_within}
 use Rattle.herd_animal.specs.Sex.{is_male}
 use Rattle.herd_pedigree.specs.declared.TheConstants.{MOST_ANIMALS}
@@ -11,61 +11,12 @@ use Rattle.herd_pedigree.specs.Lines.{has_line}
 use Rattle.herd_kinship.specs.FrozenAncestry.{ancestry_of, number_at}
 use Rattle.herd_kinship.specs.Mating.{ArePair, is_deepest, mating_fault}
 use Rattle.herd_kinship.specs.declared.mating_advice.MatingFault.TheVariants.{SireMissing, DamMissing, SireNotMale, DamNotFemale, TooDeep}
-use Rattle.herd_kinship.specs.Places.{sire_place, dam_place, placed}
-use Rattle.herd_kinship.specs.Shares.{share}
+use Rattle.herd_kinship.specs.Places.{placed}
 use Rattle.herd_kinship.specs.Table.{entry}
-use Rattle.herd_kinship.specs.Tracing.{AreShares, IsNext, IsShareOf, share_at}
-use Rattle.herd_kinship.proofs.Brought.{later_none}
-use Rattle.herd_kinship.proofs.FrozenFacts.{frozen-placed, length-numbers_of, number_at-row, placed-lawful, record_at-row, row_at, placed-shallow}
+use Rattle.herd_kinship.proofs.FrozenFacts.{length-numbers_of, number_at-row, placed-lawful, record_at-row, row_at}
 use Rattle.herd_kinship.proofs.FrozenDepths.{depth_at-row, depth-at_most, placed-below_depth}
 use Rattle.herd_kinship.proofs.Depth.{unit}
 use Rattle.herd_kinship.proofs.KnownFacts.{entry-place}
-use Rattle.herd_kinship.proofs.TermSums.{term_of}
-use Rattle.herd_kinship.proofs.TracingFacts.{kept-share_of}
-
-share_at-older : (shares : List ℕ) (x j : ℕ) → j ≤ x → share_at shares x j ≡ get_or shares (x - j) 0
-share_at-older shares x j le = rw (le-leb j x le) refl
-
-share_at-later : (shares : List ℕ) (x j : ℕ) → x < j → share_at shares x j ≡ 0
-share_at-later shares x j lt = rw (lt-leb j x lt) refl
-
-module _ (l : ℕ) (rows : List Row) (f : IsFrozen l MOST_ANIMALS rows) (x : ℕ) (lx : x < length rows) (shares : List ℕ) (are : AreShares l rows x shares) where
-  -- a share that isn't 0 is x's in its own unit
-  pub share_at-some : (j own : ℕ) → j < length rows → own ≡ share_at shares x j → 0 < own → IsShareOf rows x j own
-  share_at-some j own lj is pos =
-      ⊎_elim
-      (λ (later : x < j). let none = share_at-later shares x j later in absurd (omega (arith, none, is)))
-      (λ (older : j ≤ x).
-      let at : own ≡ get_or shares (x - j) 0 = is ∙ share_at-older shares x j older in
-      kept-share_of l rows f x j own lx lj (ap (λ v. v * 2 ^ (l - depth_at rows x + depth_at rows j)) at ∙ are.right j older) pos)
-      (cases_lt x j)
-
-  -- where it is 0, x has nothing of the animal
-  pub share_at-none : (j own : ℕ) → j < length rows → own ≡ share_at shares x j → own ≡ 0 → share (placed rows) l (Some x) j ≡ 0
-  share_at-none j own lj is none =
-      ⊎_elim
-      (λ (later : x < j).
-      later_none (length rows) (sire_place rows) (dam_place rows) (frozen-placed l MOST_ANIMALS rows f) l (placed-shallow l MOST_ANIMALS rows f) x j later lj)
-      (λ (older : j ≤ x).
-      let at : get_or shares (x - j) 0 ≡ 0 = sym (share_at-older shares x j older) ∙ (sym is ∙ none) in
-      sym (are.right j older) ∙ (ap (λ v. v * 2 ^ (l - depth_at rows x + depth_at rows j)) at ∙ omega arith))
-      (cases_lt x j)
-
-  -- nothing is added between
-  pub terms-between : (y b j own : ℕ) → IsNext l rows y b j own → (i : ℕ) → j < i → i < b → term_of l rows x y i ≡ 0
-  terms-between y b j own next i ji ib = let z = next.between i ji ib in rw z (omega arith)
-
-  -- nor for an ancestor of y of which x has nothing
-  pub terms-skipped : (y b j own other : ℕ) → j < length rows → IsNext l rows y b j own → other ≡ share_at shares x j → other ≡ 0 →
-      (i : ℕ) → j ≤ i → i < b → term_of l rows x y i ≡ 0
-  terms-skipped y b j own other lj next is none i ji ib =
-      ⊎_elim
-      (λ (above : j < i). terms-between y b j own next i above ib)
-      (λ (at : i ≤ j).
-      let same : j ≡ i = omega arith in
-      let z : share (placed rows) l (Some x) i ≡ 0 = subst (λ v. share (placed rows) l (Some x) v ≡ 0) same (share_at-none j other lj is none) in
-      rw z (omega arith))
-      (cases_lt j i)
 
 -- the first fault, by the tests
 module _ (l : ℕ) (book : Book) (s d : List ℕ) where

@@ -48,13 +48,6 @@ module _ (l most : ℕ) (rows : List Row) (f : IsFrozen l most rows) (x y : ℕ)
       rw z (omega arith)) in
       omega (arith, none)
 
-  -- ancestors that add nothing are passed
-  pub summed-skip : (b j sum : ℕ) → j < b → j < length rows → ((i : ℕ) → j ≤ i → i < b → term_of l rows x y i ≡ 0) → IsSummed l rows x y b sum → IsSummed l rows x y j sum
-  summed-skip b j sum lb lj none so_far =
-      let step = done-step (length rows) (term_of l rows x y) b j lb lj (λ i a c. none i (omega arith) c) in
-      let here = none j (omega arith) lb in
-      omega (arith, step, here, so_far)
-
   summed-next : (b j own other sum : ℕ) → j < b → j < length rows → ((i : ℕ) → j < i → i < b → term_of l rows x y i ≡ 0) →
       IsShareOf rows x j own → IsShareOf rows y j other → IsSummed l rows x y b sum →
       IsSummed l rows x y j (sum + own * other * (mendelian (placed rows) l j / 2 ^ (depth_at rows x + depth_at rows y - 2 * depth_at rows j)))

@@ -1,9 +1,9 @@
 -- A tracing over a frozen book: its start, its steps, and what is met.
-use Rattle.std.proofs.Common.{ℕ, zero, suc, ◌+◌, ◌*◌, ◌-◌, ◌/◌, ◌%◌, ◌^◌, ◌<◌, ◌≤◌, ◌≡◌, inl, inr, ⊎_elim, List, length, slice_get, get_or, set, Some, None, Option, replicate, arith, refl, sym, ap, subst, ◌∙◌}
+use Rattle.std.proofs.Common.{ℕ, zero, suc, ◌+◌, ◌*◌, ◌-◌, ◌/◌, ◌%◌, ◌^◌, ◌<◌, ◌≤◌, ◌≡◌, inl, inr, ⊎_elim, List, length, slice_get, get_or, set, Some, None, Option, arith, refl, sym, ap, subst, ◌∙◌}
 use Rattle.std.proofs.Math.Nat.{mod-eq_of_lt, mul-le-mul_left}
 use Rattle.std.proofs.Math.Pow.{pow_pos}
 use Rattle.std.proofs.lemmas.Bool.{cases_eq}
-use Rattle.std.proofs.lemmas.List.{get_or-set_same, get_or-set_other, get_or-replicate, length-set, length-replicate}
+use Rattle.std.proofs.lemmas.List.{get_or-set_same, get_or-set_other, length-set}
 use Rattle.herd_pedigree.specs.declared.frozen.Row.{Row}
 use Rattle.herd_pedigree.specs.declared.TheConstants.{MOST_ANIMALS}
 use Rattle.herd_pedigree.specs.Frozen.{IsFrozen, depth_at}
@@ -12,7 +12,7 @@ use Rattle.herd_kinship.specs.Shares.{share}
 use Rattle.herd_kinship.specs.Places.{sire_place, dam_place, placed}
 use Rattle.herd_kinship.specs.Tracing.{brought, given, kept_share, HasRoom, IsTracing, IsNext, IsShareOf}
 use Rattle.herd_kinship.proofs.Ancestors.{share-reached, line-joined}
-use Rattle.herd_kinship.proofs.Brought.{brought-more, brought-none, brought-add, share-within, of_known, cancel, own-share, lowered, passed_on}
+use Rattle.herd_kinship.proofs.Brought.{brought-agree, brought-more, brought-none, brought-add, share-within, of_known, cancel, own-share, lowered, passed_on}
 use Rattle.herd_kinship.proofs.FrozenDepths.{depth_at-row, placed-depth, placed-below_depth, depth-at_most, parent-less_deep}
 use Rattle.herd_kinship.proofs.FrozenFacts.{frozen-placed, placed-lawful, placed-shallow}
 use Rattle.herd_kinship.proofs.OwnUnits.{half-own, share-own}
@@ -61,7 +61,7 @@ IsLower rows y o = (p : ℕ) → o ≡ Some p → (p < y) × (depth_at rows p < 
 
 module _ (l : ℕ) (rows : List Row) (x : ℕ) (limit : depth_at rows x ≤ l) where
   -- what is kept for the parent grows by half of y's share
-  given-parent : (shares : List ℕ) (y own p : ℕ) → p < y → y ≤ x → length shares ≡ x + 1 → depth_at rows p < depth_at rows y →
+  given-parent : (shares : List ℕ) (y own p : ℕ) → p < y → y ≤ x → x < length shares → depth_at rows p < depth_at rows y →
       kept_share l rows x (given rows x shares y own (Some p)) p
       ≡ kept_share l rows x shares p + own * 2 ^ (l - depth_at rows x + depth_at rows y) / 2
   given-parent shares y own p lp ly long less =
@@ -78,15 +78,7 @@ module _ (l : ℕ) (rows : List Row) (x : ℕ) (limit : depth_at rows x ≤ l) w
       ap (λ v. v * 2 ^ (l - depth_at rows x + depth_at rows q))
       (get_or-set_other shares (x - p) (x - q) _ 0 (λ e. other (omega arith)))
 
-  -- what is kept from y on stays
-  pub given-above : (shares : List ℕ) (y own : ℕ) (o : Option ℕ) → y ≤ x → IsLower rows y o → (q : ℕ) → y ≤ q → q ≤ x →
-      kept_share l rows x (given rows x shares y own o) q ≡ kept_share l rows x shares q
-  given-above shares y own None ly lower q yq lq = refl
-  given-above shares y own (Some p) ly lower q yq lq =
-      let low : p < y = (lower p refl).0 in
-      given-other shares y own p q (omega arith) lq (λ e. omega arith)
-
-  pub brought-given : (shares : List ℕ) (y own : ℕ) (o : Option ℕ) (has : ℕ → ℕ) → y ≤ x → length shares ≡ x + 1 → IsLower rows y o →
+  pub brought-given : (shares : List ℕ) (y own : ℕ) (o : Option ℕ) (has : ℕ → ℕ) → y ≤ x → x < length shares → IsLower rows y o →
       brought (kept_share l rows x (given rows x shares y own o)) y has
       ≡ brought (kept_share l rows x shares) y has + own * 2 ^ (l - depth_at rows x + depth_at rows y) / 2 * of_known has o
   brought-given shares y own None has ly long lower = omega arith
@@ -96,6 +88,25 @@ module _ (l : ℕ) (rows : List Row) (x : ℕ) (limit : depth_at rows x ≤ l) w
       brought-add (kept_share l rows x shares) (kept_share l rows x (given rows x shares y own (Some p))) y p
       (own * 2 ^ (l - depth_at rows x + depth_at rows y) / 2) has lp (given-parent shares y own p lp ly long low.1)
       (λ q lq other. given-other shares y own p q (omega arith) (omega arith) other)
+
+-- what is kept for animals that are met stays
+given-met : (rows : List Row) (x : ℕ) (shares : List ℕ) (y own : ℕ) (o : Option ℕ) → y ≤ x → IsLower rows y o → (d : ℕ) → (d ≤ x → y ≤ x - d) →
+    get_or (given rows x shares y own o) d 0 ≡ get_or shares d 0
+given-met rows x shares y own None ly lower d above = refl
+given-met rows x shares y own (Some p) ly lower d above =
+    let low : p < y = (lower p refl).0 in
+    get_or-set_other shares (x - p) d _ 0 (λ e. let high = above (omega arith) in omega arith)
+
+-- nothing is kept any more for y
+abbrev pub emptied : ℕ → ℕ → List ℕ → List ℕ
+emptied x y shares = set shares (x - y) 0
+
+-- what is kept below y brings the same
+brought-emptied : (l : ℕ) (rows : List Row) (x y : ℕ) (shares : List ℕ) (has : ℕ → ℕ) → y ≤ x →
+    brought (kept_share l rows x (emptied x y shares)) y has ≡ brought (kept_share l rows x shares) y has
+brought-emptied l rows x y shares has ly =
+    brought-agree (kept_share l rows x (emptied x y shares)) (kept_share l rows x shares) y has has
+    (λ p low. ap (λ v. v * 2 ^ (l - depth_at rows x + depth_at rows p) * has p) (get_or-set_other shares (x - y) (x - p) 0 0 (λ e. omega arith)))
 
 known_one : (o : Option ℕ) → of_known (λ _. 1) o ≤ 1
 known_one None = omega arith
@@ -133,9 +144,9 @@ module _ (l : ℕ) (rows : List Row) (f : IsFrozen l MOST_ANIMALS rows) where
       let kept : ℕ → ℕ = kept_share l rows x shares in
       let b : y + 1 ≤ x + 1 = t.border_in in
       let zero : kept y ≡ 0 = ap (λ v. v * 2 ^ (l - depth_at rows x + depth_at rows y)) none ∙ omega arith in
-      let own = kept-is x y shares t in
       let more = brought-more kept y (λ _. 1) in
       let all = t.whole in
+      let b : y + 1 ≤ x + 1 = t.border_in in
       record {
         book = f;
         place = t.place;
@@ -143,16 +154,22 @@ module _ (l : ℕ) (rows : List Row) (f : IsFrozen l MOST_ANIMALS rows) where
         long = t.long;
         whole = omega (arith, more, all);
         pending = lowered (length rows) (sire_place rows) (dam_place rows) (frozen-placed l MOST_ANIMALS rows f) l (placed-shallow l MOST_ANIMALS rows f) x y kept zero t.pending;
-        met = λ j lj jx.
+        met = λ d above.
             ⊎_elim
-            (λ (e : y ≡ j). subst (λ v. kept v ≡ share (placed rows) l (Some x) v) e own)
-            (λ (n : y ≡ j → ⊥). t.met j (omega arith) jx)
-            (cases_eq y j);
+            (λ (e : x - y ≡ d). subst (λ v. get_or shares v 0 ≡ 0) e none)
+            (λ (n : x - y ≡ d → ⊥). t.met d (λ near. let low = above near in omega arith))
+            (cases_eq (x - y) d);
       }
 
   abbrev pub passed : ℕ → ℕ → List ℕ → List ℕ
   passed x y shares =
-      given rows x (given rows x shares y (get_or shares (x - y) 0) (sire_place rows y)) y (get_or shares (x - y) 0) (dam_place rows y)
+      given rows x (given rows x (emptied x y shares) y (get_or shares (x - y) 0) (sire_place rows y)) y (get_or shares (x - y) 0) (dam_place rows y)
+
+  emptied-long : (x y : ℕ) (shares : List ℕ) → x < length shares → x < length (emptied x y shares)
+  emptied-long x y shares long = let e = length-set shares (x - y) 0 in omega (arith, e, long)
+
+  given-long : (x : ℕ) (shares : List ℕ) (y own : ℕ) (o : Option ℕ) → x < length shares → x < length (given rows x shares y own o)
+  given-long x shares y own o long = let e = length-given rows x shares y own o in omega (arith, e, long)
 
   grown : (x y : ℕ) (shares : List ℕ) → IsTracing l rows x (y + 1) shares → (has : ℕ → ℕ) →
       brought (kept_share l rows x (passed x y shares)) y has
@@ -164,21 +181,25 @@ module _ (l : ℕ) (rows : List Row) (f : IsFrozen l MOST_ANIMALS rows) where
       let b : y + 1 ≤ x + 1 = t.border_in in
       let ly : y < length rows = omega arith in
       let limit = depth-at_most l MOST_ANIMALS rows f x lx in
-      let first = given rows x shares y own (sire_place rows y) in
-      let a = brought-given l rows x limit shares y own (sire_place rows y) has (omega arith) t.long (lower-sire y ly) in
-      let c = brought-given l rows x limit first y own (dam_place rows y) has (omega arith) (length-given rows x shares y own (sire_place rows y) ∙ t.long) (lower-dam y ly) in
-      omega (arith, a, c)
+      let empty = emptied x y shares in
+      let first = given rows x empty y own (sire_place rows y) in
+      let same = brought-emptied l rows x y shares has (omega arith) in
+      let long = emptied-long x y shares t.long in
+      let a = brought-given l rows x limit empty y own (sire_place rows y) has (omega arith) long (lower-sire y ly) in
+      let c = brought-given l rows x limit first y own (dam_place rows y) has (omega arith) (given-long x empty y own (sire_place rows y) long) (lower-dam y ly) in
+      omega (arith, same, a, c)
 
   -- and else its share is passed on to its parents
   pub tracing-next : (x y : ℕ) (shares : List ℕ) → IsTracing l rows x (y + 1) shares → IsTracing l rows x y (passed x y shares)
   tracing-next x y shares t =
       let own : ℕ = get_or shares (x - y) 0 in
       let kept : ℕ → ℕ = kept_share l rows x shares in
-      let first = given rows x shares y own (sire_place rows y) in
+      let empty = emptied x y shares in
+      let first = given rows x empty y own (sire_place rows y) in
       let lx : x < length rows = t.place in
       let b : y + 1 ≤ x + 1 = t.border_in in
       let ly : y < length rows = omega arith in
-      let limit = depth-at_most l MOST_ANIMALS rows f x lx in
+      let long = emptied-long x y shares t.long in
       let more = brought-more kept y (λ _. 1) in
       let all = t.whole in
       let g = grown x y shares t (λ _. 1) in
@@ -187,17 +208,18 @@ module _ (l : ℕ) (rows : List Row) (f : IsFrozen l MOST_ANIMALS rows) where
         book = f;
         place = lx;
         border_in = omega arith;
-        long = length-given rows x first y own (dam_place rows y) ∙ (length-given rows x shares y own (sire_place rows y) ∙ t.long);
+        long = given-long x first y own (dam_place rows y) (given-long x empty y own (sire_place rows y) long);
         whole = omega (arith, more, all, g, h);
         pending = passed_on (length rows) (sire_place rows) (dam_place rows) (frozen-placed l MOST_ANIMALS rows f) l (placed-shallow l MOST_ANIMALS rows f) x y
             kept (kept_share l rows x (passed x y shares)) lx ly t.pending (grown x y shares t);
-        met = λ j lj jx.
-            given-above l rows x limit first y own (dam_place rows y) (omega arith) (lower-dam y ly) j lj jx
-            ∙ (given-above l rows x limit shares y own (sire_place rows y) (omega arith) (lower-sire y ly) j lj jx
+        met = λ d above.
+            given-met rows x first y own (dam_place rows y) (omega arith) (lower-dam y ly) d above
+            ∙ (given-met rows x empty y own (sire_place rows y) (omega arith) (lower-sire y ly) d above
             ∙ ⊎_elim
-            (λ (e : y ≡ j). subst (λ v. kept v ≡ share (placed rows) l (Some x) v) e (kept-is x y shares t))
-            (λ (n : y ≡ j → ⊥). t.met j (omega arith) jx)
-            (cases_eq y j));
+            (λ (e : d ≡ x - y). rw e (get_or-set_same shares (x - y) 0 0 (let n = t.long in omega arith)))
+            (λ (n : d ≡ x - y → ⊥).
+            get_or-set_other shares (x - y) d 0 0 n ∙ t.met d (λ near. let low = above near in omega arith))
+            (cases_eq d (x - y)));
       }
 
   -- a share in its own unit is at most the whole
@@ -210,7 +232,7 @@ module _ (l : ℕ) (rows : List Row) (f : IsFrozen l MOST_ANIMALS rows) where
       let part = share-within (kept_share l rows x shares) b p low in
       omega arith
 
-  given-whole : (x y : ℕ) (shares : List ℕ) (o : Option ℕ) → x < length rows → y ≤ x → length shares ≡ x + 1 → IsLower rows y o → (own left : ℕ) →
+  given-whole : (x y : ℕ) (shares : List ℕ) (o : Option ℕ) → x < length rows → y ≤ x → x < length shares → IsLower rows y o → (own left : ℕ) →
       brought (kept_share l rows x shares) y (λ _. 1) + left ≤ 2 ^ l → own * 2 ^ (l - depth_at rows x + depth_at rows y) / 2 ≤ left →
       brought (kept_share l rows x (given rows x shares y own o)) y (λ _. 1) ≤ 2 ^ l
   given-whole x y shares o lx ly long lower own left room half =
@@ -220,7 +242,7 @@ module _ (l : ℕ) (rows : List Row) (f : IsFrozen l MOST_ANIMALS rows) where
       mul-le-mul_left (own * 2 ^ (l - depth_at rows x + depth_at rows y) / 2) k in
       omega (arith, a, h)
 
-  room-given : (x y : ℕ) (shares : List ℕ) (o : Option ℕ) → x < length rows → y ≤ x → length shares ≡ x + 1 → IsLower rows y o → (own left : ℕ) →
+  room-given : (x y : ℕ) (shares : List ℕ) (o : Option ℕ) → x < length rows → y ≤ x → x < length shares → IsLower rows y o → (own left : ℕ) →
       brought (kept_share l rows x shares) y (λ _. 1) + left ≤ 2 ^ l → own * 2 ^ (l - depth_at rows x + depth_at rows y) / 2 ≤ left →
       (p : ℕ) → o ≡ Some p → HasRoom l rows x shares y own p
   room-given x y shares o lx ly long lower own left room half p e =
@@ -244,7 +266,7 @@ module _ (l : ℕ) (rows : List Row) (f : IsFrozen l MOST_ANIMALS rows) where
 
   -- there is room for what the sire gets
   pub room-sire : (x y : ℕ) (shares : List ℕ) → IsTracing l rows x (y + 1) shares → (p : ℕ) → sire_place rows y ≡ Some p →
-      HasRoom l rows x shares y (get_or shares (x - y) 0) p
+      HasRoom l rows x (emptied x y shares) y (get_or shares (x - y) 0) p
   room-sire x y shares t p e =
       let lx : x < length rows = t.place in
       let b : y + 1 ≤ x + 1 = t.border_in in
@@ -252,12 +274,13 @@ module _ (l : ℕ) (rows : List Row) (f : IsFrozen l MOST_ANIMALS rows) where
       let kept : ℕ → ℕ = kept_share l rows x shares in
       let more = brought-more kept y (λ _. 1) in
       let all = t.whole in
-      room-given x y shares (sire_place rows y) lx (omega arith) t.long (lower-sire y ly) (get_or shares (x - y) 0) (kept y)
-      (omega (arith, more, all)) (omega arith) p e
+      let same = brought-emptied l rows x y shares (λ _. 1) (omega arith) in
+      room-given x y (emptied x y shares) (sire_place rows y) lx (omega arith) (emptied-long x y shares t.long) (lower-sire y ly) (get_or shares (x - y) 0) (kept y)
+      (omega (arith, same, more, all)) (omega arith) p e
 
   -- and for what the dam gets then
   pub room-dam : (x y : ℕ) (shares : List ℕ) → IsTracing l rows x (y + 1) shares → (p : ℕ) → dam_place rows y ≡ Some p →
-      HasRoom l rows x (given rows x shares y (get_or shares (x - y) 0) (sire_place rows y)) y (get_or shares (x - y) 0) p
+      HasRoom l rows x (given rows x (emptied x y shares) y (get_or shares (x - y) 0) (sire_place rows y)) y (get_or shares (x - y) 0) p
   room-dam x y shares t p e =
       let lx : x < length rows = t.place in
       let b : y + 1 ≤ x + 1 = t.border_in in
@@ -266,28 +289,32 @@ module _ (l : ℕ) (rows : List Row) (f : IsFrozen l MOST_ANIMALS rows) where
       let kept : ℕ → ℕ = kept_share l rows x shares in
       let more = brought-more kept y (λ _. 1) in
       let all = t.whole in
-      let a = brought-given l rows x (depth-at_most l MOST_ANIMALS rows f x lx) shares y own (sire_place rows y) (λ _. 1) (omega arith) t.long (lower-sire y ly) in
+      let empty = emptied x y shares in
+      let long = emptied-long x y shares t.long in
+      let same = brought-emptied l rows x y shares (λ _. 1) (omega arith) in
+      let a = brought-given l rows x (depth-at_most l MOST_ANIMALS rows f x lx) empty y own (sire_place rows y) (λ _. 1) (omega arith) long (lower-sire y ly) in
       let k = known_one (sire_place rows y) in
       let h : kept y / 2 * of_known (λ _. 1) (sire_place rows y) ≤ kept y / 2 * 1 = mul-le-mul_left (kept y / 2) k in
-      room-given x y (given rows x shares y own (sire_place rows y)) (dam_place rows y) lx (omega arith)
-      (length-given rows x shares y own (sire_place rows y) ∙ t.long) (lower-dam y ly) own (kept y / 2)
-      (omega (arith, more, all, a, h)) (omega arith) p e
+      room-given x y (given rows x empty y own (sire_place rows y)) (dam_place rows y) lx (omega arith)
+      (given-long x empty y own (sire_place rows y) long) (lower-dam y ly) own (kept y / 2)
+      (omega (arith, same, more, all, a, h)) (omega arith) p e
 
   -- the whole of x is pending at first
-  pub tracing-start : (x : ℕ) → x < length rows → IsTracing l rows x (x + 1) (set (replicate (x + 1) 0) 0 1)
-  tracing-start x lx =
+  pub tracing-start : (x : ℕ) (nothing : List ℕ) → x < length rows → x < length nothing → ((d : ℕ) → get_or nothing d 0 ≡ 0) →
+      IsTracing l rows x (x + 1) (set nothing 0 1)
+  tracing-start x nothing lx long empty_is =
       let kin = placed rows in
-      let shares : List ℕ = set (replicate (x + 1) 0) 0 1 in
+      let shares : List ℕ = set nothing 0 1 in
       let kept : ℕ → ℕ = kept_share l rows x shares in
       let limit = depth-at_most l MOST_ANIMALS rows f x lx in
-      let first : get_or shares 0 0 ≡ 1 = get_or-set_same (replicate (x + 1) 0) 0 1 0 (rw length-replicate (omega arith)) in
+      let first : get_or shares 0 0 ≡ 1 = get_or-set_same nothing 0 1 0 (omega arith) in
       let own : kept x ≡ 2 ^ l =
       (let e : x - x ≡ 0 = omega arith in
       let g : l - depth_at rows x + depth_at rows x ≡ l = omega arith in
       rw (e, g, first) (omega arith)) in
+      let rest : (d : ℕ) → (d ≡ 0 → ⊥) → get_or shares d 0 ≡ 0 = λ d other. get_or-set_other nothing 0 d 1 0 other ∙ empty_is d in
       let others : (p : ℕ) → p < x → kept p ≡ 0 = λ p low.
-      (let e : get_or shares (x - p) 0 ≡ 0 =
-      get_or-set_other (replicate (x + 1) 0) 0 (x - p) 1 0 (λ z. omega arith) ∙ get_or-replicate (x + 1) (x - p) 0 0 (omega arith) in
+      (let e : get_or shares (x - p) 0 ≡ 0 = rest (x - p) (λ z. omega arith) in
       ap (λ v. v * 2 ^ (l - depth_at rows x + depth_at rows p)) e ∙ omega arith) in
       let brings : (has : ℕ → ℕ) → brought kept (x + 1) has ≡ 2 ^ l * has x = λ has.
       (let more = brought-more kept x has in
@@ -298,10 +325,10 @@ module _ (l : ℕ) (rows : List Row) (f : IsFrozen l MOST_ANIMALS rows) where
         book = f;
         place = lx;
         border_in = omega arith;
-        long = length-set (replicate (x + 1) 0) 0 1 ∙ length-replicate (x + 1) 0;
+        long = let e = length-set nothing 0 1 in omega (arith, e, long);
         whole = let b = brings (λ _. 1) in omega (arith, b);
         pending = λ j lj. brings (λ p. share kin l (Some p) j);
-        met = λ j lj jx. absurd (omega arith);
+        met = λ d above. rest d (λ e. let high = above (omega arith) in omega arith);
       }
 
   -- a kept share that isn't 0 is that of an ancestor which isn't deeper
@@ -335,23 +362,17 @@ module _ (l : ℕ) (rows : List Row) (f : IsFrozen l MOST_ANIMALS rows) where
       }
 
   -- of a place with a share that isn't 0, below which the border goes next
-  pub next-is : (x y b : ℕ) (shares : List ℕ) → IsTracing l rows x (y + 1) shares → ((j : ℕ) → y < j → j < b → get_or shares (x - j) 0 ≡ 0) →
-      y < b → b ≤ x + 1 → 0 < get_or shares (x - y) 0 → IsNext l rows x b y (get_or shares (x - y) 0)
-  next-is x y b shares t none lb bx pos =
+  pub next-is : (x y b : ℕ) (shares : List ℕ) → IsTracing l rows x (y + 1) shares →
+      y < b → b ≤ x + 1 → ((j : ℕ) → y < j → j < b → share (placed rows) l (Some x) j ≡ 0) → 0 < get_or shares (x - y) 0 →
+      IsNext l rows x b y (get_or shares (x - y) 0)
+  next-is x y b shares t lb bx between pos =
       let lx : x < length rows = t.place in
       let by' : y + 1 ≤ x + 1 = t.border_in in
       record {
         below = lb;
         share_is = kept-share_of x y (get_or shares (x - y) 0) lx (omega arith) (kept-is x y shares t) pos;
-        between = λ j yj jb.
-            sym (t.met j (omega arith) (omega arith)) ∙ (ap (λ v. v * 2 ^ (l - depth_at rows x + depth_at rows j)) (none j yj jb) ∙ omega arith);
+        between = between;
       }
-
-  -- once all is met, x has nothing of those for which nothing is kept
-  pub none-is : (x b : ℕ) (shares : List ℕ) → IsTracing l rows x 0 shares → ((j : ℕ) → j < b → get_or shares (x - j) 0 ≡ 0) → b ≤ x + 1 →
-      (j : ℕ) → j < b → share (placed rows) l (Some x) j ≡ 0
-  none-is x b shares t none bx j jb =
-      sym (t.met j (omega arith) (omega arith)) ∙ (ap (λ v. v * 2 ^ (l - depth_at rows x + depth_at rows j)) (none j jb) ∙ omega arith)
 
 -- what a tracing's step finds at the youngest pending place
 pub record IsStep (l : ℕ) (rows : List Row) (x y : ℕ) (shares : List ℕ) (own : ℕ) : Type 0 where
@@ -362,37 +383,37 @@ module _ (l : ℕ) (rows : List Row) (x y : ℕ) (shares : List ℕ) (own : ℕ)
   f : IsFrozen l MOST_ANIMALS rows
   f = step.tracing.book
 
-  pub step-room_sire : (row : Row) → slice_get rows y ≡ Some row → (p : ℕ) → row.sire ≡ Some p → HasRoom l rows x shares y own p
+  pub step-room_sire : (row : Row) → slice_get rows y ≡ Some row → (p : ℕ) → row.sire ≡ Some p → HasRoom l rows x (emptied x y shares) y own p
   step-room_sire row e p is =
-      subst (λ v. HasRoom l rows x shares y v p) (sym step.own_is)
+      subst (λ v. HasRoom l rows x (emptied x y shares) y v p) (sym step.own_is)
       (room-sire l rows f x y shares step.tracing p ((let s : sire_place rows y ≡ row.sire = rw e refl in s) ∙ is))
 
   pub step-room_dam : (row : Row) → slice_get rows y ≡ Some row → (p : ℕ) → row.dam ≡ Some p →
-      HasRoom l rows x (given rows x shares y own row.sire) y own p
+      HasRoom l rows x (given rows x (emptied x y shares) y own row.sire) y own p
   step-room_dam row e p is =
       let s : sire_place rows y ≡ row.sire = rw e refl in
       let d : dam_place rows y ≡ row.dam = rw e refl in
-      subst (λ o. HasRoom l rows x (given rows x shares y own o) y own p) s
-      (subst (λ v. HasRoom l rows x (given rows x shares y v (sire_place rows y)) y v p) (sym step.own_is)
+      subst (λ o. HasRoom l rows x (given rows x (emptied x y shares) y own o) y own p) s
+      (subst (λ v. HasRoom l rows x (given rows x (emptied x y shares) y v (sire_place rows y)) y v p) (sym step.own_is)
       (room-dam l rows f x y shares step.tracing p (d ∙ is)))
 
   -- its share is passed on
   pub step-next : (row : Row) → slice_get rows y ≡ Some row →
-      IsTracing l rows x y (given rows x (given rows x shares y own row.sire) y own row.dam)
+      IsTracing l rows x y (given rows x (given rows x (emptied x y shares) y own row.sire) y own row.dam)
   step-next row e =
       let s : sire_place rows y ≡ row.sire = rw e refl in
       let d : dam_place rows y ≡ row.dam = rw e refl in
-      subst (λ o. IsTracing l rows x y (given rows x (given rows x shares y own row.sire) y own o)) d
-      (subst (λ o. IsTracing l rows x y (given rows x (given rows x shares y own o) y own (dam_place rows y))) s
-      (subst (λ v. IsTracing l rows x y (given rows x (given rows x shares y v (sire_place rows y)) y v (dam_place rows y))) (sym step.own_is)
+      subst (λ o. IsTracing l rows x y (given rows x (given rows x (emptied x y shares) y own row.sire) y own o)) d
+      (subst (λ o. IsTracing l rows x y (given rows x (given rows x (emptied x y shares) y own o) y own (dam_place rows y))) s
+      (subst (λ v. IsTracing l rows x y (given rows x (given rows x (emptied x y shares) y v (sire_place rows y)) y v (dam_place rows y))) (sym step.own_is)
       (tracing-next l rows f x y shares step.tracing)))
 
-  -- it is the next ancestor, where nothing is kept for the places between it and the border
-  pub step-is : (top : ℕ) → ((j : ℕ) → y < j → j < top → get_or shares (x - j) 0 ≡ 0) → y < top → top ≤ x + 1 → 0 < own → IsNext l rows x top y own
-  step-is top none low high some =
+  -- it is the next ancestor, where x has nothing of those between it and the border
+  pub step-is : (top : ℕ) → ((j : ℕ) → y < j → j < top → share (placed rows) l (Some x) j ≡ 0) → y < top → top ≤ x + 1 → 0 < own → IsNext l rows x top y own
+  step-is top between low high some =
       let is = step.own_is in
       subst (λ v. IsNext l rows x top y v) (sym is)
-      (next-is l rows f x y top shares step.tracing none low high (let q : 0 < get_or shares (x - y) 0 = omega arith in q))
+      (next-is l rows f x y top shares step.tracing low high between (let q : 0 < get_or shares (x - y) 0 = omega arith in q))
 
   pub step-lower_sire : (row : Row) → slice_get rows y ≡ Some row → IsLower rows y row.sire
   step-lower_sire row e =
@@ -415,3 +436,14 @@ lowered-to l rows x b (suc n) shares t none =
     let t' : IsTracing l rows x (n + b + 1) shares = subst (λ v. IsTracing l rows x v shares) e t in
     lowered-to l rows x b n shares (tracing-lower l rows t'.book x (n + b) shares t' (none (n + b) (omega arith) (omega arith)))
     (λ j bj jb. none j bj (omega arith))
+
+-- of an animal for which nothing is kept, nor for those between it and the border, x has nothing
+pub share-none_kept : (l : ℕ) (rows : List Row) (x b : ℕ) (shares : List ℕ) → IsTracing l rows x b shares → (j : ℕ) → j < b →
+    ((i : ℕ) → j ≤ i → i < b → get_or shares (x - i) 0 ≡ 0) → share (placed rows) l (Some x) j ≡ 0
+share-none_kept l rows x b shares t j low none =
+    let n : ℕ = b - (j + 1) in
+    let e : b ≡ n + (j + 1) = omega arith in
+    let t' : IsTracing l rows x (j + 1) shares =
+    lowered-to l rows x (j + 1) n shares (subst (λ v. IsTracing l rows x v shares) e t) (λ i ji ib. none i (omega arith) (omega arith)) in
+    sym (kept-is l rows t.book x j shares t')
+    ∙ (ap (λ v. v * 2 ^ (l - depth_at rows x + depth_at rows j)) (none j (omega arith) low) ∙ omega arith)

@@ -1,36 +1,37 @@
 -- A tracing whose pending ancestors are marked: its start, the nearest one taken, and shares given.
-use Rattle.std.proofs.Common.{ℕ, ◌+◌, ◌*◌, ◌-◌, ◌^◌, ◌<◌, ◌≤◌, ◌≡◌, ⊎_elim, List, length, get_or, set, replicate, slice_get, Some, None, Option, arith, refl, sym, ap, subst, ◌∙◌}
+use Rattle.std.proofs.Common.{ℕ, ◌+◌, ◌*◌, ◌-◌, ◌/◌, ◌%◌, ◌^◌, ◌<◌, ◌≤◌, ◌≡◌, ⊎_elim, List, length, get_or, replicate, set, slice_get, Some, None, Option, arith, refl, sym, ap, subst, ◌∙◌}
 use Rattle.std.proofs.Math.Nat.{mul-le-mul_left}
 use Rattle.std.proofs.Math.Pow.{pow_pos}
 use Rattle.std.proofs.lemmas.Bool.{cases_eq, cases_lt}
-use Rattle.std.proofs.lemmas.List.{get_or-set_same, get_or-set_other, get_or-replicate, length-replicate}
+use Rattle.std.proofs.lemmas.Nat.Bits.{bit_at-lt}
+use Rattle.std.proofs.lemmas.List.{get_or-replicate, get_or-set_same, get_or-set_other, get_or_past, length-replicate, length-set}
 use Rattle.herd_pedigree.specs.declared.TheConstants.{MOST_ANIMALS}
 use Rattle.herd_pedigree.specs.declared.frozen.Row.{Row}
 use Rattle.herd_pedigree.specs.Frozen.{IsFrozen, depth_at}
 use Rattle.herd_kinship.specs.Pending.{mark, Marks}
 use Rattle.herd_kinship.specs.Places.{placed}
 use Rattle.herd_kinship.specs.Shares.{share}
-use Rattle.herd_kinship.specs.Tracing.{given, GivesMark, IsMarked, IsNext, IsPendingAt, IsTracing, IsUnderWay}
-use Rattle.herd_kinship.proofs.TracingFacts.{IsLower, IsStep, length-given, lowered-to, none-is, step-is, step-lower_sire, step-lower_dam, step-next, tracing-start}
+use Rattle.herd_kinship.specs.Tracing.{given, GivesMark, HasRoom, IsIdle, IsMarked, IsNext, IsPendingAt, IsTracing, IsUnderWay}
+use Rattle.herd_kinship.proofs.TracingFacts.{IsLower, IsStep, length-given, lowered-to, share-none_kept, step-is, step-room_sire, step-room_dam, step-lower_sire, step-lower_dam, step-next, tracing-start}
 
 -- the animal itself alone is pending at first
-pub under_way-start : (l : ℕ) (rows : List Row) (x : ℕ) (empty words : List ℕ) → IsFrozen l MOST_ANIMALS rows → x < length rows → x < 64 * length empty →
-    ((d : ℕ) → mark empty d ≡ 0) → Marks empty words 0 1 → IsUnderWay l rows x (x + 1) (set (replicate (x + 1) 0) 0 1) words
-under_way-start l rows x empty words f lx room none marks =
-    let start : List ℕ = set (replicate (x + 1) 0) 0 1 in
-    let first : get_or start 0 0 ≡ 1 = get_or-set_same (replicate (x + 1) 0) 0 1 0 (rw length-replicate (omega arith)) in
+pub under_way-start : (l : ℕ) (rows : List Row) (x : ℕ) (nothing empty words : List ℕ) → IsFrozen l MOST_ANIMALS rows → x < length rows → IsIdle (x + 1) nothing empty →
+    Marks empty words 0 1 → IsUnderWay l rows x (x + 1) (set nothing 0 1) words
+under_way-start l rows x nothing empty words f lx idle marks =
+    let start : List ℕ = set nothing 0 1 in
+    let long = idle.room in
+    let first : get_or start 0 0 ≡ 1 = get_or-set_same nothing 0 1 0 (omega arith) in
     record {
-      tracing = tracing-start l rows f x lx;
+      tracing = tracing-start l rows f x nothing lx (omega arith) idle.nothing;
       marks = record {
-        room = let e = marks.room in omega (arith, e);
+        room = let e = marks.room in let room = idle.marks in omega (arith, e);
         marked = λ p low some.
             ⊎_elim
             (λ (here : x - p ≡ 0). rw here marks.here)
             (λ (other : x - p ≡ 0 → ⊥).
-            let e : get_or start (x - p) 0 ≡ 0 =
-            get_or-set_other (replicate (x + 1) 0) 0 (x - p) 1 0 other ∙ get_or-replicate (x + 1) (x - p) 0 0 (omega arith) in
+            let e : get_or start (x - p) 0 ≡ 0 = get_or-set_other nothing 0 (x - p) 1 0 other ∙ idle.nothing (x - p) in
             let kept : 0 < get_or start (x - p) 0 = some in
-            let nothing : 0 < 0 = subst (λ v. 0 < v) e kept in
+            let nothing_kept : 0 < 0 = subst (λ v. 0 < v) e kept in
             absurd (omega arith))
             (cases_eq (x - p) 0);
         pending = λ d is.
@@ -41,7 +42,7 @@ under_way-start l rows x empty words f lx room none marks =
               below = omega arith;
               some = rw (here, first) (omega arith);
             })
-            (λ (other : d ≡ 0 → ⊥). let z = marks.others d other in let n = none d in absurd (omega arith))
+            (λ (other : d ≡ 0 → ⊥). let z = marks.others d other in let n = idle.unmarked d in absurd (omega arith))
             (cases_eq d 0);
       };
     }
@@ -75,8 +76,7 @@ module _ (l : ℕ) (rows : List Row) (x b : ℕ) (shares words : List ℕ) (way 
   }
 
   pub none-left : ((d : ℕ) → mark words d ≡ 0) → (j : ℕ) → j < b → share (placed rows) l (Some x) j ≡ 0
-  none-left none =
-      none-is l rows way.tracing.book x b shares (under_way-end none).tracing (λ j jb. none-kept j jb (none (x - j))) way.tracing.border_in
+  none-left none = λ j jb. share-none_kept l rows x b shares way.tracing j jb (λ i ji ib. none-kept i ib (none (x - i)))
 
   module _ (words' : List ℕ) (d : ℕ) (taken : IsTaken words words' d) where
     pub taken-at : IsPendingAt x b shares d
@@ -105,17 +105,38 @@ module _ (l : ℕ) (rows : List Row) (x b : ℕ) (shares words : List ℕ) (way 
     taken-next own is =
         let at = taken-at in
         let some = at.some in
-        step-is l rows x (x - d) shares own (taken-step own is) b between at.below way.tracing.border_in (omega (arith, is, some))
+        step-is l rows x (x - d) shares own (taken-step own is) b
+        (λ j low high. share-none_kept l rows x b shares way.tracing j high (λ i ji ib. between i (omega arith) ib))
+        at.below way.tracing.border_in (omega (arith, is, some))
 
-    -- the other marks stay
-    taken-marks : IsMarked x (x - d) shares words'
+    back : x - (x - d) ≡ d
+    back = let near : d ≤ x = taken-at.near in omega arith
+
+    -- there is room for what its parents get
+    pub taken-room_sire : (own : ℕ) → own ≡ get_or shares d 0 → (row : Row) → slice_get rows (x - d) ≡ Some row → (p : ℕ) → row.sire ≡ Some p →
+        HasRoom l rows x (set shares d 0) (x - d) own p
+    taken-room_sire own is row e p at =
+        subst (λ v. HasRoom l rows x (set shares v 0) (x - d) own p) back (step-room_sire l rows x (x - d) shares own (taken-step own is) row e p at)
+
+    pub taken-room_dam : (own : ℕ) → own ≡ get_or shares d 0 → (row : Row) → slice_get rows (x - d) ≡ Some row → (p : ℕ) → row.dam ≡ Some p →
+        HasRoom l rows x (given rows x (set shares d 0) (x - d) own row.sire) (x - d) own p
+    taken-room_dam own is row e p at =
+        subst (λ v. HasRoom l rows x (given rows x (set shares v 0) (x - d) own row.sire) (x - d) own p) back
+        (step-room_dam l rows x (x - d) shares own (taken-step own is) row e p at)
+
+    -- the other marks stay, and nothing is kept any more at the distance
+    taken-marks : IsMarked x (x - d) (set shares d 0) words'
     taken-marks =
         let near : d ≤ x = taken-at.near in
         let below : x - d < b = taken-at.below in
         record {
           room = let r = way.marks.room in let e = taken.taken.room in omega (arith, e);
           marked = λ p low some.
-              taken.taken.others (x - p) (λ e. omega arith) ∙ way.marks.marked p (omega arith) some;
+              let apart : x - p ≡ d → ⊥ = λ e. omega arith in
+              let same = get_or-set_other shares d (x - p) 0 0 apart in
+              let kept : 0 < get_or (set shares d 0) (x - p) 0 = some in
+              let was : 0 < get_or shares (x - p) 0 = subst (λ v. 0 < v) same kept in
+              taken.taken.others (x - p) apart ∙ way.marks.marked p (omega arith) was;
           pending = λ e is.
               let other : e ≡ d → ⊥ = λ same. (let z : mark words' e ≡ 0 = subst (λ v. mark words' v ≡ 0) (sym same) taken.taken.here in let q : 1 ≡ 0 = sym is ∙ z in omega arith) in
               let was : mark words e ≡ 1 = sym (taken.taken.others e other) ∙ is in
@@ -123,11 +144,11 @@ module _ (l : ℕ) (rows : List Row) (x b : ℕ) (shares words : List ℕ) (way 
               let far : d < e =
               ⊎_elim (λ (less : e < d). let z = taken.nearest e less in absurd (omega arith)) (λ (more : d ≤ e). let o = other in omega arith) (cases_lt e d) in
               let close : e ≤ x = at.near in
-              record { near = close; below = omega arith; some = at.some };
+              record { near = close; below = omega arith; some = rw (get_or-set_other shares d e 0 0 other) at.some };
         }
 
 -- a share that is given to a parent is marked
-given-marks : (rows : List Row) (x y own : ℕ) (shares words words' : List ℕ) (o : Option ℕ) → IsMarked x y shares words → 0 < own → y ≤ x → length shares ≡ x + 1 →
+given-marks : (rows : List Row) (x y own : ℕ) (shares words words' : List ℕ) (o : Option ℕ) → IsMarked x y shares words → 0 < own → y ≤ x → x < length shares →
     IsLower rows y o → GivesMark x words words' o → IsMarked x y (given rows x shares y own o) words'
 given-marks rows x y own shares words words' None m some high long lower gives = subst (λ v. IsMarked x y shares v) (sym gives) m
 given-marks rows x y own shares words words' (Some p) m some high long lower gives =
@@ -171,18 +192,59 @@ given-marks rows x y own shares words words' (Some p) m some high long lower giv
 pub under_way-next : (l : ℕ) (rows : List Row) (x b : ℕ) (shares words words' : List ℕ) (way : IsUnderWay l rows x b shares words) (d : ℕ) (taken : IsTaken words words' d)
     (own : ℕ) (is : own ≡ get_or shares d 0) (row : Row) → slice_get rows (x - d) ≡ Some row → (after last : List ℕ) →
     GivesMark x words' after row.sire → GivesMark x after last row.dam →
-    IsUnderWay l rows x (x - d) (given rows x (given rows x shares (x - d) own row.sire) (x - d) own row.dam) last
+    IsUnderWay l rows x (x - d) (given rows x (given rows x (set shares d 0) (x - d) own row.sire) (x - d) own row.dam) last
 under_way-next l rows x b shares words words' way d taken own is row e after last first second =
     let step = taken-step l rows x b shares words way words' d taken own is in
     let at = taken-at l rows x b shares words way words' d taken in
     let kept = at.some in
+    let near : d ≤ x = at.near in
+    let back : x - (x - d) ≡ d = omega arith in
     let some : 0 < own = omega (arith, is, kept) in
-    let long = way.tracing.long in
-    let sire = given-marks rows x (x - d) own shares words' after row.sire (taken-marks l rows x b shares words way words' d taken) some (omega arith) long
+    let was : x < length shares = way.tracing.long in
+    let empty : List ℕ = set shares d 0 in
+    let long : x < length empty = (let e = length-set shares d 0 in omega (arith, e, was)) in
+    let sire = given-marks rows x (x - d) own empty words' after row.sire (taken-marks l rows x b shares words way words' d taken) some (omega arith) long
     (step-lower_sire l rows x (x - d) shares own step row e) first in
+    let given_long = length-given rows x empty (x - d) own row.sire in
     record {
-      tracing = step-next l rows x (x - d) shares own step row e;
+      tracing =
+          subst (λ v. IsTracing l rows x (x - d) (given rows x (given rows x (set shares v 0) (x - d) own row.sire) (x - d) own row.dam)) back
+          (step-next l rows x (x - d) shares own step row e);
       marks =
-          given-marks rows x (x - d) own (given rows x shares (x - d) own row.sire) after last row.dam sire some (omega arith)
-          (length-given rows x shares (x - d) own row.sire ∙ long) (step-lower_dam l rows x (x - d) shares own step row e) second;
+          given-marks rows x (x - d) own (given rows x empty (x - d) own row.sire) after last row.dam sire some (omega arith)
+          (omega (arith, given_long, long)) (step-lower_dam l rows x (x - d) shares own step row e) second;
     }
+
+-- a tracing whose animals are all met leaves nothing behind
+pub under_way-idle : (l : ℕ) (rows : List Row) (x animals : ℕ) (shares words : List ℕ) → IsUnderWay l rows x 0 shares words →
+    animals ≤ length shares → animals ≤ 64 * length words → IsIdle animals shares words
+under_way-idle l rows x animals shares words way room marks = record {
+  room = room;
+  marks = marks;
+  nothing = λ d. way.tracing.met d (λ near. omega arith);
+  unmarked = λ d.
+      let bit = bit_at-lt (get_or words (d / 64) 0) (d % 64) in
+      ⊎_elim
+      (λ (is : mark words d ≡ 1). let low = (way.marks.pending d is).below in absurd (omega arith))
+      (λ (other : mark words d ≡ 1 → ⊥). omega (arith, bit))
+      (cases_eq (mark words d) 1);
+}
+
+-- room for many is room for fewer
+pub idle-fewer : (animals fewer : ℕ) (shares words : List ℕ) → fewer ≤ animals → IsIdle animals shares words → IsIdle fewer shares words
+idle-fewer animals fewer shares words less idle =
+    let room = idle.room in
+    let marks = idle.marks in
+    record { room = omega arith; marks = omega arith; nothing = idle.nothing; unmarked = idle.unmarked }
+
+-- at first there is 0 everywhere
+pub idle-start : (animals : ℕ) (words : List ℕ) → animals ≤ 64 * length words → ((d : ℕ) → mark words d ≡ 0) → IsIdle animals (replicate animals 0) words
+idle-start animals words marks none = record {
+  room = let e : length (replicate {A = ℕ} animals 0) ≡ animals = length-replicate animals 0 in omega (arith, e);
+  marks = marks;
+  nothing = λ d.
+      ⊎_elim (λ (within : d < animals). get_or-replicate animals d 0 0 within)
+      (λ (past : animals ≤ d). get_or_past (replicate animals 0) d 0 (let e : length (replicate {A = ℕ} animals 0) ≡ animals = length-replicate animals 0 in omega (arith, e)))
+      (cases_lt d animals);
+  unmarked = none;
+}

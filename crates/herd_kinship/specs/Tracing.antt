@@ -1,6 +1,6 @@
 -- Tracing the ancestors of an animal from the youngest to the oldest (Meuwissen and Luo 1992). Animals are named
 -- by their places; the share kept for an ancestor p of x is in unit 2^-(g x - g p), where g is the depth.
-use Rattle.std.specs.Prelude.{◌≡◌, ℕ, ◌+◌, ◌*◌, ◌-◌, ◌^◌, ◌<◌, ◌≤◌, List, length, slice_index, slice_set, sum_by, Option, None, Some, nat_le, if◌then◌else◌}
+use Rattle.std.specs.Prelude.{◌≡◌, ℕ, ◌+◌, ◌*◌, ◌-◌, ◌^◌, ◌<◌, ◌≤◌, List, length, slice_index, slice_set, sum_by, Option, None, Some}
 use Rattle.std.specs.List.{range_with_len}
 use Rattle.herd_pedigree.specs.declared.frozen.Row.{Row}
 use Rattle.herd_pedigree.specs.declared.TheConstants.{MOST_ANIMALS}
@@ -28,22 +28,22 @@ pub record HasRoom (l : ℕ) (rows : List Row) (x : ℕ) (shares : List ℕ) (y 
   pub place : x < length rows
   pub met : y ≤ x
   pub lower : p < y
-  pub long : length shares ≡ x + 1
+  pub long : x < length shares
   pub less_deep : depth_at rows p < depth_at rows y
   pub shallow : depth_at rows y ≤ l
   pub room : slice_index shares (x - p) + own * 2 ^ (depth_at rows y - depth_at rows p - 1) ≤ 2 ^ l
 
--- The ancestors of x from the border on are met, with the shares that x has of them. The shares below the border
+-- The ancestors of x from the border on are met, and nothing is kept for them. The shares below the border
 -- are pending: to each animal there they bring just what x has of it, and together they are at most the whole.
 pub record IsTracing (l : ℕ) (rows : List Row) (x border : ℕ) (shares : List ℕ) : Type 0 where
   pub book : IsFrozen l MOST_ANIMALS rows
   pub place : x < length rows
   pub border_in : border ≤ x + 1
-  pub long : length shares ≡ x + 1
+  pub long : x < length shares
   pub whole : brought (kept_share l rows x shares) border (λ _. 1) ≤ 2 ^ l
   pub pending : (j : ℕ) → j < border →
       brought (kept_share l rows x shares) border (λ p. share (placed rows) l (Some p) j) ≡ 2 ^ l * share (placed rows) l (Some x) j
-  pub met : (j : ℕ) → border ≤ j → j ≤ x → kept_share l rows x shares j ≡ share (placed rows) l (Some x) j
+  pub met : (distance : ℕ) → (distance ≤ x → border ≤ x - distance) → slice_index shares distance ≡ 0
 
 -- x has this share of its ancestor j, in the unit of the two depths' difference, and it isn't 0
 pub record IsShareOf (rows : List Row) (x j own : ℕ) : Type 0 where
@@ -56,15 +56,6 @@ pub record IsNext (l : ℕ) (rows : List Row) (x border y own : ℕ) : Type 0 wh
   pub below : y < border
   pub share_is : IsShareOf rows x y own
   pub between : (j : ℕ) → y < j → j < border → share (placed rows) l (Some x) j ≡ 0
-
--- to each place up to x there is the share that x has of the animal there
-pub record AreShares (l : ℕ) (rows : List Row) (x : ℕ) (shares : List ℕ) : Type 0 where
-  pub long : length shares ≡ x + 1
-  pub right : (j : ℕ) → j ≤ x → kept_share l rows x shares j ≡ share (placed rows) l (Some x) j
-
--- the share in a list that goes by the distance from x, 0 for a later place
-abbrev pub share_at : List ℕ → ℕ → ℕ → ℕ
-share_at shares x place = if nat_le place x then slice_index shares (x - place) else 0
 
 -- the distance is that of a place below the border, and a share is kept there
 pub record IsPendingAt (x border : ℕ) (shares : List ℕ) (distance : ℕ) : Type 0 where
@@ -87,3 +78,10 @@ GivesMark x old new (Some p) = Marks old new (x - p) 1
 pub record IsUnderWay (l : ℕ) (rows : List Row) (x border : ℕ) (shares words : List ℕ) : Type 0 where
   pub tracing : IsTracing l rows x border shares
   pub marks : IsMarked x border shares words
+
+-- there is room to trace so many animals, no share is kept, and nobody is marked
+pub record IsIdle (animals : ℕ) (shares words : List ℕ) : Type 0 where
+  pub room : animals ≤ length shares
+  pub marks : animals ≤ 64 * length words
+  pub nothing : (distance : ℕ) → slice_index shares distance ≡ 0
+  pub unmarked : (distance : ℕ) → mark words distance ≡ 0

@@ -62,8 +62,7 @@ impl<A: Allocator> Coefficients<A> {
 }
 
 /// Writes the coefficients of a sire's calves, by those of its ancestors.
-fn write_calves<F: Allocator, C: Allocator, A: Allocator + Clone>(
-    alloc: A,
+fn write_calves<F: Allocator, C: Allocator, A: Allocator>(
     frozen: &Frozen<F>,
     calves: &Calves<C>,
     mates: &mut Mates<A>,
@@ -72,14 +71,14 @@ fn write_calves<F: Allocator, C: Allocator, A: Allocator + Clone>(
 ) -> Result<(), AllocError>
     requires sire { sire < length frozen.now }
     requires calves { AreLinked frozen.now (length frozen.now) calves.now.latest.items calves.now.earlier.items }
-    requires ready { IsReady (length frozen.now) mates.old.marked.words.items mates.old.column.items }
+    requires ready { IsReady (length frozen.now) mates.old.marked.words.items mates.old.tracing.shares.items mates.old.tracing.pending.words.items mates.old.column.items }
     requires known { KnowsReached DEPTH_LIMIT frozen.now sire known.old }
-    ensures ready { IfOk result (λ _. IsReady (length frozen.now) mates.new.marked.words.items mates.new.column.items) }
+    ensures ready { IfOk result (λ _. IsReady (length frozen.now) mates.new.marked.words.items mates.new.tracing.shares.items mates.new.tracing.pending.words.items mates.new.column.items) }
     ensures known { IfOk result (λ _. KnowsReached DEPTH_LIMIT frozen.now (sire + 1) known.new) }
 {
     frozen.len();
     if calves.latest[sire as usize].is_some() {
-        mates.relate_to(alloc, frozen, calves, known, sire)?;
+        mates.relate_to(frozen, calves, known, sire)?;
         calves.write_coefficients(frozen, sire, &mates.column, known);
     }
     Ok(())
@@ -97,16 +96,9 @@ pub fn coefficients_plain<F: Allocator, A: Allocator + Clone>(
 {
     let calves = Calves::of(alloc.clone()?, frozen)?;
     let mut mates = Mates::with_room(alloc.clone()?, frozen.len())?;
-    let mut known = vec![in alloc.clone()?; 0u128; frozen.len() as usize]?;
+    let mut known = vec![in alloc; 0u128; frozen.len() as usize]?;
     for sire in 0..frozen.len() {
-        write_calves(
-            alloc.clone()?,
-            frozen,
-            &calves,
-            &mut mates,
-            sire,
-            &mut known,
-        )?;
+        write_calves(frozen, &calves, &mut mates, sire, &mut known)?;
     }
     Ok(Coefficients::from_list(known))
 }

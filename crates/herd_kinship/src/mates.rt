@@ -9,6 +9,7 @@ ghost use Rattle.herd_kinship.specs.Places.{sire_place, dam_place};
 use crate::calves::Calves;
 use crate::columns::{collect, relate};
 use crate::pending::Pending;
+use crate::tracing::Tracing;
 use herd_pedigree::Frozen;
 use std::alloc::{AllocError, Allocator};
 
@@ -16,6 +17,7 @@ use std::alloc::{AllocError, Allocator};
 #[derive(Drop)]
 pub struct Mates<A: Allocator> {
     pub marked: Pending<A>,
+    pub tracing: Tracing<A>,
     /// From the youngest to the oldest.
     pub collected: Vec<u32, A>,
     /// By places. What stands at a place that isn't collected doesn't count.
@@ -25,42 +27,44 @@ pub struct Mates<A: Allocator> {
 impl<A: Allocator + Clone> Mates<A> {
     /// Of no sire yet, with room for so many animals.
     pub fn with_room(alloc: A, animals: u32) -> Result<Mates<A>, AllocError>
-        ensures { IfOk result (λ mates. IsReady animals mates.marked.words.items mates.column.items) }
+        ensures { IfOk result (λ mates. IsReady animals mates.marked.words.items mates.tracing.shares.items mates.tracing.pending.words.items mates.column.items) }
     {
         Ok(Mates {
             marked: Pending::with_room(alloc.clone()?, animals)?,
+            tracing: Tracing::with_room(alloc.clone()?, animals)?,
             column: vec![in alloc.clone()?; 0u128; animals as usize]?,
             collected: Vec::new(alloc),
         })
     }
+}
 
+impl<A: Allocator> Mates<A> {
     /// Makes the relationships of a sire with its mates, by the coefficients of its ancestors.
     pub fn relate_to<F: Allocator, C: Allocator>(
         &mut self,
-        alloc: A,
         frozen: &Frozen<F>,
         calves: &Calves<C>,
         known: &[u128],
         sire: u32,
     ) -> Result<(), AllocError>
-        requires ready { IsReady (length frozen.now) self.old.marked.words.items self.old.column.items }
+        requires ready { IsReady (length frozen.now) self.old.marked.words.items self.old.tracing.shares.items self.old.tracing.pending.words.items self.old.column.items }
         requires calves { AreLinked frozen.now (length frozen.now) calves.now.latest.items calves.now.earlier.items }
         requires known { KnowsAncestors DEPTH_LIMIT frozen.now known.now sire }
         requires sire { sire < length frozen.now }
-        ensures ready { IfOk result (λ _. IsReady (length frozen.now) self.new.marked.words.items self.new.column.items) }
+        ensures ready { IfOk result (λ _. IsReady (length frozen.now) self.new.marked.words.items self.new.tracing.shares.items self.new.tracing.pending.words.items self.new.column.items) }
         ensures related { IfOk result (λ _. (calf dam : ℕ) → sire_place frozen.now calf ≡ Some sire → dam_place frozen.now calf ≡ Some dam → slice_index self.new.column.items dam ≡ related DEPTH_LIMIT frozen.now sire (Some dam)) }
     {
         let last = frozen.len() - 1;
         calves.mark_mates(frozen, sire, last, &mut self.marked);
         collect(frozen, last, &mut self.marked, &mut self.collected)?;
         relate(
-            alloc,
+            &mut self.tracing,
             frozen,
             known,
             sire,
             &self.collected,
             &mut self.column,
-        )?;
+        );
         Ok(())
     }
 }

@@ -6,11 +6,9 @@ ghost use Rattle.herd_kinship.specs.Coefficients.{AreCoefficients};
 ghost use Rattle.herd_kinship.specs.FrozenAncestry.{ancestry_of, number_at};
 ghost use Rattle.herd_kinship.specs.Mating.{ArePair, AreRelationshipsOf, mating_fault, number_of};
 ghost use Rattle.herd_kinship.specs.Table.{entry};
-ghost use Rattle.herd_kinship.specs.Tracing.{share_at};
 
 use crate::coefficients::Coefficients;
 use crate::relationships::Relationships;
-use crate::tracing::{Tracing, mendelian, shares_of, term};
 use herd_animal::{AnimalNumber, Sex};
 use herd_pedigree::{DEPTH_LIMIT, Frozen};
 use std::alloc::{AllocError, Allocator};
@@ -99,45 +97,6 @@ fn pair_of<F: Allocator>(
     })
 }
 
-/// The share that is kept for a place, and 0 for a later one.
-fn share_in(shares: &[u64], first: u32, place: u32) -> u64
-    requires { length shares.now ≡ first + 1 }
-    ensures { result ≡ share_at shares.now first place }
-{
-    if place <= first {
-        shares[(first - place) as usize]
-    } else {
-        0
-    }
-}
-
-/// The relationship of the animals at two places.
-fn relationship<F: Allocator, A: Allocator + Clone>(
-    alloc: A,
-    frozen: &Frozen<F>,
-    known: &[u128],
-    first: u32,
-    second: u32,
-) -> Result<u128, AllocError>
-    requires first { first < length frozen.now }
-    requires second { second < length frozen.now }
-    requires known { AreCoefficients DEPTH_LIMIT frozen.now known.now }
-    ensures { IfOk result (λ value. value ≡ entry (ancestry_of frozen.now) (2 * DEPTH_LIMIT) (Some (number_at frozen.now first)) (Some (number_at frozen.now second))) }
-{
-    let shares = shares_of(alloc.clone()?, frozen, first)?;
-    let mut tracing = Tracing::of(alloc, frozen, second)?;
-    let depths = frozen.row(first).depth + frozen.row(second).depth;
-    let mut sum = 0;
-    while let Some(met) = tracing.meet_next(frozen) {
-        let share = share_in(&shares, first, met.place);
-        if share > 0 {
-            let steps = depths - 2 * frozen.row(met.place).depth;
-            sum += term(mendelian(frozen, known, met.place), steps, share, met.share);
-        }
-    }
-    Ok(sum)
-}
-
 /// The coefficient that a calf of the two would have.
 ///
 /// Ages and exits aren't asked.
@@ -153,9 +112,9 @@ pub fn mating<F: Allocator, C: Allocator, A: Allocator + Clone>(
     ensures refused { IfSome (mating_fault DEPTH_LIMIT (book_of frozen.now) sire.now dam.now) (λ fault. result ≡ Err fault) }
     ensures memory { IfErr result (λ fault. mating_fault DEPTH_LIMIT (book_of frozen.now) sire.now dam.now ≡ None → fault ≡ MatingFault.Memory) }
 {
-    let pair = pair_of(frozen, sire, dam)?;
-    match relationship(alloc, frozen, coefficients.list(), pair.sire, pair.dam) {
-        Ok(value) => Ok(value / 2),
+    pair_of(frozen, sire, dam)?;
+    match Relationships::of_number(alloc, frozen, coefficients, dam) {
+        Ok(relationships) => mating_by(frozen, &relationships, sire, dam),
         Err(AllocError) => Err(MatingFault::Memory),
     }
 }

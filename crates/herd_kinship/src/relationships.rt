@@ -3,10 +3,11 @@ ghost use Rattle.herd_pedigree.specs.declared.TheConstants.{DEPTH_LIMIT};
 ghost use Rattle.herd_kinship.specs.Coefficients.{AreCoefficients};
 ghost use Rattle.herd_kinship.specs.Columns.{related, inherited, AreRelationships};
 ghost use Rattle.herd_kinship.specs.Mating.{AreRelationshipsOf};
+ghost use Rattle.herd_kinship.specs.Tracing.{IsIdle};
 
 use crate::coefficients::Coefficients;
 use crate::columns::{with_parent, write_parts};
-use crate::tracing::parents_at;
+use crate::tracing::{Tracing, parents_at};
 use herd_animal::AnimalNumber;
 use herd_pedigree::Frozen;
 use std::alloc::{AllocError, Allocator};
@@ -39,7 +40,14 @@ impl<A: Allocator + Clone> Relationships<A> {
         ensures { IfOk result (AreRelationships DEPTH_LIMIT frozen.now place) }
     {
         let mut column = vec![in alloc.clone()?; 0u128; frozen.len() as usize]?;
-        relate_all(alloc, frozen, coefficients.list(), place, &mut column)?;
+        let mut tracing = Tracing::with_room(alloc, frozen.len())?;
+        relate_all(
+            &mut tracing,
+            frozen,
+            coefficients.list(),
+            place,
+            &mut column,
+        );
         Ok(Relationships { column })
     }
 }
@@ -76,23 +84,23 @@ impl<A: Allocator> Relationships<A> {
 }
 
 /// Writes the relationships of the animal at a place with all.
-fn relate_all<F: Allocator, A: Allocator + Clone>(
-    alloc: A,
+fn relate_all<F: Allocator, A: Allocator>(
+    tracing: &mut Tracing<A>,
     frozen: &Frozen<F>,
     known: &[u128],
     place: u32,
     column: &mut [u128],
-) -> Result<(), AllocError>
+)
     requires place { place < length frozen.now }
     requires known { AreCoefficients DEPTH_LIMIT frozen.now known.now }
+    requires idle { IsIdle (length frozen.now) tracing.old.shares.items tracing.old.pending.words.items }
     requires long { length column.old ≡ length frozen.now }
     requires zero { (j : ℕ) → j < length frozen.now → slice_index column.old j ≡ 0 }
     ensures long { length column.new ≡ length column.old }
-    ensures related { IfOk result (λ _. (j : ℕ) → j < length frozen.now → slice_index column.new j ≡ related DEPTH_LIMIT frozen.now place (Some j)) }
+    ensures related { (j : ℕ) → j < length frozen.now → slice_index column.new j ≡ related DEPTH_LIMIT frozen.now place (Some j) }
 {
-    write_parts(alloc, frozen, known, place, column)?;
+    write_parts(tracing, frozen, known, place, column);
     pass_on(frozen, place, column);
-    Ok(())
 }
 
 /// Makes the relationships of the animal at a place with all, from what it has of their Mendelian parts.

@@ -6,7 +6,7 @@ ghost use Rattle.herd_kinship.specs.FrozenAncestry.{ancestry_of, number_at};
 ghost use Rattle.herd_kinship.specs.Places.{AreParentsAt, placed};
 ghost use Rattle.herd_kinship.specs.Shares.{share};
 ghost use Rattle.herd_kinship.specs.Table.{entry, mendelian as mendelian_part};
-ghost use Rattle.herd_kinship.specs.Tracing.{AreShares, given, GivesMark, HasRoom, IsNext, IsUnderWay};
+ghost use Rattle.herd_kinship.specs.Tracing.{given, GivesMark, HasRoom, IsIdle, IsNext, IsUnderWay};
 
 use crate::ONE;
 use crate::pending::Pending;
@@ -26,31 +26,21 @@ pub struct Tracing<A: Allocator> {
     place: u32,
     /// All ancestors from this place on are met.
     border: u32,
-    /// By distance from the animal, in units of their own.
+    /// By distance from the animal, in units of their own; 0 again once an ancestor is met.
     shares: Vec<u64, A>,
     pending: Pending<A>,
 }
 
 impl<A: Allocator + Clone> Tracing<A> {
-    /// Nobody is met yet.
-    pub fn of<F: Allocator>(
-        alloc: A,
-        frozen: &Frozen<F>,
-        place: u32,
-    ) -> Result<Tracing<A>, AllocError>
-        requires { place < length frozen.now }
-        ensures place { IfOk result (λ tracing. tracing.place ≡ place) }
-        ensures border { IfOk result (λ tracing. tracing.border ≡ place + 1) }
-        ensures tracing { IfOk result (λ tracing. IsUnderWay DEPTH_LIMIT frozen.now place (place + 1) tracing.shares.items tracing.pending.words.items) }
+    /// Of no animal yet, with room for so many.
+    pub fn with_room(alloc: A, animals: u32) -> Result<Tracing<A>, AllocError>
+        ensures { IfOk result (λ tracing. IsIdle animals tracing.shares.items tracing.pending.words.items) }
     {
-        frozen.len();
-        let mut shares = vec![in alloc.clone()?; 0u64; place as usize + 1]?;
-        shares[0] = 1;
-        let mut pending = Pending::with_room(alloc, place + 1)?;
-        pending.insert(0);
+        let shares = vec![in alloc.clone()?; 0u64; animals as usize]?;
+        let pending = Pending::with_room(alloc, animals)?;
         Ok(Tracing {
-            place,
-            border: place + 1,
+            place: 0,
+            border: 0,
             shares,
             pending,
         })
@@ -58,10 +48,29 @@ impl<A: Allocator + Clone> Tracing<A> {
 }
 
 impl<A: Allocator> Tracing<A> {
+    /// Starts at the animal at a place: nobody is met yet.
+    pub fn start<F: Allocator>(&mut self, frozen: &Frozen<F>, place: u32)
+        requires place { place < length frozen.now }
+        requires idle { IsIdle (place + 1) self.old.shares.items self.old.pending.words.items }
+        ensures place { self.new.place ≡ place }
+        ensures border { self.new.border ≡ place + 1 }
+        ensures shares { length self.new.shares.items ≡ length self.old.shares.items }
+        ensures marks { length self.new.pending.words.items ≡ length self.old.pending.words.items }
+        ensures tracing { IsUnderWay DEPTH_LIMIT frozen.now place (place + 1) self.new.shares.items self.new.pending.words.items }
+    {
+        frozen.len();
+        self.place = place;
+        self.border = place + 1;
+        self.shares[0] = 1;
+        self.pending.insert(0);
+    }
+
     /// Meets the next ancestor, and passes its share on to its parents.
     pub fn meet_next<F: Allocator>(&mut self, frozen: &Frozen<F>) -> Option<Met>
         requires { IsUnderWay DEPTH_LIMIT frozen.now self.old.place self.old.border self.old.shares.items self.old.pending.words.items }
         ensures same { self.new.place ≡ self.old.place }
+        ensures shares { length self.new.shares.items ≡ length self.old.shares.items }
+        ensures marks { length self.new.pending.words.items ≡ length self.old.pending.words.items }
         ensures tracing { IsUnderWay DEPTH_LIMIT frozen.now self.new.place self.new.border self.new.shares.items self.new.pending.words.items }
         ensures next { IfSome result (λ met. IsNext DEPTH_LIMIT frozen.now self.old.place self.old.border met.place met.share) }
         ensures border { IfSome result (λ met. self.new.border ≡ met.place) }
@@ -76,6 +85,7 @@ impl<A: Allocator> Tracing<A> {
             place: self.place - distance as u32,
             share: self.shares[distance],
         };
+        self.shares[distance] = 0;
         self.border = met.place;
         let parents = parents_at(frozen, met.place);
         self.give(frozen, parents, met, parents.sire);
@@ -166,8 +176,10 @@ fn trace_ancestors<F: Allocator, A: Allocator + Clone>(
     requires known { KnowsAncestors DEPTH_LIMIT frozen.now known.now place }
     ensures { IfOk result (λ value. value ≡ entry (ancestry_of frozen.now) (2 * DEPTH_LIMIT) (Some (number_at frozen.now place)) (Some (number_at frozen.now place))) }
 {
+    frozen.len();
     let depth = parents_at(frozen, place).depth;
-    let mut tracing = Tracing::of(alloc, frozen, place)?;
+    let mut tracing = Tracing::with_room(alloc, place + 1)?;
+    tracing.start(frozen, place);
     let mut sum = 0;
     while let Some(met) = tracing.meet_next(frozen) {
         let steps = 2 * depth - 2 * parents_at(frozen, met.place).depth;
@@ -209,18 +221,4 @@ pub fn inbred(value: u128) -> u128
     ensures below_one { result < 2 ^ (2 * DEPTH_LIMIT) }
 {
     value.saturating_sub(ONE).min(ONE - 1)
-}
-
-/// The shares that the animal at a place has of all older ones, by distance, in units of their own.
-pub fn shares_of<F: Allocator, A: Allocator + Clone>(
-    alloc: A,
-    frozen: &Frozen<F>,
-    place: u32,
-) -> Result<Vec<u64, A>, AllocError>
-    requires { place < length frozen.now }
-    ensures { IfOk result (λ shares. AreShares DEPTH_LIMIT frozen.now place shares.items) }
-{
-    let mut tracing = Tracing::of(alloc, frozen, place)?;
-    while tracing.meet_next(frozen).is_some() {}
-    Ok(tracing.shares)
 }

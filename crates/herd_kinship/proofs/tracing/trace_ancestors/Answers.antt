@@ -13,11 +13,11 @@ pub loop-met-init : goal.loop-met-init
 loop-met-init g c =
     let rows = c.args.frozen.now in
     let start : IsSummed DEPTH_LIMIT rows c.args.place c.args.place (c.args.place + 1) 0 =
-    summed-start DEPTH_LIMIT MOST_ANIMALS rows c.in_ok-tracing.ensures.tracing.tracing.book c.args.place c.args.place c.requires.place c.requires.place in
+    summed-start DEPTH_LIMIT MOST_ANIMALS rows c.start.ensures.tracing.tracing.book c.args.place c.args.place c.requires.place c.requires.place in
     record {
-      same = c.in_ok-tracing.ensures.place;
-      tracing = rw (c.in_ok-tracing.ensures.place, c.in_ok-tracing.ensures.border) c.in_ok-tracing.ensures.tracing;
-      summed = rw (c.in_ok-tracing.ensures.place, c.in_ok-tracing.ensures.border) start;
+      same = c.start.ensures.place;
+      tracing = rw (c.start.ensures.place, c.start.ensures.border) c.start.ensures.tracing;
+      summed = rw (c.start.ensures.place, c.start.ensures.border) start;
     }
 
 pub overflow_mul-steps : goal.overflow_mul-steps

@@ -18,8 +18,8 @@ returns-clause-related g c =
     let count = c.len-last.ensures.value in
     let near : dam ≤ c.len-last.result - 1 = omega arith in
     let there : Contains c.collect.new.collected.items dam = c.in_ok-collect.ensures.all dam near (c.mark_mates.ensures.mates calf dam es ed) in
-    let all : HasAll column c.collect.new.collected.items f = subst (λ xs. HasAll column xs f) c.deref.ensures.value c.in_ok-relate.ensures.related in
-    let each : length column ≡ length c.deref_mut.result.now = c.in_ok-relate.ensures.long in
+    let all : HasAll column c.collect.new.collected.items f = subst (λ xs. HasAll column xs f) c.deref.ensures.value c.relate.ensures.related in
+    let each : length column ≡ length c.deref_mut.result.now = c.relate.ensures.long in
     let value = ap length c.deref_mut.ensures.value in
     let ok = c.args.self.now.column.ok in
     ap (λ xs. get_or xs dam 0) (written c.args.self.now.column.len column c.args.self.now.column.items (omega arith)) ∙ has-all column c.collect.new.collected.items f dam all there

@@ -8,10 +8,10 @@ pub returns : goal.returns
 returns g c =
     let rows = c.args.frozen.now in
     let column : List ℕ = c.relate_all.new.column in
-    let each : length column ≡ length c.deref_mut.result.now = c.in_ok-relate_all.ensures.long in
+    let each : length column ≡ length c.deref_mut.result.now = c.relate_all.ensures.long in
     let value = ap length c.deref_mut.ensures.value in
     let ok = c.in_ok-column.column.ok in
     let len = c.in_ok-column.ensures.len in
     let all = c.len.ensures.value in
     subst (λ xs. AreRelationships DEPTH_LIMIT rows c.args.place xs) (sym (written c.in_ok-column.column.len column c.in_ok-column.column.items (omega arith)))
-    (relationships-made DEPTH_LIMIT rows c.len.ensures.frozen c.args.place column c.requires.place (omega arith) c.in_ok-relate_all.ensures.related)
+    (relationships-made DEPTH_LIMIT rows c.len.ensures.frozen c.args.place column c.requires.place (omega arith) c.relate_all.ensures.related)

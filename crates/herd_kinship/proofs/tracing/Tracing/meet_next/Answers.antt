@@ -1,9 +1,9 @@
-use Rattle.std.proofs.Common.{◌≡◌, ℕ, ◌+◌, ◌-◌, ◌≤◌, length, get_or, arith, refl, ◌∙◌, subst}
-use Rattle.std.proofs.lemmas.List.{get_or_read}
+use Rattle.std.proofs.Common.{◌≡◌, ℕ, ◌-◌, ◌<◌, ◌≤◌, length, get_or, set, arith, refl, ◌∙◌, ap, subst}
+use Rattle.std.proofs.lemmas.List.{get_or_read, length-set}
 use Rattle.herd_pedigree.specs.declared.TheConstants.{DEPTH_LIMIT}
 use Rattle.herd_kinship.specs.Tracing.{given, GivesMark}
-use Rattle.herd_kinship.proofs.TracingFacts.{step-room_sire, step-room_dam}
-use Rattle.herd_kinship.proofs.UnderWayFacts.{IsTaken, none-left, taken-at, taken-next, taken-step, under_way-end, under_way-next}
+use Rattle.herd_kinship.proofs.TracingFacts.{length-given}
+use Rattle.herd_kinship.proofs.UnderWayFacts.{IsTaken, none-left, taken-at, taken-next, taken-room_sire, taken-room_dam, under_way-end, under_way-next}
 use Rattle.herd_kinship.proofs.tracing.Tracing.meet_next.Goals as goal
 
 pub returns-in_default-clause-tracing : goal.returns-in_default-clause-tracing
@@ -32,10 +32,11 @@ give-requires-clause-room g c =
     } in
     let at = taken-at DEPTH_LIMIT rows x b shares words c.requires c.take_nearest.new.self.words.items d taken in
     let near : d ≤ x = at.near in
-    let long : length shares ≡ x + 1 = c.requires.tracing.long in
+    let long : x < length shares = c.requires.tracing.long in
     let read : c.index.result.now ≡ get_or shares d 0 = get_or_read shares d c.index.result.now (omega arith) c.index.ensures 0 in
-    let step = taken-step DEPTH_LIMIT rows x b shares words c.requires c.take_nearest.new.self.words.items d taken c.index.result.now read in
-    rw c.parents_at-parents.ensures.same (step-room_sire DEPTH_LIMIT rows x (x - d) shares c.index.result.now step c.parents_at-parents.ensures.row c.parents_at-parents.ensures.there)
+    rw c.parents_at-parents.ensures.same
+    (taken-room_sire DEPTH_LIMIT rows x b shares words c.requires c.take_nearest.new.self.words.items d taken c.index.result.now read
+    c.parents_at-parents.ensures.row c.parents_at-parents.ensures.there)
 
 pub give-requires-2-clause-room : goal.give-requires-2-clause-room
 give-requires-2-clause-room g c =
@@ -52,11 +53,23 @@ give-requires-2-clause-room g c =
     } in
     let at = taken-at DEPTH_LIMIT rows x b shares words c.requires c.take_nearest.new.self.words.items d taken in
     let near : d ≤ x = at.near in
-    let long : length shares ≡ x + 1 = c.requires.tracing.long in
+    let long : x < length shares = c.requires.tracing.long in
     let read : c.index.result.now ≡ get_or shares d 0 = get_or_read shares d c.index.result.now (omega arith) c.index.ensures 0 in
-    let step = taken-step DEPTH_LIMIT rows x b shares words c.requires c.take_nearest.new.self.words.items d taken c.index.result.now read in
     rw (c.give.ensures.place, c.give.ensures.shares, c.parents_at-parents.ensures.same)
-    (step-room_dam DEPTH_LIMIT rows x (x - d) shares c.index.result.now step c.parents_at-parents.ensures.row c.parents_at-parents.ensures.there)
+    (taken-room_dam DEPTH_LIMIT rows x b shares words c.requires c.take_nearest.new.self.words.items d taken c.index.result.now read
+    c.parents_at-parents.ensures.row c.parents_at-parents.ensures.there)
+
+pub returns-clause-shares : goal.returns-clause-shares
+returns-clause-shares g c =
+    let rows = c.args.frozen.now in
+    let x : ℕ = c.args.self.now.place in
+    let shares = c.args.self.now.shares.items in
+    let d : ℕ = c.in-Some.distance in
+    let own : ℕ = c.index.result.now in
+    let sire = c.parents_at-parents.result.sire in
+    ap length c.give-2.ensures.shares
+    ∙ (length-given rows c.give.new.self.place c.give.new.self.shares.items (x - d) own c.parents_at-parents.result.dam
+    ∙ (ap length c.give.ensures.shares ∙ (length-given rows x (set shares d 0) (x - d) own sire ∙ length-set shares d 0)))
 
 pub returns-clause-tracing : goal.returns-clause-tracing
 returns-clause-tracing g c =
@@ -73,14 +86,13 @@ returns-clause-tracing g c =
     } in
     let at = taken-at DEPTH_LIMIT rows x b shares words c.requires c.take_nearest.new.self.words.items d taken in
     let near : d ≤ x = at.near in
-    let long : length shares ≡ x + 1 = c.requires.tracing.long in
+    let long : x < length shares = c.requires.tracing.long in
     let read : c.index.result.now ≡ get_or shares d 0 = get_or_read shares d c.index.result.now (omega arith) c.index.ensures 0 in
-    let step = taken-step DEPTH_LIMIT rows x b shares words c.requires c.take_nearest.new.self.words.items d taken c.index.result.now read in
     let place : c.give-2.new.self.place ≡ x = c.give-2.ensures.place ∙ c.give.ensures.place in
     let border : c.give-2.new.self.border ≡ x - d = c.give-2.ensures.border ∙ c.give.ensures.border in
     let second : GivesMark x c.give.new.self.pending.words.items c.give-2.new.self.pending.words.items c.parents_at-parents.result.dam =
     subst (λ v. GivesMark v c.give.new.self.pending.words.items c.give-2.new.self.pending.words.items c.parents_at-parents.result.dam) c.give.ensures.place c.give-2.ensures.marks in
-    let all : c.give-2.new.self.shares.items ≡ given rows x (given rows x shares (x - d) c.index.result.now c.parents_at-parents.result.sire) (x - d) c.index.result.now c.parents_at-parents.result.dam =
+    let all : c.give-2.new.self.shares.items ≡ given rows x (given rows x (set shares d 0) (x - d) c.index.result.now c.parents_at-parents.result.sire) (x - d) c.index.result.now c.parents_at-parents.result.dam =
     c.give-2.ensures.shares ∙ rw (c.give.ensures.shares, c.give.ensures.place) refl in
     let same = c.parents_at-parents.ensures.same in
     rw (place, border, all, same)
@@ -102,7 +114,6 @@ returns-clause-next g c =
     } in
     let at = taken-at DEPTH_LIMIT rows x b shares words c.requires c.take_nearest.new.self.words.items d taken in
     let near : d ≤ x = at.near in
-    let long : length shares ≡ x + 1 = c.requires.tracing.long in
+    let long : x < length shares = c.requires.tracing.long in
     let read : c.index.result.now ≡ get_or shares d 0 = get_or_read shares d c.index.result.now (omega arith) c.index.ensures 0 in
-    let step = taken-step DEPTH_LIMIT rows x b shares words c.requires c.take_nearest.new.self.words.items d taken c.index.result.now read in
     taken-next DEPTH_LIMIT rows x b shares words c.requires c.take_nearest.new.self.words.items d taken c.index.result.now read

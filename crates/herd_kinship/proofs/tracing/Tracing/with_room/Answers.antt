@@ -1,0 +1,11 @@
+use Rattle.std.proofs.Common.{List, ℕ, sym, subst}
+use Rattle.herd_kinship.specs.Tracing.{IsIdle}
+use Rattle.herd_kinship.proofs.UnderWayFacts.{idle-start}
+use Rattle.herd_kinship.proofs.tracing.Tracing.with_room.Goals as goal
+
+pub returns : goal.returns
+returns g c =
+    let words = c.in_ok-pending.pending.words.items in
+    let P : List ℕ → Type 0 = λ items. IsIdle c.args.animals items words in
+    subst P (sym (c.in_ok-shares.ensures.items_if_clones_equal (λ y e. e)))
+    (idle-start c.args.animals words c.in_ok-pending.ensures.room c.in_ok-pending.ensures.empty)
