@@ -13,7 +13,7 @@ use std::test::*;
 
 #[test]
 fn all_is_handed_back(rt: HostRuntime) -> Result<(), Fail> {
-    let parts = OfficeParts::new(&rt, rt.alloc(), limits(10), 2, 1)?;
+    let parts = OfficeParts::new(&rt, rt.alloc(), limits(10), 2, 16)?;
     close_thrice::<Brand, _>(&rt, rt.alloc(), parts)
 }
 
@@ -37,10 +37,24 @@ fn close_thrice<N: OfficeName, R: Wait + Abort>(
     let handed = (office, desks, inspectors);
     let (office, desks, mut inspectors) = not_closed(rt, handed, Cause::InspectorMissing);
     inspectors.push(inspector).expect(rt, "room");
+    assert_eq!(rt; inspectors.len(), 16);
+    expect_one_birth(rt, alloc, &mut inspectors);
     let register = closed(rt, office, desks, inspectors)?;
     assert_eq!(rt;
         (register.journal().len(), register.pedigree().len()),
         (1, 1)
     );
     Ok(())
+}
+
+// Each inspector sees the one birth.
+fn expect_one_birth<N: OfficeName>(
+    rt: &impl Abort,
+    alloc: Global,
+    inspectors: &mut Vec<Inspector<N>>,
+) {
+    for inspector in inspectors {
+        let frozen = inspector.freeze(alloc).expect(rt, "frozen");
+        assert_eq!(rt; (frozen.len(), inspector.steps_seen()), (1, 1));
+    }
 }

@@ -6,7 +6,7 @@ use super::commands::{founder, number};
 use super::filing::{closed, file_one, limits};
 use crate::*;
 use herd_pedigree::Frozen;
-use herd_register::Reply;
+use herd_register::{Refusal, Reply};
 use std::alloc::Global;
 use std::marker::Brand;
 use std::process::Abort;
@@ -27,7 +27,7 @@ fn has_all(rt: &impl Abort, frozen: &Frozen<Global>, bulls: &[u16]) -> bool {
 
 #[test]
 fn an_inspector_sees_what_was_filed(rt: HostRuntime) -> Result<(), Fail> {
-    let parts = OfficeParts::new(&rt, rt.alloc(), limits(2), 1, 1)?;
+    let parts = OfficeParts::new(&rt, rt.alloc(), limits(3), 1, 1)?;
     inspect::<Brand, _>(&rt, rt.alloc(), parts)
 }
 
@@ -42,11 +42,12 @@ fn inspect<N: OfficeName + Send + Sync, R: Threads + Wait + Abort + Sync>(
     let desk = desks.pop().expect(rt, "a desk");
     let mut inspector = inspectors.pop().expect(rt, "an inspector");
     let (desk, first) = see_unlearnt(rt, alloc, &office, desk, &mut inspector);
-    let desk = see_learnt(rt, alloc, &office, desk, &mut inspector, &first);
+    let mut desk = see_learnt(rt, alloc, &office, desk, &mut inspector, &first);
+    see_refused(rt, alloc, &office, &mut desk, &mut inspector);
     desks.push(desk).expect(rt, "room");
     inspectors.push(inspector).expect(rt, "room");
     let register = closed(rt, office, desks, inspectors)?;
-    assert_eq!(rt; register.journal().len(), 2);
+    assert_eq!(rt; register.journal().len(), 3);
     Ok(())
 }
 
@@ -90,6 +91,22 @@ fn see_learnt<N: OfficeName, R: Wait + Abort>(
     assert!(rt; has_all(rt, &once, &[1, 2]) && has_all(rt, &twice, &[1, 2]));
     assert_eq!(rt; inspector.steps_seen(), 2);
     desk
+}
+
+// A refused command is a step too, which an inspector sees who was told nothing of it.
+fn see_refused<N: OfficeName, R: Wait + Abort>(
+    rt: &R,
+    alloc: Global,
+    office: &Office<N, &R>,
+    desk: &mut Desk<N>,
+    inspector: &mut Inspector<N>,
+) {
+    let again = founder(rt, b'M', 1);
+    let filed = desk.file(rt, office, again).expect(rt, "filed");
+    let there = Reply::Refused(Refusal::AlreadyThere);
+    assert_eq!(rt; (filed.serial, filed.reply), (3, there));
+    let frozen = inspector.freeze(alloc).expect(rt, "frozen");
+    assert_eq!(rt; (frozen.len(), inspector.steps_seen()), (2, 3));
 }
 
 #[test]
