@@ -1,5 +1,5 @@
 //! The writer of the readers' copies, as the office uses it.
-ghost use Rattle.std.specs.Prelude.{◌≡◌, ◌+◌, ◌<◌, ◌≤◌, [], ◌∷◌, ◌++◌, length, drop, Some, None, IfOk, IsOk, fold};
+ghost use Rattle.std.specs.Prelude.{◌≡◌, ◌+◌, ◌<◌, ◌≤◌, [], ◌∷◌, ◌++◌, length, drop, Some, None, IfErr, IfOk, IsOk, fold};
 ghost use Rattle.left_right.specs.Sides.{view};
 ghost use Rattle.herd_register.specs.Copybook.{copybook_of};
 ghost use Rattle.herd_office.specs.Copies.{IsTold, office_of};
@@ -60,6 +60,7 @@ pub fn make_copies<R: Wait>(
     ensures state { IfOk result (λ c. state_of c.desk.shown.value ≡ state_of first) }
     ensures pending { IfOk result (λ c. drop c.behind c.log.items ≡ []) }
     ensures view { IfOk result (λ c. view c.desk.place ≡ Some (office_of first.past)) }
+    ensures fault { IfErr result (λ fault. fault ≡ OpenFault.Memory) }
 {
     let copies = Writer::new(alloc, first, second, usize::from(readers))?;
     Ok(named(rt, copies))

@@ -1,11 +1,11 @@
 //! The desks, and how a command is filed.
-ghost use Rattle.std.specs.Prelude.{map, List, ◌≡◌, ℕ, ◌+◌, ◌<◌, ◌≤◌, ◌^◌, ◌↔◌, IsTrue, true, false, [], ◌∷◌, ◌++◌, length, drop, vec_len, Some, slice_get, IfOk, IfErr, OnErr};
+ghost use Rattle.std.specs.Prelude.{map, List, ◌≡◌, ℕ, ◌+◌, ◌<◌, ◌≤◌, ◌^◌, ◌↔◌, ◌≢◌, IsNone, IsSome, IsTrue, true, false, [], ◌∷◌, ◌++◌, length, drop, vec_len, Some, slice_get, IfOk, IfErr, OnErr};
 ghost use mathlib.Core.List.{IsPrefix};
 ghost use Rattle.herd_register.specs.Run.{IsLegal, step_of};
 ghost use Rattle.herd_office.specs.Closing.{BeginsWithAll};
 ghost use Rattle.herd_office.specs.Filing.{EndsWith, answer_after, with_step_of};
 ghost use Rattle.herd_office.specs.Histories.{Apart, of_desk, times};
-ghost use Rattle.herd_office.specs.Shelves.{entry_of};
+ghost use Rattle.herd_office.specs.Shelves.{entry_of, state_of};
 
 use crate::copies::{Copies, show};
 use crate::faults::OpenFault;
@@ -65,6 +65,7 @@ pub(crate) fn make_desks<N: OfficeName, A: Allocator>(
     ensures rest { IfOk result (λ _. (rest.new.parts ≡ 0) × (rest.new.amount ≡ 0)) }
     ensures count { IfOk result (λ r. vec_len r ≡ count) }
     ensures numbers { IfOk result (λ r. (k : ℕ) (d : _) → slice_get r.items k ≡ Some d → (d.number ≡ k + 1) × (d.answered ≡ 0) × (d.history ≡ [])) }
+    ensures fault { IfErr result (λ fault. fault ≡ OpenFault.Memory) }
 {
     let mut desks = Vec::new(alloc);
     for number in 0..count {
@@ -109,6 +110,9 @@ pub fn file_on<N: OfficeName, W: Wait, R: Wait + Drop, A: Allocator + Copy>(
     ensures not_counted { OnErr result (inside.new.answered.total ≡ inside.old.answered.total) }
     ensures not_answered { OnErr result (desk.new.answered ≡ desk.old.answered) }
     ensures not_held { OnErr result (desk.new.history ≡ desk.old.history) }
+    ensures not_shown { OnErr result (state_of inside.new.copies.writer.desk.shown.value ≡ state_of inside.old.copies.writer.desk.shown.value) }
+    ensures no_reading { result ≡ Err FileFault.NoReading → length desk.old.history ≤ length inside.old.register.journal → IsNone inside.new.keeper.claim }
+    ensures memory { result ≡ Err FileFault.Memory → (length desk.old.history ≤ length inside.old.register.journal) × IsSome inside.new.keeper.claim }
 {
     let Inside {
         register,
@@ -157,6 +161,7 @@ fn file_in<A: Allocator + Copy>(
     ensures full { (result ≡ Err FileFault.JournalFull) ↔ (length register.old.journal ≡ register.old.limits.steps) }
     ensures not_stored { OnErr result (register.new.journal ≡ register.old.journal) }
     ensures not_pending { OnErr result (drop copies.new.behind copies.new.log.items ≡ []) }
+    ensures no_copies { result ≢ Err FileFault.NoReading }
 {
     let reply = register.file(desk, *command)?;
     let step = Step {

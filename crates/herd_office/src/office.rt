@@ -67,6 +67,7 @@ impl<R: Wait + Drop> OfficeParts<R> {
         ensures limits { IfOk result (λ parts. parts.limits ≡ limits) }
         ensures desks { IfOk result (λ parts. parts.desks ≡ desks) }
         ensures inspectors { IfOk result (λ parts. parts.inspectors ≡ inspectors) }
+        ensures fault { IfErr result (λ fault. fault ≡ OpenFault.Memory) }
     {
         let opened = Opened::new(limits);
         let first = Shown::new(alloc, limits, &opened.past)?;
