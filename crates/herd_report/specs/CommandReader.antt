@@ -1,6 +1,7 @@
 -- Where a reader of commands stands in its file, and what it gives next.
 use Rattle.std.specs.Prelude.{◌≡◌, ℕ, ◌+◌, ◌≤◌, List, [], ◌∷◌, ◌++◌, MatchBool, ⊤, IfSome, Option, Some, None, Result, Ok, Err, length}
 use Rattle.herd_register.specs.declared.command.Command.{Command}
+use Rattle.herd_register.specs.declared.limits.TheConstants.{MOST_STEPS}
 use Rattle.herd_report.specs.CommandFile.{CommandFile, IsRead, commands_from, fault_at, followed_by}
 use Rattle.herd_report.specs.Grammar.{Fields}
 use Rattle.herd_report.specs.LineCause.{is_interruption}
@@ -16,7 +17,7 @@ pub record IsReady {R : Type 0} (most given : ℕ) (reader : CommandReader R) : 
   pub most_is : reader.most ≡ most
   pub given_is : reader.given ≡ given
   pub within : given ≤ most
-  pub few : most ≤ 1_000_000
+  pub few : most ≤ MOST_STEPS
 
 -- a reader of a known file that gave its first commands, and has the others still to give
 pub record HasGiven {R : Type 0} (remaining : R → Option (List ℕ)) (file : CommandFile) (list : List Command) (reader : CommandReader R) : Type 0 where

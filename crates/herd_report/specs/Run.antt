@@ -12,6 +12,7 @@ use Rattle.herd_register.specs.declared.limits.Limits.{Limits}
 use Rattle.herd_register.specs.declared.step.Step.{Step}
 use Rattle.herd_kinship.specs.FrozenAncestry.{ancestry_of}
 use Rattle.herd_kinship.specs.Table.{coefficient}
+use Rattle.herd_pool.specs.declared.limits.TheConstants.{MOST_WORKERS}
 use Rattle.herd_report.specs.Certificate.{certificate_text}
 use Rattle.herd_report.specs.CommandFile.{CommandFile, IsRead}
 use Rattle.herd_report.specs.InbreedingList.{inbreeding_text}
@@ -55,7 +56,7 @@ pub record IsFrozenFile (limits : Limits) (file : CommandFile) (rows : List Row)
 
 -- an order that the program can carry out
 abbrev pub IsOrder : Order → Type 0
-IsOrder (Inbreeding workers block) = (1 ≤ workers) × (workers ≤ 16) × (1 ≤ block)
+IsOrder (Inbreeding workers block) = (1 ≤ workers) × (workers ≤ MOST_WORKERS) × (1 ≤ block)
 IsOrder order = ⊤
 
 -- the animal of a certificate is in the book

@@ -1,6 +1,7 @@
 // Reading a command file.
 ghost use Rattle.std.specs.Prelude.{◌≡◌, ◌≤◌, ◌+◌, [], IfErr, IfSome, length};
 ghost use Rattle.std.specs.Result.{result_err};
+ghost use Rattle.herd_register.specs.declared.limits.TheConstants.{MOST_STEPS};
 ghost use Rattle.herd_report.specs.CommandFile.{IsNextEntry, IsRead, commands};
 
 use crate::command_reader::CommandReader;
@@ -20,7 +21,7 @@ pub struct Commands {
 ///
 /// The faults `Read` and `Memory` don't stand in the file: they tell the entry that was being read.
 pub fn read_commands<R: Read + Drop>(alloc: Global, reader: R, most: u32) -> Commands
-    requires { most ≤ 1_000_000 }
+    requires { most ≤ MOST_STEPS }
     ensures file { IfSome (R.remaining reader)
         (λ bytes. IsRead most (commands bytes most) result.list.items result.fault) }
     ensures most { length result.list.items ≤ most }
@@ -38,7 +39,7 @@ fn list_commands<R: Read + Drop>(
     most: u32,
     list: &mut Vec<Command>,
 ) -> Result<(), LineFault>
-    requires most { most ≤ 1_000_000 }
+    requires most { most ≤ MOST_STEPS }
     requires empty { list.old.items ≡ [] }
     ensures file { IfSome (R.remaining reader)
         (λ bytes. IsRead most (commands bytes most) list.new.items (result_err result)) }

@@ -2,6 +2,7 @@
 ghost use Rattle.std.specs.Prelude.{◌≡◌, ◌<◌, ◌≤◌, ◌+◌, List, [], IfErr, IfOk, IfSome, false, true};
 ghost use Rattle.csv.specs.Reading.{has_failed};
 ghost use Rattle.herd_register.specs.declared.command.Command.{Command};
+ghost use Rattle.herd_register.specs.declared.limits.TheConstants.{MOST_STEPS};
 ghost use Rattle.herd_report.specs.CommandFile.{CommandFile, TakesHeader, commands};
 ghost use Rattle.herd_report.specs.CommandReader.{Gives, HasGiven, IsReady, Opens, TakesNext};
 ghost use Rattle.herd_report.specs.LineCause.{is_interruption};
@@ -29,7 +30,7 @@ pub(crate) struct CommandReader<R> {
 impl<R: Read + Drop> CommandReader<R> {
     /// Reads the header.
     pub(crate) fn open(alloc: Global, reader: R, most: u32) -> Result<CommandReader<R>, LineFault>
-        requires { most ≤ 1_000_000 }
+        requires { most ≤ MOST_STEPS }
         ensures ready { IfOk result (λ commands. IsReady most 0 commands) }
         ensures opens { IfSome (R.remaining reader) (λ bytes. Opens R.remaining most (commands bytes most) result) }
         ensures entry { IfErr result (λ fault. fault.entry ≡ 0) }

@@ -43,8 +43,8 @@ mod tests;
 pub enum Order<'a> {
     /// The reply to each command.
     File,
-    /// The coefficient of inbreeding of each animal, computed by 1 to 16 workers. More than one share blocks of so
-    /// many animals, each on a thread of its own.
+    /// The coefficient of inbreeding of each animal, computed by 1 to `MOST_WORKERS` workers. More than one
+    /// share blocks of so many animals, each on a thread of its own.
     Inbreeding {
         workers: u32,
         block: u32,

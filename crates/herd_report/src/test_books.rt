@@ -1,7 +1,7 @@
 // Books for tests: births are filed in a register, whose book is frozen.
 use herd_animal::{AnimalNumber, Day, Herd};
-use herd_pedigree::Frozen;
-use herd_register::{Command, Limits, Register};
+use herd_pedigree::{Frozen, MOST_ANIMALS};
+use herd_register::{Command, Limits, MOST_STEPS, Register};
 use std::alloc::Global;
 use std::test::Fail;
 
@@ -46,8 +46,8 @@ exit,HOLGBRM000000000009,2002-01-01,,,,
 /// A register in which the births are filed.
 pub(crate) fn registered(alloc: Global, births: &[Birth]) -> Result<Register<Global>, Fail> {
     let limits = Limits {
-        animals: 60_000,
-        steps: 1_000_000,
+        animals: MOST_ANIMALS,
+        steps: MOST_STEPS,
     };
     let mut register = Register::new(alloc, limits);
     for birth in births {

@@ -1,4 +1,5 @@
 ghost use Rattle.std.specs.Prelude.{◌≤◌};
+ghost use Rattle.herd_pool.specs.declared.limits.TheConstants.{MOST_WORKERS};
 
 use crate::breaks_after::BreaksAfter;
 use crate::stops_after::{StopsAfter, Then};
@@ -53,7 +54,7 @@ fn coefficients<R, W>(rt: &R, workers: u32, writer: &mut W) -> Result<(), RunFau
 where
     R: AllocGlobal + Threads + Wait + Sync,
     W: Write,
-    requires { (1 ≤ workers) × (workers ≤ 16) }
+    requires { (1 ≤ workers) × (workers ≤ MOST_WORKERS) }
 {
     let order = Order::Inbreeding { workers, block: 1 };
     run_order!(rt, order, writer)
