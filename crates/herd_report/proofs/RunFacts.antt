@@ -20,7 +20,7 @@ use Rattle.herd_report.specs.CommandFile.{CommandFile, IsRead, IsReadBefore, com
 use Rattle.herd_report.specs.LineCause.{is_interruption}
 use Rattle.herd_report.specs.Output.{AppendsFront}
 use Rattle.herd_report.specs.Replies.{reply_line, reply_lines_from, replies_text}
-use Rattle.herd_report.specs.Run.{EndsBy, HasFiled, IsAnswered, IsFrozenFile, IsReport, IsThere, NeedsMemory, StopsWriting, filed_from, replies_to, wanted}
+use Rattle.herd_report.specs.Run.{EndsBy, HasFiled, IsAnswered, IsFiledFile, IsFrozenFile, IsReport, IsThere, NeedsMemory, StopsWriting, filed_from, replies_to, wanted}
 use Rattle.herd_report.specs.RunFault.{EndsListing, EndsReport, run_fault_of, run_fault_of_pool}
 use Rattle.herd_report.specs.declared.line_fault.LineFault.{LineFault}
 use Rattle.herd_report.specs.declared.report_fault.ReportFault.{ReportFault}
@@ -112,15 +112,20 @@ first_commands most file list (Some fault) read =
     ] read
 
 -- the frozen rows of a register in which the commands of a file without a fault are filed
-pub frozen_file : (limits : Limits) (file : CommandFile) (list : List Command) (line : Option LineFault) (register : Register) (rows : List Row) →
-    IsRead limits.steps file list line → line ≡ None → HasFiled limits list register →
+pub frozen_file : (limits : Limits) (file : CommandFile) (register : Register) (rows : List Row) → IsFiledFile limits file register →
     IsFrozenFrom DEPTH_LIMIT MOST_ANIMALS (book_of_register register) rows → IsFrozenFile limits file rows
-frozen_file limits file list line register rows read none filed frozen =
-    let whole = subst (λ l. IsRead limits.steps file list l) none read in
-    record {
-      faultless = whole.1;
-      frozen = subst (λ book. IsFrozenFrom DEPTH_LIMIT MOST_ANIMALS book rows) (book_of-filed limits list register filed ∙ ap (run_book limits) whole.0) frozen;
-    }
+frozen_file limits file register rows whole frozen = record {
+  faultless = whole.faultless;
+  frozen = subst (λ book. IsFrozenFrom DEPTH_LIMIT MOST_ANIMALS book rows) (book_of-filed limits file.commands register whole.filed) frozen;
+}
+
+-- a register in which all was filed that a file without a fault has
+pub filed_file : (limits : Limits) (file : CommandFile) (list : List Command) (register : Register) →
+    IsRead limits.steps file list None → HasFiled limits list register → IsFiledFile limits file register
+filed_file limits file list register read filed = record {
+  faultless = read.1;
+  filed = subst (λ l. HasFiled limits l register) read.0 filed;
+}
 
 -- a text of the frozen rows is one of the file's commands
 pub report_of_file : (limits : Limits) (order : Order) (file : CommandFile) (rows : List Row) (Passes : List ℕ → Type 0) →

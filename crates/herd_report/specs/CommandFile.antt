@@ -62,6 +62,10 @@ IsRead most file list (Some fault) =
     (IsReadBefore most fault.entry list file)
     ((list ≡ file.commands) × (file.fault ≡ Some fault))
 
+-- some commands were read up to this fault, or to the end of the file
+abbrev pub IsReadUpTo : ℕ → CommandFile → Option LineFault → Type 0
+IsReadUpTo most file fault = (list : List Command) × IsRead most file list fault
+
 -- where the records to come are known, the version whose header the first is, and the others are still to come
 abbrev pub TakesHeader : Option (List Fields) → Option (List Fields) → Option Version → Type 0
 TakesHeader None new version = ⊤

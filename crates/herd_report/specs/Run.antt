@@ -37,6 +37,11 @@ pub record HasFiled (limits : Limits) (commands : List Command) (register : Regi
   pub limits_are : register.limits ≡ limits
   pub journal_is : register.journal ≡ filed_from limits [] commands
 
+-- the file has no fault, and its commands are filed
+pub record IsFiledFile (limits : Limits) (file : CommandFile) (register : Register) : Type 0 where
+  pub faultless : file.fault ≡ None
+  pub filed : HasFiled limits file.commands register
+
 -- the replies to commands, one after the other from the empty book on
 abbrev pub replies_to : Limits → List Command → List ℕ
 replies_to limits commands = replies_text (filed_from limits [] commands)

@@ -2,9 +2,8 @@
 use Rattle.std.specs.Prelude.{◌≡◌, ◌⊎◌, ℕ, ◌<◌, List, ⊤, Option, Some, None}
 use Rattle.herd_pool.specs.declared.pool_fault.PoolFault.{PoolFault}
 use Rattle.herd_pool.specs.declared.pool_fault.PoolFault.TheVariants as pool
-use Rattle.herd_register.specs.declared.command.Command.{Command}
 use Rattle.herd_register.specs.declared.limits.Limits.{Limits}
-use Rattle.herd_report.specs.CommandFile.{CommandFile, IsRead}
+use Rattle.herd_report.specs.CommandFile.{CommandFile, IsReadUpTo}
 use Rattle.herd_report.specs.Output.{AppendsFront}
 use Rattle.herd_report.specs.declared.report_fault.ReportFault.{ReportFault}
 use Rattle.herd_report.specs.declared.report_fault.ReportFault.TheVariants as report
@@ -31,7 +30,7 @@ CanEndFreezing NoPlace = ⊥
 
 -- why there is no frozen book: a line fault or an interruption of the reading, or where there is none a want of memory
 abbrev pub EndsFreezing : Limits → CommandFile → RunFault → Type 0
-EndsFreezing limits file (Line fault) = (commands : List Command) × IsRead limits.steps file commands (Some fault)
+EndsFreezing limits file (Line fault) = IsReadUpTo limits.steps file (Some fault)
 EndsFreezing limits file NotRegistered = ⊥
 EndsFreezing limits file NoThread = ⊥
 EndsFreezing limits file Memory = file.fault ≡ None

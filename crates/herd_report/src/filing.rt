@@ -1,13 +1,16 @@
 // Filing commands in a register, one after the other at desk 0.
-ghost use Rattle.std.specs.Prelude.{◌≡◌, ◌<◌, ◌≤◌, [], IfOk, IfSome, OnErr, OnOk, length};
+ghost use Rattle.std.specs.Prelude.{◌≡◌, ◌<◌, List, [], IfErr, IfOk, IfSome, OnErr, OnOk, length};
 ghost use Rattle.herd_register.specs.Register.{AreLimits, book_of, with_step};
 ghost use Rattle.herd_register.specs.Run.{answer, commands_of, step_of};
-ghost use Rattle.herd_report.specs.CommandFile.{CommandFile, IsRead, commands};
+ghost use Rattle.herd_register.specs.declared.command.Command.{Command};
+ghost use Rattle.herd_report.specs.CommandFile.{CommandFile, IsRead, IsReadUpTo, commands};
 ghost use Rattle.herd_report.specs.CommandReader.{HasGiven, IsReady};
-ghost use Rattle.herd_report.specs.Run.{HasFiled};
+ghost use Rattle.herd_report.specs.Run.{HasFiled, IsFiledFile};
+ghost use Rattle.herd_report.specs.RunFault.{CanEndFreezing, EndsFreezing};
 
 use crate::command_reader::CommandReader;
 use crate::line_fault::LineFault;
+use crate::run_fault::RunFault;
 use herd_register::{Command, FileFault, Limits, Register};
 use std::alloc::{AllocError, Global};
 use std::io::Read;
@@ -39,7 +42,37 @@ pub(crate) fn file_commands<R: Read + Drop>(
     Ok(Filed { register, fault })
 }
 
-// Files what a reader gives, up to the end of the file or a fault.
+/// Files the commands of a file without a fault, each as it is read.
+///
+/// A fault of the file is told before a want of memory: once memory is refused, the rest is read and not filed.
+pub(crate) fn file_faultless<R: Read + Drop>(
+    alloc: Global,
+    limits: Limits,
+    reader: R,
+) -> Result<Register<Global>, RunFault>
+    requires { AreLimits limits }
+    ensures ok { IfOk result (λ register. IfSome (R.remaining reader)
+        (λ bytes. IsFiledFile limits (commands bytes limits.steps) register)) }
+    ensures err { IfErr result (λ fault. IfSome (R.remaining reader)
+        (λ bytes. EndsFreezing limits (commands bytes limits.steps) fault)) }
+    ensures fault { IfErr result CanEndFreezing }
+{
+    let mut register = Register::new(alloc, limits);
+    let mut commands = match CommandReader::open(alloc, reader, limits.steps) {
+        Ok(commands) => commands,
+        Err(fault) => return Err(RunFault::Line(fault)),
+    };
+    match file_each(&mut commands, &mut register) {
+        Ok(None) => Ok(register),
+        Ok(Some(fault)) => Err(RunFault::Line(fault)),
+        Err(AllocError) => match fault_of_rest(&mut commands) {
+            Some(fault) => Err(RunFault::Line(fault)),
+            None => Err(RunFault::Memory),
+        },
+    }
+}
+
+// Files what a reader gives, up to the end of the file, a fault, or a want of memory.
 fn file_each<R: Read>(
     commands: &mut CommandReader<R>,
     register: &mut Register<Global>,
@@ -50,6 +83,9 @@ fn file_each<R: Read>(
         → IsRead register.old.limits.steps file (commands_of register.new.journal) fault) }
     ensures filed { OnOk result (HasFiled register.old.limits (commands_of register.new.journal) register.new) }
     ensures some { OnErr result ((file : CommandFile) → HasGiven R.remaining file [] commands.old → 0 < length file.commands) }
+    ensures ready { OnErr result (IsReady register.old.limits.steps commands.new.given commands.new) }
+    ensures rest { OnErr result ((file : CommandFile) → HasGiven R.remaining file [] commands.old
+        → (list : List Command) × HasGiven R.remaining file list commands.new) }
 {
     loop {
         match commands.next_command() {
@@ -60,21 +96,19 @@ fn file_each<R: Read>(
     }
 }
 
-/// A register in which the commands are filed.
-pub(crate) fn file_list(
-    alloc: Global,
-    limits: Limits,
-    commands: &[Command],
-) -> Result<Register<Global>, AllocError>
-    requires limits { AreLimits limits }
-    requires room { length commands.now ≤ limits.steps }
-    ensures { IfOk result (λ register. HasFiled limits commands.now register) }
+// The first fault in the rest of a file, which is read and not filed.
+fn fault_of_rest<R: Read>(commands: &mut CommandReader<R>) -> Option<LineFault>
+    requires { IsReady commands.old.most commands.old.given commands.old }
+    ensures { (file : CommandFile) → (list : List Command) → HasGiven R.remaining file list commands.old
+        → IsReadUpTo commands.old.most file result }
 {
-    let mut register = Register::new(alloc, limits);
-    for command in commands {
-        file_next(&mut register, *command)?;
+    loop {
+        match commands.next_command() {
+            Ok(Some(_)) => {}
+            Ok(None) => return None,
+            Err(fault) => return Some(fault),
+        }
     }
-    Ok(register)
 }
 
 // Files a command in a register that has room for it.

@@ -17,8 +17,7 @@ ghost use Rattle.herd_report.specs.Run.{CanEndBy, EndsBy, IsAnswered, IsFrozenFi
 ghost use Rattle.herd_report.specs.RunFault.{CanEndFreezing, EndsFreezing, EndsListing, EndsReport};
 
 use crate::certificate::write_certificate;
-use crate::command_file::read_commands;
-use crate::filing::{file_commands, file_list};
+use crate::filing::{file_commands, file_faultless};
 use crate::inbreeding_list::write_inbreeding;
 use crate::inverse_list::write_inverse;
 use crate::mating_list::write_mating;
@@ -203,11 +202,7 @@ fn frozen_book<R: Read + Drop>(
         (λ bytes. EndsFreezing limits (commands bytes limits.steps) fault)) }
     ensures fault { IfErr result CanEndFreezing }
 {
-    let commands = read_commands(alloc, reader, limits.steps);
-    if let Some(fault) = commands.fault {
-        return Err(RunFault::Line(fault));
-    }
-    let register = file_list(alloc, limits, commands.list.as_slice())?;
+    let register = file_faultless(alloc, limits, reader)?;
     Ok(register.pedigree().freeze(alloc)?)
 }
 

@@ -1,5 +1,5 @@
 -- A command that was filed is the last of those that the reader gave.
-use Rattle.std.proofs.Common.{◌≡◌, ◌∙◌, ◌+◌, ◌++◌, ◌∷◌, [], ap, length}
+use Rattle.std.proofs.Common.{◌≡◌, ◌∙◌, ◌+◌, ◌++◌, ◌∷◌, [], ap, length, refl}
 use Rattle.std.proofs.lemmas.List.{length_push}
 use Rattle.std.proofs.lemmas.Result.{err_from_is_err_and}
 use Rattle.herd_register.specs.Register.{Register}
@@ -38,3 +38,23 @@ returns-in_err-file_next-in-Ok-Some-clause-some g c =
     let gives = rw c.in-Ok-Some.field-0-is at c.in-Ok-Some.ensures.gives in
     let list = commands_of c.loop-command.register.journal in
     rw exit.1 (λ file before. some_given g.R.Read.remaining file list c.in-Ok-Some.command _ (gives file list (c.loop-command.invariant.gives file before)))
+
+pub returns-in_err-file_next-in-Ok-Some-clause-ready : goal.returns-in_err-file_next-in-Ok-Some-clause-ready
+returns-in_err-file_next-in-Ok-Some-clause-ready g c =
+    let exit = err_from_is_err_and c.from_residual.result c.from_residual.ensures.1 in
+    let given = rw c.in-Ok-Some.field-0-is at c.in-Ok-Some.ensures.ready in
+    let before = c.loop-command.invariant.ready in
+    rw exit.1 (record {
+      set_up = given.set_up;
+      most_is = given.most_is ∙ before.most_is;
+      given_is = refl;
+      within = rw (given.given_is, ← before.most_is) given.within;
+      few = before.few;
+    })
+
+pub returns-in_err-file_next-in-Ok-Some-clause-rest : goal.returns-in_err-file_next-in-Ok-Some-clause-rest
+returns-in_err-file_next-in-Ok-Some-clause-rest g c =
+    let exit = err_from_is_err_and c.from_residual.result c.from_residual.ensures.1 in
+    let gives = rw c.in-Ok-Some.field-0-is at c.in-Ok-Some.ensures.gives in
+    let list = commands_of c.loop-command.register.journal in
+    rw exit.1 (λ file before. (list ++ c.in-Ok-Some.command ∷ [], gives file list (c.loop-command.invariant.gives file before)))
