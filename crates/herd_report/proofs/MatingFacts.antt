@@ -1,5 +1,5 @@
 -- The lines of mating advice.
-use Rattle.std.proofs.Common.{◌≡◌, ℕ, ◌*◌, ◌-◌, ◌<◌, List, ◌++◌, length, Option, Some, None, arith}
+use Rattle.std.proofs.Common.{ℕ, ◌*◌, ◌-◌, ◌<◌, List, ◌++◌, length, Option, Some, None, arith}
 use Rattle.std.specs.Prelude.{codes, decimal}
 use Rattle.std.specs.Option.{option_map_or}
 use Rattle.herd_pedigree.specs.declared.TheConstants.{DEPTH_LIMIT}
