@@ -4,13 +4,16 @@ use Rattle.clap.specs.Lexer.{usize_max}
 use Rattle.clap.specs.Words.{App, Rule, new_app, new_rule, with_rule, with_subcommand}
 use Rattle.clap.specs.declared.builder.action.ArgAction.TheVariants.{Append}
 use Rattle.clap.specs.declared.builder.value_parser.ValueParser.TheVariants.{Signed}
+use Rattle.herd_pool.specs.declared.limits.TheConstants.{MOST_WORKERS}
+use Rattle.herdbook.specs.declared.desks.TheConstants.{MOST_DESKS}
+use Rattle.herdbook.specs.declared.program.TheConstants.{LIMITS}
 
 abbrev pub workers_rule : Rule
 workers_rule = record (new_rule (codes "workers")) {
   long = Some (codes "workers");
   value_names = 1;
   defaults = codes "1" ∷ [];
-  parser = Some (Signed (pos 1) (pos 16));
+  parser = Some (Signed (pos 1) (pos MOST_WORKERS));
 }
 
 abbrev pub block_rule : Rule
@@ -18,7 +21,7 @@ block_rule = record (new_rule (codes "block")) {
   long = Some (codes "block");
   value_names = 1;
   defaults = codes "256" ∷ [];
-  parser = Some (Signed (pos 1) (pos 60_000));
+  parser = Some (Signed (pos 1) (pos LIMITS.animals));
 }
 
 abbrev pub inbreeding_line : App
@@ -52,7 +55,7 @@ desks_rule = record (new_rule (codes "desks")) {
   long = Some (codes "desks");
   value_names = 1;
   defaults = codes "2" ∷ [];
-  parser = Some (Signed (pos 1) (pos 16));
+  parser = Some (Signed (pos 1) (pos MOST_DESKS));
 }
 
 abbrev pub base_rule : Rule
@@ -60,15 +63,20 @@ base_rule = record (new_rule (codes "base")) {
   long = Some (codes "base");
   value_names = 1;
   defaults = codes "0" ∷ [];
-  parser = Some (Signed (pos 0) (pos 1_000_000));
+  parser = Some (Signed (pos 0) (pos LIMITS.steps));
 }
 
 abbrev pub clerks_line : App
 clerks_line = with_rule (with_rule (new_app (codes "clerks")) desks_rule) base_rule
 
--- the program with its subcommands, of which one must be named
+-- the program, which has a version, and of whose subcommands one must be named
 abbrev pub program : App
-program = record (new_app (codes "herdbook")) { top = record (new_app (codes "herdbook")).top { subcommand_required = true } }
+program = record (new_app (codes "herdbook")) {
+  top = record (new_app (codes "herdbook")).top {
+    has_version = true;
+    subcommand_required = true;
+  };
+}
 
 abbrev pub runs_line : App
 runs_line =

@@ -6,6 +6,7 @@ use Rattle.clap.specs.declared.error.kind.ErrorKind.TheVariants.{OutOfMemory}
 use Rattle.herd_animal.specs.AnimalNumber.{IsAnimalNumber}
 use Rattle.herd_animal.specs.NumberFault.{IsNumberFault}
 use Rattle.herd_animal.specs.declared.number.NumberFault.{NumberFault}
+use Rattle.herd_pool.specs.declared.limits.TheConstants.{DEFAULT_BLOCK}
 use Rattle.herdbook.specs.CommandLine.{command_line}
 use Rattle.herdbook.specs.declared.arguments.Request.{Request}
 use Rattle.herdbook.specs.declared.arguments.Request.TheVariants.{File, Inbreeding, Certificate, Mating, Inverse, Clerks}
@@ -39,7 +40,7 @@ texts_of id rows = unwrap_or (all_of id rows) []
 
 abbrev pub IsAskedOfInbreeding : List Row → Request → Type 0
 IsAskedOfInbreeding rows (Inbreeding workers block) =
-    IsNumberOr 1 (one_of (codes "workers") rows) workers × IsNumberOr 256 (one_of (codes "block") rows) block
+    IsNumberOr 1 (one_of (codes "workers") rows) workers × IsNumberOr DEFAULT_BLOCK (one_of (codes "block") rows) block
 IsAskedOfInbreeding rows request = ⊥
 
 abbrev pub IsAskedOfClerks : List Row → Request → Type 0
@@ -93,7 +94,7 @@ abbrev pub IsUnread : (NumberFault → Type 0) → WordsFault → Type 0
 IsUnread wrong (Words error) = kind_of error ≡ OutOfMemory
 IsUnread wrong (Number fault) = wrong fault
 
--- `clap` refuses the words, or they ask for help; or a number is none
+-- `clap` refuses the words, or they ask for help or the version; or a number is none
 abbrev pub IsRefused : List Text → WordsFault → Type 0
 IsRefused words (Words error) = HasKind (fault_of command_line words) error
 IsRefused words (Number fault) = IsWrongNumber (subcommand_of command_line words) fault

@@ -1,7 +1,7 @@
 //! The words of the command line.
 
 ghost use Rattle.std.specs.Prelude.{◌≡◌, [], IfErr, IfOk, codes, false, map, string_bytes};
-ghost use Rattle.clap.specs.Words.{app_of, fault_of, found_of, rows_of, subcommand_of, subcommand_rows_of};
+ghost use Rattle.clap.specs.Words.{app_of, fault_of, found_of, new_app, rows_of, subcommand_of, subcommand_rows_of};
 ghost use Rattle.clap.specs.declared.builder.command.Command.TheViews.{out-Command};
 ghost use Rattle.herd_animal.specs.AnimalNumber.{IsAnimalNumber};
 ghost use Rattle.herd_animal.specs.NumberFault.{IsNumberFault};
@@ -9,8 +9,12 @@ ghost use Rattle.herdbook.specs.CommandLine.{certificate_line, clerks_line, comm
 ghost use Rattle.herdbook.specs.Request.{IsTask, IsTaskFor};
 ghost use Rattle.herdbook.specs.Words.{IsAsked, IsAskedOfClerks, IsAskedOfInbreeding, IsFirstFault, IsRefused, IsUnread, IsWrongNumber, text_of, texts_of};
 
+use crate::desks::MOST_DESKS;
+use crate::help;
+use crate::program::LIMITS;
 use clap::{Arg, ArgAction, ArgMatches, Command};
 use herd_animal::{AnimalNumber, NumberFault};
+use herd_pool::{DEFAULT_BLOCK, MOST_WORKERS};
 use herd_report::Order;
 use std::alloc::{AllocError, Global};
 
@@ -37,14 +41,14 @@ pub enum Request {
 /// What is carried out for a request.
 pub enum Task<'a> {
     Run(Order<'a>),
-    /// The commands are filed at 1 to 16 desks, the first so many of them at the first desk.
+    /// The commands are filed at this many desks, from 1 to 16, the first so many of them at the first desk.
     Clerks { desks: u16, base: u32 },
 }
 
 /// Why the words ask for nothing.
 #[derive(Drop)]
 pub enum WordsFault {
-    /// They aren't a command line, or ask for help: `clap` has the text and the status.
+    /// They aren't a command line, or ask for help or the version: `clap` has the text.
     Words(clap::Error),
     /// The first of the numbers that is none: of the dam, then of the sires as given.
     Number(NumberFault),
@@ -91,7 +95,7 @@ impl Request {
         match self {
             Request::File => Task::Run(Order::File),
             Request::Inbreeding { workers, block } => Task::Run(Order::Inbreeding {
-                workers: (*workers).clamp(1, 16),
+                workers: (*workers).clamp(1, MOST_WORKERS),
                 block: (*block).max(1),
             }),
             Request::Certificate(number) => Task::Run(Order::Certificate(*number)),
@@ -101,7 +105,7 @@ impl Request {
             }),
             Request::Inverse => Task::Run(Order::Inverse),
             Request::Clerks { desks, base } => Task::Clerks {
-                desks: (*desks).clamp(1, 16) as u16,
+                desks: (*desks).clamp(1, MOST_DESKS as u32) as u16,
                 base: *base,
             },
         }
@@ -140,7 +144,7 @@ fn inbreeding_of(given: &ArgMatches<'_>) -> Request
 {
     Request::Inbreeding {
         workers: given.get_one::<u32>("workers").unwrap_or(1),
-        block: given.get_one::<u32>("block").unwrap_or(256),
+        block: given.get_one::<u32>("block").unwrap_or(DEFAULT_BLOCK),
     }
 }
 
@@ -191,20 +195,39 @@ fn command<'a>(alloc: Global) -> Result<Command<'a>, AllocError>
 fn runs<'a>(alloc: Global) -> Result<Command<'a>, AllocError>
     ensures { IfOk result (λ command. app_of command ≡ runs_line) }
 {
-    Command::new(alloc, "herdbook")
-        .about(
-            "Keeps a herd book: reads a command file from standard input and writes to standard output",
-        )
-        .subcommand_required(true)
-        .subcommand(Command::new(alloc, "file").about(
-            "Files the commands and writes one reply for each",
-        ))?
-        .subcommand(inbreeding(alloc)?)?
-        .subcommand(certificate(alloc)?)?
-        .subcommand(mating(alloc)?)?
-        .subcommand(Command::new(alloc, "inverse").about(
-            "Writes each animal's contributions to the inverse relationship matrix",
-        ))
+    let file = named(
+        alloc,
+        "file",
+        "Files the commands and writes one reply for each",
+        help::FILE,
+    );
+    let inverse = named(
+        alloc,
+        "inverse",
+        "Writes what each animal adds to the inverse relationship matrix",
+        help::INVERSE,
+    );
+    named(
+        alloc,
+        "herdbook",
+        "Keeps the herd book of a breed society",
+        help::PROGRAM,
+    )
+    .version(help::VERSION)
+    .subcommand_required(true)
+    .subcommand(file)?
+    .subcommand(inbreeding(alloc)?)?
+    .subcommand(certificate(alloc)?)?
+    .subcommand(mating(alloc)?)?
+    .subcommand(inverse)
+}
+
+// A command with no arguments yet: its name, what it does in a line, and the end of its help.
+fn named<'a>(alloc: Global, name: &'a str, about: &'a str, more: &'a str) -> Command<'a>
+    ensures line { app_of result ≡ new_app name.entry.now }
+    ensures globals { (out-Command result).has_globals ≡ false }
+{
+    Command::new(alloc, name).about(about).after_help(more)
 }
 
 fn inbreeding<'a>(alloc: Global) -> Result<Command<'a>, AllocError>
@@ -214,19 +237,23 @@ fn inbreeding<'a>(alloc: Global) -> Result<Command<'a>, AllocError>
     let workers = Arg::new(alloc, "workers")
         .long("workers")
         .value_name("N")
-        .value_parser(clap::value_parser!(u32).range(1..=16))
+        .value_parser(clap::value_parser!(u32).range(1..=MOST_WORKERS as i64))
         .default_value("1")
-        .help("From 1 to 16 threads: one goes sire by sire, more share blocks by tracing");
+        .help("How many threads, from 1 to 16");
     let block = Arg::new(alloc, "block")
         .long("block")
         .value_name("N")
-        .value_parser(clap::value_parser!(u32).range(1..=60_000))
+        .value_parser(clap::value_parser!(u32).range(1..=LIMITS.animals as i64))
         .default_value("256")
-        .help("The number of animals that a thread takes at once, from 1 to 60,000");
-    Command::new(alloc, "inbreeding")
-        .about("Writes the inbreeding coefficient of each animal, in age order")
-        .arg(workers)?
-        .arg(block)
+        .help("Animals in a thread's block, 1 to 60,000");
+    named(
+        alloc,
+        "inbreeding",
+        "Writes the inbreeding coefficient of each animal, in age order",
+        help::INBREEDING,
+    )
+    .arg(workers)?
+    .arg(block)
 }
 
 fn certificate<'a>(alloc: Global) -> Result<Command<'a>, AllocError>
@@ -236,9 +263,13 @@ fn certificate<'a>(alloc: Global) -> Result<Command<'a>, AllocError>
     let number = Arg::new(alloc, "NUMBER")
         .required(true)
         .help("The animal's number");
-    Command::new(alloc, "certificate")
-        .about("Writes an animal's certificate, with three generations of ancestors")
-        .arg(number)
+    named(
+        alloc,
+        "certificate",
+        "Writes an animal's certificate with its ancestors",
+        help::CERTIFICATE,
+    )
+    .arg(number)
 }
 
 fn mating<'a>(alloc: Global) -> Result<Command<'a>, AllocError>
@@ -255,10 +286,14 @@ fn mating<'a>(alloc: Global) -> Result<Command<'a>, AllocError>
         .action(ArgAction::Append)
         .num_args(1..)
         .help("The numbers of the sires");
-    Command::new(alloc, "mating")
-        .about("Writes the inbreeding coefficient that a calf of the dam would have by each sire")
-        .arg(dam)?
-        .arg(sires)
+    named(
+        alloc,
+        "mating",
+        "Writes the coefficient that a calf would have by each sire",
+        help::MATING,
+    )
+    .arg(dam)?
+    .arg(sires)
 }
 
 fn clerks<'a>(alloc: Global) -> Result<Command<'a>, AllocError>
@@ -268,19 +303,21 @@ fn clerks<'a>(alloc: Global) -> Result<Command<'a>, AllocError>
     let desks = Arg::new(alloc, "desks")
         .long("desks")
         .value_name("K")
-        .value_parser(clap::value_parser!(u32).range(1..=16))
+        .value_parser(clap::value_parser!(u32).range(1..=MOST_DESKS as i64))
         .default_value("2")
-        .help("The number of desks, from 1 to 16, each with a thread of its own");
+        .help("How many desks, from 1 to 16");
     let base = Arg::new(alloc, "base")
         .long("base")
         .value_name("M")
-        .value_parser(clap::value_parser!(u32).range(0..=1_000_000))
+        .value_parser(clap::value_parser!(u32).range(0..=LIMITS.steps as i64))
         .default_value("0")
-        .help(
-            "The number of commands that desk 1 files before the others begin, from 0 to 1,000,000",
-        );
-    Command::new(alloc, "clerks")
-        .about("Files the commands at several desks and writes how many each has filed")
-        .arg(desks)?
-        .arg(base)
+        .help("Commands that desk 1 files first, to 1,000,000");
+    named(
+        alloc,
+        "clerks",
+        "Files the commands at several desks, each on a thread",
+        help::CLERKS,
+    )
+    .arg(desks)?
+    .arg(base)
 }

@@ -1,5 +1,7 @@
 //! A clerk, who files commands at a desk one after the other.
 ghost use Rattle.std.specs.Prelude.{◌≡◌, ◌+◌, ◌≤◌, length, None, OnOk};
+ghost use Rattle.herd_register.specs.declared.limits.TheConstants.{MOST_STEPS};
+ghost use Rattle.herdbook.specs.declared.desks.TheConstants.{MOST_DESKS};
 
 use crate::clerk_fault::ClerkFault;
 use herd_office::{Desk, Filed, Office, OfficeName, Slip};
@@ -56,8 +58,8 @@ impl<N: OfficeName> Clerk<N> {
         office: &Office<N, R>,
         turn: Turn<'_>,
     ) -> Result<(), ClerkFault>
-        requires step { (1 ≤ turn.step) × (turn.step ≤ 16) }
-        requires few { length turn.commands.now ≤ 1_000_000 }
+        requires step { (1 ≤ turn.step) × (turn.step ≤ MOST_DESKS) }
+        requires few { length turn.commands.now ≤ MOST_STEPS }
         ensures number { self.new.desk.number ≡ self.old.desk.number }
     {
         let mut place = turn.first;

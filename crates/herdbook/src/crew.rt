@@ -1,5 +1,7 @@
 //! Clerks who file side by side, each in a thread of its own.
 ghost use Rattle.std.specs.Prelude.{◌≡◌, ◌≤◌, IfOk, length, vec_len};
+ghost use Rattle.herd_register.specs.declared.limits.TheConstants.{MOST_STEPS};
+ghost use Rattle.herdbook.specs.declared.desks.TheConstants.{MOST_DESKS};
 
 use crate::clerk::{Clerk, Turn};
 use crate::clerk_fault::ClerkFault;
@@ -36,15 +38,15 @@ pub fn file_in_turn<
     clerks: Vec<Clerk<N>>,
     commands: &[Command],
 ) -> Result<Vec<Clerk<N>>, ClerkFault>
-    requires some { (1 ≤ vec_len clerks) × (vec_len clerks ≤ 16) }
-    requires few { length commands.now ≤ 1_000_000 }
+    requires some { (1 ≤ vec_len clerks) × (vec_len clerks ≤ MOST_DESKS) }
+    requires few { length commands.now ≤ MOST_STEPS }
 {
     thread::scope(
         thread::scope_env(),
         rt,
         |scope| -> Result<Vec<Clerk<N>>, ClerkFault>
-            requires some { (1 ≤ vec_len clerks) × (vec_len clerks ≤ 16) }
-            requires few { length commands.now ≤ 1_000_000 }
+            requires some { (1 ≤ vec_len clerks) × (vec_len clerks ≤ MOST_DESKS) }
+            requires few { length commands.now ≤ MOST_STEPS }
         {
             let started = start_all(scope, rt, alloc, office, clerks, commands)?;
             join_all(rt, alloc, started)
@@ -61,8 +63,8 @@ fn start_all<'s, N: OfficeName + Send + Sync, E, H: Wait + Sync, R: Wait + Drop 
     clerks: Vec<Clerk<N>>,
     commands: &'s [Command],
 ) -> Result<Vec<Started<N>>, ClerkFault>
-    requires some { (1 ≤ vec_len clerks) × (vec_len clerks ≤ 16) }
-    requires few { length commands.now ≤ 1_000_000 }
+    requires some { (1 ≤ vec_len clerks) × (vec_len clerks ≤ MOST_DESKS) }
+    requires few { length commands.now ≤ MOST_STEPS }
 {
     let step = clerks.len();
     let mut started = Vec::new(alloc);
@@ -86,8 +88,8 @@ fn start<'s, N: OfficeName + Send + Sync, E, H: Wait + Sync, R: Wait + Drop + Se
     clerk: Clerk<N>,
     turn: Turn<'s>,
 ) -> Result<Started<N>, ClerkFault>
-    requires step { (1 ≤ turn.step) × (turn.step ≤ 16) }
-    requires few { length turn.commands.now ≤ 1_000_000 }
+    requires step { (1 ≤ turn.step) × (turn.step ≤ MOST_DESKS) }
+    requires few { length turn.commands.now ≤ MOST_STEPS }
     ensures number { IfOk result (λ started. started.promise.number ≡ clerk.desk.number) }
 {
     let task = Task {
@@ -101,8 +103,8 @@ fn start<'s, N: OfficeName + Send + Sync, E, H: Wait + Sync, R: Wait + Drop + Se
     let started = scope.spawn_with(
         task,
         move || -> Result<Clerk<N>, ClerkFault>
-            requires step { (1 ≤ step) × (step ≤ 16) }
-            requires few { length commands.now ≤ 1_000_000 }
+            requires step { (1 ≤ step) × (step ≤ MOST_DESKS) }
+            requires few { length commands.now ≤ MOST_STEPS }
             ensures number { IfOk result (λ done. done.desk.number ≡ clerk.desk.number) }
         {
             let turn = Turn {
@@ -126,8 +128,8 @@ fn filed<N: OfficeName, H: Wait, R: Wait + Drop>(
     mut clerk: Clerk<N>,
     turn: Turn<'_>,
 ) -> Result<Clerk<N>, ClerkFault>
-    requires step { (1 ≤ turn.step) × (turn.step ≤ 16) }
-    requires few { length turn.commands.now ≤ 1_000_000 }
+    requires step { (1 ≤ turn.step) × (turn.step ≤ MOST_DESKS) }
+    requires few { length turn.commands.now ≤ MOST_STEPS }
     ensures number { IfOk result (λ done. done.desk.number ≡ clerk.desk.number) }
 {
     clerk.file_turn(rt, office, turn)?;

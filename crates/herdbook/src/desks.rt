@@ -1,10 +1,12 @@
 //! Filing a command file at several desks, each with a clerk in a thread of its own.
 ghost use Rattle.std.specs.Prelude.{◌≡◌, ◌≤◌, IfErr, IfOk, IfSome, OnOk, length, map, string_bytes, vec_len};
 ghost use Rattle.herd_register.specs.Register.{AreLimits};
+ghost use Rattle.herd_register.specs.declared.limits.TheConstants.{MOST_STEPS};
 ghost use Rattle.herd_report.specs.CommandFile.{commands};
 ghost use Rattle.herd_office.specs.Parts.{AreNamed};
 ghost use Rattle.herdbook.specs.Clerks.{EndsClerks, IsFiledBy, office_limits};
 ghost use Rattle.herdbook.specs.Summary.{IsSummaryOf, TellsOf, count_of};
+ghost use Rattle.herdbook.specs.declared.desks.TheConstants.{MOST_DESKS};
 
 use crate::clerk::{Clerk, Turn};
 use crate::clerk_fault::ClerkFault;
@@ -18,6 +20,9 @@ use std::io::{Read, Write};
 use std::marker::Brand;
 use std::sync::Wait;
 use std::thread::Threads;
+
+/// The number of desks that clerks may have.
+pub const MOST_DESKS: u16 = 16;
 
 /// Reads a command file, has its commands filed at this many desks, and writes how many calls of each desk were
 /// answered, how many steps and animals there are then, and how many steps an inspector has seen.
@@ -34,7 +39,7 @@ pub fn clerks<H: Threads + Wait + Sync, R: Read + Drop, W: Write>(
     writer: &mut W,
 ) -> Result<(), RunFault>
     requires limits { AreLimits limits }
-    requires desks { (1 ≤ desks) × (desks ≤ 16) }
+    requires desks { (1 ≤ desks) × (desks ≤ MOST_DESKS) }
     ensures ok { OnOk result (IfSome (R.remaining reader)
         (λ bytes. IsFiledBy limits (commands bytes limits.steps) (W.contents writer.old) (W.contents writer.new))) }
     ensures err { IfErr result (λ fault. IfSome (R.remaining reader)
@@ -67,7 +72,7 @@ fn text_filed<H: Threads + Wait + Sync>(
     commands: &[Command],
 ) -> Result<String, ClerkFault>
     requires limits { AreLimits limits }
-    requires desks { (1 ≤ desks) × (desks ≤ 16) }
+    requires desks { (1 ≤ desks) × (desks ≤ MOST_DESKS) }
     requires few { length commands.now ≤ limits.steps }
     ensures { IfOk result (λ text. TellsOf (office_limits limits.animals (length commands.now)) (length commands.now) (string_bytes text)) }
 {
@@ -85,7 +90,7 @@ fn summary_of<H: Threads + Wait + Sync>(
     commands: &[Command],
 ) -> Result<Summary, ClerkFault>
     requires limits { AreLimits limits }
-    requires desks { (1 ≤ desks) × (desks ≤ 16) }
+    requires desks { (1 ≤ desks) × (desks ≤ MOST_DESKS) }
     requires few { length commands.now ≤ limits.steps }
     ensures { IfOk result (IsSummaryOf (office_limits limits.animals (length commands.now)) (length commands.now)) }
 {
@@ -106,8 +111,8 @@ fn filed_in<N: OfficeName + Send + Sync, H: Threads + Wait + Sync>(
     commands: &[Command],
 ) -> Result<Summary, ClerkFault>
     requires named { AreNamed N.name N.parts N.all N.book N.limits parts }
-    requires desks { (1 ≤ parts.desks) × (parts.desks ≤ 16) }
-    requires few { length commands.now ≤ 1_000_000 }
+    requires desks { (1 ≤ parts.desks) × (parts.desks ≤ MOST_DESKS) }
+    requires few { length commands.now ≤ MOST_STEPS }
     ensures { IfOk result (IsSummaryOf N.limits (length commands.now)) }
 {
     let (office, desks, inspectors) = Office::<N, &H>::open(alloc, parts)?;
@@ -124,8 +129,8 @@ fn all_filed<N: OfficeName + Send + Sync, H: Threads + Wait + Sync, R: Wait + Dr
     base: usize,
     commands: &[Command],
 ) -> Result<Vec<Clerk<N>>, ClerkFault>
-    requires desks { (1 ≤ vec_len desks) × (vec_len desks ≤ 16) }
-    requires few { length commands.now ≤ 1_000_000 }
+    requires desks { (1 ≤ vec_len desks) × (vec_len desks ≤ MOST_DESKS) }
+    requires few { length commands.now ≤ MOST_STEPS }
 {
     let mut clerks = clerks_at(alloc, desks)?;
     let (first, rest) = commands.split_at(base.min(commands.len()));

@@ -1,7 +1,7 @@
 //! How the program ends: with which status, and what it tells on standard error.
 
 ghost use Rattle.std.specs.Prelude.{◌≡◌};
-ghost use Rattle.herdbook.specs.Ending.{Explains, end_of_help, end_of_run, end_of_unread, status_of};
+ghost use Rattle.herdbook.specs.Ending.{Explains, end_of_run, end_of_shown, end_of_unread, status_of};
 
 use crate::arguments::WordsFault;
 use crate::faults::{NumberFaultText, RunFaultText};
@@ -15,8 +15,8 @@ use std::fmt;
 pub enum Ending {
     /// What was asked for is written.
     Done,
-    /// The words ask for help, which `clap` has as a text for standard output.
-    Help(clap::Error),
+    /// The words ask for help or for the version, which `clap` has as a text for standard output.
+    Shown(clap::Error),
     /// The words aren't a command line. `clap` says why.
     Usage(clap::Error),
     /// A word isn't UTF-8.
@@ -46,7 +46,7 @@ impl Ending {
         match fault {
             WordsFault::Words(error) => match error.kind() {
                 ErrorKind::OutOfMemory => Ending::Run(RunFault::Memory),
-                ErrorKind::DisplayHelp => Ending::Help(error),
+                ErrorKind::DisplayHelp | ErrorKind::DisplayVersion => Ending::Shown(error),
                 _ => Ending::Usage(error),
             },
             WordsFault::Number(fault) => Ending::Number(fault),
@@ -63,9 +63,9 @@ impl Ending {
         }
     }
 
-    /// The end after help was printed, or couldn't be.
-    pub fn of_help(is_printed: bool) -> Ending
-        ensures { result ≡ end_of_help is_printed }
+    /// The end after what the words ask to be shown was printed, or couldn't be.
+    pub fn of_shown(is_printed: bool) -> Ending
+        ensures { result ≡ end_of_shown is_printed }
     {
         if is_printed {
             Ending::Done
@@ -79,7 +79,7 @@ impl Ending {
         ensures { result ≡ status_of self.now }
     {
         match self {
-            Ending::Done | Ending::Help(_) => 0,
+            Ending::Done | Ending::Shown(_) => 0,
             Ending::Run(_) => 1,
             Ending::Usage(_) | Ending::NotText | Ending::Number(_) => 2,
         }
@@ -94,7 +94,7 @@ impl fmt::Display for Ending {
 
     fn fmt<W: fmt::Write>(&self, f: &mut fmt::Formatter<W>) -> fmt::Result {
         match self {
-            Ending::Done | Ending::Help(_) => Ok(()),
+            Ending::Done | Ending::Shown(_) => Ok(()),
             Ending::Usage(error) => write!(f, "{error}"),
             Ending::NotText => f.write_str("herdbook: a word isn't UTF-8 text\n"),
             Ending::Number(fault) => {

@@ -8,6 +8,7 @@ mod crew;
 mod desks;
 mod ending;
 mod faults;
+mod help;
 mod program;
 mod summary;
 
@@ -35,10 +36,10 @@ fn words<R: Env + Alloc>(rt: &R) -> io::Result<Vec<String<R::A>, R::A>> {
     Ok(std::env::args(rt)?.collect(rt.alloc())?)
 }
 
-// Prints help, or tells on standard error how the program ends. What standard error can't take changes nothing.
+// Prints help or the version, or tells on standard error how the program ends. What standard error can't take changes nothing.
 fn tell<R: Print + Eprint>(rt: &R, ending: Ending) -> ExitCode {
     let ending = match ending {
-        Ending::Help(text) => Ending::of_help(rt.print(&text).is_ok()),
+        Ending::Shown(text) => Ending::of_shown(rt.print(&text).is_ok()),
         ending => ending,
     };
     let status = ending.status();

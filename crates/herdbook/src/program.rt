@@ -8,7 +8,8 @@ ghost use Rattle.herdbook.specs.declared.program.TheConstants.{LIMITS};
 use crate::arguments::{Request, Task, read_words};
 use crate::desks::clerks;
 use crate::ending::Ending;
-use herd_register::Limits;
+use herd_pedigree::MOST_ANIMALS;
+use herd_register::{Limits, MOST_STEPS};
 use herd_report::{RunFault, run};
 use std::alloc::Global;
 use std::io::{Read, Write};
@@ -17,8 +18,8 @@ use std::thread::Threads;
 
 /// What the book and its journal may hold.
 pub const LIMITS: Limits = Limits {
-    animals: 60_000,
-    steps: 1_000_000,
+    animals: MOST_ANIMALS,
+    steps: MOST_STEPS,
 };
 
 /// Reads the words of the command line, the program's own name first, and does what they ask for. Where they ask for

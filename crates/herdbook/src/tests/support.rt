@@ -101,7 +101,7 @@ pub(super) fn replies<R: AllocGlobal + Threads + Wait + Sync>(rt: &R, bytes: &[u
 pub(super) fn coefficients<R: AllocGlobal + Threads + Wait + Sync>(rt: &R, bytes: &[u8]) -> Ran {
     let order = Order::Inbreeding {
         workers: 1,
-        block: 256,
+        block: herd_pool::DEFAULT_BLOCK,
     };
     ran!(rt, order, bytes)
 }

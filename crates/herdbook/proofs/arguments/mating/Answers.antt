@@ -14,13 +14,13 @@ returns-clause-line c =
     let dam : rule_of c.help-dam.result ≡ dam_rule = search rules in
     let range : c.num_args.result.num_vals ≡ Some (record { start_inclusive = 1; end_inclusive = usize_max }) = IsSomeAnd-is _ _ c.num_args.ensures.1 in
     let sires : rule_of c.help-sires.result ≡ sires_rule = rw (c.help-sires.ensures, c.num_args.ensures.0, range, c.action.ensures, c.required-2.ensures) (ap (λ (r : Rule). record r { action = Some Append; range = Some (record { start_inclusive = 1; end_inclusive = usize_max }); required = true }) c.new-2.ensures.rule) in
-    let named : app_of c.about.result ≡ new_app (codes "mating") = search rules in
+    let named : app_of c.named.result ≡ new_app (codes "mating") = search rules in
     let first : app_of c.in_ok-arg.field-0 ≡ with_rule (new_app (codes "mating")) dam_rule = c.in_ok-arg.ensures.shape (search rules) ∙ ap₂ with_rule named dam in
     IfOk-weaker c.arg-2.result _ _ (λ command added. added.shape (search rules) ∙ ap₂ with_rule first sires) c.arg-2.ensures
 
 pub returns-clause-globals : goal.returns-clause-globals
 returns-clause-globals c =
-    let named : (out-Command c.about.result).has_globals ≡ false = search rules in
+    let named : (out-Command c.named.result).has_globals ≡ false = search rules in
     let dam : c.help-dam.result.global ≡ false = search rules in
     let sires : c.help-sires.result.global ≡ false = search rules in
     let first : (out-Command c.in_ok-arg.field-0).has_globals ≡ false = c.in_ok-arg.ensures.globals ∙ ap₂ (λ a b. a || b) named dam in

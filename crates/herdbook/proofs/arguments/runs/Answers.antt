@@ -20,8 +20,8 @@ of_mating = with_subcommand of_certificate mating_line.top
 pub returns : goal.returns
 returns c =
     let named : app_of c.subcommand_required.result ≡ program = search rules in
-    let file : app_of c.about-2.result ≡ new_app (codes "file") = search rules in
-    let inverse : app_of c.about-3.result ≡ new_app (codes "inverse") = search rules in
+    let file : app_of c.named-file.result ≡ new_app (codes "file") = search rules in
+    let inverse : app_of c.named-inverse.result ≡ new_app (codes "inverse") = search rules in
     let first : app_of c.in_ok-subcommand.field-0 ≡ of_file = c.in_ok-subcommand.ensures.shape (search rules) ∙ ap₂ with_subcommand named (ap (λ (a : App). a.top) file) in
     let second : app_of c.in_ok-subcommand-2.field-0 ≡ of_inbreeding = c.in_ok-subcommand-2.ensures.shape c.in_ok-inbreeding.ensures.globals ∙ ap₂ with_subcommand first (ap (λ (a : App). a.top) c.in_ok-inbreeding.ensures.line) in
     let third : app_of c.in_ok-subcommand-3.field-0 ≡ of_certificate = c.in_ok-subcommand-3.ensures.shape c.in_ok-certificate.ensures.globals ∙ ap₂ with_subcommand second (ap (λ (a : App). a.top) c.in_ok-certificate.ensures.line) in

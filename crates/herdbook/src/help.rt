@@ -1,0 +1,102 @@
+//! The texts of help and of the version: what each subcommand reads and writes, an example, and its statuses. No line is
+//! longer than 80 columns.
+
+/// The version of the program, the newest of `CHANGELOG.md`.
+pub const VERSION: &str = "0.2.0";
+
+pub const PROGRAM: &str = "\
+All commands read a command file from standard input: a CSV file with the header
+kind,animal,day,sire,dam,from,to or the same with embryo at its end. Begin with
+`file`: all others skip refused commands without a word.
+
+Example:
+  herdbook file < book.csv
+
+Status:
+  0  done
+  1  a record is faulty, an animal isn't in the book, or memory, a thread or a
+     write was refused: standard error tells which
+  2  the words aren't a command line, or one is no animal number";
+
+pub const FILE: &str = "\
+Reads a command file from standard input. Writes a line for each command, in
+their order: SERIAL,accepted or SERIAL,refused,NUMBER with the first rule that
+refuses it. A refused command changes nothing.
+
+Example:
+  herdbook file < book.csv
+
+Status:
+  0  each command has its reply, also where some are refused
+  1  a record is faulty (the replies before it are written), or memory or a
+     write was refused
+  2  the words aren't a command line";
+
+pub const INBREEDING: &str = "\
+Reads a command file from standard input. Writes a line for each animal, by
+birth day and number: NUMBER,COEFFICIENT,PERCENT with a fraction in lowest terms
+and a percentage of two digits. The list is the same for all N.
+
+Example:
+  herdbook inbreeding --workers 4 < book.csv
+
+Status:
+  0  the list is written
+  1  a record is faulty (nothing is written), or memory, a thread or a write was
+     refused
+  2  the words aren't a command line";
+
+pub const CERTIFICATE: &str = "\
+Reads a command file from standard input. Writes the animal's number, sex, birth
+day, herd, the day since which it is there, the day on which it left, its
+coefficient, and fourteen ancestors: SD is the sire's dam, 0 an unknown one.
+
+Example:
+  herdbook certificate HOLGBRM000000000001 < book.csv
+
+Status:
+  0  the certificate is written
+  1  the animal isn't in the book or a record is faulty (nothing is written), or
+     memory or a write was refused
+  2  the words aren't a command line, or NUMBER is no animal number";
+
+pub const MATING: &str = "\
+Reads a command file from standard input. Writes a line for each sire, in the
+order given: SIRE,COEFFICIENT,PERCENT or SIRE,refused,FAULT, where FAULT is 1 or
+2 for a sire or a dam that isn't in the book, 3 or 4 for one of the wrong sex,
+and 5 for a line of parents that would be too long.
+
+Example:
+  herdbook mating --dam HOLGBRF000000000002 HOLGBRM000000000001 < book.csv
+
+Status:
+  0  there is a line for each sire, also where matings are refused
+  1  a record is faulty (nothing is written), or memory or a write was refused
+  2  the words aren't a command line, or one is no animal number";
+
+pub const INVERSE: &str = "\
+Reads a command file from standard input. Writes what each animal adds to the
+inverse of the numerator relationship matrix: NUMBER,ROW,COLUMN,VALUE, each pair
+once, with the later animal as the row. Add up by row and column, and mirror.
+
+Example:
+  herdbook inverse < book.csv
+
+Status:
+  0  the entries are written
+  1  a record is faulty (nothing is written), or memory or a write was refused
+  2  the words aren't a command line";
+
+pub const CLERKS: &str = "\
+Reads a command file from standard input. The first M commands are filed at desk
+1, the rest at K desks in turn, side by side. Writes how many commands each desk
+filed, and then the steps, the animals, and the steps that a reader saw.
+
+Example:
+  herdbook clerks --desks 4 --base 1000 < book.csv
+
+Status:
+  0  the office is closed and its summary written
+  1  a record is faulty, a reader found no place, or memory or a thread was
+     refused (nothing is written), or a write was refused
+  2  the words aren't a command line";
