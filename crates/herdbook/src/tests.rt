@@ -2,6 +2,7 @@
 
 mod books;
 mod certificates;
+mod clerks;
 mod coefficients;
 mod deep_books;
 mod inverse;

@@ -1,5 +1,7 @@
 //! What the tests have in common: command files and texts in which numbers are written short.
 
+use crate::ending::Ending;
+use crate::program::carry_out;
 use herd_animal::AnimalNumber;
 use herd_report::{Order, RunFault};
 use std::alloc::{AllocError, Global};
@@ -205,4 +207,50 @@ fn file_of_pairs(
         push_line(&mut text, record)?;
     }
     Ok(text)
+}
+
+/// How the program ended, and what it wrote.
+pub type CarriedOut = (Ending, Vec<u8>);
+
+/// Carries out what the words after the program's name ask for, on the bytes of a command file.
+pub(super) fn carried_out<R: AllocGlobal + Threads + Wait + Sync>(
+    rt: &R,
+    words: &[&str],
+    bytes: &[u8],
+) -> Result<CarriedOut, AllocError> {
+    let mut all = Vec::new(rt.alloc());
+    all.push(String::from_str(rt.alloc(), "herdbook")?)?;
+    for word in words {
+        all.push(String::from_str(rt.alloc(), word)?)?;
+    }
+    let mut written = Vec::new(rt.alloc());
+    let ending = carry_out(rt, rt.alloc(), all.as_slice(), bytes, &mut written);
+    Ok((ending, written))
+}
+
+/// The program did what it was asked for, and wrote this text.
+pub(super) fn expect_done<R: Abort + AllocGlobal>(
+    rt: &R,
+    carried_out: CarriedOut,
+    wanted: &str,
+) -> Result<(), Fail> {
+    let (ending, written) = carried_out;
+    assert_eq!(rt; ending.status(), 0);
+    assert_eq!(rt; written.as_slice(), wanted.as_bytes());
+    Ok(())
+}
+
+/// The program ended with this status and this text on standard error, and wrote nothing.
+pub(super) fn expect_told<R: Abort + AllocGlobal>(
+    rt: &R,
+    carried_out: CarriedOut,
+    status: u8,
+    wanted: &str,
+) -> Result<(), Fail> {
+    let (ending, written) = carried_out;
+    let told = format!(in rt.alloc(); "{ending}")?;
+    assert_eq!(rt; ending.status(), status);
+    assert_eq!(rt; told.as_str(), wanted);
+    assert!(rt; written.as_slice().is_empty(), "something was written");
+    Ok(())
 }
