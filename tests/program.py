@@ -1,17 +1,21 @@
 #!/usr/bin/env python3
 """program.py PROGRAM: tries the built herd book program from outside.
 
-It runs the examples of the README as they stand there, each order on the sample books beside `reference.py`, each
-status and text of the README's table, and then each order on a small book with the nth growth of memory, read, write or
-start of a thread refused (`refuse.c`), for n from 1 until a run meets no refusal. The last line is
-`N passed, M failed`; the status is 1 if anything failed.
+It runs the examples of the README as they stand there, the script and the recipes of `examples/`, each order on the
+sample books beside `reference.py`, help and its examples, each status and text of the README's table, and then each
+order on a small book with the nth growth of memory, read, write or start of a thread refused (`refuse.c`), for n from 1
+until a run meets no refusal. The last line is `N passed, M failed`; the status is 1 if anything failed.
 """
 import concurrent.futures
+import csv
+import fractions
+import importlib.util
 import os
 import pathlib
 import re
 import resource
 import shlex
+import shutil
 import subprocess
 import sys
 import tempfile
@@ -104,19 +108,99 @@ class Checks:
 
     def readme(self):
         text = (TOP / "README.md").read_text()
+        room = self.example_room()
         blocks = re.findall(r"((?:^    .*\n)+)((?:(?!    ).*\n)*)", text, re.M)
-        shown = 0
-        for (command, between), (printed, _) in zip(blocks, blocks[1:]):
-            line = command.strip()
-            if line.startswith("./herdbook") and "print" in between:
-                words, _, name = line.removeprefix("./herdbook").partition("<")
-                given = (TOP / name.strip()).read_text() if name else ""
-                self.expect("README", wrote(re.sub("(?m)^    ", "", printed)), shlex.split(words), given)
+        shown = ran = 0
+        for at, (block, between) in enumerate(blocks):
+            line = block.strip()
+            if not re.match(r"(\./herdbook|python3 examples/)", line):
+                continue
+            done = self.shell(line, room)
+            ran += 1
+            self.count(done.status == 0, f"README: {line}: {done}")
+            if "print" in between:
+                wanted = re.sub("(?m)^    ", "", blocks[at + 1][0])
+                self.count(done == wrote(wanted), f"README: {line}: {done}; wanted {wanted!r}")
                 shown += 1
-        self.count(shown >= 2, f"README: {shown} examples were found")
+        self.count(shown >= 2 and ran > shown, f"README: {ran} commands and {shown} printed texts were found")
+        for code in re.findall(r"(?ms)^```rust\n(.*?)^```", text):
+            sources = [path.read_text() for path in (TOP / "crates/worked_example/src").glob("*.rt")]
+            self.count(any(code in source for source in sources), f"README: this code isn't that of the example: {code}")
         table = re.search(r"\| status \| when \| standard error \|\n(.*?)\n\n", text, re.S).group(1)
         for told in re.findall("`(herdbook: [^`]*)`", table):
             self.count(told in TEXTS, f"README: no check of `{told}`")
+
+    def example_room(self):
+        """A folder in which commands run as they do at the top of the repository."""
+        room = self.room / "top"
+        if not room.exists():
+            room.mkdir()
+            shutil.copytree(TOP / "examples", room / "examples")
+            (room / "herdbook").symlink_to(self.program)
+        return room
+
+    def shell(self, line, room):
+        env = {"PATH": os.environ["PATH"], "HOME": str(room), "LANG": "C.UTF-8"}
+        done = subprocess.run(["sh", "-c", line], cwd=room, env=env, capture_output=True, timeout=SECONDS)
+        # what a script says of its spreadsheet isn't the program's
+        return Done(done.returncode, done.stdout, done.stderr if line.startswith("./herdbook") else b"")
+
+    # -- examples/
+
+    def examples(self):
+        room = self.example_room()
+        script = [sys.executable, "examples/command_file.py", "--map", "map.csv", "--herds", "herds.csv"]
+        with open(room / "examples/society.csv") as society:
+            made = subprocess.run(script, cwd=room, stdin=society, capture_output=True, text=True, timeout=SECONDS)
+        births = made.stdout.splitlines()[1:]
+        said = made.stderr.splitlines()
+        self.count(made.returncode == 0 and len(births) == 501 and len(said) == 7, f"command_file.py: {len(births)} births, {said}")
+        for about in "GK-10/301b has the birth day", "GK-98/021c has a row already", "GK-10/311c has the sex", "IMP-7 (imported), the sire of", "has the wrong sex":
+            self.count(sum(about in line for line in said) == 1, f"command_file.py: {about}: {said}")
+        with open(room / "examples/society.csv") as society, open(room / "map.csv") as kept:
+            ids = {row["id"].strip() for row in csv.DictReader(society)}
+            numbers = {row["number"]: row["id"] for row in csv.DictReader(kept)}
+        self.count([line.split(",")[1] for line in births] == list(numbers), "command_file.py: the map has the births' numbers")
+        kept_ids = (ids - {"GK-10/311c"}) | {"GK-90/011c", "IMP-7 (imported)"}
+        self.count(set(numbers.values()) == kept_ids, "command_file.py: the map has the ids of the spreadsheet and of added founders")
+        (room / "book.csv").write_text(made.stdout)
+        accepted = "".join(f"{serial},accepted\n" for serial in range(1, 502))
+        self.expect("the society's book", wrote(accepted), ["file"], made.stdout)
+        self.recipes(room, made.stdout)
+
+    def recipes(self, room, book):
+        listed = self.run(["inbreeding"], book).out.decode()
+        (room / "list.csv").write_text(listed)
+        rows = [line.split(",") for line in listed.splitlines()]
+        mean = sum(float(percent) for _, _, percent in rows) / len(rows)
+        wanted = f"{len(rows)} animals, {sum(of != '0' for _, of, _ in rows)} inbred, mean {mean:.2f} %\n"
+        self.recipe(room, ["awk", "-f", "examples/recipes/summary.awk", "list.csv"], lambda out: out == wanted)
+
+        dam = next(number for number, _, _ in reversed(rows) if number[6] == "F")
+        advice = self.run(["mating", "--dam", dam, *(number for number, _, _ in rows)], book).out.decode()
+        sires = [line.split(",") for line in advice.splitlines() if ",refused," not in line]
+        best = sorted(sires, key=lambda row: (float(row[2]), row[0]))
+        self.count(len(best) > 100 and len({row[2] for row in best}) > 3, "advice: some matings are closer than others")
+        wanted_best = "".join(",".join(row) + "\n" for row in best)
+        self.recipe(room, ["sh", "examples/recipes/best_matings.sh"], lambda out: out == wanted_best, advice)
+
+        inverse = self.run(["inverse"], book).out.decode()
+        (room / "inverse.csv").write_text(inverse)
+        highest = max(rows, key=lambda row: float(row[2]))
+        last = inverse_entry(inverse, rows[-1][0], rows[-1][0])
+        with_highest = lambda out: highest[0] in out and len(out.splitlines()) == 6
+        with_last = lambda out: rows[-1][0] in out and f"{float(last):.3f}"[:5] in out
+        if importlib.util.find_spec("pandas"):
+            self.recipe(room, [sys.executable, "examples/recipes/list_pandas.py", "list.csv"], with_highest)
+            self.recipe(room, [sys.executable, "examples/recipes/inverse_pandas.py", "inverse.csv"], with_last)
+        if shutil.which("Rscript"):
+            self.recipe(room, ["Rscript", "examples/recipes/list.R", "list.csv"], with_highest)
+            self.recipe(room, ["Rscript", "examples/recipes/inverse.R", "inverse.csv"], with_last)
+
+    def recipe(self, room, words, is_right, given=""):
+        env = {"PATH": os.environ["PATH"], "LC_ALL": "C", "HOME": str(room)}
+        done = subprocess.run(words, cwd=room, env=env, input=given, capture_output=True, text=True, timeout=SECONDS)
+        self.count(done.returncode == 0 and is_right(done.stdout), f"{words}: {done.stdout[-300:]!r}, {done.stderr[-300:]!r}")
 
     # -- each order, beside the reference
 
@@ -155,11 +239,35 @@ class Checks:
         one_number = HEADER + founder(animal("M", 1)) * 16
         self.expect("clerks of one birth", wrote(reference.clerks(one_number, 16)), ["clerks", "--desks", "16"], one_number)
 
+    # -- help and the version
+
+    def help(self):
+        newest = re.search(r"(?m)^## (\S+)", (TOP / "CHANGELOG.md").read_text()).group(1)
+        for words in ["--version"], ["-V"]:
+            self.expect("version", wrote(f"herdbook {newest}\n"), words)
+        orders = ["file", "inbreeding", "certificate", "mating", "inverse", "clerks"]
+        top = self.run(["--help"])
+        shown = [line.split()[0] for line in top.out.decode().splitlines() if line.startswith("  ") and line[2].isalpha()]
+        self.count(shown[:7] == [*orders, "help"], f"--help: {shown}")
+        for order in [], *([order] for order in orders):
+            self.help_of(order)
+
+    def help_of(self, order):
+        asked = self.run([*order, "--help"])
+        text = asked.out.decode()
+        self.count(asked.status == 0 and not asked.err, f"help: {order}: {asked}")
+        self.count(all(len(line) <= 80 for line in text.splitlines()), f"help: {order}: a line is longer than 80 columns: {text}")
+        self.count("from standard input" in text and "Usage: " in text, f"help: {order}: what is read isn't told: {text}")
+        self.expect("help", asked, ["help", *order])
+        example = re.search(r"(?m)^Example:\n  herdbook (.*) < book.csv$", text)
+        statuses = re.findall(r"(?m)^  (\d)  ", text.partition("Status:")[2])
+        self.count(statuses == ["0", "1", "2"], f"help: {order}: the statuses {statuses}")
+        done = example and self.run(shlex.split(example.group(1)), full_sibs(3))
+        self.count(done and done.status == 0 and done.out, f"help: {order}: its example: {done}")
+
     # -- the table of statuses
 
     def words(self):
-        asked_for_help = self.run(["--help"])
-        self.count(asked_for_help.status == 0 and asked_for_help.out and not asked_for_help.err, "--help")
         for words in [
             [], ["sell"], ["file", "x"], ["inbreeding", "--workers", "17"], ["inbreeding", "--workers", "0"],
             ["inbreeding", "--block", "0"], ["inbreeding", "--block", "60001"], ["inbreeding", "--workers", "many"],
@@ -216,7 +324,7 @@ class Checks:
 
     def failing_writes(self):
         text = SMALL
-        for words in [*each_order(), ["--help"], ["mating", "--help"]]:
+        for words in [*each_order(), ["--help"], ["mating", "--help"], ["--version"]]:
             with open("/dev/full", "wb") as full:
                 self.expect("a full disk", fault("write fault"), words, text, out=full)
                 wanted = self.run(words, text)
@@ -269,7 +377,7 @@ class Checks:
             refused = self.until_none("growth", words, SMALL, {"REFUSE": "growth"}, is_right(words[0]))
             self.count(refused, f"no growth was refused: {words}")
             self.until_none("all growths from", words, SMALL, {"REFUSE": "growth", "REFUSE_LAST": 1 << 40}, is_right(words[0]))
-        for words in ["--help"], ["clerks", "--help"], ["inbreeding", "--workers", "17"], ["certificate", "M"], [b"\xff"], []:
+        for words in ["--help"], ["clerks", "--help"], ["--version"], ["inbreeding", "--workers", "17"], ["certificate", "M"], [b"\xff"], []:
             self.until_none("growth", words, "", {"REFUSE": "growth"}, is_right(""))
 
     def refused_reads(self):
@@ -305,6 +413,12 @@ class Checks:
                 began = done.status in (0, 1) and not done.err.startswith(b"error while loading")
                 right = done == wanted or not began or is_fault(words[0], wanted, done, faults)
                 self.count(right or b"libc" in done.err or done.status < 0 and kilobytes < 4_000, f"{kilobytes} kB: {words}: {done}")
+
+
+def inverse_entry(text, row, column):
+    """An entry of the inverse: what the animals add to it, summed up."""
+    parts = (line.split(",") for line in text.splitlines())
+    return sum(fractions.Fraction(value) for _, r, c, value in parts if {r, c} == {row, column})
 
 
 class Folder:
@@ -354,7 +468,7 @@ def main(program):
         subprocess.run(["cc", "-O1", "-shared", "-fPIC", "-o", f"{room}/refuse.so", TOP / "tests/refuse.c", "-ldl"], check=True)
         checks = Checks(program, room)
         for group in [
-            checks.readme, checks.orders, checks.clerks, checks.words, checks.wrong_numbers, checks.line_faults, checks.other_statuses,
+            checks.readme, checks.examples, checks.help, checks.orders, checks.clerks, checks.words, checks.wrong_numbers, checks.line_faults, checks.other_statuses,
             checks.failing_writes, checks.refused_growths, checks.refused_reads, checks.refused_writes, checks.refused_threads,
             checks.little_memory,
         ]:  # fmt: skip
