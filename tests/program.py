@@ -380,6 +380,22 @@ class Checks:
         for words in ["--help"], ["clerks", "--help"], ["--version"], ["inbreeding", "--workers", "17"], ["certificate", "M"], [b"\xff"], []:
             self.until_none("growth", words, "", {"REFUSE": "growth"}, is_right(""))
 
+    def refused_growths_before_a_line_fault(self):
+        """A line fault is told before a want of memory while filing: once a file is read, no refused growth hides it."""
+        for words in each_order()[1:]:
+            reading = False
+
+            def is_right(wanted, done):
+                nonlocal reading
+                if done == fault("no memory"):
+                    return not reading
+                is_refused = is_fault(words[0], wanted, done, [r"record (\d+): fault 13 Memory"])
+                reading |= is_refused
+                return is_refused or done == wanted
+
+            self.until_none("growth before a line fault", words, SMALL + "birth\n", {"REFUSE": "growth"}, is_right)
+            self.count(reading, f"the file was never read: {words}")
+
     def refused_reads(self):
         for words in each_order():
             right = lambda wanted, done: is_fault(words[0], wanted, done, [r"record (\d+): fault 11 Read"])
@@ -469,7 +485,7 @@ def main(program):
         checks = Checks(program, room)
         for group in [
             checks.readme, checks.examples, checks.help, checks.orders, checks.clerks, checks.words, checks.wrong_numbers, checks.line_faults, checks.other_statuses,
-            checks.failing_writes, checks.refused_growths, checks.refused_reads, checks.refused_writes, checks.refused_threads,
+            checks.failing_writes, checks.refused_growths, checks.refused_growths_before_a_line_fault, checks.refused_reads, checks.refused_writes, checks.refused_threads,
             checks.little_memory,
         ]:  # fmt: skip
             before = checks.passed, checks.failed
