@@ -1,1 +1,2 @@
 mod FounderFacts
+mod EndFacts

@@ -1,2 +1,3 @@
 pub mod Founders
+pub mod Race
 pub mod Task

@@ -2,7 +2,7 @@
 use Rattle.std.specs.Prelude.{◌≡◌, ℕ, ◌<◌, ◌≤◌, ◌^◌, List, slice_get, codes, Some}
 use Rattle.std.specs.Str.Parse.{IsNumeral, digits_value, without_leading_plus}
 use Rattle.office_timing.specs.declared.task.Task.{Task}
-use Rattle.office_timing.specs.declared.task.Task.TheVariants.{Births, Beside}
+use Rattle.office_timing.specs.declared.task.Task.TheVariants.{Births, Beside, Races}
 
 -- the word is a number below 2 ^ 32 in decimal
 pub record Writes (word : List ℕ) (number : ℕ) : Type 0 where
@@ -21,8 +21,10 @@ AsksFor words (Births births desks inspectors) =
     (slice_get words 1 ≡ Some (codes "births")) × HasNumber words 2 births × HasNumber words 3 desks × HasNumber words 4 inspectors
 AsksFor words (Beside before births inspectors) =
     (slice_get words 1 ≡ Some (codes "beside")) × HasNumber words 2 before × HasNumber words 3 births × HasNumber words 4 inspectors
+AsksFor words (Races times) = (slice_get words 1 ≡ Some (codes "races")) × HasNumber words 2 times
 
 -- as many desks and inspectors as the program takes
 abbrev pub IsWithin : Task → Type 0
 IsWithin (Births births desks inspectors) = (1 ≤ desks) × (desks ≤ 16) × (inspectors ≤ 15)
 IsWithin (Beside before births inspectors) = inspectors ≤ 1
+IsWithin (Races times) = Unit {0}

@@ -20,6 +20,10 @@ pub enum Task {
         births: u32,
         inspectors: u16,
     },
+    /// Each race of desks so many times.
+    Races {
+        times: u32,
+    },
 }
 
 impl Task {
@@ -28,7 +32,7 @@ impl Task {
         ensures asked { IfOk result (AsksFor (map string_bytes words.now)) }
         ensures within { IfOk result IsWithin }
     {
-        let task = words.get(1).context("births or beside?")?;
+        let task = words.get(1).context("births, beside or races?")?;
         match task.as_str() {
             "births" => Ok(Task::Births {
                 births: number(words, 2)?,
@@ -40,7 +44,10 @@ impl Task {
                 births: number(words, 3)?,
                 inspectors: within(words, 4, 0, 1)?,
             }),
-            _ => bail!("births or beside?"),
+            "races" => Ok(Task::Races {
+                times: number(words, 2)?,
+            }),
+            _ => bail!("births, beside or races?"),
         }
     }
 }

@@ -1,0 +1,105 @@
+//! The animals, days and herds of the races.
+
+ghost use Rattle.std.specs.Prelude.{◌≡◌, None, false};
+ghost use Rattle.herd_pedigree.specs.Book.{with_owner};
+ghost use Rattle.herd_register.specs.Run.{newborn};
+
+use anyhow::Result;
+use herd_animal::{AnimalNumber, Day, Herd};
+use herd_pedigree::Animal;
+use herd_register::Command;
+
+/// Who and what the races are about.
+#[derive(Clone, Copy, Debug, PartialEq, Eq)]
+pub struct Cast {
+    pub bull: AnimalNumber,
+    pub cow: AnimalNumber,
+    /// A young bull.
+    pub calf: AnimalNumber,
+    /// A cow's calf that isn't in the book before the race.
+    pub heifer: AnimalNumber,
+    /// Another bull and another cow.
+    pub second_bull: AnimalNumber,
+    pub second_cow: AnimalNumber,
+    /// The day on which bull and cow are born.
+    pub old: Day,
+    /// The calf's.
+    pub young: Day,
+    pub sale: Day,
+    pub leaving: Day,
+    /// The heifer's, the day after.
+    pub calving: Day,
+    pub herd: Herd,
+    /// Herds to which the bull is sold.
+    pub second: Herd,
+    pub third: Herd,
+}
+
+impl Cast {
+    /// Animals that end with 1 to 6, and herds 1, 2 and 3.
+    pub fn new() -> Result<Cast> {
+        Ok(Cast {
+            bull: AnimalNumber::parse(b"HOLGBRM000000000001")?,
+            cow: AnimalNumber::parse(b"HOLGBRF000000000002")?,
+            calf: AnimalNumber::parse(b"HOLGBRM000000000003")?,
+            heifer: AnimalNumber::parse(b"HOLGBRF000000000004")?,
+            second_bull: AnimalNumber::parse(b"HOLGBRM000000000005")?,
+            second_cow: AnimalNumber::parse(b"HOLGBRF000000000006")?,
+            old: Day::parse(b"2000-01-01")?,
+            young: Day::parse(b"2002-01-01")?,
+            sale: Day::parse(b"2001-05-01")?,
+            leaving: Day::parse(b"2003-03-01")?,
+            calving: Day::parse(b"2003-03-02")?,
+            herd: Herd::parse(b"1")?,
+            second: Herd::parse(b"2")?,
+            third: Herd::parse(b"3")?,
+        })
+    }
+
+    /// The births of bull, cow and calf, without parents.
+    pub fn founders(&self) -> [Command; 3] {
+        [
+            self.birth(self.bull, self.old, None),
+            self.birth(self.cow, self.old, None),
+            self.birth(self.calf, self.young, None),
+        ]
+    }
+
+    /// A birth of which the sire isn't known.
+    pub fn birth(&self, animal: AnimalNumber, day: Day, dam: Option<AnimalNumber>) -> Command {
+        Command::Birth {
+            animal,
+            day,
+            sire: None,
+            dam,
+            herd: self.herd,
+            embryo: false,
+        }
+    }
+
+    /// The record of an animal born on the day, before any change of it.
+    pub fn record(&self, day: Day) -> Animal
+        ensures { result ≡ newborn day None None self.now.herd false }
+    {
+        Animal {
+            birth: day,
+            sire: None,
+            dam: None,
+            embryo: false,
+            herd: self.herd,
+            since: day,
+            left: None,
+        }
+    }
+
+    /// The record of an animal once it is sold to the herd.
+    pub fn sold(&self, animal: &Animal, herd: Herd) -> Animal
+        ensures { result ≡ with_owner herd self.now.sale animal.now }
+    {
+        Animal {
+            herd,
+            since: self.sale,
+            ..*animal
+        }
+    }
+}
