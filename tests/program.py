@@ -27,6 +27,20 @@ BOOKS = [TOP / "examples" / name for name in ("first.csv", "ayrshire.csv")]
 HEADER = "kind,animal,day,sire,dam,from,to\n"
 SECONDS = 60
 
+RACES = [
+    "a calf gets its sire, then its dam",
+    "a calf gets its dam, then its sire",
+    "a cow leaves, then her calf is refused",
+    "a cow calves, then her leaving is refused",
+    "a bull goes to herd 2, then not to herd 3",
+    "a bull goes to herd 3, then not to herd 2",
+    "one birth at sixteen desks: accepted once",
+    "three of six births fit, none from desk 1",
+    "three of six births fit, one from desk 1",
+    "three of six births fit, two from desk 1",
+    "three of six births fit, all from desk 1",
+]
+
 # The texts of the README's table, and the check that provokes each here.
 TEXTS = {
     "herdbook: record ENTRY: fault CAUSE NAME": "line_faults",
@@ -77,6 +91,15 @@ def full_sibs(generations):
         for sex, number in (("M", 2 * one + 1), ("F", 2 * one + 2)):
             lines.append(f"birth,{animal(sex, number)},{2000 + one}-01-01,{parents[0]},{parents[1]},,1\n")
     return "".join(lines)
+
+
+def sire_lines(generations):
+    """Two lines of sires, each a son of the one before: a line has the odd numbers, the other the even ones."""
+    text = HEADER
+    for one in range(1, 2 * generations + 1):
+        sire = animal("M", one - 2) if one > 2 else ""
+        text += f"birth,{animal('M', one)},{1950 + one}-01-01,{sire},,,1\n"
+    return text
 
 
 class Checks:
@@ -227,6 +250,7 @@ class Checks:
             wanted = wrote(reference.clerks(text, desks, 1_000_000))
             self.expect(name, wanted, ["clerks", "--desks", str(desks), *everything], text)
         self.expect(name, wrote(reference.clerks(text, 2, 1_000_000)), ["clerks", *everything], text)
+        self.expect(name, wrote(reference.clerks(text, 1)), ["clerks", "--desks", "1"], text)
 
     def clerks(self):
         # founders are accepted in any order
@@ -236,6 +260,13 @@ class Checks:
                 for base in 0, 1, 2, 10, 1_000_000:
                     wanted = wrote(reference.clerks(text, desks, base))
                     self.expect("clerks", wanted, ["clerks", "--desks", str(desks), "--base", str(base)], text)
+        # the calves of two founders are accepted in any order once the founders are filed
+        calves = "".join(f"birth,{animal('F', calf)},2002-01-01,{animal('M', 1)},{animal('F', 2)},,1\n" for calf in range(3, 43))
+        text = HEADER + founder(animal("M", 1)) + founder(animal("F", 2)) + calves
+        self.expect("clerks of calves", wrote(reference.clerks(text, 4, 2)), ["clerks", "--desks", "4", "--base", "2"], text)
+        # two lines of sires, dealt in turn to two desks: each desk files a line in its order
+        text = sire_lines(30)
+        self.expect("clerks of two lines", wrote(reference.clerks(text, 2)), ["clerks", "--desks", "2"], text)
         one_number = HEADER + founder(animal("M", 1)) * 16
         self.expect("clerks of one birth", wrote(reference.clerks(one_number, 16)), ["clerks", "--desks", "16"], one_number)
 
@@ -262,8 +293,10 @@ class Checks:
         example = re.search(r"(?m)^Example:\n  herdbook (.*) < book.csv$", text)
         statuses = re.findall(r"(?m)^  (\d)  ", text.partition("Status:")[2])
         self.count(statuses == ["0", "1", "2"], f"help: {order}: the statuses {statuses}")
-        done = example and self.run(shlex.split(example.group(1)), full_sibs(3))
-        self.count(done and done.status == 0 and done.out, f"help: {order}: its example: {done}")
+        words = shlex.split(example.group(1)) if example else [""]
+        self.count(words[0] == (order or ["file"])[0], f"help: {order}: the example of another: {words}")
+        done = self.run(words, full_sibs(3))
+        self.count(done.status == 0 and done.out, f"help: {order}: its example: {done}")
 
     # -- the table of statuses
 
@@ -368,9 +401,8 @@ class Checks:
 
     def refused_growths(self):
         def is_right(order):
-            faults = [r"no memory", r"record (\d+): fault 13 Memory"]
+            faults = [r"no memory", while_reading(order)]
             faults += ["no thread"] if order in ("inbreeding", "clerks") else []
-            faults += ["no reader's place"] if order == "clerks" else []
             return lambda wanted, done: done == wanted or is_fault(order, wanted, done, faults)
 
         for words in each_order():
@@ -383,18 +415,21 @@ class Checks:
     def refused_growths_before_a_line_fault(self):
         """A line fault is told before a want of memory while filing: once a file is read, no refused growth hides it."""
         for words in each_order()[1:]:
-            reading = False
+            reading = told = False
 
             def is_right(wanted, done):
-                nonlocal reading
+                nonlocal reading, told
                 if done == fault("no memory"):
                     return not reading
-                is_refused = is_fault(words[0], wanted, done, [r"record (\d+): fault 13 Memory"])
+                is_refused = is_fault(words[0], wanted, done, [while_reading(words[0])])
                 reading |= is_refused
+                told |= reading and done == wanted
                 return is_refused or done == wanted
 
             self.until_none("growth before a line fault", words, SMALL + "birth\n", {"REFUSE": "growth"}, is_right)
             self.count(reading, f"the file was never read: {words}")
+            # but for clerks, who file nothing of such a file, growths were refused while filing
+            self.count(told or words[0] == "clerks", f"the line fault was never told: {words}")
 
     def refused_reads(self):
         for words in each_order():
@@ -411,6 +446,16 @@ class Checks:
         for words in ["sell"], ["certificate", "M"], ["certificate", animal("M", 9)]:
             kept = lambda wanted, done: (done.status, done.out) == (wanted.status, wanted.out)
             self.count(self.until_none("told", words, SMALL, {"REFUSE": "told"}, kept), f"nothing was told: {words}")
+
+    def races(self):
+        """The program of the office's timing runs each of its races three times."""
+        timing = Checks(TOP / "crates/office_timing/out/office_timing", self.room)
+        done = timing.run(["races", "3"])
+        lines = [line.rpartition(" ") for line in done.out.decode().splitlines()]
+        self.count(done.status == 0 and [text for text, _, _ in lines] == RACES, f"races: {done}")
+        counts = [int(count) for _, _, count in lines]
+        sums = [sum(counts[:2]), sum(counts[2:4]), sum(counts[4:6]), counts[6], sum(counts[7:])]
+        self.count(sums == [3] * 5, f"races: {done}")
 
     def refused_threads(self):
         right = lambda wanted, done: done == fault("no thread")
@@ -463,6 +508,11 @@ def each_order():
     ]
 
 
+def while_reading(order):
+    """A growth that is refused while a record is read. `csv`'s buffers grow in the first records; `clerks` keep a list too."""
+    return r"record (\d+): fault 13 Memory" if order == "clerks" else r"record ([0-3]): fault 13 Memory"
+
+
 def is_fault(order, wanted, done, faults):
     """One of these faults is told, and what was written is what is allowed before it."""
     told = re.fullmatch("herdbook: (.*)\n", done.err.decode(errors="replace"))
@@ -486,7 +536,7 @@ def main(program):
         for group in [
             checks.readme, checks.examples, checks.help, checks.orders, checks.clerks, checks.words, checks.wrong_numbers, checks.line_faults, checks.other_statuses,
             checks.failing_writes, checks.refused_growths, checks.refused_growths_before_a_line_fault, checks.refused_reads, checks.refused_writes, checks.refused_threads,
-            checks.little_memory,
+            checks.little_memory, checks.races,
         ]:  # fmt: skip
             before = checks.passed, checks.failed
             try:
