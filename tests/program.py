@@ -4,7 +4,7 @@
 It runs the examples of the README as they stand there, the script and the recipes of `examples/`, each order on the
 sample books beside `reference.py`, help and its examples, each status and text of the README's table, and then each
 order on a small book with the nth growth of memory, read, write or start of a thread refused (`refuse.c`), for n from 1
-until a run meets no refusal. The last line is `N passed, M failed`; the status is 1 if anything failed.
+until a run meets no refusal; and the races of `office_timing`, which the gate built too. The last line is `N passed, M failed`; the status is 1 if anything failed.
 """
 import concurrent.futures
 import csv
