@@ -2,6 +2,12 @@
 use Rattle.std.specs.Prelude.{◌≡◌, ℕ, max, List, length, Option, Some, None}
 use Rattle.std.specs.Io.KnownBytes.{Appends}
 use Rattle.herd_register.specs.declared.limits.Limits.{Limits}
+use Rattle.herd_register.specs.declared.file_fault.FileFault.{FileFault}
+use Rattle.herd_register.specs.declared.file_fault.FileFault.TheVariants as filing
+use Rattle.herd_office.specs.declared.faults.OpenFault.{OpenFault}
+use Rattle.herd_office.specs.declared.faults.OpenFault.TheVariants as opening
+use Rattle.herd_office.specs.declared.faults.FreezeFault.{FreezeFault}
+use Rattle.herd_office.specs.declared.faults.FreezeFault.TheVariants as freezing
 use Rattle.herd_report.specs.CommandFile.{CommandFile, IsRead}
 use Rattle.herd_report.specs.Output.{AppendsFront}
 use Rattle.herd_report.specs.declared.line_fault.LineFault.{LineFault}
@@ -11,6 +17,22 @@ use Rattle.herd_register.specs.declared.command.Command.{Command}
 use Rattle.herdbook.specs.Summary.{TellsOf}
 use Rattle.herdbook.specs.declared.clerk_fault.ClerkFault.{ClerkFault}
 use Rattle.herdbook.specs.declared.clerk_fault.ClerkFault.TheVariants as clerk
+
+-- the fault of clerks for one of opening an office
+abbrev pub fault_of_opening : OpenFault → ClerkFault
+fault_of_opening opening.Memory = clerk.Memory
+fault_of_opening opening.NoPlace = clerk.NoPlace
+
+-- the same for one of filing
+abbrev pub fault_of_filing : FileFault → ClerkFault
+fault_of_filing filing.JournalFull = clerk.NoPlace
+fault_of_filing filing.Memory = clerk.Memory
+fault_of_filing filing.NoReading = clerk.NoPlace
+
+-- the same for one of freezing
+abbrev pub fault_of_freezing : FreezeFault → ClerkFault
+fault_of_freezing freezing.Memory = clerk.Memory
+fault_of_freezing freezing.NoReading = clerk.NoPlace
 
 -- the fault of a run for one of clerks
 abbrev pub told_of : ClerkFault → RunFault

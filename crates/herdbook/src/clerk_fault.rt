@@ -1,6 +1,7 @@
 //! Why clerks end early.
 ghost use Rattle.std.specs.Prelude.{◌≡◌};
-ghost use Rattle.herdbook.specs.Clerks.{told_of};
+ghost use Rattle.herdbook.specs.Clerks.{fault_of_filing, fault_of_freezing, fault_of_opening, told_of};
+ghost use Rattle.herdbook.specs.declared.clerk_fault.ClerkFault.TheVariants.{Memory};
 
 use herd_office::{FreezeFault, OpenFault};
 use herd_register::FileFault;
@@ -32,12 +33,16 @@ impl ClerkFault {
 }
 
 impl From<AllocError> for ClerkFault {
+    ghost from_gives = { λ _ told. told ≡ Memory };
+
     fn from(_refused: AllocError) -> ClerkFault {
         ClerkFault::Memory
     }
 }
 
 impl From<OpenFault> for ClerkFault {
+    ghost from_gives = { λ fault told. told ≡ fault_of_opening fault };
+
     fn from(fault: OpenFault) -> ClerkFault {
         match fault {
             OpenFault::Memory => ClerkFault::Memory,
@@ -47,6 +52,8 @@ impl From<OpenFault> for ClerkFault {
 }
 
 impl From<FileFault> for ClerkFault {
+    ghost from_gives = { λ fault told. told ≡ fault_of_filing fault };
+
     fn from(fault: FileFault) -> ClerkFault {
         match fault {
             FileFault::Memory => ClerkFault::Memory,
@@ -56,6 +63,8 @@ impl From<FileFault> for ClerkFault {
 }
 
 impl From<FreezeFault> for ClerkFault {
+    ghost from_gives = { λ fault told. told ≡ fault_of_freezing fault };
+
     fn from(fault: FreezeFault) -> ClerkFault {
         match fault {
             FreezeFault::Memory => ClerkFault::Memory,
