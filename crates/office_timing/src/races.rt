@@ -1,11 +1,12 @@
 //! Races that are run many times over, and how often they ended in which way.
 
-ghost use Rattle.std.specs.Prelude.{◌≡◌, ◌+◌, ◌≤◌, [], ◌∷◌, true, IfOk};
+ghost use Rattle.std.specs.Prelude.{◌≡◌, ◌+◌, ◌^◌, ◌<◌, ◌≤◌, [], ◌∷◌, true, IfOk};
 ghost use Rattle.std.specs.List.{All};
 ghost use Rattle.herd_office.specs.Histories.{of_desk};
 ghost use Rattle.herd_register.specs.declared.reply.Refusal.TheVariants.{AlreadyThere};
 ghost use Rattle.herd_register.specs.declared.reply.Reply.TheVariants.{Accepted, Refused};
 ghost use Rattle.office_timing.specs.Race.{IsBornOnce, IsEndOf, IsFilled, animal_of, end_of};
+ghost use Rattle.office_timing.specs.declared.duel.First.TheVariants.{One, Two};
 
 use crate::cast::Cast;
 use crate::duel::{Duel, End, First};
@@ -24,6 +25,21 @@ pub struct Firsts {
     pub two: u32,
 }
 
+impl Firsts {
+    /// Counts a race in which the command of this desk came first.
+    pub fn count(&mut self, first: First)
+        requires fits { self.old.one + self.old.two + 1 < 2 ^ 32 }
+        ensures one { first ≡ One → self.new ≡ record self.old { one = self.old.one + 1 } }
+        ensures two { first ≡ Two → self.new ≡ record self.old { two = self.old.two + 1 } }
+        ensures total { self.new.one + self.new.two ≡ self.old.one + self.old.two + 1 }
+    {
+        match first {
+            First::One => self.one += 1,
+            First::Two => self.two += 1,
+        }
+    }
+}
+
 /// Runs a race of two desks so many times. Each of them ended as it may.
 pub fn duels<R: Threads + Wait + Sync>(
     rt: &R,
@@ -37,10 +53,7 @@ pub fn duels<R: Threads + Wait + Sync>(
     let plan = Plan::of_duel(alloc, duel, &cast)?;
     let mut firsts = Firsts { one: 0, two: 0 };
     for _race in 0..times {
-        match first_of(duel, &cast, &run_race(rt, alloc, &plan)?)? {
-            First::One => firsts.one += 1,
-            First::Two => firsts.two += 1,
-        }
+        firsts.count(first_of(duel, &cast, &run_race(rt, alloc, &plan)?)?);
     }
     Ok(firsts)
 }
@@ -63,10 +76,17 @@ pub fn births<R: Threads + Wait + Sync>(rt: &R, alloc: Global, times: u32) -> Re
     let cast = Cast::new()?;
     let plan = Plan::of_birth(alloc, &cast)?;
     for _ in 0..times {
-        let raced = run_race(rt, alloc, &plan)?;
-        if !is_born_once(raced.register.journal()) {
-            bail!("one birth at sixteen desks that wasn't accepted just once");
-        }
+        born_once(&run_race(rt, alloc, &plan)?)?;
+    }
+    Ok(())
+}
+
+// An error, unless the birth was accepted just once.
+fn born_once(raced: &Raced) -> Result<()>
+    ensures { IfOk result (λ _. IsBornOnce raced.now.register.journal) }
+{
+    if !is_born_once(raced.register.journal()) {
+        bail!("one birth at sixteen desks that wasn't accepted just once");
     }
     Ok(())
 }
@@ -100,6 +120,26 @@ pub struct Shares {
     pub three: u32,
 }
 
+impl Shares {
+    /// Counts a race in which so many of the three steps were filed at desk 1.
+    pub fn count(&mut self, steps: usize)
+        requires few { steps ≤ 3 }
+        requires fits { self.old.none + self.old.one + self.old.two + self.old.three + 1 < 2 ^ 32 }
+        ensures none { steps ≡ 0 → self.new ≡ record self.old { none = self.old.none + 1 } }
+        ensures one { steps ≡ 1 → self.new ≡ record self.old { one = self.old.one + 1 } }
+        ensures two { steps ≡ 2 → self.new ≡ record self.old { two = self.old.two + 1 } }
+        ensures three { steps ≡ 3 → self.new ≡ record self.old { three = self.old.three + 1 } }
+        ensures total { self.new.none + self.new.one + self.new.two + self.new.three ≡ self.old.none + self.old.one + self.old.two + self.old.three + 1 }
+    {
+        match steps {
+            0 => self.none += 1,
+            1 => self.one += 1,
+            2 => self.two += 1,
+            _ => self.three += 1,
+        }
+    }
+}
+
 /// Runs the race of two desks for three steps that fit so many times. Each time three of six births were filed.
 pub fn rooms<R: Threads + Wait + Sync>(rt: &R, alloc: Global, times: u32) -> Result<Shares>
     ensures { IfOk result (λ shares. shares.none + shares.one + shares.two + shares.three ≡ times) }
@@ -113,12 +153,7 @@ pub fn rooms<R: Threads + Wait + Sync>(rt: &R, alloc: Global, times: u32) -> Res
         three: 0,
     };
     for _race in 0..times {
-        match steps_of_one(&run_race(rt, alloc, &plan)?)? {
-            0 => shares.none += 1,
-            1 => shares.one += 1,
-            2 => shares.two += 1,
-            _ => shares.three += 1,
-        }
+        shares.count(steps_of_one(&run_race(rt, alloc, &plan)?)?);
     }
     Ok(shares)
 }
