@@ -4,7 +4,7 @@
 use crate::cast::Cast;
 use crate::duel::{Duel, End, First};
 use crate::filing::Told;
-use crate::races::{births, duels, rooms};
+use crate::races::{Firsts, Shares, births, duels, rooms};
 use crate::task::Task;
 use crate::{crowded, timed};
 use herd_register::{Refusal, Reply};
@@ -73,6 +73,47 @@ fn a_race_that_ended_otherwise_is_seen(rt: HostRuntime) -> Result<(), Fail> {
     assert_eq!(rt; Duel::Calving.first(&cast, &gone), Some(First::One));
     gone.later = Reply::Accepted;
     assert_eq!(rt; Duel::Calving.first(&cast, &gone), None);
+    Ok(())
+}
+
+#[test]
+fn the_desk_that_came_first_is_counted(rt: HostRuntime) -> Result<(), Fail> {
+    let mut firsts = Firsts { one: 5, two: 7 };
+    firsts.count(First::One);
+    assert_eq!(rt; firsts, Firsts { one: 6, two: 7 });
+    firsts.count(First::Two);
+    assert_eq!(rt; firsts, Firsts { one: 6, two: 8 });
+    Ok(())
+}
+
+#[test]
+fn the_steps_of_desk_1_are_counted(rt: HostRuntime) -> Result<(), Fail> {
+    let mut shares = Shares {
+        none: 1,
+        one: 2,
+        two: 3,
+        three: 4,
+    };
+    shares.count(0);
+    assert_eq!(rt;
+        (shares.none, shares.one, shares.two, shares.three),
+        (2, 2, 3, 4)
+    );
+    shares.count(1);
+    assert_eq!(rt;
+        (shares.none, shares.one, shares.two, shares.three),
+        (2, 3, 3, 4)
+    );
+    shares.count(2);
+    assert_eq!(rt;
+        (shares.none, shares.one, shares.two, shares.three),
+        (2, 3, 4, 4)
+    );
+    shares.count(3);
+    assert_eq!(rt;
+        (shares.none, shares.one, shares.two, shares.three),
+        (2, 3, 4, 5)
+    );
     Ok(())
 }
 
