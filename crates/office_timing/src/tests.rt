@@ -117,6 +117,16 @@ fn the_steps_of_desk_1_are_counted(rt: HostRuntime) -> Result<(), Fail> {
     Ok(())
 }
 
+// Three herds differ, so the bull's two buyers can be told apart, and from the herd that sells.
+#[test]
+fn the_herds_of_the_cast_differ(rt: HostRuntime) -> Result<(), Fail> {
+    let cast = Cast::new()?;
+    assert!(rt; cast.herd != cast.second);
+    assert!(rt; cast.herd != cast.third);
+    assert!(rt; cast.second != cast.third);
+    Ok(())
+}
+
 fn read(alloc: Global, words: &[&str]) -> Result<Option<Task>, AllocError> {
     let mut owned = Vec::new(alloc);
     for word in words {
