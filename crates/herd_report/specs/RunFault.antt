@@ -5,6 +5,7 @@ use Rattle.herd_pool.specs.declared.pool_fault.PoolFault.TheVariants as pool
 use Rattle.herd_register.specs.declared.limits.Limits.{Limits}
 use Rattle.herd_report.specs.CommandFile.{CommandFile, IsReadUpTo}
 use Rattle.herd_report.specs.Output.{AppendsFront}
+use Rattle.herd_report.specs.declared.line_fault.LineFault.{LineFault}
 use Rattle.herd_report.specs.declared.report_fault.ReportFault.{ReportFault}
 use Rattle.herd_report.specs.declared.report_fault.ReportFault.TheVariants as report
 use Rattle.herd_report.specs.declared.run_fault.RunFault.{RunFault}
@@ -18,6 +19,15 @@ run_fault_of report.NotRegistered = NotRegistered
 abbrev pub run_fault_of_pool : PoolFault → RunFault
 run_fault_of_pool pool.NoThread = NoThread
 run_fault_of_pool pool.Memory = Memory
+
+-- where it is a line fault, that passes a test
+abbrev pub IfLine : RunFault → (LineFault → Type 0) → Type 0
+IfLine (Line fault) Passes = Passes fault
+IfLine NotRegistered Passes = ⊤
+IfLine NoThread Passes = ⊤
+IfLine Memory Passes = ⊤
+IfLine Write Passes = ⊤
+IfLine NoPlace Passes = ⊤
 
 -- a fault of reading and filing
 abbrev pub CanEndFreezing : RunFault → Type 0

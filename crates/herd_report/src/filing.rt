@@ -1,12 +1,14 @@
 // Filing commands in a register, one after the other at desk 0.
 ghost use Rattle.std.specs.Prelude.{◌≡◌, ◌<◌, List, [], IfErr, IfOk, IfSome, OnErr, OnOk, length};
+ghost use Rattle.csv.specs.Reading.{has_failed};
 ghost use Rattle.herd_register.specs.Register.{AreLimits, book_of, with_step};
 ghost use Rattle.herd_register.specs.Run.{answer, commands_of, step_of};
 ghost use Rattle.herd_register.specs.declared.command.Command.{Command};
 ghost use Rattle.herd_report.specs.CommandFile.{CommandFile, IsRead, IsReadUpTo, commands};
 ghost use Rattle.herd_report.specs.CommandReader.{HasGiven, IsReady};
+ghost use Rattle.herd_report.specs.LineCause.{is_interruption};
 ghost use Rattle.herd_report.specs.Run.{HasFiled, IsFiledFile};
-ghost use Rattle.herd_report.specs.RunFault.{CanEndFreezing, EndsFreezing};
+ghost use Rattle.herd_report.specs.RunFault.{CanEndFreezing, EndsFreezing, IfLine};
 
 use crate::command_reader::CommandReader;
 use crate::line_fault::LineFault;
@@ -57,15 +59,33 @@ pub(crate) fn file_faultless<R: Read + Drop>(
         (λ bytes. EndsFreezing limits (commands bytes limits.steps) fault)) }
     ensures fault { IfErr result CanEndFreezing }
 {
+    match CommandReader::open(alloc, reader, limits.steps) {
+        Ok(mut commands) => file_whole(alloc, limits, &mut commands),
+        Err(fault) => Err(RunFault::Line(fault)),
+    }
+}
+
+// Files what a reader gives. Once memory is refused, the rest is read and not filed.
+fn file_whole<R: Read>(
+    alloc: Global,
+    limits: Limits,
+    commands: &mut CommandReader<R>,
+) -> Result<Register<Global>, RunFault>
+    requires limits { AreLimits limits }
+    requires ready { IsReady limits.steps 0 commands.old }
+    ensures ok { IfOk result (λ register. (file : CommandFile) → HasGiven R.remaining file [] commands.old
+        → IsFiledFile limits file register) }
+    ensures err { IfErr result (λ fault. (file : CommandFile) → HasGiven R.remaining file [] commands.old
+        → EndsFreezing limits file fault) }
+    ensures fault { IfErr result CanEndFreezing }
+    ensures interrupted { IfErr result (λ fault. IfLine fault
+        (λ line. is_interruption line.cause ≡ has_failed commands.new.records)) }
+{
     let mut register = Register::new(alloc, limits);
-    let mut commands = match CommandReader::open(alloc, reader, limits.steps) {
-        Ok(commands) => commands,
-        Err(fault) => return Err(RunFault::Line(fault)),
-    };
-    match file_each(&mut commands, &mut register) {
+    match file_each(commands, &mut register) {
         Ok(None) => Ok(register),
         Ok(Some(fault)) => Err(RunFault::Line(fault)),
-        Err(AllocError) => match fault_of_rest(&mut commands) {
+        Err(AllocError) => match fault_of_rest(commands) {
             Some(fault) => Err(RunFault::Line(fault)),
             None => Err(RunFault::Memory),
         },
@@ -81,6 +101,8 @@ fn file_each<R: Read>(
     requires empty { register.old.journal ≡ [] }
     ensures file { IfOk result (λ fault. (file : CommandFile) → HasGiven R.remaining file [] commands.old
         → IsRead register.old.limits.steps file (commands_of register.new.journal) fault) }
+    ensures interrupted { IfOk result (λ found. IfSome found
+        (λ fault. is_interruption fault.cause ≡ has_failed commands.new.records)) }
     ensures filed { OnOk result (HasFiled register.old.limits (commands_of register.new.journal) register.new) }
     ensures some { OnErr result ((file : CommandFile) → HasGiven R.remaining file [] commands.old → 0 < length file.commands) }
     ensures ready { OnErr result (IsReady register.old.limits.steps commands.new.given commands.new) }
@@ -99,8 +121,9 @@ fn file_each<R: Read>(
 // The first fault in the rest of a file, which is read and not filed.
 fn fault_of_rest<R: Read>(commands: &mut CommandReader<R>) -> Option<LineFault>
     requires { IsReady commands.old.most commands.old.given commands.old }
-    ensures { (file : CommandFile) → (list : List Command) → HasGiven R.remaining file list commands.old
+    ensures file { (file : CommandFile) → (list : List Command) → HasGiven R.remaining file list commands.old
         → IsReadUpTo commands.old.most file result }
+    ensures interrupted { IfSome result (λ fault. is_interruption fault.cause ≡ has_failed commands.new.records) }
 {
     loop {
         match commands.next_command() {
