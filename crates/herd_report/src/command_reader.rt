@@ -68,6 +68,7 @@ impl<R: Read> CommandReader<R> {
         ensures gives { (file : CommandFile) → (list : List Command) → HasGiven R.remaining file list self.old
             → Gives R.remaining self.old.most file list self.new result }
         ensures entry { IfErr result (λ fault. fault.entry ≡ self.old.given + 1) }
+        ensures given { IfErr result (λ _. self.new.given ≡ self.old.given) }
         ensures interrupted { IfErr result (λ fault. is_interruption fault.cause ≡ has_failed self.new.records) }
         ensures one { IfErr result (λ fault. is_interruption fault.cause ≡ false
             → ReadsOne (upcoming R.remaining self.old.records) (upcoming R.remaining self.new.records)) }
@@ -88,6 +89,7 @@ impl<R: Read> CommandReader<R> {
         requires { IsReady self.old.most self.old.given self.old }
         ensures version { self.new.version ≡ self.old.version }
         ensures most { self.new.most ≡ self.old.most }
+        ensures given { self.new.given ≡ self.old.given }
         ensures set_up { IfOk result (λ next. IfSome next (λ _. IsSetUp self.new.records)) }
         ensures room { IfOk result (λ next. IfSome next (λ _. self.old.given < self.old.most)) }
         ensures takes { TakesNext self.old.version self.old.most (self.old.given + 1)
