@@ -3,9 +3,9 @@
 
     command_file.py [--breed HOL] [--country GBR] [--founders 1900-01-01] [--map FILE] [--herds FILE] < society.csv > book.csv
 
-The spreadsheet is a CSV file with the columns id, sex, born, sire, dam and owner, in any order and with any others
-beside them; its rows stand in any order. sex is M or F (or male, female), born is YYYY-MM-DD or DD.MM.YYYY, sire and
-dam are ids of the same spreadsheet, or empty. What it does:
+The spreadsheet is a CSV file with commas, in UTF-8 with a byte-order mark or without. It has the columns id, sex, born,
+sire, dam and owner, in any order and with any others beside them; its rows stand in any order. sex is M or F (or male,
+female), born is YYYY-MM-DD or DD.MM.YYYY, sire and dam are ids of the same spreadsheet, or empty. What it does:
 
 - gives each animal a number: breed, country, sex, and twelve digits that count the animals in order of birth;
 - adds a parent that has no row as a founder, born on the day of --founders;
@@ -15,7 +15,7 @@ dam are ids of the same spreadsheet, or empty. What it does:
 --map keeps which number stands for which id, --herds which herd for which owner. What it could not do is told on
 standard error, a line each: a row without an id, with an id that another row has, with an unreadable sex or birth day
 is left out; a parent of the wrong sex or not older than its offspring is written as unknown. The status is 0 all the
-same, and 2 where a column is missing. Only the standard library is used.
+same, and 2 where a column is missing or the spreadsheet isn't UTF-8. Only the standard library is used.
 """
 
 import argparse
@@ -129,7 +129,13 @@ def main():
     if founders is None:
         parser.error("--founders is no day of the years 1900 to 2199")
 
-    animals = read_animals(sys.stdin)
+    # utf-8-sig takes a byte-order mark at the beginning, which many spreadsheet programs write
+    sys.stdin.reconfigure(encoding="utf-8-sig", errors="strict", newline="")
+    try:
+        animals = read_animals(sys.stdin)
+    except UnicodeDecodeError:
+        say("the spreadsheet isn't UTF-8 text")
+        sys.exit(2)
     add_missing_parents(animals, founders)
     drop_faulty_parents(animals)
     numbers = numbered(animals, words.breed, words.country)

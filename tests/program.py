@@ -146,9 +146,6 @@ class Checks:
                 self.count(done == wrote(wanted), f"README: {line}: {done}; wanted {wanted!r}")
                 shown += 1
         self.count(shown >= 2 and ran > shown, f"README: {ran} commands and {shown} printed texts were found")
-        for code in re.findall(r"(?ms)^```rust\n(.*?)^```", text):
-            sources = [path.read_text() for path in (TOP / "crates/worked_example/src").glob("*.rt")]
-            self.count(any(code in source for source in sources), f"README: this code isn't that of the example: {code}")
         table = re.search(r"\| status \| when \| standard error \|\n(.*?)\n\n", text, re.S).group(1)
         for told in re.findall("`(herdbook: [^`]*)`", table):
             self.count(told in TEXTS, f"README: no check of `{told}`")
@@ -189,7 +186,19 @@ class Checks:
         (room / "book.csv").write_text(made.stdout)
         accepted = "".join(f"{serial},accepted\n" for serial in range(1, 502))
         self.expect("the society's book", wrote(accepted), ["file"], made.stdout)
+        self.encodings(script, room, made)
         self.recipes(room, made.stdout)
+
+    def encodings(self, script, room, made):
+        """The spreadsheet with a byte-order mark makes the same book; one that isn't UTF-8 is told."""
+        society = (room / "examples/society.csv").read_bytes()
+        for given, wanted in [
+            (b"\xef\xbb\xbf" + society, wrote(made.stdout, made.stderr)),
+            (b"\xfc" + society, wrote("", "command_file: the spreadsheet isn't UTF-8 text\n", 2)),
+        ]:  # fmt: skip
+            done = subprocess.run(script, cwd=room, input=given, capture_output=True, timeout=SECONDS)
+            found = Done(done.returncode, done.stdout, done.stderr)
+            self.count(found == wanted, f"command_file.py: {given[:4]!r}: {found}")
 
     def recipes(self, room, book):
         listed = self.run(["inbreeding"], book).out.decode()
