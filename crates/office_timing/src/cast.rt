@@ -1,9 +1,12 @@
 //! The animals, days and herds of the races.
 
-ghost use Rattle.std.specs.Prelude.{◌≡◌, None, false};
+ghost use Rattle.std.specs.Prelude.{◌≡◌, IfOk, None, false};
 ghost use Rattle.herd_pedigree.specs.Book.{with_owner};
 ghost use Rattle.herd_register.specs.Run.{newborn};
+ghost use Rattle.office_timing.specs.Cast.{the_cast};
+ghost use Rattle.office_timing.specs.Plan.{birth_of, founder_births};
 
+use crate::herds::herd_of;
 use anyhow::Result;
 use herd_animal::{AnimalNumber, Day, Herd};
 use herd_pedigree::Animal;
@@ -37,7 +40,9 @@ pub struct Cast {
 
 impl Cast {
     /// Animals that end with 1 to 6, and herds 1, 2 and 3.
-    pub fn new() -> Result<Cast> {
+    pub fn new() -> Result<Cast>
+        ensures { IfOk result (λ cast. cast ≡ the_cast) }
+    {
         Ok(Cast {
             bull: AnimalNumber::parse(b"HOLGBRM000000000001")?,
             cow: AnimalNumber::parse(b"HOLGBRF000000000002")?,
@@ -50,14 +55,16 @@ impl Cast {
             sale: Day::parse(b"2001-05-01")?,
             leaving: Day::parse(b"2003-03-01")?,
             calving: Day::parse(b"2003-03-02")?,
-            herd: Herd::parse(b"1")?,
-            second: Herd::parse(b"2")?,
-            third: Herd::parse(b"3")?,
+            herd: herd_of(1)?,
+            second: herd_of(2)?,
+            third: herd_of(3)?,
         })
     }
 
     /// The births of bull, cow and calf, without parents.
-    pub fn founders(&self) -> [Command; 3] {
+    pub fn founders(&self) -> [Command; 3]
+        ensures { result ≡ founder_births self.now }
+    {
         [
             self.birth(self.bull, self.old, None),
             self.birth(self.cow, self.old, None),
@@ -66,7 +73,9 @@ impl Cast {
     }
 
     /// A birth of which the sire isn't known.
-    pub fn birth(&self, animal: AnimalNumber, day: Day, dam: Option<AnimalNumber>) -> Command {
+    pub fn birth(&self, animal: AnimalNumber, day: Day, dam: Option<AnimalNumber>) -> Command
+        ensures { result ≡ birth_of self.now animal day dam }
+    {
         Command::Birth {
             animal,
             day,

@@ -1,6 +1,7 @@
 //! Races of two desks that file one command each, and how they may end.
 
 ghost use Rattle.std.specs.Prelude.{◌≡◌, IfSome, true};
+ghost use Rattle.office_timing.specs.Plan.{left_of, right_of};
 ghost use Rattle.office_timing.specs.Race.{IsEndOf, animal_of, end_of, one_first, two_first};
 
 use crate::cast::Cast;
@@ -53,7 +54,9 @@ impl Duel {
     }
 
     /// The command of desk 1.
-    pub fn left(self, cast: &Cast) -> Command {
+    pub fn left(self, cast: &Cast) -> Command
+        ensures { result ≡ left_of cast.now self }
+    {
         match self {
             Duel::Parents => Command::Parents {
                 animal: cast.calf,
@@ -74,7 +77,9 @@ impl Duel {
     }
 
     /// The command of desk 2.
-    pub fn right(self, cast: &Cast) -> Command {
+    pub fn right(self, cast: &Cast) -> Command
+        ensures { result ≡ right_of cast.now self }
+    {
         match self {
             Duel::Parents => Command::Parents {
                 animal: cast.calf,

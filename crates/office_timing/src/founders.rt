@@ -1,8 +1,10 @@
 //! The births that are filed.
 
-ghost use Rattle.std.specs.Prelude.{◌≡◌, ◌+◌, ◌%◌};
+ghost use Rattle.std.specs.Prelude.{◌≡◌, ◌+◌, ◌%◌, IfOk, codes};
+ghost use Rattle.herd_animal.specs.Day.{number_of as day_number};
 ghost use Rattle.office_timing.specs.Founders.{birth_at, number_at};
 
+use crate::herds::herd_of;
 use anyhow::Result;
 use herd_animal::{AnimalNumber, Day, Herd};
 use herd_pedigree::MOST_ANIMALS;
@@ -17,10 +19,13 @@ pub struct Founders {
 
 impl Founders {
     /// Those of 2000-01-01 in herd 1.
-    pub fn new() -> Result<Founders> {
+    pub fn new() -> Result<Founders>
+        ensures day { IfOk result (λ founders. founders.day ≡ day_number (codes "2000-01-01")) }
+        ensures herd { IfOk result (λ founders. founders.herd ≡ 1) }
+    {
         Ok(Founders {
             day: Day::parse(b"2000-01-01")?,
-            herd: Herd::parse(b"1")?,
+            herd: herd_of(1)?,
         })
     }
 

@@ -12,6 +12,7 @@ mod duel;
 mod filing;
 mod founders;
 mod freezing;
+mod herds;
 mod plan;
 mod race;
 mod races;
