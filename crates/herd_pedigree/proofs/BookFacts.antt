@@ -8,7 +8,7 @@ use Rattle.std.proofs.lemmas.Option.{same_Some, slice_get-get_or}
 use Rattle.std.proofs.lemmas.List.Quantifiers.{position-Some}
 use Rattle.std.proofs.lemmas.Slice.Eq.{bytes_eq-Decides}
 use Rattle.herd_pedigree.specs.declared.animal.Animal.{Animal}
-use Rattle.herd_pedigree.specs.Book.{Book}
+use Rattle.herd_pedigree.specs.Book.{Book, changed}
 
 pub same_bytes : (x y : List ℕ) → bytes_eq x y ≡ true → x ≡ y
 same_bytes x y e = (bytes_eq-Decides x y).0 e
@@ -112,6 +112,19 @@ keys-push (e ∷ es) number animal = ap (λ ks. e.0 ∷ ks) (keys-push es number
 pub length-keys : {X : Type 0} (book : List (List ℕ × X)) → length (keys_of book) ≡ length book
 length-keys [] = refl
 length-keys (e ∷ es) = ap suc (length-keys es)
+
+-- a change of one record leaves the numbers
+pub keys-changed : (book : Book) (number : List ℕ) (change : Animal → Animal) → keys_of (changed book number change) ≡ keys_of book
+keys-changed [] number change = refl
+keys-changed (e ∷ es) number change =
+    ⊎_elim
+    (λ (t : bytes_eq number e.0 ≡ true). rw t refl)
+    (λ (t : bytes_eq number e.0 ≡ false). rw t (ap (λ ks. e.0 ∷ ks) (keys-changed es number change)))
+    (cases_Bool (bytes_eq number e.0))
+
+-- and how many there are
+pub length-changed : (book : Book) (number : List ℕ) (change : Animal → Animal) → length (changed book number change) ≡ length book
+length-changed book number change = sym (length-keys (changed book number change)) ∙ ap (λ ks. length ks) (keys-changed book number change) ∙ length-keys book
 
 all-push : {X : Type 0} (P : X → Type 0) (xs : List X) (y : X) → AllByRecursion P xs → P y → AllByRecursion P (xs ++ y ∷ [])
 all-push P [] y h p = (p, tt)

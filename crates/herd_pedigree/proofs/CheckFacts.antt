@@ -1,5 +1,5 @@
 -- The first fault, and when it is that a line is too long.
-use Rattle.std.proofs.Common.{ℕ, zero, suc, ◌||◌, ℤ, pos, ◌+◌, ◌<◌, ◌≤◌, ◌≡◌, ◌≢◌, ⊎_elim, inl, inr, arith, refl, sym, ap, ◌∙◌, subst, Bool, true, false, nat_lt, if◌then◌else◌, IsTrue, IsFalse, List, [], ◌∷◌, ◌++◌, Option, Some, None, length, slice_get, slice_index, slice_set, get_or}
+use Rattle.std.proofs.Common.{ℕ, zero, suc, ◌||◌, ℤ, pos, ◌+◌, ◌<◌, ◌≤◌, ◌≡◌, ◌≢◌, ⊎_elim, inl, inr, arith, refl, sym, ap, ◌∙◌, subst, Bool, true, false, nat_lt, if◌then◌else◌, IsTrue, IsFalse, List, [], ◌∷◌, Option, Some, None, length, slice_get, slice_index, slice_set, get_or}
 use Rattle.std.specs.Str.{bytes_eq}
 use Rattle.std.specs.List.{IsDistinct, list_any}
 use Rattle.std.specs.Map.{keys_of}
@@ -14,14 +14,14 @@ use Rattle.herd_pedigree.specs.declared.parent_fault.ParentFault.{ParentFault}
 use Rattle.herd_pedigree.specs.declared.parent_fault.ParentFault.TheVariants.{TooDeep}
 use Rattle.herd_pedigree.specs.Lines.{Parentage, has_line}
 use Rattle.herd_pedigree.specs.Book.{Book, record_of, parentage_of, changed, with_parents}
-use Rattle.herd_pedigree.specs.ParentFault.{parent_fault, parent_faults, first_that_holds, record_named, is_too_deep}
-use Rattle.herd_pedigree.specs.RecordFault.{record_faults, is_missing}
+use Rattle.herd_pedigree.specs.ParentFault.{parent_fault, first_that_holds, record_faults, record_named, is_too_deep}
 use Rattle.herd_pedigree.specs.Depths.{IsParent, AreDepths, depth_from}
 use Rattle.herd_pedigree.specs.Places.{parent_at, parentage_at, IsPlaceIn, AreParents}
 use Rattle.herd_pedigree.specs.Kept.{IsKept}
 use Rattle.herd_pedigree.specs.Carry.{IsSettled}
 use Rattle.herd_pedigree.proofs.LineFacts.{Line, line-from_test, test-from_line, line-at_most, line-there, below_from, depths-fall, depths-line, depths-shallow}
 use Rattle.herd_pedigree.proofs.BookFacts.{entry_from_key, lookup_at, length-keys, there}
+use Rattle.herd_pedigree.proofs.FaultFacts.{fault-split}
 use Rattle.herd_pedigree.proofs.PlaceFacts.{line_by_place, line_by_number, place_from_there, number_from_there, number_from_place}
 use Rattle.herd_pedigree.proofs.DepthFacts.{IsLeafSet, depths-leaf, from-most}
 use Rattle.herd_pedigree.proofs.ProgenyFacts.{parent-within}
@@ -29,42 +29,6 @@ use Rattle.herd_pedigree.proofs.CarryFacts.{settled-but}
 use Rattle.herd_pedigree.proofs.KeptFacts.{too_deep-birth}
 use Rattle.herd_pedigree.proofs.WrittenFacts.{written-changed, too_deep-written}
 use Rattle.herd_pedigree.proofs.SetFacts.{keys-set, set-changed, AreParents-set}
-
-first-append : {F : Type 0} (xs ys : List (Bool × F)) → first_that_holds (xs ++ ys) ≡ option_or (first_that_holds xs) (first_that_holds ys)
-first-append [] ys = refl
-first-append {F} (x ∷ xs) ys = by x.0 (first-append xs ys)
-  where
-    by : (t : Bool) → first_that_holds (xs ++ ys) ≡ option_or (first_that_holds xs) (first_that_holds ys) →
-        (if t then Some x.1 else first_that_holds (xs ++ ys)) ≡ option_or (if t then Some x.1 else first_that_holds xs) (first_that_holds ys)
-    by true h = refl
-    by false h = h
-
--- the faults are those of the records, and then that a line is too long
-split_faults : (l : ℕ) (book : Book) (number : List ℕ) (birth : ℤ) (sire dam : Option (List ℕ)) (embryo : Bool) →
-    parent_faults l book number birth sire dam embryo ≡ record_faults birth sire (record_named book sire) dam (record_named book dam) embryo ++ (is_too_deep l book number sire dam, TooDeep) ∷ []
-split_faults l book number birth None None embryo = refl
-split_faults l book number birth None (Some d) embryo = refl
-split_faults l book number birth (Some s) None embryo = refl
-split_faults l book number birth (Some s) (Some d) embryo = refl
-
-pub fault-split : (l : ℕ) (book : Book) (number : List ℕ) (birth : ℤ) (sire dam : Option (List ℕ)) (embryo : Bool) →
-    parent_fault l book number birth sire dam embryo ≡ option_or (first_that_holds (record_faults birth sire (record_named book sire) dam (record_named book dam) embryo)) (if is_too_deep l book number sire dam then Some TooDeep else None)
-unfolding parent_fault
-fault-split l book number birth sire dam embryo =
-    ap (λ faults. first_that_holds faults) (split_faults l book number birth sire dam embryo)
-    ∙ first-append (record_faults birth sire (record_named book sire) dam (record_named book dam) embryo) ((is_too_deep l book number sire dam, TooDeep) ∷ [])
-
-no_next : (t : Bool) (fault : ParentFault) (rest : Option ParentFault) → (if t then Some fault else rest) ≡ None → (t ≡ false) × (rest ≡ None)
-no_next true fault rest h = absurd (cc)
-no_next false fault rest h = (refl, h)
-
--- where the records show no fault, no named parent is missing
-pub none_missing : (birth : ℤ) (sire : Option (List ℕ)) (sire_found : Option Animal) (dam : Option (List ℕ)) (dam_found : Option Animal) (embryo : Bool) → first_that_holds (record_faults birth sire sire_found dam dam_found embryo) ≡ None →
-    (is_missing sire sire_found ≡ false) × (is_missing dam dam_found ≡ false)
-none_missing birth sire sire_found dam dam_found embryo h =
-    let a = no_next _ _ _ h in
-    let b = no_next _ _ _ a.1 in
-    (a.0, b.0)
 
 -- a named parent's place is within the book
 named-within : (numbers : List (List ℕ)) (o : Option ℕ) (n : Option (List ℕ)) (p : ℕ) → IsPlaceIn numbers o n → o ≡ Some p → p < length numbers

@@ -9,7 +9,7 @@ use Rattle.herd_pedigree.specs.declared.animal.Animal.{Animal}
 use Rattle.herd_pedigree.specs.declared.undo.Undo.{Undo}
 use Rattle.herd_pedigree.specs.declared.undo.Undo.TheVariants.{Nothing, Birth, Record}
 use Rattle.herd_pedigree.specs.Lines.{Parentage, has_line}
-use Rattle.herd_pedigree.specs.Book.{Book, record_of, changed, with_parents}
+use Rattle.herd_pedigree.specs.Book.{Book, changed, with_parents}
 use Rattle.herd_pedigree.specs.Pedigree.{IsCorrection}
 use Rattle.herd_pedigree.specs.Depths.{IsParent, AreDepths}
 use Rattle.herd_pedigree.specs.Places.{parent_at, parentage_at, IsPlaceIn}
@@ -20,14 +20,13 @@ use Rattle.herd_pedigree.specs.Kept.{IsKept}
 use Rattle.herd_pedigree.specs.Records.{NamesItsOwn}
 use Rattle.herd_pedigree.specs.Undo.{IsHeld, without_last, undone_writes}
 use Rattle.herd_pedigree.proofs.LineFacts.{depths-fall}
-use Rattle.herd_pedigree.proofs.BookFacts.{lookup_at, there as there_at}
-use Rattle.herd_pedigree.proofs.FaultFacts.{HasNoFault, no_fault, sire-may_be, dam-may_be}
-use Rattle.herd_pedigree.proofs.KeptFacts.{shallow-kept}
-use Rattle.herd_pedigree.proofs.WrittenFacts.{written-changed, lawful-written}
-use Rattle.herd_pedigree.proofs.SetFacts.{keys-set, set-changed, set-back, set_there, length-set-at, stayed-same}
+use Rattle.herd_pedigree.proofs.BookFacts.{there as there_at}
+use Rattle.herd_pedigree.proofs.FaultFacts.{HasNoFault, no_fault}
+use Rattle.herd_pedigree.proofs.LawfulChanges.{lawful-parents}
+use Rattle.herd_pedigree.proofs.SetFacts.{keys-set, set-changed, set-back, set_there, length-set-at}
 use Rattle.herd_pedigree.proofs.CarryFacts.{settled-depths, settled-deep}
 use Rattle.herd_pedigree.proofs.ProgenyFacts.{parent-within}
-use Rattle.herd_pedigree.proofs.CheckFacts.{parents-within, sires-corrected, dams-corrected, once-corrected, closed-after, shallow-by_place}
+use Rattle.herd_pedigree.proofs.CheckFacts.{parents-within, sires-corrected, dams-corrected, closed-after, shallow-by_place}
 
 -- more room is room
 pub HasRoom-more : (undo : Undo) (sires dams sires' dams' : Progeny) → sires'.parents ≡ sires.parents → dams'.parents ≡ dams.parents → ((p : ℕ) → slice_index sires.spare p ≤ slice_index sires'.spare p) → ((p : ℕ) → slice_index dams.spare p ≤ slice_index dams'.spare p) →
@@ -145,13 +144,8 @@ module _ (l most : ℕ) (book : Book) (sires dams : List (Option ℕ)) (depths :
     (number : List ℕ) (a : ℕ) (at : slice_get (keys_of book) a ≡ Some number) (animal : Animal) (entry : slice_get book a ≡ Some (number, animal))
     (sire dam : Option ℕ) (s d : Option (List ℕ)) (sire_is : IsPlaceIn (keys_of book) sire s) (dam_is : IsPlaceIn (keys_of book) dam d)
     (asked : IsCorrection l book number s d) where
-  there : record_of book number ≡ Some animal
-  there = lookup_at book k.lawful.once a number animal entry
-
-  fine : HasNoFault l book number animal.birth s d animal.embryo
-  fine =
-      let same : asked.animal ≡ animal = same_Some _ _ (sym asked.there ∙ there) in
-      subst (λ a. HasNoFault l book number a.birth s d a.embryo) same (no_fault l book number asked.animal.birth s d asked.animal.embryo asked.parents)
+  fine : HasNoFault l book number asked.animal.birth s d asked.animal.embryo
+  fine = no_fault l book number asked.animal.birth s d asked.animal.embryo asked.parents
 
   pub shallow-asked : (c : ℕ) → has_line (parentage_at (slice_set sires a sire) (slice_set dams a dam)) (l + 1) c ≡ false
   shallow-asked = shallow-by_place l most book sires dams depths k number a at sire dam s d sire_is dam_is fine.shallow
@@ -174,21 +168,11 @@ module _ (l most : ℕ) (book : Book) (sires dams : List (Option ℕ)) (depths :
     IsKept-corrected =
         let new : Book = changed book number (with_parents s d) in
         let same : set_value_at book a (with_parents s d animal) ≡ changed book number (with_parents s d) = set-changed book k.lawful.once a number animal (with_parents s d) entry in
-        let once = once-corrected l most book sires dams depths k number a at sire dam s d sire_is dam_is in
         let sires_are = sires-corrected l most book sires dams depths k number a at sire dam s d sire_is dam_is in
         let dams_are = dams-corrected l most book sires dams depths k number a at sire dam s d sire_is dam_is in
         let n : length new ≡ length book = ap (λ es. length es) (sym same) ∙ length-set-at book a (with_parents s d animal) in
-        let own = k.lawful.records number animal there in
         record {
-          lawful =
-              lawful-written book new number (with_parents s d animal) (written-changed book number (with_parents s d) animal there)
-              (λ was e. ap (λ a. a.birth) (same_Some _ _ (sym there ∙ e)))
-              l most k.lawful once (let f = k.lawful.few in omega (arith, n, f))
-              (shallow-kept l new (slice_set sires a sire) (slice_set dams a dam) once sires_are dams_are (slice_index after) depths-asked)
-              (sire-may_be l book number animal.birth s d animal.embryo fine)
-              (dam-may_be l book number animal.birth s d animal.embryo fine)
-              own.since own.left
-              (λ y calf e is p fresh. stayed-same l most book number animal (with_parents s d animal) there refl calf.birth calf.embryo p fresh);
+          lawful = lawful-parents l most book number s d k.lawful asked;
           sires_are = sires_are;
           dams_are = dams_are;
           long = long ∙ k.long ∙ sym n;

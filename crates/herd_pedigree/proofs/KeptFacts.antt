@@ -1,16 +1,15 @@
 -- What is kept beside the book, and after a birth.
-use Rattle.std.proofs.Common.{ℕ, ◌+◌, ◌<◌, ◌≤◌, ◌≤ℤ◌, ◌≡◌, ⊎_elim, arith, refl, sym, ◌∙◌, subst, true, false, nat_lt, IsTrue, IfSome, List, [], ◌∷◌, ◌++◌, Option, Some, None, length, slice_get, slice_index, get_or}
+use Rattle.std.proofs.Common.{ℕ, ◌+◌, ◌<◌, ◌≤◌, ◌≡◌, ⊎_elim, arith, refl, sym, ◌∙◌, subst, true, false, nat_lt, IsTrue, IfSome, List, [], ◌∷◌, ◌++◌, Option, Some, None, length, slice_get, slice_index, get_or}
 use Rattle.std.specs.Str.{bytes_eq}
 use Rattle.std.specs.List.{IsDistinct, list_any}
 use Rattle.std.specs.Map.{keys_of}
-use Rattle.std.proofs.lemmas.Int.{ints}
-use Rattle.std.proofs.lemmas.Bool.{cases_lt, lt-ltb, ltb-true, le-ltb, or_left, not_from_false}
+use Rattle.std.proofs.lemmas.Bool.{cases_lt, lt-ltb, ltb-true, le-ltb, or_left}
 use Rattle.std.proofs.lemmas.List.{length_push, get_or_push, get_or_append_left}
 use Rattle.std.proofs.lemmas.List.Folds.{list_any_none}
 use Rattle.std.proofs.lemmas.Option.{slice_get_within, same_Some}
 use Rattle.herd_pedigree.specs.declared.animal.Animal.{Animal}
 use Rattle.herd_pedigree.specs.Lines.{has_line}
-use Rattle.herd_pedigree.specs.Book.{Book, record_of, parentage_of, is_shallow, IsDepthOf}
+use Rattle.herd_pedigree.specs.Book.{Book, record_of, parentage_of, IsDepthOf}
 use Rattle.herd_pedigree.specs.ParentFault.{is_too_deep}
 use Rattle.herd_pedigree.specs.Pedigree.{IsBirth}
 use Rattle.herd_pedigree.specs.Depths.{AreDepths, depth_from}
@@ -22,9 +21,10 @@ use Rattle.herd_pedigree.proofs.LineFacts.{Line, depths-line, test-from_line}
 use Rattle.herd_pedigree.proofs.BookFacts.{push_cases, push_keeps, push_last, keys-push, length-keys, distinct-push, key_from_entry}
 use Rattle.herd_pedigree.proofs.PlaceFacts.{no_longer_line, line_by_number, there_by_place, depth_by_number}
 use Rattle.herd_pedigree.proofs.DepthFacts.{depths-push, new_depth-most}
-use Rattle.herd_pedigree.proofs.FaultFacts.{HasNoFault, no_fault, sire-may_be, dam-may_be}
+use Rattle.herd_pedigree.proofs.FaultFacts.{HasNoFault, no_fault}
+use Rattle.herd_pedigree.proofs.LawfulChanges.{lawful-birth, lawful-empty}
 use Rattle.herd_pedigree.proofs.UndoFacts.{without_last-push}
-use Rattle.herd_pedigree.proofs.WrittenFacts.{written-push, too_deep-written, lawful-written}
+use Rattle.herd_pedigree.proofs.WrittenFacts.{written-push, too_deep-written}
 
 IsPlaceIn-push : (numbers : List (List ℕ)) (number : List ℕ) (o : Option ℕ) (n : Option (List ℕ)) → IsPlaceIn numbers o n → IsPlaceIn (numbers ++ number ∷ []) o n
 IsPlaceIn-push numbers number None None h = h
@@ -67,9 +67,6 @@ AreParents-push book parent_of parents number animal o a is =
 module _ (l : ℕ) (book : Book) (sires dams : List (Option ℕ)) (once : IsDistinct bytes_eq (keys_of book)) (s : AreParents book (λ animal. animal.sire) sires) (d : AreParents book (λ animal. animal.dam) dams) (g : ℕ → ℕ) where
   pub no_line-among : AreDepths l (parentage_at sires dams) g → (xs : List (List ℕ)) → list_any (has_line (parentage_of book) (l + 1)) xs ≡ false
   no_line-among w xs = list_any_none (has_line (parentage_of book) (l + 1)) xs (λ k x h. no_longer_line book sires dams once s d l g w (get_or xs k x))
-
-  pub shallow-kept : AreDepths l (parentage_at sires dams) g → IsTrue (is_shallow l book)
-  shallow-kept w = not_from_false (list_any (has_line (parentage_of book) (l + 1)) (keys_of book)) (no_line-among w (keys_of book))
 
 -- the depth of the animal at a place
 pub depth-kept : (l most : ℕ) (book : Book) (sires dams : List (Option ℕ)) (depths : List ℕ) → IsKept l most book sires dams depths → (c : ℕ) (x : List ℕ) → slice_get (keys_of book) c ≡ Some x → IsDepthOf book x (slice_index depths c)
@@ -141,16 +138,8 @@ module _ (l most : ℕ) (book : Book) (sires dams : List (Option ℕ)) (depths :
       let n = length_push book (number, animal) in
       let m = length_push depths v in
       let long = k.long in
-      let room = birth.room in
       record {
-        lawful =
-            lawful-written book (book ++ (number, animal) ∷ []) number animal (written-push book number animal absent) (λ was e. absurd (cc)) l most k.lawful once-more (omega (arith, n, room))
-            (shallow-kept l (book ++ (number, animal) ∷ []) (sires ++ sire ∷ []) (dams ++ dam ∷ []) once-more sires-more dams-more (slice_index (depths ++ v ∷ [])) w)
-            (sire-may_be l book number animal.birth animal.sire animal.dam animal.embryo fine)
-            (dam-may_be l book number animal.birth animal.sire animal.dam animal.embryo fine)
-            (subst (λ day. animal.birth ≤ℤ day) (sym birth.since) (grind (arith, ints)))
-            (λ day e. let left = birth.left in absurd (cc))
-            (λ x calf e is d fresh. let there = d.there in absurd (cc));
+        lawful = lawful-birth l most book number animal k.lawful birth;
         sires_are = sires-more;
         dams_are = dams-more;
         long = omega (arith, n, m, long);
@@ -169,11 +158,10 @@ module _ (l most : ℕ) (book : Book) (sires dams : List (Option ℕ)) (depths :
 
 -- what is held of the empty book
 pub IsHeld-empty : (l most : ℕ) (log : List (ℕ × ℕ)) → IsHeld l most [] [] [] [] log Nothing
-unfolding IsDistinct
 IsHeld-empty l most log =
     record {
       kept = record {
-        lawful = record { once = tt; few = omega arith; shallow = refl; records = λ number animal e. absurd (cc) };
+        lawful = lawful-empty l most;
         sires_are = record { long = refl; each = λ place entry e. absurd (cc) };
         dams_are = record { long = refl; each = λ place entry e. absurd (cc) };
         long = refl;

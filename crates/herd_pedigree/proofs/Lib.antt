@@ -15,6 +15,7 @@ mod PlaceFacts
 mod DepthFacts
 mod FaultFacts
 mod WrittenFacts
+pub mod LawfulChanges
 mod KeptFacts
 mod SetFacts
 mod CheckFacts

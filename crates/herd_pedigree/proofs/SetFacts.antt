@@ -1,27 +1,21 @@
 -- One record set at its place.
-use Rattle.std.proofs.Common.{ℕ, ℤ, zero, suc, ◌<◌, ◌≤◌, ◌≤ℤ◌, ◌≡◌, ◌≢◌, ◌⊎◌, ⊎_elim, inl, inr, arith, refl, sym, ap, ◌∙◌, subst, Bool, true, false, not, ◌&&◌, int_lt, if◌then◌else◌, IsTrue, IsFalse, List, [], ◌∷◌, Option, Some, None, length, slice_get, slice_index, slice_set, All}
+use Rattle.std.proofs.Common.{ℕ, zero, suc, ◌<◌, ◌≡◌, ◌≢◌, ◌⊎◌, ⊎_elim, inl, inr, arith, refl, sym, ap, ◌∙◌, subst, true, false, List, [], ◌∷◌, Option, Some, None, length, slice_get, slice_set, All}
 use Rattle.std.specs.Str.{bytes_eq}
-use Rattle.std.specs.List.{IsDistinct, list_any}
+use Rattle.std.specs.List.{IsDistinct}
 use Rattle.std.specs.Map.{keys_of}
-use Rattle.std.specs.Option.{option_map_or}
-use Rattle.std.proofs.lemmas.Int.{ints}
-use Rattle.std.proofs.lemmas.Bool.{cases_Bool, or_parts}
 use Rattle.std.proofs.lemmas.Option.{same_Some, slice_get_within}
 use Rattle.std.proofs.lemmas.List.{get_or-set_same, get_or-set_other, length-set, set-get_or}
 use Rattle.std.proofs.lemmas.List.Elements.{All-nil}
 use Rattle.indexmap.specs.IndexMap.{set_value_at}
 use Rattle.herd_pedigree.specs.declared.animal.Animal.{Animal}
 use Rattle.herd_pedigree.specs.declared.undo.Undo.TheVariants.{Record}
-use Rattle.herd_pedigree.specs.Book.{Book, record_of, changed, with_owner, with_left, is_calf_after, is_shallow}
-use Rattle.herd_pedigree.specs.ParentFault.{has_left_before}
-use Rattle.herd_pedigree.specs.Lawful.{IsLawful, IsDamOf}
-use Rattle.herd_pedigree.specs.Pedigree.{Pedigree, IsPresentOn, IsExit, changed_to}
+use Rattle.herd_pedigree.specs.Book.{Book, changed}
+use Rattle.herd_pedigree.specs.Lawful.{IsLawful}
+use Rattle.herd_pedigree.specs.Pedigree.{Pedigree, changed_to}
 use Rattle.herd_pedigree.specs.Places.{parent_at, IsPlaceIn, AreParents}
 use Rattle.herd_pedigree.specs.Kept.{IsKept}
 use Rattle.herd_pedigree.specs.Undo.{IsHeld}
-use Rattle.herd_pedigree.proofs.BookFacts.{bytes_itself, bytes_turned, same_bytes, apart_at, lookup_at, place_of}
-use Rattle.herd_pedigree.proofs.KeptFacts.{shallow-kept}
-use Rattle.herd_pedigree.proofs.WrittenFacts.{written-changed, lawful-written}
+use Rattle.herd_pedigree.proofs.BookFacts.{bytes_itself, bytes_turned, apart_at}
 
 pub keys-set : {X : Type 0} (es : List (List ℕ × X)) (i : ℕ) (b : X) → keys_of (set_value_at es i b) ≡ keys_of es
 keys-set [] i b = refl
@@ -92,115 +86,31 @@ AreParents-same book parent_of parents i x a b k at same =
     subst (λ ps. AreParents (set_value_at book i b) parent_of ps) (set-get_or parents i None)
     (AreParents-set book parent_of parents i b (parent_at parents i) k (slice_get_within book i (x, a) at) (subst (λ n. IsPlaceIn (keys_of book) (parent_at parents i) n) (sym same) (k.each i (x, a) at)))
 
-module _ (l most : ℕ) (book : Book) (sires dams : List (Option ℕ)) (depths : List ℕ) (k : IsKept l most book sires dams depths) (i : ℕ) (x : List ℕ) (a b : Animal) (at : slice_get book i ≡ Some (x, a)) (sire : b.sire ≡ a.sire) (dam : b.dam ≡ a.dam) where
+module _ (l most : ℕ) (book : Book) (sires dams : List (Option ℕ)) (depths : List ℕ) (k : IsKept l most book sires dams depths) (i : ℕ) (x : List ℕ) (a : Animal) (at : slice_get book i ≡ Some (x, a)) (change : Animal → Animal) (sire : (change a).sire ≡ a.sire) (dam : (change a).dam ≡ a.dam) (lawful : IsLawful l most (changed book x change)) where
   -- what is kept, where the parents stay
-  IsKept-same : IsLawful l most (set_value_at book i b) → IsKept l most (set_value_at book i b) sires dams depths
-  IsKept-same lawful = record {
-    lawful = lawful;
-    sires_are = AreParents-same book (λ animal. animal.sire) sires i x a b k.sires_are at sire;
-    dams_are = AreParents-same book (λ animal. animal.dam) dams i x a b k.dams_are at dam;
-    long = k.long ∙ sym (length-set-at book i b);
+  IsKept-same : IsKept l most (set_value_at book i (change a)) sires dams depths
+  IsKept-same = record {
+    lawful = subst (λ es. IsLawful l most es) (sym (set-changed book k.lawful.once i x a change at)) lawful;
+    sires_are = AreParents-same book (λ animal. animal.sire) sires i x a (change a) k.sires_are at sire;
+    dams_are = AreParents-same book (λ animal. animal.dam) dams i x a (change a) k.dams_are at dam;
+    long = k.long ∙ sym (length-set-at book i (change a));
     depths_are = k.depths_are;
   }
 
   -- and what is held, once the write is noted
-  pub IsHeld-same : IsLawful l most (set_value_at book i b) → (log : List (ℕ × ℕ)) → log ≡ [] → (s d : Option ℕ) → s ≡ parent_at sires i → d ≡ parent_at dams i → IsHeld l most (set_value_at book i b) sires dams depths log (Record i a s d)
-  IsHeld-same lawful log empty s d e f = record {
-    kept = IsKept-same lawful;
+  pub IsHeld-same : (log : List (ℕ × ℕ)) → log ≡ [] → (s d : Option ℕ) → s ≡ parent_at sires i → d ≡ parent_at dams i → IsHeld l most (set_value_at book i (change a)) sires dams depths log (Record i a s d)
+  IsHeld-same log empty s d e f = record {
+    kept = IsKept-same;
     within = (
-      let w = slice_get_within book i (x, a) at in let n = length-set-at book i b in omega (arith, w, n),
-      subst (λ ws. All (λ write. write.0 < length (set_value_at book i b)) ws) (sym empty) (All-nil (λ (write : ℕ × ℕ). write.0 < length (set_value_at book i b))),
+      let w = slice_get_within book i (x, a) at in let n = length-set-at book i (change a) in omega (arith, w, n),
+      subst (λ ws. All (λ write. write.0 < length (set_value_at book i (change a))) ws) (sym empty) (All-nil (λ (write : ℕ × ℕ). write.0 < length (set_value_at book i (change a)))),
     );
     before = λ old is.
-        let same : book ≡ old = sym (set-back book i x a b at) ∙ same_Some _ _ is in
+        let same : book ≡ old = sym (set-back book i x a (change a) at) ∙ same_Some _ _ is in
         let sires_same : slice_set sires i s ≡ sires = ap (λ o. slice_set sires i o) e ∙ set-get_or sires i None in
         let dams_same : slice_set dams i d ≡ dams = ap (λ o. slice_set dams i o) f ∙ set-get_or dams i None in
         rw (sires_same, dams_same, empty) (subst (λ old. IsKept l most old sires dams depths) same k);
   }
-
-  shallow-same : (lawful : IsDistinct bytes_eq (keys_of (set_value_at book i b))) → IsTrue (is_shallow l (set_value_at book i b))
-  shallow-same once =
-      shallow-kept l (set_value_at book i b) sires dams once
-      (AreParents-same book (λ animal. animal.sire) sires i x a b k.sires_are at sire) (AreParents-same book (λ animal. animal.dam) dams i x a b k.dams_are at dam) (slice_index depths) k.depths_are
-
-any_not : {X : Type 0} (test : X → Bool) (xs : List X) (c : ℕ) (x : X) → list_any test xs ≡ false → slice_get xs c ≡ Some x → test x ≡ false
-any_not test [] c x h at = absurd (cc)
-any_not test (y ∷ ys) zero x h at = let e : y ≡ x = same_Some _ _ at in ap test (sym e) ∙ (or_parts (test y) (list_any test ys) h).0
-any_not test (y ∷ ys) (suc c) x h at = any_not test ys c x (or_parts (test y) (list_any test ys) h).1 at
-
--- the dam has the leaving day that she had
-pub stayed-same : (l most : ℕ) (book : Book) (number : List ℕ) (was b : Animal) → record_of book number ≡ Some was → b.left ≡ was.left → (birth : ℤ) (embryo : Bool) → IsDamOf book birth embryo number → embryo ≡ false → IsFalse (has_left_before birth b)
-stayed-same l most book number was b there left birth embryo d fresh =
-    let same : d.dam ≡ was = same_Some _ _ (sym d.there ∙ there) in
-    ap (λ o. option_map_or (λ left. int_lt left birth) o false) (left ∙ ap (λ a. a.left) (sym same)) ∙ d.stayed fresh
-
-module _ (l most : ℕ) (book : Book) (sires dams : List (Option ℕ)) (depths : List ℕ) (k : IsKept l most book sires dams depths) (i : ℕ) (x : List ℕ) (a : Animal) (at : slice_get book i ≡ Some (x, a)) where
-  there_at : record_of book x ≡ Some a
-  there_at = lookup_at book k.lawful.once i x a at
-
-  once-changed : (change : Animal → Animal) → IsDistinct bytes_eq (keys_of (changed book x change))
-  once-changed change = subst (λ es. IsDistinct bytes_eq (keys_of es)) (set-changed book k.lawful.once i x a change at) (subst (λ ks. IsDistinct bytes_eq ks) (sym (keys-set book i (change a))) k.lawful.once)
-
-  few-changed : (change : Animal → Animal) → length (changed book x change) ≤ most
-  few-changed change = subst (λ es. length es ≤ most) (set-changed book k.lawful.once i x a change at) (let n = length-set-at book i (change a) in let f = k.lawful.few in omega (arith, n, f))
-
-  shallow-changed : (change : Animal → Animal) → (change a).sire ≡ a.sire → (change a).dam ≡ a.dam → IsTrue (is_shallow l (changed book x change))
-  shallow-changed change s d =
-      subst (λ es. IsTrue (is_shallow l es)) (set-changed book k.lawful.once i x a change at)
-      (shallow-same l most book sires dams depths k i x a (change a) at s d (subst (λ ks. IsDistinct bytes_eq ks) (sym (keys-set book i (change a))) k.lawful.once))
-
-  -- the book stays lawful with another owner
-  pub lawful-owner : (herd : ℕ) (day : ℤ) → IsPresentOn book x day → IsLawful l most (set_value_at book i (with_owner herd day a))
-  lawful-owner herd day present =
-      let same : present.animal ≡ a = same_Some _ _ (sym present.there ∙ there_at) in
-      let own = k.lawful.records x a there_at in
-      let since : a.since ≤ℤ day = subst (λ a. a.since ≤ℤ day) same present.since in
-      let none : a.left ≡ None = subst (λ a. a.left ≡ None) same present.stayed in
-      subst (λ es. IsLawful l most es) (sym (set-changed book k.lawful.once i x a (with_owner herd day) at))
-      (lawful-written book (changed book x (with_owner herd day)) x (with_owner herd day a) (written-changed book x (with_owner herd day) a there_at)
-      (λ was e. ap (λ a. a.birth) (same_Some _ _ (sym there_at ∙ e)))
-      l most k.lawful (once-changed (with_owner herd day)) (few-changed (with_owner herd day)) (shallow-changed (with_owner herd day) refl refl)
-      own.sire own.dam
-      (let b = own.since in grind (arith, ints, b, since))
-      (λ left e. absurd (cc))
-      (λ y calf e is d fresh. stayed-same l most book x a (with_owner herd day a) there_at refl calf.birth calf.embryo d fresh))
-
-  old_calf : (day : ℤ) (y : List ℕ) (calf : Animal) → record_of (changed book x (with_left day)) y ≡ Some calf →
-      (old : Animal) × (record_of book y ≡ Some old) × (calf.dam ≡ old.dam) × (calf.embryo ≡ old.embryo) × (calf.birth ≡ old.birth)
-  old_calf day y calf e =
-      let w = written-changed book x (with_left day) a there_at in
-      ⊎_elim
-      (λ (t : bytes_eq x y ≡ true).
-      let is : with_left day a ≡ calf = same_Some _ _ (sym (w.reads y ∙ ap (λ t. if t then Some (with_left day a) else record_of book y) t) ∙ e) in
-      (a, subst (λ z. record_of book z ≡ Some a) (same_bytes x y t) there_at, ap (λ a. a.dam) (sym is), ap (λ a. a.embryo) (sym is), ap (λ a. a.birth) (sym is)))
-      (λ (t : bytes_eq x y ≡ false).
-      (calf, sym (w.reads y ∙ ap (λ t. if t then Some (with_left day a) else record_of book y) t) ∙ e, refl, refl, refl))
-      (cases_Bool (bytes_eq x y))
-
-  not_after : (day : ℤ) (old : Animal) → is_calf_after x day old ≡ false → old.dam ≡ Some x → old.embryo ≡ false → int_lt day old.birth ≡ false
-  not_after day old h is fresh =
-      let named : option_map_or (bytes_eq x) old.dam false ≡ true = ap (λ o. option_map_or (bytes_eq x) o false) is ∙ bytes_itself x in
-      let first : (true && (not old.embryo && int_lt day old.birth)) ≡ false = sym (ap (λ t. t && (not old.embryo && int_lt day old.birth)) named) ∙ h in
-      sym (ap (λ t. not t && int_lt day old.birth) fresh) ∙ first
-
-  -- and after an exit
-  pub lawful-exit : (day : ℤ) → IsExit book x day → IsLawful l most (set_value_at book i (with_left day a))
-  lawful-exit day exit =
-      let present = exit.present in
-      let same : present.animal ≡ a = same_Some _ _ (sym present.there ∙ there_at) in
-      let own = k.lawful.records x a there_at in
-      let since : a.since ≤ℤ day = subst (λ a. a.since ≤ℤ day) same present.since in
-      subst (λ es. IsLawful l most es) (sym (set-changed book k.lawful.once i x a (with_left day) at))
-      (lawful-written book (changed book x (with_left day)) x (with_left day a) (written-changed book x (with_left day) a there_at)
-      (λ was e. ap (λ a. a.birth) (same_Some _ _ (sym there_at ∙ e)))
-      l most k.lawful (once-changed (with_left day)) (few-changed (with_left day)) (shallow-changed (with_left day) refl refl)
-      own.sire own.dam own.since
-      (λ left e. let t : day ≡ left = same_Some _ _ e in subst (λ d. a.since ≤ℤ d) t since)
-      (λ y calf e is d fresh.
-      let old = old_calf day y calf e in
-      let place = place_of book y old.0 old.1 in
-      let not = any_not (λ entry. is_calf_after x day entry.1) book place.0 (y, old.0) exit.last place.1 in
-      ap (λ b. int_lt day b) old.4 ∙ not_after day old.0 not (sym old.2 ∙ is) (sym old.3 ∙ fresh)))
 
 -- the view after a record was set
 pub record-view : (was : Pedigree) (book : Book) (once : IsDistinct bytes_eq (keys_of book)) (i : ℕ) (x : List ℕ) (a : Animal) (change : Animal → Animal) → slice_get book i ≡ Some (x, a) → book ≡ was.book →

@@ -1,16 +1,15 @@
 -- A book with one record written: a new one at the end, or in place of the old one.
-use Rattle.std.proofs.Common.{ℕ, ℤ, zero, suc, ◌+◌, ◌≤◌, ◌≡◌, ◌≤ℤ◌, ◌<ℤ◌, ⊎_elim, refl, sym, ap, ◌∙◌, subst, Bool, true, false, cond, ◌&&◌, ◌||◌, if◌then◌else◌, is_some, IsTrue, IsFalse, List, [], ◌∷◌, ◌++◌, Option, Some, None, length}
+use Rattle.std.proofs.Common.{ℕ, zero, suc, ◌+◌, ◌≡◌, ⊎_elim, refl, sym, ap, ◌∙◌, subst, Bool, true, false, cond, ◌&&◌, ◌||◌, if◌then◌else◌, is_some, List, [], ◌∷◌, ◌++◌, Option, Some, None}
 use Rattle.std.specs.Str.{bytes_eq}
-use Rattle.std.specs.List.{IsDistinct, list_any}
+use Rattle.std.specs.List.{list_any}
 use Rattle.std.specs.Map.{keys_of}
 use Rattle.std.specs.Option.{option_and_then, option_map_or}
 use Rattle.std.proofs.lemmas.Bool.{cases_Bool}
 use Rattle.std.proofs.lemmas.Option.{same_Some}
 use Rattle.herd_pedigree.specs.declared.animal.Animal.{Animal}
 use Rattle.herd_pedigree.specs.Lines.{Parentage, has_line}
-use Rattle.herd_pedigree.specs.Book.{Book, record_of, parentage_of, changed, is_shallow}
-use Rattle.herd_pedigree.specs.ParentFault.{parentage_with, is_too_deep, has_left_before}
-use Rattle.herd_pedigree.specs.Lawful.{IsSireOf, IsDamOf, IsLawfulRecord, IsLawful}
+use Rattle.herd_pedigree.specs.Book.{Book, record_of, parentage_of, changed}
+use Rattle.herd_pedigree.specs.ParentFault.{parentage_with, is_too_deep}
 use Rattle.herd_pedigree.proofs.BookFacts.{same_bytes, bytes_itself, bytes_turned}
 
 -- the book reads as before, but for the record of the number
@@ -99,77 +98,9 @@ module _ (old new : Book) (number : List ℕ) (animal : Animal) (w : IsWritten o
   pub too_deep-written : (l : ℕ) → is_too_deep l old number animal.sire animal.dam ≡ list_any (has_line (parentage_of new) (l + 1)) (number ∷ keys_of old)
   too_deep-written l = λ i. list_any (λ x. has_line-written (l + 1) x i) (number ∷ keys_of old)
 
-  at_number : record_of new number ≡ Some animal
+  -- the record that was written, and all others
+  pub at_number : record_of new number ≡ Some animal
   at_number = w.reads number ∙ ap (λ t. if t then Some animal else record_of old number) (bytes_itself number)
 
-  elsewhere : (x : List ℕ) → bytes_eq number x ≡ false → record_of new x ≡ record_of old x
+  pub elsewhere : (x : List ℕ) → bytes_eq number x ≡ false → record_of new x ≡ record_of old x
   elsewhere x t = w.reads x ∙ ap (λ t. if t then Some animal else record_of old x) t
-
-  module _ (same : (was : Animal) → record_of old number ≡ Some was → animal.birth ≡ was.birth) where
-    -- a sire stays one
-    sire-written : (birth : ℤ) (p : List ℕ) → IsSireOf old birth p → IsSireOf new birth p
-    sire-written birth p s =
-        ⊎_elim
-        (λ (t : bytes_eq number p ≡ true).
-        let e : number ≡ p = same_bytes number p t in
-        let was : record_of old number ≡ Some s.sire = subst (λ y. record_of old y ≡ Some s.sire) (sym e) s.there in
-        record {
-          sire = animal;
-          there = subst (λ y. record_of new y ≡ Some animal) e at_number;
-          male = s.male;
-          older = subst (λ b. b <ℤ birth) (sym (same s.sire was)) s.older;
-        })
-        (λ (t : bytes_eq number p ≡ false). record { sire = s.sire; there = elsewhere p t ∙ s.there; male = s.male; older = s.older })
-        (cases_Bool (bytes_eq number p))
-
-    -- and a dam stays one, where she didn't leave before
-    dam-written : (birth : ℤ) (embryo : Bool) (p : List ℕ) → IsDamOf old birth embryo p → (p ≡ number → embryo ≡ false → IsFalse (has_left_before birth animal)) → IsDamOf new birth embryo p
-    dam-written birth embryo p d stays =
-        ⊎_elim
-        (λ (t : bytes_eq number p ≡ true).
-        let e : number ≡ p = same_bytes number p t in
-        let was : record_of old number ≡ Some d.dam = subst (λ y. record_of old y ≡ Some d.dam) (sym e) d.there in
-        record {
-          dam = animal;
-          there = subst (λ y. record_of new y ≡ Some animal) e at_number;
-          female = d.female;
-          older = subst (λ b. b <ℤ birth) (sym (same d.dam was)) d.older;
-          stayed = stays (sym e);
-        })
-        (λ (t : bytes_eq number p ≡ false). record { dam = d.dam; there = elsewhere p t ∙ d.there; female = d.female; older = d.older; stayed = d.stayed })
-        (cases_Bool (bytes_eq number p))
-
-    -- the book stays lawful
-    pub lawful-written : (l most : ℕ) → IsLawful l most old → IsDistinct bytes_eq (keys_of new) → length new ≤ most → IsTrue (is_shallow l new) →
-        ((p : List ℕ) → animal.sire ≡ Some p → IsSireOf old animal.birth p) → ((p : List ℕ) → animal.dam ≡ Some p → IsDamOf old animal.birth animal.embryo p) →
-        animal.birth ≤ℤ animal.since → ((day : ℤ) → animal.left ≡ Some day → animal.since ≤ℤ day) →
-        ((x : List ℕ) (calf : Animal) → record_of new x ≡ Some calf → calf.dam ≡ Some number → IsDamOf old calf.birth calf.embryo number → calf.embryo ≡ false → IsFalse (has_left_before calf.birth animal)) →
-        IsLawful l most new
-    lawful-written l most lawful once few shallow own_sire own_dam since left stays = record {
-      once = once;
-      few = few;
-      shallow = shallow;
-      records = λ x a there.
-          let dam_stays : (p : List ℕ) → a.dam ≡ Some p → IsDamOf old a.birth a.embryo p → IsDamOf new a.birth a.embryo p =
-          λ p e d. dam-written a.birth a.embryo p d (λ is fresh. stays x a there (subst (λ y. a.dam ≡ Some y) is e) (subst (λ y. IsDamOf old a.birth a.embryo y) is d) fresh) in
-          ⊎_elim
-          (λ (t : bytes_eq number x ≡ true).
-          let is : animal ≡ a = same_Some _ _ (sym (w.reads x ∙ ap (λ t. if t then Some animal else record_of old x) t) ∙ there) in
-          let s : (p : List ℕ) → a.sire ≡ Some p → IsSireOf old a.birth p = subst (λ a. (p : List ℕ) → a.sire ≡ Some p → IsSireOf old a.birth p) is own_sire in
-          let d : (p : List ℕ) → a.dam ≡ Some p → IsDamOf old a.birth a.embryo p = subst (λ a. (p : List ℕ) → a.dam ≡ Some p → IsDamOf old a.birth a.embryo p) is own_dam in
-          record {
-            sire = λ p e. sire-written a.birth p (s p e);
-            dam = λ p e. dam_stays p e (d p e);
-            since = subst (λ a. a.birth ≤ℤ a.since) is since;
-            left = subst (λ a. (day : ℤ) → a.left ≡ Some day → a.since ≤ℤ day) is left;
-          })
-          (λ (t : bytes_eq number x ≡ false).
-          let r : IsLawfulRecord old a = lawful.records x a (sym (elsewhere x t) ∙ there) in
-          record {
-            sire = λ p e. sire-written a.birth p (r.sire p e);
-            dam = λ p e. dam_stays p e (r.dam p e);
-            since = r.since;
-            left = r.left;
-          })
-          (cases_Bool (bytes_eq number x));
-    }

@@ -14,7 +14,6 @@ pub mod Depths
 pub mod Kept
 pub mod Undo
 pub mod Progeny
-pub mod RecordFault
 pub mod Records
 pub mod Calves
 pub mod Correction

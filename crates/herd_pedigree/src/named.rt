@@ -1,9 +1,8 @@
 //! Parents that are named, with what the book has of them, and the faults that this shows.
 ghost use Rattle.std.specs.Prelude.{◌≡◌, ◌<◌, ◌≤◌, false, length, IfSome};
 ghost use Rattle.std.specs.Map.{keys_of};
-ghost use Rattle.herd_pedigree.specs.ParentFault.{first_that_holds, is_named, record_named};
+ghost use Rattle.herd_pedigree.specs.ParentFault.{first_that_holds, has_sex, is_found_gone, is_found_not_older, is_missing, is_named, record_faults, record_named};
 ghost use Rattle.herd_pedigree.specs.Places.{IsPlaceIn};
-ghost use Rattle.herd_pedigree.specs.RecordFault.{has_sex, is_found_gone, is_found_not_older, is_missing, record_faults};
 ghost use Rattle.herd_pedigree.specs.declared.TheConstants.{MOST_ANIMALS};
 
 use crate::animal::Animal;

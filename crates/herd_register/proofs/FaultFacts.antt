@@ -31,11 +31,11 @@ unfolding parent_refusals parent_fault
 first_of_parent_refusals book number birth sire dam embryo = first_that_holds-map refusal_of (parent_faults DEPTH_LIMIT book number birth sire dam embryo)
 
 -- where no fault is the first that holds, each test of the list failed
-abbrev pub NoneHolds : {F : Type 0} → List (Bool × F) → Type 0
+abbrev NoneHolds : {F : Type 0} → List (Bool × F) → Type 0
 NoneHolds [] = Unit {0}
 NoneHolds (fault ∷ faults) = (fault.0 ≡ false) × NoneHolds faults
 
-pub none_holds : {F : Type 0} (faults : List (Bool × F)) → first_that_holds faults ≡ None → NoneHolds faults
+none_holds : {F : Type 0} (faults : List (Bool × F)) → first_that_holds faults ≡ None → NoneHolds faults
 none_holds [] none = tt
 none_holds {F} (fault ∷ faults) none = by fault.0 none (none_holds faults) where
   by : (holds : Bool) → (if holds then Some fault.1 else first_that_holds faults) ≡ None → (first_that_holds faults ≡ None → NoneHolds faults) → (holds ≡ false) × NoneHolds faults

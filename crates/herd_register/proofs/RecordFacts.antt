@@ -11,20 +11,12 @@ use Rattle.herd_pedigree.specs.Book.{Book, changed, is_there, record_of}
 use Rattle.herd_register.specs.Records.{AreInRoom, with_record_in}
 
 -- a number is there where some number of the book is equal to it
-pub is_there-list_any : (book : Book) (number : List ℕ) → is_there book number ≡ list_any (bytes_eq number) (keys_of book)
+is_there-list_any : (book : Book) (number : List ℕ) → is_there book number ≡ list_any (bytes_eq number) (keys_of book)
 is_there-list_any [] number = refl
 is_there-list_any (entry ∷ book) number = by (bytes_eq number entry.0) (is_there-list_any book number) where
   by : (same : Bool) → is_there book number ≡ list_any (bytes_eq number) (keys_of book) → is_some (if same then Some entry.1 else record_of book number) ≡ (same || list_any (bytes_eq number) (keys_of book))
   by true rest = refl
   by false rest = rest
-
--- a change of one record leaves the number of records
-pub length-changed : (book : Book) (number : List ℕ) (change : Animal → Animal) → length (changed book number change) ≡ length book
-length-changed [] number change = refl
-length-changed (entry ∷ book) number change = by (bytes_eq number entry.0) (length-changed book number change) where
-  by : (same : Bool) → length (changed book number change) ≡ length book → length (if same then (entry.0, change entry.1) ∷ book else entry ∷ changed book number change) ≡ suc (length book)
-  by true rest = refl
-  by false rest = ap suc rest
 
 -- the change of a number that isn't there changes nothing
 changed-absent : (book : Book) (number : List ℕ) (change : Animal → Animal) → is_there book number ≡ false → changed book number change ≡ book

@@ -2,6 +2,7 @@
 use Rattle.std.proofs.Common.{◌≡◌, ◌≤◌, List, [], ◌∷◌, ◌++◌, length, Option, None, Some, refl, sym, ap, ◌∙◌, arith}
 use Rattle.std.proofs.lemmas.List.{length-append, map-append}
 use Rattle.herd_pedigree.specs.Book.{Book, with_left, with_owner, with_parents}
+use Rattle.herd_pedigree.proofs.BookFacts.{length-changed}
 use Rattle.herd_register.specs.declared.command.Command.{Command}
 use Rattle.herd_register.specs.declared.command.Command.TheVariants.{Birth, Parents, Transfer, Exit}
 use Rattle.herd_register.specs.declared.limits.Limits.{Limits}
@@ -10,7 +11,6 @@ use Rattle.herd_register.specs.declared.reply.Reply.TheVariants.{Accepted, Refus
 use Rattle.herd_register.specs.declared.step.Step.{Step}
 use Rattle.herd_register.specs.Run.{answer, book_after, commands_of, fault, IsLegal, newborn, next, replies_after, replies_of, run_book, run_replies, set}
 use Rattle.herd_register.proofs.FaultFacts.{birth_room}
-use Rattle.herd_register.proofs.RecordFacts.{length-changed}
 
 -- a refused command leaves the book, and an accepted one sets the record of its animal
 pub next-refused : (limits : Limits) (book : Book) (command : Command) (refusal : Refusal) → fault limits book command ≡ Some refusal → next limits book command ≡ book

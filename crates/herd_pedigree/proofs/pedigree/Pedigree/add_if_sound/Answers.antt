@@ -3,12 +3,12 @@ use Rattle.std.specs.Map.{keys_of}
 use Rattle.std.proofs.lemmas.Bool.{lt-ltb, le-ltb}
 use Rattle.herd_pedigree.specs.Book.{Book, record_of}
 use Rattle.herd_pedigree.specs.Depths.{depth_from}
-use Rattle.herd_pedigree.specs.ParentFault.{parent_fault, first_that_holds, record_named}
+use Rattle.herd_pedigree.specs.ParentFault.{first_that_holds, is_missing, parent_fault, record_faults, record_named}
 use Rattle.herd_pedigree.specs.Places.{IsPlaceIn}
 use Rattle.herd_pedigree.specs.declared.parent_fault.ParentFault.TheVariants.{TooDeep}
-use Rattle.herd_pedigree.specs.RecordFault.{record_faults, is_missing}
 use Rattle.herd_pedigree.specs.declared.TheConstants.{DEPTH_LIMIT, MOST_ANIMALS}
-use Rattle.herd_pedigree.proofs.CheckFacts.{fault-first, found_none, newborn-fault, none_missing}
+use Rattle.herd_pedigree.proofs.CheckFacts.{fault-first, found_none, newborn-fault}
+use Rattle.herd_pedigree.proofs.FaultFacts.{no_record_fault}
 use Rattle.herd_pedigree.proofs.pedigree.Pedigree.add_if_sound.Goals as goal
 
 pub returns-in-Some-clause-fault : goal.returns-in-Some-clause-fault
@@ -34,9 +34,9 @@ returns-then-depth_with-from-clause-fault g c =
     sym (c.record_fault.ensures ∙ found_none birth book s d _ _ _ _ embryo c.find-sire.ensures.number c.find-sire.ensures.record c.find-dam.ensures.number c.find-dam.ensures.record) ∙ c.in_default.is in
     let sire : Option ℕ = c.find-sire.result.place in
     let dam : Option ℕ = c.find-dam.result.place in
-    let missing = none_missing birth s (record_named book s) d (record_named book d) embryo told in
-    let sire_is : IsPlaceIn (keys_of book) sire s = c.find-sire.ensures.place (ap (λ r. is_missing s r) c.find-sire.ensures.record ∙ missing.0) in
-    let dam_is : IsPlaceIn (keys_of book) dam d = c.find-dam.ensures.place (ap (λ r. is_missing d r) c.find-dam.ensures.record ∙ missing.1) in
+    let missing = no_record_fault birth s (record_named book s) d (record_named book d) embryo told in
+    let sire_is : IsPlaceIn (keys_of book) sire s = c.find-sire.ensures.place (ap (λ r. is_missing s r) c.find-sire.ensures.record ∙ missing.sire_there) in
+    let dam_is : IsPlaceIn (keys_of book) dam d = c.find-dam.ensures.place (ap (λ r. is_missing d r) c.find-dam.ensures.record ∙ missing.dam_there) in
     let absent : record_of book c.args.number ≡ None = subst (λ p. record_of p.book c.args.number ≡ None) (sym c.self.view_is) c.requires.absent in
     let depths : List ℕ = c.self.inside.depths.items in
     let depth : c.depth_with.result ≡ depth_from (slice_index depths) sire dam = c.depth_with.ensures.depth ∙ ap (λ ds. depth_from (slice_index ds) sire dam) c.deref.ensures.value in
@@ -58,9 +58,9 @@ add_below-requires-clause-birth g c =
     sym (c.record_fault.ensures ∙ found_none birth book s d _ _ _ _ embryo c.find-sire.ensures.number c.find-sire.ensures.record c.find-dam.ensures.number c.find-dam.ensures.record) ∙ c.in_default.is in
     let sire : Option ℕ = c.find-sire.result.place in
     let dam : Option ℕ = c.find-dam.result.place in
-    let missing = none_missing birth s (record_named book s) d (record_named book d) embryo told in
-    let sire_is : IsPlaceIn (keys_of book) sire s = c.find-sire.ensures.place (ap (λ r. is_missing s r) c.find-sire.ensures.record ∙ missing.0) in
-    let dam_is : IsPlaceIn (keys_of book) dam d = c.find-dam.ensures.place (ap (λ r. is_missing d r) c.find-dam.ensures.record ∙ missing.1) in
+    let missing = no_record_fault birth s (record_named book s) d (record_named book d) embryo told in
+    let sire_is : IsPlaceIn (keys_of book) sire s = c.find-sire.ensures.place (ap (λ r. is_missing s r) c.find-sire.ensures.record ∙ missing.sire_there) in
+    let dam_is : IsPlaceIn (keys_of book) dam d = c.find-dam.ensures.place (ap (λ r. is_missing d r) c.find-dam.ensures.record ∙ missing.dam_there) in
     let absent : record_of book c.args.number ≡ None = subst (λ p. record_of p.book c.args.number ≡ None) (sym c.self.view_is) c.requires.absent in
     let depths : List ℕ = c.self.inside.depths.items in
     let depth : c.depth_with.result ≡ depth_from (slice_index depths) sire dam = c.depth_with.ensures.depth ∙ ap (λ ds. depth_from (slice_index ds) sire dam) c.deref.ensures.value in
@@ -88,9 +88,9 @@ add_below-requires-clause-sire g c =
     sym (c.record_fault.ensures ∙ found_none birth book s d _ _ _ _ embryo c.find-sire.ensures.number c.find-sire.ensures.record c.find-dam.ensures.number c.find-dam.ensures.record) ∙ c.in_default.is in
     let sire : Option ℕ = c.find-sire.result.place in
     let dam : Option ℕ = c.find-dam.result.place in
-    let missing = none_missing birth s (record_named book s) d (record_named book d) embryo told in
-    let sire_is : IsPlaceIn (keys_of book) sire s = c.find-sire.ensures.place (ap (λ r. is_missing s r) c.find-sire.ensures.record ∙ missing.0) in
-    let dam_is : IsPlaceIn (keys_of book) dam d = c.find-dam.ensures.place (ap (λ r. is_missing d r) c.find-dam.ensures.record ∙ missing.1) in
+    let missing = no_record_fault birth s (record_named book s) d (record_named book d) embryo told in
+    let sire_is : IsPlaceIn (keys_of book) sire s = c.find-sire.ensures.place (ap (λ r. is_missing s r) c.find-sire.ensures.record ∙ missing.sire_there) in
+    let dam_is : IsPlaceIn (keys_of book) dam d = c.find-dam.ensures.place (ap (λ r. is_missing d r) c.find-dam.ensures.record ∙ missing.dam_there) in
     subst (λ p. IsPlaceIn (keys_of p.book) sire s) c.self.view_is sire_is
 
 pub add_below-requires-clause-dam : goal.add_below-requires-clause-dam
@@ -104,9 +104,9 @@ add_below-requires-clause-dam g c =
     sym (c.record_fault.ensures ∙ found_none birth book s d _ _ _ _ embryo c.find-sire.ensures.number c.find-sire.ensures.record c.find-dam.ensures.number c.find-dam.ensures.record) ∙ c.in_default.is in
     let sire : Option ℕ = c.find-sire.result.place in
     let dam : Option ℕ = c.find-dam.result.place in
-    let missing = none_missing birth s (record_named book s) d (record_named book d) embryo told in
-    let sire_is : IsPlaceIn (keys_of book) sire s = c.find-sire.ensures.place (ap (λ r. is_missing s r) c.find-sire.ensures.record ∙ missing.0) in
-    let dam_is : IsPlaceIn (keys_of book) dam d = c.find-dam.ensures.place (ap (λ r. is_missing d r) c.find-dam.ensures.record ∙ missing.1) in
+    let missing = no_record_fault birth s (record_named book s) d (record_named book d) embryo told in
+    let sire_is : IsPlaceIn (keys_of book) sire s = c.find-sire.ensures.place (ap (λ r. is_missing s r) c.find-sire.ensures.record ∙ missing.sire_there) in
+    let dam_is : IsPlaceIn (keys_of book) dam d = c.find-dam.ensures.place (ap (λ r. is_missing d r) c.find-dam.ensures.record ∙ missing.dam_there) in
     subst (λ p. IsPlaceIn (keys_of p.book) dam d) c.self.view_is dam_is
 
 pub returns-clause-fault : goal.returns-clause-fault
@@ -120,9 +120,9 @@ returns-clause-fault g c =
     sym (c.record_fault.ensures ∙ found_none birth book s d _ _ _ _ embryo c.find-sire.ensures.number c.find-sire.ensures.record c.find-dam.ensures.number c.find-dam.ensures.record) ∙ c.in_default.is in
     let sire : Option ℕ = c.find-sire.result.place in
     let dam : Option ℕ = c.find-dam.result.place in
-    let missing = none_missing birth s (record_named book s) d (record_named book d) embryo told in
-    let sire_is : IsPlaceIn (keys_of book) sire s = c.find-sire.ensures.place (ap (λ r. is_missing s r) c.find-sire.ensures.record ∙ missing.0) in
-    let dam_is : IsPlaceIn (keys_of book) dam d = c.find-dam.ensures.place (ap (λ r. is_missing d r) c.find-dam.ensures.record ∙ missing.1) in
+    let missing = no_record_fault birth s (record_named book s) d (record_named book d) embryo told in
+    let sire_is : IsPlaceIn (keys_of book) sire s = c.find-sire.ensures.place (ap (λ r. is_missing s r) c.find-sire.ensures.record ∙ missing.sire_there) in
+    let dam_is : IsPlaceIn (keys_of book) dam d = c.find-dam.ensures.place (ap (λ r. is_missing d r) c.find-dam.ensures.record ∙ missing.dam_there) in
     let absent : record_of book c.args.number ≡ None = subst (λ p. record_of p.book c.args.number ≡ None) (sym c.self.view_is) c.requires.absent in
     let depths : List ℕ = c.self.inside.depths.items in
     let depth : c.depth_with.result ≡ depth_from (slice_index depths) sire dam = c.depth_with.ensures.depth ∙ ap (λ ds. depth_from (slice_index ds) sire dam) c.deref.ensures.value in

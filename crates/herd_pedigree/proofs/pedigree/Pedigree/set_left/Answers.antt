@@ -10,7 +10,8 @@ use Rattle.herd_pedigree.specs.Undo.{IsHeld}
 use Rattle.herd_pedigree.specs.declared.TheConstants.{DEPTH_LIMIT, MOST_ANIMALS}
 use Rattle.herd_pedigree.proofs.BookFacts.{at_position, entry_from_both}
 use Rattle.herd_pedigree.proofs.HeldFacts.{HasRoom-same}
-use Rattle.herd_pedigree.proofs.SetFacts.{IsHeld-same, lawful-exit, record-view}
+use Rattle.herd_pedigree.proofs.LawfulChanges.{lawful-exit}
+use Rattle.herd_pedigree.proofs.SetFacts.{IsHeld-same, record-view}
 use Rattle.herd_pedigree.proofs.pedigree.Pedigree.set_left.Goals as goal
 
 pub set-requires-clause-sire : goal.set-requires-clause-sire
@@ -49,7 +50,7 @@ invariant_of-self g c =
     let asked : IsExit book number c.args.day = subst (λ p. IsExit p.book number c.args.day) (sym c.self.view_is) c.requires in
     let set : c.set.new.self.book ≡ set_value_at book place (with_left c.args.day a) = c.set.ensures ∙ ap (λ v. set_value_at book place v) c.with_left.ensures in
     let held : IsHeld DEPTH_LIMIT MOST_ANIMALS (set_value_at book place (with_left c.args.day a)) sires dams depths c.clear.new.self.items (Record place a sire dam) =
-    IsHeld-same DEPTH_LIMIT MOST_ANIMALS book sires dams depths kept place number a (with_left c.args.day a) at refl refl (lawful-exit DEPTH_LIMIT MOST_ANIMALS book sires dams depths kept place number a at c.args.day asked) c.clear.new.self.items c.clear.ensures.items sire dam c.parent-sire.ensures c.parent-dam.ensures in
+    IsHeld-same DEPTH_LIMIT MOST_ANIMALS book sires dams depths kept place number a at (with_left c.args.day) refl refl (lawful-exit DEPTH_LIMIT MOST_ANIMALS book number c.args.day kept.lawful asked) c.clear.new.self.items c.clear.ensures.items sire dam c.parent-sire.ensures c.parent-dam.ensures in
     record {
       held = subst (λ b. IsHeld DEPTH_LIMIT MOST_ANIMALS b sires dams depths c.clear.new.self.items (Record place a sire dam)) (sym set) held;
       room = HasRoom-same place a sire dam c.self.inside.sires c.self.inside.dams c.parent-sire.ensures c.parent-dam.ensures;

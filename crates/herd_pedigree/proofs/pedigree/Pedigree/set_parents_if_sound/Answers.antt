@@ -11,8 +11,7 @@ use Rattle.herd_pedigree.specs.Book.{Book, changed, record_of, with_parents}
 use Rattle.herd_pedigree.specs.Pedigree.{IsCorrection, changed_to}
 use Rattle.herd_pedigree.specs.Depths.{IsParent}
 use Rattle.herd_pedigree.specs.Places.{IsPlaceIn, parent_at, parentage_at}
-use Rattle.herd_pedigree.specs.ParentFault.{first_that_holds, is_too_deep, parent_fault, record_named}
-use Rattle.herd_pedigree.specs.RecordFault.{is_missing, record_faults}
+use Rattle.herd_pedigree.specs.ParentFault.{first_that_holds, is_missing, is_too_deep, parent_fault, record_faults, record_named}
 use Rattle.herd_pedigree.specs.declared.parent_fault.ParentFault.TheVariants.{TooDeep}
 use Rattle.herd_pedigree.specs.Calves.{HasRoomFor}
 use Rattle.herd_pedigree.specs.Carry.{IsSettled}
@@ -20,7 +19,8 @@ use Rattle.herd_pedigree.specs.Undo.{IsHeld}
 use Rattle.herd_pedigree.specs.declared.TheConstants.{DEPTH_LIMIT, MOST_ANIMALS}
 use Rattle.herd_pedigree.proofs.BookFacts.{at_position, entry_from_both, lookup_at}
 use Rattle.herd_pedigree.proofs.SetFacts.{record-view}
-use Rattle.herd_pedigree.proofs.CheckFacts.{closed-after, fault-first, fault-rest, found_none, none_missing, settled-exchange, too_deep-told_by}
+use Rattle.herd_pedigree.proofs.CheckFacts.{closed-after, fault-first, fault-rest, found_none, settled-exchange, too_deep-told_by}
+use Rattle.herd_pedigree.proofs.FaultFacts.{no_record_fault}
 use Rattle.herd_pedigree.proofs.HeldFacts.{IsWhole-more, IsHeld-corrected}
 use Rattle.herd_pedigree.proofs.pedigree.Pedigree.set_parents_if_sound.Goals as goal
 
@@ -60,9 +60,9 @@ carry_if_shallow-requires-clause-sound g c =
     let embryo = c.animal_at-animal.result.embryo in
     let told : first_that_holds (record_faults birth s (record_named book s) d (record_named book d) embryo) ≡ None =
     sym (c.record_fault.ensures ∙ found_none birth book s d _ _ _ _ embryo c.find-sire.ensures.number c.find-sire.ensures.record c.find-dam.ensures.number c.find-dam.ensures.record) ∙ c.in_default-record_fault.is in
-    let missing = none_missing birth s (record_named book s) d (record_named book d) embryo told in
-    let sire_is : IsPlaceIn (keys_of book) sire s = c.find-sire.ensures.place (ap (λ r. is_missing s r) c.find-sire.ensures.record ∙ missing.0) in
-    let dam_is : IsPlaceIn (keys_of book) dam d = c.find-dam.ensures.place (ap (λ r. is_missing d r) c.find-dam.ensures.record ∙ missing.1) in
+    let missing = no_record_fault birth s (record_named book s) d (record_named book d) embryo told in
+    let sire_is : IsPlaceIn (keys_of book) sire s = c.find-sire.ensures.place (ap (λ r. is_missing s r) c.find-sire.ensures.record ∙ missing.sire_there) in
+    let dam_is : IsPlaceIn (keys_of book) dam d = c.find-dam.ensures.place (ap (λ r. is_missing d r) c.find-dam.ensures.record ∙ missing.dam_there) in
     let at : slice_get (keys_of book) place ≡ Some number = at_position book number place (sym c.in-Some.ensures.index) in
     let m = kept.sires_are.long in
     let here : place < length sires = let w = c.in-Some.ensures.within in omega (arith, w, m) in
@@ -93,9 +93,9 @@ carry_if_shallow-requires-clause-settled g c =
     let embryo = c.animal_at-animal.result.embryo in
     let told : first_that_holds (record_faults birth s (record_named book s) d (record_named book d) embryo) ≡ None =
     sym (c.record_fault.ensures ∙ found_none birth book s d _ _ _ _ embryo c.find-sire.ensures.number c.find-sire.ensures.record c.find-dam.ensures.number c.find-dam.ensures.record) ∙ c.in_default-record_fault.is in
-    let missing = none_missing birth s (record_named book s) d (record_named book d) embryo told in
-    let sire_is : IsPlaceIn (keys_of book) sire s = c.find-sire.ensures.place (ap (λ r. is_missing s r) c.find-sire.ensures.record ∙ missing.0) in
-    let dam_is : IsPlaceIn (keys_of book) dam d = c.find-dam.ensures.place (ap (λ r. is_missing d r) c.find-dam.ensures.record ∙ missing.1) in
+    let missing = no_record_fault birth s (record_named book s) d (record_named book d) embryo told in
+    let sire_is : IsPlaceIn (keys_of book) sire s = c.find-sire.ensures.place (ap (λ r. is_missing s r) c.find-sire.ensures.record ∙ missing.sire_there) in
+    let dam_is : IsPlaceIn (keys_of book) dam d = c.find-dam.ensures.place (ap (λ r. is_missing d r) c.find-dam.ensures.record ∙ missing.dam_there) in
     let at : slice_get (keys_of book) place ≡ Some number = at_position book number place (sym c.in-Some.ensures.index) in
     let m = kept.sires_are.long in
     let here : place < length sires = let w = c.in-Some.ensures.within in omega (arith, w, m) in
@@ -143,9 +143,9 @@ returns-in_default-2-clause-fault g c =
     let embryo = a.embryo in
     let told : first_that_holds (record_faults birth s (record_named book s) d (record_named book d) embryo) ≡ None =
     sym (c.record_fault.ensures ∙ found_none birth book s d _ _ _ _ embryo c.find-sire.ensures.number c.find-sire.ensures.record c.find-dam.ensures.number c.find-dam.ensures.record) ∙ c.in_default-record_fault.is in
-    let missing = none_missing birth s (record_named book s) d (record_named book d) embryo told in
-    let sire_is : IsPlaceIn (keys_of book) sire s = c.find-sire.ensures.place (ap (λ r. is_missing s r) c.find-sire.ensures.record ∙ missing.0) in
-    let dam_is : IsPlaceIn (keys_of book) dam d = c.find-dam.ensures.place (ap (λ r. is_missing d r) c.find-dam.ensures.record ∙ missing.1) in
+    let missing = no_record_fault birth s (record_named book s) d (record_named book d) embryo told in
+    let sire_is : IsPlaceIn (keys_of book) sire s = c.find-sire.ensures.place (ap (λ r. is_missing s r) c.find-sire.ensures.record ∙ missing.sire_there) in
+    let dam_is : IsPlaceIn (keys_of book) dam d = c.find-dam.ensures.place (ap (λ r. is_missing d r) c.find-dam.ensures.record ∙ missing.dam_there) in
     let sp : c.reserve_calf.new.self.parents ≡ sires = c.reserve_calf.ensures.parents in
     let dp : c.reserve_calf-2.new.self.parents ≡ dams = c.reserve_calf-2.ensures.parents in
     let L : List (Option ℕ) → List (Option ℕ) → Type 0 = λ ss ds. (x : ℕ) × IsTrue (has_line (parentage_at (slice_set ss place sire) (slice_set ds place dam)) (DEPTH_LIMIT + 1) x) in
@@ -164,8 +164,8 @@ set-requires-clause-sire g c =
     let embryo = c.animal_at-animal.result.embryo in
     let told : first_that_holds (record_faults birth s (record_named book s) d (record_named book d) embryo) ≡ None =
     sym (c.record_fault.ensures ∙ found_none birth book s d _ _ _ _ embryo c.find-sire.ensures.number c.find-sire.ensures.record c.find-dam.ensures.number c.find-dam.ensures.record) ∙ c.in_default-record_fault.is in
-    let missing = none_missing birth s (record_named book s) d (record_named book d) embryo told in
-    let sire_is : IsPlaceIn (keys_of book) c.find-sire.result.place s = c.find-sire.ensures.place (ap (λ r. is_missing s r) c.find-sire.ensures.record ∙ missing.0) in
+    let missing = no_record_fault birth s (record_named book s) d (record_named book d) embryo told in
+    let sire_is : IsPlaceIn (keys_of book) c.find-sire.result.place s = c.find-sire.ensures.place (ap (λ r. is_missing s r) c.find-sire.ensures.record ∙ missing.sire_there) in
     subst (λ o. IsPlaceIn (keys_of book) c.find-sire.result.place o) (sym (ap (λ v. v.sire) c.with_parents-corrected.ensures ∙ c.find-sire.ensures.number)) sire_is
 
 pub set-requires-clause-dam : goal.set-requires-clause-dam
@@ -177,8 +177,8 @@ set-requires-clause-dam g c =
     let embryo = c.animal_at-animal.result.embryo in
     let told : first_that_holds (record_faults birth s (record_named book s) d (record_named book d) embryo) ≡ None =
     sym (c.record_fault.ensures ∙ found_none birth book s d _ _ _ _ embryo c.find-sire.ensures.number c.find-sire.ensures.record c.find-dam.ensures.number c.find-dam.ensures.record) ∙ c.in_default-record_fault.is in
-    let missing = none_missing birth s (record_named book s) d (record_named book d) embryo told in
-    let dam_is : IsPlaceIn (keys_of book) c.find-dam.result.place d = c.find-dam.ensures.place (ap (λ r. is_missing d r) c.find-dam.ensures.record ∙ missing.1) in
+    let missing = no_record_fault birth s (record_named book s) d (record_named book d) embryo told in
+    let dam_is : IsPlaceIn (keys_of book) c.find-dam.result.place d = c.find-dam.ensures.place (ap (λ r. is_missing d r) c.find-dam.ensures.record ∙ missing.dam_there) in
     subst (λ o. IsPlaceIn (keys_of book) c.find-dam.result.place o) (sym (ap (λ v. v.dam) c.with_parents-corrected.ensures ∙ c.find-dam.ensures.number)) dam_is
 
 pub invariant_of-self-2 : goal.invariant_of-self-2
@@ -198,9 +198,9 @@ invariant_of-self-2 g c =
     let embryo = c.animal_at-animal.result.embryo in
     let told : first_that_holds (record_faults birth s (record_named book s) d (record_named book d) embryo) ≡ None =
     sym (c.record_fault.ensures ∙ found_none birth book s d _ _ _ _ embryo c.find-sire.ensures.number c.find-sire.ensures.record c.find-dam.ensures.number c.find-dam.ensures.record) ∙ c.in_default-record_fault.is in
-    let missing = none_missing birth s (record_named book s) d (record_named book d) embryo told in
-    let sire_is : IsPlaceIn (keys_of book) sire s = c.find-sire.ensures.place (ap (λ r. is_missing s r) c.find-sire.ensures.record ∙ missing.0) in
-    let dam_is : IsPlaceIn (keys_of book) dam d = c.find-dam.ensures.place (ap (λ r. is_missing d r) c.find-dam.ensures.record ∙ missing.1) in
+    let missing = no_record_fault birth s (record_named book s) d (record_named book d) embryo told in
+    let sire_is : IsPlaceIn (keys_of book) sire s = c.find-sire.ensures.place (ap (λ r. is_missing s r) c.find-sire.ensures.record ∙ missing.sire_there) in
+    let dam_is : IsPlaceIn (keys_of book) dam d = c.find-dam.ensures.place (ap (λ r. is_missing d r) c.find-dam.ensures.record ∙ missing.dam_there) in
     let at : slice_get (keys_of book) place ≡ Some number = at_position book number place (sym c.in-Some.ensures.index) in
     let m = kept.sires_are.long in
     let here : place < length sires = let w = c.in-Some.ensures.within in omega (arith, w, m) in
@@ -262,9 +262,9 @@ returns-clause-fault g c =
     let embryo = a.embryo in
     let told : first_that_holds (record_faults birth s (record_named book s) d (record_named book d) embryo) ≡ None =
     sym (c.record_fault.ensures ∙ found_none birth book s d _ _ _ _ embryo c.find-sire.ensures.number c.find-sire.ensures.record c.find-dam.ensures.number c.find-dam.ensures.record) ∙ c.in_default-record_fault.is in
-    let missing = none_missing birth s (record_named book s) d (record_named book d) embryo told in
-    let sire_is : IsPlaceIn (keys_of book) sire s = c.find-sire.ensures.place (ap (λ r. is_missing s r) c.find-sire.ensures.record ∙ missing.0) in
-    let dam_is : IsPlaceIn (keys_of book) dam d = c.find-dam.ensures.place (ap (λ r. is_missing d r) c.find-dam.ensures.record ∙ missing.1) in
+    let missing = no_record_fault birth s (record_named book s) d (record_named book d) embryo told in
+    let sire_is : IsPlaceIn (keys_of book) sire s = c.find-sire.ensures.place (ap (λ r. is_missing s r) c.find-sire.ensures.record ∙ missing.sire_there) in
+    let dam_is : IsPlaceIn (keys_of book) dam d = c.find-dam.ensures.place (ap (λ r. is_missing d r) c.find-dam.ensures.record ∙ missing.dam_there) in
     let sp : c.reserve_calf.new.self.parents ≡ sires = c.reserve_calf.ensures.parents in
     let dp : c.reserve_calf-2.new.self.parents ≡ dams = c.reserve_calf-2.ensures.parents in
     let S : List (Option ℕ) → List (Option ℕ) → Type 0 = λ ss ds. (x : ℕ) → IsFalse (has_line (parentage_at (slice_set ss place sire) (slice_set ds place dam)) (DEPTH_LIMIT + 1) x) in
