@@ -1,0 +1,175 @@
+//! How a program builds on the crates of the herd book. It files births into a register by calls, prints the replies,
+//! freezes the book, and prints each animal's coefficient of inbreeding and what one mating would give.
+//!
+//! Read it from top to bottom. What stands after `requires` and `ensures` is proved before the program is built; all
+//! else is ordinary Rust, but that whatever takes memory is given an allocator, and whatever prints is given `rt`.
+#![tactic(auto)]
+
+ghost use Rattle.std.specs.Prelude.{◌≡◌, ◌+◌, ◌*◌, ◌^◌, ◌<◌, false, length, OnErr, OnOk};
+ghost use Rattle.herd_pedigree.specs.declared.TheConstants.{DEPTH_LIMIT};
+ghost use Rattle.herd_kinship.specs.Coefficients.{AreCoefficients};
+ghost use Rattle.herd_kinship.specs.Fraction.{halved};
+ghost use Rattle.herd_kinship.specs.FrozenAncestry.{ancestry_of, number_at};
+ghost use Rattle.herd_kinship.specs.Table.{coefficient};
+
+use anyhow::Result;
+use herd_animal::{AnimalNumber, Day, Herd};
+use herd_kinship::{Coefficients, Fraction, coefficients_plain, fraction, mating};
+use herd_pedigree::{Frozen, MOST_ANIMALS};
+use herd_register::{Command, Limits, MOST_STEPS, Register, Reply};
+use std::alloc::Global;
+use std::io;
+
+// Breed, country, sex, and twelve characters of its own.
+const BULL: &str = "HOLGBRM000000000001";
+
+const COW: &str = "HOLGBRF000000000002";
+
+const SON: &str = "HOLGBRM000000000003";
+
+const DAUGHTER: &str = "HOLGBRF000000000004";
+
+const CALF: &str = "HOLGBRF000000000005";
+
+fn main(rt: HostRuntime) -> Result<()> {
+    // `Register::new` gives an empty register. These are the widest limits that it may have.
+    let limits = Limits {
+        animals: MOST_ANIMALS,
+        steps: MOST_STEPS,
+    };
+    let mut register = Register::new(rt.alloc(), limits);
+    file_births(&mut register)?;
+    print_replies(&rt, &register)?;
+
+    // `freeze` gives the book of this moment, in age order, with each animal's parents as places in it.
+    let frozen = register.pedigree().freeze(rt.alloc())?;
+    // `coefficients_plain` gives the coefficients of all its animals, by their places.
+    let coefficients = coefficients_plain(rt.alloc(), &frozen)?;
+    print_coefficients(&rt, &frozen, &coefficients)?;
+
+    let sire = AnimalNumber::parse(SON.as_bytes())?;
+    let dam = AnimalNumber::parse(CALF.as_bytes())?;
+    print_mating(&rt, rt.alloc(), &frozen, &coefficients, sire, dam)?;
+    Ok(())
+}
+
+// Parents come before their calves.
+fn file_births(register: &mut Register<Global>) -> Result<()> {
+    file_birth(register, BULL, "2015-03-01", None, None)?;
+    file_birth(register, COW, "2016-04-12", None, None)?;
+    file_birth(register, SON, "2018-02-20", Some(BULL), Some(COW))?;
+    file_birth(register, DAUGHTER, "2019-06-08", Some(BULL), Some(COW))?;
+    // Sire and dam are exchanged: this one is refused, and the book stays as it is.
+    file_birth(register, CALF, "2021-05-03", Some(DAUGHTER), Some(SON))?;
+    file_birth(register, CALF, "2021-05-03", Some(SON), Some(DAUGHTER))
+}
+
+// Files a birth. It is answered once, accepted or refused; after an error the register is as it was.
+fn file_birth(
+    register: &mut Register<Global>,
+    animal: &str,
+    day: &str,
+    sire: Option<&str>,
+    dam: Option<&str>,
+) -> Result<()>
+    ensures once { OnOk result (length register.new.journal ≡ length register.old.journal + 1) }
+    ensures err { OnErr result (register.new ≡ register.old) }
+{
+    // `parse` gives a number, a day or a herd, or tells what is wrong with the text.
+    let command = Command::Birth {
+        animal: AnimalNumber::parse(animal.as_bytes())?,
+        day: Day::parse(day.as_bytes())?,
+        sire: parent(sire)?,
+        dam: parent(dam)?,
+        herd: Herd::parse(b"1")?,
+        embryo: false,
+    };
+    // `file` gives the reply, and keeps it with the command and the number of the desk, here 1.
+    register.file(1, command)?;
+    Ok(())
+}
+
+fn parent(number: Option<&str>) -> Result<Option<AnimalNumber>> {
+    match number {
+        Some(number) => Ok(Some(AnimalNumber::parse(number.as_bytes())?)),
+        None => Ok(None),
+    }
+}
+
+fn print_replies(rt: &impl Print, register: &Register<Global>) -> io::Result<()> {
+    // `journal` gives all steps, each with its command and its reply, in the order in which they were filed.
+    for step in register.journal() {
+        match step.reply {
+            Reply::Accepted => println!(rt; "accepted")?,
+            Reply::Refused(refusal) => println!(rt; "refused: {refusal}")?,
+        }
+    }
+    Ok(())
+}
+
+// The animal at a place, and its coefficient: half its parents' entry in the tabular relationship matrix.
+fn inbreeding_at(
+    frozen: &Frozen<Global>,
+    coefficients: &Coefficients<Global>,
+    place: u32,
+) -> (AnimalNumber, Fraction)
+    // A caller has to show that these are the coefficients of this book, as `coefficients_plain` promises.
+    requires coefficients { AreCoefficients DEPTH_LIMIT frozen.now coefficients.now }
+    requires place { place < length frozen.now }
+    ensures number { result.0 ≡ number_at frozen.now place }
+    ensures value { result.1 ≡ halved false (coefficient (ancestry_of frozen.now) DEPTH_LIMIT result.0) (2 ^ (2 * DEPTH_LIMIT)) }
+{
+    // `row` gives what is known of an animal, `numerator` its coefficient in units of 2^-120, and `fraction` the
+    // fraction in lowest terms.
+    (
+        frozen.row(place).number,
+        fraction(coefficients.numerator(place)),
+    )
+}
+
+fn print_coefficients(
+    rt: &impl Print,
+    frozen: &Frozen<Global>,
+    coefficients: &Coefficients<Global>,
+) -> Result<()>
+    requires { AreCoefficients DEPTH_LIMIT frozen.now coefficients.now }
+{
+    for place in 0..frozen.len() {
+        let (number, coefficient) = inbreeding_at(frozen, coefficients, place);
+        print_coefficient(rt, number, coefficient)?;
+    }
+    Ok(())
+}
+
+fn print_coefficient(rt: &impl Print, number: AnimalNumber, coefficient: Fraction) -> Result<()> {
+    let bytes = number.bytes();
+    let text = std::str::from_utf8(&bytes)?;
+    println!(rt;
+        "{text} {}/{}",
+        coefficient.numerator, coefficient.denominator
+    )?;
+    Ok(())
+}
+
+fn print_mating(
+    rt: &impl Print,
+    alloc: Global,
+    frozen: &Frozen<Global>,
+    coefficients: &Coefficients<Global>,
+    sire: AnimalNumber,
+    dam: AnimalNumber,
+) -> io::Result<()>
+    requires { AreCoefficients DEPTH_LIMIT frozen.now coefficients.now }
+{
+    // `mating` gives the coefficient that a calf of the two would have, or tells why there can be none.
+    match mating(alloc, frozen, coefficients, &sire, &dam) {
+        Ok(numerator) => {
+            let coefficient = fraction(numerator);
+            println!(rt;
+                "their calf {}/{}",
+                coefficient.numerator, coefficient.denominator
+            )
+        }
+        Err(fault) => println!(rt; "no calf: {fault}"),
+    }
+}
