@@ -1,17 +1,18 @@
-ghost use Rattle.std.specs.Prelude.{◌≡◌, ◌≢◌, ◌<◌, ◌++◌, All, codes, length, IfErr, OnErr, OnOk};
+ghost use Rattle.std.specs.Prelude.{◌≡◌, ◌≢◌, ◌<◌, ◌++◌, All, codes, length, IfErr, IfSome, OnErr, OnOk};
 ghost use Rattle.std.specs.Io.KnownBytes.{Appends};
 ghost use Rattle.std.specs.List.{flat_map};
 ghost use Rattle.herd_pedigree.specs.declared.TheConstants.{DEPTH_LIMIT, MOST_ANIMALS};
 ghost use Rattle.herd_pedigree.specs.Frozen.{IsFrozen};
 ghost use Rattle.herd_kinship.specs.Coefficients.{AreCoefficients};
 ghost use Rattle.herd_kinship.specs.FrozenAncestry.{number_at};
+ghost use Rattle.herd_report.specs.CoefficientText.{fraction_text};
 ghost use Rattle.herd_report.specs.InverseList.{contribution_line, contributions_text, inverse_text, IsWithin};
 ghost use Rattle.herd_report.specs.Output.{AppendsFront};
 
 use crate::coefficient_text::push_fraction;
 use crate::output::Output;
 use crate::report_fault::ReportFault;
-use herd_kinship::{Coefficients, Entry, contributions};
+use herd_kinship::{Coefficients, Entry, Fraction, contributions};
 use herd_pedigree::Frozen;
 use std::alloc::{AllocError, Allocator};
 use std::io::Write;
@@ -31,10 +32,11 @@ pub fn write_inverse<W: Write, A: Allocator, F: Allocator, C: Allocator>(
     ensures err { OnErr result (AppendsFront (W.contents writer.old) (W.contents writer.new) (inverse_text frozen.now)) }
     ensures fault { IfErr result (λ fault. fault ≢ ReportFault.NotRegistered) }
 {
-    let mut output = Output::new(alloc);
+    let mut output = Output::new(&alloc);
+    let mut value = Output::new(&alloc);
     for place in 0..frozen.len() {
         output.pass_on(writer)?;
-        push_contributions(&mut output, frozen, coefficients, place)?;
+        push_contributions(&mut output, &mut value, frozen, coefficients, place)?;
     }
     output.finish(writer)
 }
@@ -42,6 +44,7 @@ pub fn write_inverse<W: Write, A: Allocator, F: Allocator, C: Allocator>(
 // Adds the lines of what the animal at a place contributes.
 fn push_contributions<A: Allocator, F: Allocator, C: Allocator>(
     output: &mut Output<A>,
+    value: &mut Output<A>,
     frozen: &Frozen<F>,
     coefficients: &Coefficients<C>,
     place: u32,
@@ -53,12 +56,14 @@ fn push_contributions<A: Allocator, F: Allocator, C: Allocator>(
 {
     let listed = contributions(frozen, coefficients, place);
     let entries = &listed.entries[..listed.count as usize];
-    push_entries(output, frozen, place, entries)
+    push_entries(output, value, frozen, place, entries)
 }
 
-// Adds the lines of some entries of the animal at a place.
+// Adds the lines of some entries of the animal at a place. Of equal values that follow one another the text is made
+// once.
 fn push_entries<A: Allocator, F: Allocator>(
     output: &mut Output<A>,
+    value: &mut Output<A>,
     frozen: &Frozen<F>,
     place: u32,
     entries: &[Entry],
@@ -67,10 +72,29 @@ fn push_entries<A: Allocator, F: Allocator>(
     requires entries { All (IsWithin frozen.now) entries.now }
     ensures { OnOk result (output.new ≡ output.old ++ flat_map (contribution_line frozen.now place) entries.now) }
 {
+    let mut made = None;
     for entry in entries {
-        push_entry(output, frozen, place, *entry)?;
+        make_text(value, made, entry.value)?;
+        made = Some(entry.value);
+        push_entry(output, frozen, place, *entry, value.bytes())?;
     }
     Ok(())
+}
+
+// Makes the text of a value, where the text that is there isn't of an equal one.
+fn make_text<A: Allocator>(
+    text: &mut Output<A>,
+    made: Option<Fraction>,
+    value: Fraction,
+) -> Result<(), AllocError>
+    requires { IfSome made (λ last. text.old ≡ fraction_text last) }
+    ensures { OnOk result (text.new ≡ fraction_text value) }
+{
+    if made == Some(value) {
+        return Ok(());
+    }
+    text.clear();
+    push_fraction(text, value)
 }
 
 fn push_entry<A: Allocator, F: Allocator>(
@@ -78,15 +102,17 @@ fn push_entry<A: Allocator, F: Allocator>(
     frozen: &Frozen<F>,
     place: u32,
     entry: Entry,
+    value: &[u8],
 ) -> Result<(), AllocError>
     requires place { place < length frozen.now }
     requires entry { IsWithin frozen.now entry }
+    requires value { value.now ≡ fraction_text entry.value }
     ensures { OnOk result (output.new ≡ output.old ++ contribution_line frozen.now place entry) }
 {
     push_number_at(output, frozen, place)?;
     push_number_at(output, frozen, entry.row)?;
     push_number_at(output, frozen, entry.column)?;
-    push_fraction(output, entry.value)?;
+    output.push(value)?;
     output.push(b"\n")
 }
 

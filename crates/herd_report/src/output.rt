@@ -9,7 +9,7 @@ use std::io::Write;
 use std::marker::Model;
 
 // What waits is written once it has so many bytes.
-const PART: usize = 8192;
+const PART: usize = 65_536;
 
 // Wide numbers are written in two parts, the second of eighteen digits.
 const SPLIT: u128 = 1_000_000_000_000_000_000;
@@ -36,6 +36,20 @@ impl<A: Allocator> Output<A> {
         Output {
             waiting: Vec::new(alloc),
         }
+    }
+
+    /// What waits.
+    pub(crate) fn bytes(&self) -> &[u8]
+        ensures { result.now ≡ self.now }
+    {
+        self.waiting.as_slice()
+    }
+
+    /// Lets what waits go.
+    pub(crate) fn clear(&mut self)
+        ensures { self.new ≡ [] }
+    {
+        self.waiting.clear();
     }
 
     /// Adds bytes at the end.
@@ -81,8 +95,8 @@ impl<A: Allocator> Output<A> {
         ensures fault { IfErr result (λ fault. fault ≡ ReportFault.Write) }
     {
         if self.waiting.len() >= PART {
-            write_all(writer, self.waiting.as_slice())?;
-            self.waiting.clear();
+            write_all(writer, self.bytes())?;
+            self.clear();
         }
         Ok(())
     }

@@ -55,11 +55,11 @@ fn stops_at_a_failed_write(rt: HostRuntime) -> Result<(), Fail> {
 #[test]
 fn writes_more_than_one_part(rt: HostRuntime) -> Result<(), Fail> {
     let [accepted, _] = steps()?;
-    let steps = vec![in rt.alloc(); accepted; 2000]?;
+    let steps = vec![in rt.alloc(); accepted; 10_000]?;
     let mut text = Vec::new(rt.alloc());
     write_replies(rt.alloc(), steps.as_slice(), &mut text)?;
-    assert!(rt; text.ends_with(b"\n1999,accepted\n2000,accepted\n"));
-    assert_eq!(rt; text.iter().filter(|byte| **byte == b'\n').count(), 2000);
+    assert!(rt; text.ends_with(b"\n9999,accepted\n10000,accepted\n"));
+    assert_eq!(rt; text.iter().filter(|byte| **byte == b'\n').count(), 10_000);
     Ok(())
 }
 

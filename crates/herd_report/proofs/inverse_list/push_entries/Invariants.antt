@@ -1,8 +1,12 @@
-use Rattle.std.proofs.Common.{◌≡◌, ◌++◌, take}
+use Rattle.std.proofs.Common.{◌≡◌, ◌++◌, IfSome, take}
 use Rattle.std.specs.List.{flat_map}
+use Rattle.herd_report.specs.CoefficientText.{fraction_text}
 use Rattle.herd_report.specs.InverseList.{contribution_line}
 use Rattle.herd_report.proofs.inverse_list.push_entries.Given as goal
 
 abbrev pub invariant-loop-entry : goal.invariant-loop-entry
 invariant-loop-entry g l =
-    l.output ≡ l.fn.output ++ flat_map (contribution_line l.frozen l.place) (take l.entry-index l.entries)
+    record {
+      text : l.output ≡ l.fn.output ++ flat_map (contribution_line l.frozen l.place) (take l.entry-index l.entries);
+      made : IfSome l.made (λ last. l.value ≡ fraction_text last);
+    }
