@@ -1,5 +1,6 @@
 //! The desks, and how a command is filed.
-ghost use Rattle.std.specs.Prelude.{map, List, ◌≡◌, ℕ, ◌+◌, ◌<◌, ◌≤◌, ◌^◌, ◌↔◌, ◌≢◌, IsNone, IsSome, IsTrue, true, false, [], ◌∷◌, ◌++◌, length, drop, vec_len, Some, slice_get, IfOk, IfErr, OnErr};
+ghost use Rattle.std.specs.Prelude.{map, List, ◌≡◌, ℕ, ◌+◌, ◌<◌, ◌≤◌, ◌^◌, ◌↔◌, ◌≢◌, IsNone, IsSome, IsTrue, [], ◌∷◌, ◌++◌, length, drop, vec_len, Some, slice_get, IfOk, IfErr, OnErr};
+ghost use Rattle.std.specs.List.{sum_by};
 ghost use mathlib.Core.List.{IsPrefix};
 ghost use Rattle.herd_register.specs.Run.{IsLegal, step_of};
 ghost use Rattle.herd_office.specs.Closing.{BeginsWithAll};
@@ -238,7 +239,7 @@ impl<N: OfficeName> Desk<N> {
 
 /// Whether the history begins with each desk's.
 pub(crate) fn all_begin<N: OfficeName>(desks: &[Desk<N>], history: &History<N>) -> bool
-    ensures { result ≡ true → BeginsWithAll (λ d. d.history) desks.now history.now }
+    ensures { IsTrue result ↔ BeginsWithAll (λ d. d.history) desks.now history.now }
 {
     for k in 0..desks.len() {
         if !desks[k].history.begins(history) {
@@ -250,7 +251,7 @@ pub(crate) fn all_begin<N: OfficeName>(desks: &[Desk<N>], history: &History<N>) 
 
 /// Whether no number stands twice among the desks'.
 pub(crate) fn all_apart<N: OfficeName>(desks: &[Desk<N>]) -> bool
-    ensures { result ≡ true → Apart (map (λ d. d.number) desks.now) }
+    ensures { IsTrue result ↔ Apart (map (λ d. d.number) desks.now) }
 {
     match desks {
         [] => true,
@@ -259,10 +260,33 @@ pub(crate) fn all_apart<N: OfficeName>(desks: &[Desk<N>]) -> bool
 }
 
 fn has_none<N: OfficeName>(desks: &[Desk<N>], number: u16) -> bool
-    ensures { result ≡ true → times number (map (λ d. d.number) desks.now) ≡ 0 }
+    ensures { IsTrue result ↔ (times number (map (λ d. d.number) desks.now) ≡ 0) }
 {
     match desks {
         [] => true,
         [first, rest @ ..] => number != first.number && has_none(rest, number),
     }
+}
+
+/// The shares of these desks as one. What the desks have no part of is lent, and tells the ledger.
+pub(crate) fn share_of_all<N: OfficeName, A: Allocator>(
+    mut desks: Vec<Desk<N>, A>,
+    rest: &mut Share<N>,
+) -> Share<N>
+    ensures parts { result.parts ≡ vec_len desks }
+    ensures amount { result.amount ≡ sum_by (λ d. d.answered) desks.items }
+    ensures within { result.parts ≤ N.parts }
+    ensures rest { rest.new ≡ rest.old }
+{
+    let mut all = rest.empty();
+    while let Some(desk) = desks.pop() {
+        let Desk {
+            number: _,
+            answered: _,
+            share,
+            history: _history,
+        } = desk;
+        all.merge(share);
+    }
+    all
 }

@@ -1,5 +1,5 @@
 //! The office: what lies under its lock, and how it is opened and closed.
-ghost use Rattle.std.specs.Prelude.{map, ◌≡◌, ℕ, ◌+◌, ◌<◌, ◌≤◌, ◌^◌, ◌↔◌, IsTrue, true, false, [], ◌∷◌, ◌++◌, length, drop, vec_len, Some, slice_get, IfOk, IfErr, OnErr};
+ghost use Rattle.std.specs.Prelude.{map, ◌≡◌, ℕ, ◌+◌, ◌<◌, ◌≤◌, ◌^◌, ◌↔◌, IsTrue, [], ◌∷◌, ◌++◌, length, drop, vec_len, Some, slice_get, IsNone, IfSome, IfOk, IfErr, OnErr};
 ghost use Rattle.std.specs.List.{sum_by};
 ghost use mathlib.Core.List.{IsPrefix};
 ghost use Rattle.herd_register.specs.Copybook.{copybook_of};
@@ -168,7 +168,7 @@ impl<N: OfficeName, R: Wait + Drop, A: Allocator + Copy> Office<N, R, A> {
     pub fn close<W: Wait>(
         self,
         rt: &W,
-        mut desks: Vec<Desk<N>, A>,
+        desks: Vec<Desk<N>, A>,
         inspectors: Vec<Inspector<N>, A>,
     ) -> Result<Register<A>, Unclosed<N, R, A>>
         ensures limits { IfOk result (λ r. r.limits ≡ N.limits) }
@@ -183,17 +183,9 @@ impl<N: OfficeName, R: Wait + Drop, A: Allocator + Copy> Office<N, R, A> {
         ensures desks_back { IfErr result (λ u. u.desks.items ≡ desks.items) }
         ensures inspectors_back { IfErr result (λ u. u.inspectors.items ≡ inspectors.items) }
     {
-        if desks.len() < usize::from(self.desks) {
+        if let Some(cause) = self.missing(desks.as_slice(), inspectors.as_slice()) {
             return Err(Unclosed {
-                cause: Cause::DeskMissing,
-                office: self,
-                desks,
-                inspectors,
-            });
-        }
-        if inspectors.len() < usize::from(self.inspectors) {
-            return Err(Unclosed {
-                cause: Cause::InspectorMissing,
+                cause,
                 office: self,
                 desks,
                 inspectors,
@@ -219,26 +211,32 @@ impl<N: OfficeName, R: Wait + Drop, A: Allocator + Copy> Office<N, R, A> {
                 inspectors,
             });
         }
-        let mut rest = inside.rest.empty();
-        while let Some(desk) = desks.pop() {
-            let Desk {
-                number: _,
-                answered: _,
-                share,
-                history: _history,
-            } = desk;
-            rest.merge(share);
+        let all = desk::share_of_all(desks, &mut inside.rest);
+        Ok(inside.end(rt, all))
+    }
+
+    // Who was opened and isn't handed in: a desk is told before an inspector.
+    fn missing(&self, desks: &[Desk<N>], inspectors: &[Inspector<N>]) -> Option<Cause>
+        ensures none { IsNone result ↔ ((self.now.desks ≤ length desks.now) × (self.now.inspectors ≤ length inspectors.now)) }
+        ensures desk { IfSome result (λ cause. (cause ≡ Cause.DeskMissing) ↔ (length desks.now < self.now.desks)) }
+        ensures inspector { IfSome result (λ cause. (cause ≡ Cause.InspectorMissing) ↔ ((self.now.desks ≤ length desks.now) × (length inspectors.now < self.now.inspectors))) }
+    {
+        if desks.len() < usize::from(self.desks) {
+            return Some(Cause::DeskMissing);
         }
-        Ok(inside.end(rt, rest))
+        if inspectors.len() < usize::from(self.inspectors) {
+            return Some(Cause::InspectorMissing);
+        }
+        None
     }
 }
 
 impl<N: OfficeName, R: Wait + Drop, A: Allocator> Inside<N, R, A> {
     // Whether the journal begins with each history, and the desks' numbers differ.
     fn begins(&self, desks: &[Desk<N>], inspectors: &[Inspector<N>]) -> bool
-        ensures apart { result ≡ true → Apart (map (λ d. d.number) desks.now) }
-        ensures desks { result ≡ true → BeginsWithAll (λ d. d.history) desks.now self.now.register.journal }
-        ensures inspectors { result ≡ true → BeginsWithAll (λ i. i.history) inspectors.now self.now.register.journal }
+        ensures { IsTrue result ↔ (Apart (map (λ d. d.number) desks.now)
+            × BeginsWithAll (λ d. d.history) desks.now self.now.register.journal
+            × BeginsWithAll (λ i. i.history) inspectors.now self.now.register.journal) }
     {
         desk::all_apart(desks)
             && desk::all_begin(desks, &self.keeper.history)
