@@ -42,6 +42,7 @@ mod faults;
 mod history;
 mod inspector;
 mod keeper;
+mod limits;
 mod name;
 mod office;
 mod shown;
@@ -50,6 +51,7 @@ pub use desk::{Desk, Filed, Slip, file_on};
 pub use faults::{Cause, FreezeFault, OpenFault};
 pub use history::History;
 pub use inspector::Inspector;
+pub use limits::{MOST_DESKS, MOST_INSPECTORS};
 pub use name::OfficeName;
 pub use office::{Inside, Office, OfficeParts, Unclosed};
 

@@ -10,6 +10,7 @@ ghost use Rattle.herd_office.specs.Copies.{office_of};
 ghost use Rattle.herd_office.specs.Histories.{Apart, of_desk};
 ghost use Rattle.herd_office.specs.Parts.{AreNamed};
 ghost use Rattle.herd_office.specs.Shelves.{state_of};
+ghost use Rattle.herd_office.specs.declared.limits.TheConstants.{MOST_DESKS, MOST_INSPECTORS};
 
 use crate::copies::{Held, make_copies};
 use crate::desk::{Desk, make_desks};
@@ -62,8 +63,8 @@ impl<R: Wait + Drop> OfficeParts<R> {
         inspectors: u16,
     ) -> Result<OfficeParts<R>, OpenFault>
         requires limits { AreLimits limits }
-        requires desks { (1 ≤ desks) × (desks ≤ 16) }
-        requires inspectors { (1 ≤ inspectors) × (inspectors ≤ 16) }
+        requires desks { (1 ≤ desks) × (desks ≤ MOST_DESKS) }
+        requires inspectors { (1 ≤ inspectors) × (inspectors ≤ MOST_INSPECTORS) }
         ensures limits { IfOk result (λ parts. parts.limits ≡ limits) }
         ensures desks { IfOk result (λ parts. parts.desks ≡ desks) }
         ensures inspectors { IfOk result (λ parts. parts.inspectors ≡ inspectors) }
