@@ -14,7 +14,7 @@ use crate::history::History;
 use crate::name::OfficeName;
 use crate::office::{Inside, Office};
 use crate::shown::Entry;
-use herd_register::{Command, FileFault, Register, Reply, Step};
+use herd_register::{Command, FileFault, MOST_STEPS, Register, Reply, Step};
 use std::alloc::Allocator;
 use std::sync::ledger::{Book, Share};
 use std::sync::{MutexGuard, Wait};
@@ -125,7 +125,7 @@ pub fn file_on<N: OfficeName, W: Wait, R: Wait + Drop, A: Allocator + Copy>(
     if register.is_full() {
         return Err(FileFault::JournalFull);
     }
-    let _limits = register.limits();
+    prove!(register.limits().steps <= MOST_STEPS);
     let steps = register.journal().len();
     if !desk.history.begins(&keeper.history) || !keeper.claim() {
         return Err(FileFault::NoReading);
@@ -174,6 +174,7 @@ fn file_in<A: Allocator + Copy>(
         register.withdraw();
         return Err(FileFault::Memory);
     }
+    // `journal` ensures that what it gives is legal; here that is the journal with the step.
     let _legal = register.journal();
     Ok(step)
 }
