@@ -15,8 +15,10 @@ use left_right::writer::Writer;
 use std::alloc::{AllocError, Global};
 use std::sync::Wait;
 
+/// Who changes the copies and shows them: it lies under the office's lock, since there is one for all desks.
 pub type Copies = Writer<Shown, Entry, View, Ours>;
 
+/// A seat at the copies, from which an inspector reads: each inspector has one.
 pub type Place = Reader<Shown, View, Ours>;
 
 /// The writer of an office, with the handle by which its drop waits for readers before it frees both copies.
@@ -33,6 +35,7 @@ impl<R: Wait + Drop> Drop for Held<R> {
 }
 
 impl<R: Wait + Drop> Held<R> {
+    /// The handle is kept for the drop alone: calls that publish or free the copies take one of their own.
     pub fn new(rt: R, writer: Copies) -> Held<R>
         ensures { result.writer ≡ writer }
     {
