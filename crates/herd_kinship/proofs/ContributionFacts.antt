@@ -173,14 +173,9 @@ module _ (l most : ℕ) (rows : List Row) (f : IsFrozen l most rows) (positive :
       ap (λ o. map (contribution_at l rows i) (pairs_of i o (dam_place rows i))) es
       ∙ (ap (λ o. map (contribution_at l rows i) (pairs_of i s o)) ed ∙ listed s d es ed)
 
--- the values by which an animal's contributions are listed
-pub record AreWeights (l part : ℕ) (alpha half quarter : Fraction) : Type 0 where
-  pub alpha_is : alpha ≡ halved false (2 ^ (2 * l)) part
-  pub half_is : half ≡ halved true (2 ^ (2 * l - 1)) part
-  pub quarter_is : quarter ≡ halved false (2 ^ (2 * l - 2)) part
-
 -- what is listed are the contributions, in lowest terms
 pub record AreListed (l : ℕ) (rows : List Row) (i : ℕ) (contributions : Contributions) : Type 0 where
+  pub alpha : contributions.alpha ≡ halved false (2 ^ (2 * l)) (mendelian (ancestry_of rows) l (number_at rows i))
   pub count : contributions.count ≡ length (contributions_of l rows i)
   pub entries : contributions.entries ≡ filled (contributions_of l rows i)
   pub lowest : All (λ entry. Low entry.value) contributions.entries
@@ -189,22 +184,24 @@ low : (negative : Bool) (k part : ℕ) → k < 128 → 0 < part → part < 2 ^ 1
 low negative k part small some fits = (halved-lowest negative (2 ^ k) part some (pow-lt small) fits (inl (k, refl))).lowest
 
 pub listed-are : (l most : ℕ) (rows : List Row) → IsFrozen l most rows → 0 < l → 2 * l < 128 → (i : ℕ) → i < length rows → (row : Row) → slice_get rows i ≡ Some row →
-    (part : ℕ) → part ≡ mendelian (ancestry_of rows) l (number_at rows i) → part < 2 ^ 128 → (alpha half quarter : Fraction) → AreWeights l part alpha half quarter →
+    (part : ℕ) → part ≡ mendelian (ancestry_of rows) l (number_at rows i) → part < 2 ^ 128 → (alpha half quarter : Fraction) →
+    alpha ≡ halved false (2 ^ (2 * l)) part → half ≡ halved true (2 ^ (2 * l - 1)) part → quarter ≡ halved false (2 ^ (2 * l - 2)) part →
     (s d : Option ℕ) → row.sire ≡ s → row.dam ≡ d → (contributions : Contributions) → Lists contributions alpha (weighted alpha half quarter i s d) →
     AreListed l rows i contributions
-listed-are l most rows f positive small i li row e part is fits alpha half quarter w s d es ed contributions lists =
+listed-are l most rows f positive small i li row e part is fits alpha half quarter alpha_is half_is quarter_is s d es ed contributions lists =
     let m : ℕ = mendelian (ancestry_of rows) l (number_at rows i) in
     let some : 0 < part = (let p = (frozen-bound l most rows f i i li li).positive in omega (arith, p, is)) in
     let same : weighted alpha half quarter i s d ≡ contributions_of l rows i =
-    rw (w.alpha_is, w.half_is, w.quarter_is, is)
+    rw (alpha_is, half_is, quarter_is, is)
     (sym (contributions-weighted l most rows f positive i li s d (let a : sire_place rows i ≡ row.sire = rw e refl in a ∙ es) (let a : dam_place rows i ≡ row.dam = rw e refl in a ∙ ed))) in
     record {
+      alpha = lists.alpha_is ∙ (alpha_is ∙ ap (λ v. halved false (2 ^ (2 * l)) v) is);
       count = lists.count_is ∙ ap length same;
       entries = lists.entries_are ∙ ap filled same;
       lowest =
           subst (λ entries. All (λ entry. Low entry.value) entries) (sym lists.entries_are)
           (weighted-low alpha half quarter
-          (subst Low (sym w.alpha_is) (low false (2 * l) part small some fits))
-          (subst Low (sym w.half_is) (low true (2 * l - 1) part (omega arith) some fits))
-          (subst Low (sym w.quarter_is) (low false (2 * l - 2) part (omega arith) some fits)) i s d);
+          (subst Low (sym alpha_is) (low false (2 * l) part small some fits))
+          (subst Low (sym half_is) (low true (2 * l - 1) part (omega arith) some fits))
+          (subst Low (sym quarter_is) (low false (2 * l - 2) part (omega arith) some fits)) i s d);
     }

@@ -1,11 +1,11 @@
 -- What the parents and the depth of a row say of its place.
-use Rattle.std.proofs.Common.{ℕ, ◌<◌, ◌≡◌, List, length, refl, sym, ◌∙◌, ap}
+use Rattle.std.proofs.Common.{ℕ, ◌<◌, ◌≤◌, ◌≡◌, List, length, refl, sym, ◌∙◌, ap, subst}
 use Rattle.std.proofs.lemmas.Option.{slice_get_within}
 use Rattle.herd_pedigree.specs.declared.frozen.Parents.{Parents}
 use Rattle.herd_pedigree.specs.declared.frozen.Row.{Row}
-use Rattle.herd_pedigree.specs.Frozen.{depth_at}
+use Rattle.herd_pedigree.specs.Frozen.{IsFrozen, depth_at}
 use Rattle.herd_kinship.specs.Places.{AreParentsAt, sire_place, dam_place}
-use Rattle.herd_kinship.proofs.FrozenDepths.{depth_at-row}
+use Rattle.herd_kinship.proofs.FrozenDepths.{depth_at-row, depth-at_most}
 
 pub parents-sire : (rows : List Row) (i : ℕ) (parents : Parents) → AreParentsAt rows i parents → sire_place rows i ≡ parents.sire
 parents-sire rows i parents at = rw (at.there, at.same) refl
@@ -18,3 +18,7 @@ parents-depth rows i parents at = depth_at-row rows i at.row at.there ∙ sym (a
 
 pub parents-within : (rows : List Row) (i : ℕ) (parents : Parents) → AreParentsAt rows i parents → i < length rows
 parents-within rows i parents at = slice_get_within rows i at.row at.there
+
+pub parents-shallow : (l most : ℕ) (rows : List Row) → IsFrozen l most rows → (i : ℕ) (parents : Parents) → AreParentsAt rows i parents → parents.depth ≤ l
+parents-shallow l most rows f i parents at =
+    subst (λ v. v ≤ l) (parents-depth rows i parents at) (depth-at_most l most rows f i (parents-within rows i parents at))

@@ -4,53 +4,51 @@ use Rattle.std.proofs.Math.Nat.{mod-eq_of_lt, mul-le-mul_left}
 use Rattle.std.proofs.Math.Pow.{pow_pos}
 use Rattle.std.proofs.lemmas.Bool.{cases_eq}
 use Rattle.std.proofs.lemmas.List.{get_or-set_same, get_or-set_other, length-set}
+use Rattle.herd_pedigree.specs.declared.frozen.Parents.{Parents}
 use Rattle.herd_pedigree.specs.declared.frozen.Row.{Row}
 use Rattle.herd_pedigree.specs.declared.TheConstants.{MOST_ANIMALS}
 use Rattle.herd_pedigree.specs.Frozen.{IsFrozen, depth_at}
 use Rattle.herd_kinship.specs.Ancestry.{LineTo}
 use Rattle.herd_kinship.specs.Shares.{share}
-use Rattle.herd_kinship.specs.Places.{sire_place, dam_place, placed}
+use Rattle.herd_kinship.specs.Places.{AreParentsAt, sire_place, dam_place, placed}
 use Rattle.herd_kinship.specs.Tracing.{brought, given, kept_share, HasRoom, IsTracing, IsNext, IsShareOf}
 use Rattle.herd_kinship.proofs.Ancestors.{share-reached, line-joined}
 use Rattle.herd_kinship.proofs.Brought.{brought-agree, brought-more, brought-none, brought-add, share-within, of_known, cancel, own-share, lowered, passed_on}
-use Rattle.herd_kinship.proofs.FrozenDepths.{depth_at-row, placed-depth, placed-below_depth, depth-at_most, parent-less_deep}
+use Rattle.herd_kinship.proofs.FrozenDepths.{placed-depth, placed-below_depth, depth-at_most, parent-less_deep}
 use Rattle.herd_kinship.proofs.FrozenFacts.{frozen-placed, placed-lawful, placed-shallow}
 use Rattle.herd_kinship.proofs.OwnUnits.{half-own, share-own}
+use Rattle.herd_kinship.proofs.ParentsFacts.{parents-depth}
 use Rattle.herd_kinship.proofs.Places.{place-in}
 
 pub length-given : (rows : List Row) (x : ℕ) (shares : List ℕ) (y own : ℕ) (o : Option ℕ) → length (given rows x shares y own o) ≡ length shares
 length-given rows x shares y own None = refl
 length-given rows x shares y own (Some p) = length-set shares (x - p) _
 
--- what the rows of y and of its parent p say of the share that p gets
-pub record IsGift (l : ℕ) (rows : List Row) (x : ℕ) (shares : List ℕ) (y own p : ℕ) (row parent : Row) : Type 0 where
-  pub within : p < length rows
+-- what the depths of y and of its parent p say of the share that p gets
+pub record IsGift (l : ℕ) (rows : List Row) (x : ℕ) (shares : List ℕ) (y own p deep depth : ℕ) : Type 0 where
   pub distance : p ≤ x
-  pub less_deep : parent.depth < row.depth
-  pub steps : row.depth - parent.depth - 1 < 64
-  pub exact : own * 2 ^ (row.depth - parent.depth - 1) % 2 ^ 64 ≡ own * 2 ^ (depth_at rows y - depth_at rows p - 1)
-  pub fits : get_or shares (x - p) 0 + own * 2 ^ (row.depth - parent.depth - 1) % 2 ^ 64 < 2 ^ 64
+  pub less_deep : depth < deep
+  pub steps : deep - depth - 1 < 64
+  pub exact : own * 2 ^ (deep - depth - 1) % 2 ^ 64 ≡ own * 2 ^ (depth_at rows y - depth_at rows p - 1)
+  pub fits : get_or shares (x - p) 0 + own * 2 ^ (deep - depth - 1) % 2 ^ 64 < 2 ^ 64
 
-pub gift-is : (l : ℕ) (rows : List Row) (x : ℕ) (shares : List ℕ) (y own p : ℕ) (row parent : Row) → l < 64 → 2 ^ l < 2 ^ 64 → HasRoom l rows x shares y own p →
-    slice_get rows y ≡ Some row → slice_get rows p ≡ Some parent → IsGift l rows x shares y own p row parent
-gift-is l rows x shares y own p row parent small power h ey ep =
-    let dy : depth_at rows y ≡ row.depth = depth_at-row rows y row ey in
-    let dp : depth_at rows p ≡ parent.depth = depth_at-row rows p parent ep in
+pub gift-is : (l : ℕ) (rows : List Row) (x : ℕ) (shares : List ℕ) (y own p : ℕ) (parents older : Parents) → l < 64 → 2 ^ l < 2 ^ 64 → HasRoom l rows x shares y own p →
+    AreParentsAt rows y parents → AreParentsAt rows p older → IsGift l rows x shares y own p parents.depth older.depth
+gift-is l rows x shares y own p parents older small power h at there =
+    let dy = parents-depth rows y parents at in
+    let dp = parents-depth rows p older there in
     let lower : p < y = h.lower in
     let met : y ≤ x = h.met in
-    let place : x < length rows = h.place in
     let less : depth_at rows p < depth_at rows y = h.less_deep in
     let shallow : depth_at rows y ≤ l = h.shallow in
     let room = h.room in
-    let steps : row.depth - parent.depth - 1 ≡ depth_at rows y - depth_at rows p - 1 = rw (dy, dp) refl in
     let more : ℕ = own * 2 ^ (depth_at rows y - depth_at rows p - 1) in
     let fits : more < 2 ^ 64 = omega arith in
-    let exact : own * 2 ^ (row.depth - parent.depth - 1) % 2 ^ 64 ≡ more = rw steps (mod-eq_of_lt fits) in
+    let exact : own * 2 ^ (parents.depth - older.depth - 1) % 2 ^ 64 ≡ more = rw (← dy, ← dp) (mod-eq_of_lt fits) in
     record {
-      within = omega arith;
       distance = omega arith;
-      less_deep = omega arith;
-      steps = omega arith;
+      less_deep = omega (arith, dy, dp);
+      steps = omega (arith, dy, dp);
       exact = exact;
       fits = omega (arith, exact);
     }

@@ -6,10 +6,11 @@ use Rattle.std.proofs.lemmas.Bool.{cases_eq, cases_lt}
 use Rattle.std.proofs.lemmas.Nat.Bits.{bit_at-lt}
 use Rattle.std.proofs.lemmas.List.{get_or-replicate, get_or-set_same, get_or-set_other, get_or_past, length-replicate, length-set}
 use Rattle.herd_pedigree.specs.declared.TheConstants.{MOST_ANIMALS}
+use Rattle.herd_pedigree.specs.declared.frozen.Parents.{Parents}
 use Rattle.herd_pedigree.specs.declared.frozen.Row.{Row}
-use Rattle.herd_pedigree.specs.Frozen.{IsFrozen, depth_at}
+use Rattle.herd_pedigree.specs.Frozen.{IsFrozen, depth_at, parents_of}
 use Rattle.herd_kinship.specs.Pending.{mark, Marks}
-use Rattle.herd_kinship.specs.Places.{placed}
+use Rattle.herd_kinship.specs.Places.{AreParentsAt, placed}
 use Rattle.herd_kinship.specs.Shares.{share}
 use Rattle.herd_kinship.specs.Tracing.{given, GivesMark, HasRoom, IsIdle, IsMarked, IsNext, IsPendingAt, IsTracing, IsUnderWay}
 use Rattle.herd_kinship.proofs.TracingFacts.{IsLower, IsStep, length-given, lowered-to, share-none_kept, step-is, step-room_sire, step-room_dam, step-lower_sire, step-lower_dam, step-next, tracing-start}
@@ -46,106 +47,6 @@ under_way-start l rows x nothing empty words f lx idle marks =
             (cases_eq d 0);
       };
     }
-
--- what is taken: the nearest distance that is marked
-pub record IsTaken (words words' : List ℕ) (d : ℕ) : Type 0 where
-  pub found : mark words d ≡ 1
-  pub nearest : (e : ℕ) → e < d → mark words e ≡ 0
-  pub taken : Marks words words' d 0
-
-module _ (l : ℕ) (rows : List Row) (x b : ℕ) (shares words : List ℕ) (way : IsUnderWay l rows x b shares words) where
-  -- nothing is kept for a place below the border that isn't marked
-  none-kept : (j : ℕ) → j < b → mark words (x - j) ≡ 0 → get_or shares (x - j) 0 ≡ 0
-  none-kept j low none =
-      ⊎_elim
-      (λ (some : 0 < get_or shares (x - j) 0). let m = way.marks.marked j low some in absurd (omega arith))
-      (λ (z : get_or shares (x - j) 0 ≤ 0). omega arith)
-      (cases_lt 0 (get_or shares (x - j) 0))
-
-  -- where nothing is marked all is met
-  pub under_way-end : ((d : ℕ) → mark words d ≡ 0) → IsUnderWay l rows x 0 shares words
-  under_way-end none = record {
-    tracing =
-        lowered-to l rows x 0 b shares (subst (λ v. IsTracing l rows x v shares) (let e : b ≡ b + 0 = omega arith in e) way.tracing)
-        (λ j _ jb. none-kept j (omega arith) (none (x - j)));
-    marks = record {
-      room = way.marks.room;
-      marked = λ p low some. absurd (omega arith);
-      pending = λ d is. let z = none d in absurd (omega arith);
-    };
-  }
-
-  pub none-left : ((d : ℕ) → mark words d ≡ 0) → (j : ℕ) → j < b → share (placed rows) l (Some x) j ≡ 0
-  none-left none = λ j jb. share-none_kept l rows x b shares way.tracing j jb (λ i ji ib. none-kept i ib (none (x - i)))
-
-  module _ (words' : List ℕ) (d : ℕ) (taken : IsTaken words words' d) where
-    pub taken-at : IsPendingAt x b shares d
-    taken-at = way.marks.pending d taken.found
-
-    between : (j : ℕ) → x - d < j → j < b → get_or shares (x - j) 0 ≡ 0
-    between j low high =
-        let near : d ≤ x = taken-at.near in
-        let border : b ≤ x + 1 = way.tracing.border_in in
-        none-kept j high (taken.nearest (x - j) (omega arith))
-
-    pub taken-step : (own : ℕ) → own ≡ get_or shares d 0 → IsStep l rows x (x - d) shares own
-    taken-step own is =
-        let near : d ≤ x = taken-at.near in
-        let below : x - d < b = taken-at.below in
-        let n : ℕ = b - (x - d + 1) in
-        let e : b ≡ n + (x - d + 1) = omega arith in
-        record {
-          tracing =
-              lowered-to l rows x (x - d + 1) n shares (subst (λ v. IsTracing l rows x v shares) e way.tracing)
-              (λ j low high. between j (omega arith) (omega arith));
-          own_is = is ∙ ap (λ v. get_or shares v 0) (let q : d ≡ x - (x - d) = omega arith in q);
-        }
-
-    pub taken-next : (own : ℕ) → own ≡ get_or shares d 0 → IsNext l rows x b (x - d) own
-    taken-next own is =
-        let at = taken-at in
-        let some = at.some in
-        step-is l rows x (x - d) shares own (taken-step own is) b
-        (λ j low high. share-none_kept l rows x b shares way.tracing j high (λ i ji ib. between i (omega arith) ib))
-        at.below way.tracing.border_in (omega (arith, is, some))
-
-    back : x - (x - d) ≡ d
-    back = let near : d ≤ x = taken-at.near in omega arith
-
-    -- there is room for what its parents get
-    pub taken-room_sire : (own : ℕ) → own ≡ get_or shares d 0 → (row : Row) → slice_get rows (x - d) ≡ Some row → (p : ℕ) → row.sire ≡ Some p →
-        HasRoom l rows x (set shares d 0) (x - d) own p
-    taken-room_sire own is row e p at =
-        subst (λ v. HasRoom l rows x (set shares v 0) (x - d) own p) back (step-room_sire l rows x (x - d) shares own (taken-step own is) row e p at)
-
-    pub taken-room_dam : (own : ℕ) → own ≡ get_or shares d 0 → (row : Row) → slice_get rows (x - d) ≡ Some row → (p : ℕ) → row.dam ≡ Some p →
-        HasRoom l rows x (given rows x (set shares d 0) (x - d) own row.sire) (x - d) own p
-    taken-room_dam own is row e p at =
-        subst (λ v. HasRoom l rows x (given rows x (set shares v 0) (x - d) own row.sire) (x - d) own p) back
-        (step-room_dam l rows x (x - d) shares own (taken-step own is) row e p at)
-
-    -- the other marks stay, and nothing is kept any more at the distance
-    taken-marks : IsMarked x (x - d) (set shares d 0) words'
-    taken-marks =
-        let near : d ≤ x = taken-at.near in
-        let below : x - d < b = taken-at.below in
-        record {
-          room = let r = way.marks.room in let e = taken.taken.room in omega (arith, e);
-          marked = λ p low some.
-              let apart : x - p ≡ d → ⊥ = λ e. omega arith in
-              let same = get_or-set_other shares d (x - p) 0 0 apart in
-              let kept : 0 < get_or (set shares d 0) (x - p) 0 = some in
-              let was : 0 < get_or shares (x - p) 0 = subst (λ v. 0 < v) same kept in
-              taken.taken.others (x - p) apart ∙ way.marks.marked p (omega arith) was;
-          pending = λ e is.
-              let other : e ≡ d → ⊥ = λ same. (let z : mark words' e ≡ 0 = subst (λ v. mark words' v ≡ 0) (sym same) taken.taken.here in let q : 1 ≡ 0 = sym is ∙ z in omega arith) in
-              let was : mark words e ≡ 1 = sym (taken.taken.others e other) ∙ is in
-              let at = way.marks.pending e was in
-              let far : d < e =
-              ⊎_elim (λ (less : e < d). let z = taken.nearest e less in absurd (omega arith)) (λ (more : d ≤ e). let o = other in omega arith) (cases_lt e d) in
-              let close : e ≤ x = at.near in
-              record { near = close; below = omega arith; some = rw (get_or-set_other shares d e 0 0 other) at.some };
-        }
 
 -- a share that is given to a parent is marked
 given-marks : (rows : List Row) (x y own : ℕ) (shares words words' : List ℕ) (o : Option ℕ) → IsMarked x y shares words → 0 < own → y ≤ x → x < length shares →
@@ -188,32 +89,136 @@ given-marks rows x y own shares words words' (Some p) m some high long lower giv
           (cases_eq e (x - p));
     }
 
--- the distance taken, and the shares given to both parents
-pub under_way-next : (l : ℕ) (rows : List Row) (x b : ℕ) (shares words words' : List ℕ) (way : IsUnderWay l rows x b shares words) (d : ℕ) (taken : IsTaken words words' d)
-    (own : ℕ) (is : own ≡ get_or shares d 0) (row : Row) → slice_get rows (x - d) ≡ Some row → (after last : List ℕ) →
-    GivesMark x words' after row.sire → GivesMark x after last row.dam →
-    IsUnderWay l rows x (x - d) (given rows x (given rows x (set shares d 0) (x - d) own row.sire) (x - d) own row.dam) last
-under_way-next l rows x b shares words words' way d taken own is row e after last first second =
-    let step = taken-step l rows x b shares words way words' d taken own is in
-    let at = taken-at l rows x b shares words way words' d taken in
-    let kept = at.some in
-    let near : d ≤ x = at.near in
-    let back : x - (x - d) ≡ d = omega arith in
-    let some : 0 < own = omega (arith, is, kept) in
-    let was : x < length shares = way.tracing.long in
-    let empty : List ℕ = set shares d 0 in
-    let long : x < length empty = (let e = length-set shares d 0 in omega (arith, e, was)) in
-    let sire = given-marks rows x (x - d) own empty words' after row.sire (taken-marks l rows x b shares words way words' d taken) some (omega arith) long
-    (step-lower_sire l rows x (x - d) shares own step row e) first in
-    let given_long = length-given rows x empty (x - d) own row.sire in
-    record {
-      tracing =
-          subst (λ v. IsTracing l rows x (x - d) (given rows x (given rows x (set shares v 0) (x - d) own row.sire) (x - d) own row.dam)) back
-          (step-next l rows x (x - d) shares own step row e);
-      marks =
-          given-marks rows x (x - d) own (given rows x empty (x - d) own row.sire) after last row.dam sire some (omega arith)
-          (omega (arith, given_long, long)) (step-lower_dam l rows x (x - d) shares own step row e) second;
-    }
+-- what is taken: the nearest distance that is marked, and the share that is kept there
+pub record IsTaken (shares words words' : List ℕ) (d own : ℕ) : Type 0 where
+  pub found : mark words d ≡ 1
+  pub nearest : (e : ℕ) → e < d → mark words e ≡ 0
+  pub taken : Marks words words' d 0
+  pub own_is : own ≡ get_or shares d 0
+
+-- what is met there: the next ancestor, room for what its parents get, and the tracing once they have it
+pub record IsMet (l : ℕ) (rows : List Row) (x b : ℕ) (shares words' : List ℕ) (d own : ℕ) (parents : Parents) : Type 0 where
+  pub next : IsNext l rows x b (x - d) own
+  pub room_sire : (p : ℕ) → parents.sire ≡ Some p → HasRoom l rows x (set shares d 0) (x - d) own p
+  pub room_dam : (p : ℕ) → parents.dam ≡ Some p → HasRoom l rows x (given rows x (set shares d 0) (x - d) own parents.sire) (x - d) own p
+  pub under_way : (after last : List ℕ) → GivesMark x words' after parents.sire → GivesMark x after last parents.dam →
+      IsUnderWay l rows x (x - d) (given rows x (given rows x (set shares d 0) (x - d) own parents.sire) (x - d) own parents.dam) last
+
+module _ (l : ℕ) (rows : List Row) (x b : ℕ) (shares words : List ℕ) (way : IsUnderWay l rows x b shares words) where
+  -- nothing is kept for a place below the border that isn't marked
+  none-kept : (j : ℕ) → j < b → mark words (x - j) ≡ 0 → get_or shares (x - j) 0 ≡ 0
+  none-kept j low none =
+      ⊎_elim
+      (λ (some : 0 < get_or shares (x - j) 0). let m = way.marks.marked j low some in absurd (omega arith))
+      (λ (z : get_or shares (x - j) 0 ≤ 0). omega arith)
+      (cases_lt 0 (get_or shares (x - j) 0))
+
+  -- where nothing is marked all is met
+  pub under_way-end : ((d : ℕ) → mark words d ≡ 0) → IsUnderWay l rows x 0 shares words
+  under_way-end none = record {
+    tracing =
+        lowered-to l rows x 0 b shares (subst (λ v. IsTracing l rows x v shares) (let e : b ≡ b + 0 = omega arith in e) way.tracing)
+        (λ j _ jb. none-kept j (omega arith) (none (x - j)));
+    marks = record {
+      room = way.marks.room;
+      marked = λ p low some. absurd (omega arith);
+      pending = λ d is. let z = none d in absurd (omega arith);
+    };
+  }
+
+  pub none-left : ((d : ℕ) → mark words d ≡ 0) → (j : ℕ) → j < b → share (placed rows) l (Some x) j ≡ 0
+  none-left none = λ j jb. share-none_kept l rows x b shares way.tracing j jb (λ i ji ib. none-kept i ib (none (x - i)))
+
+  module _ (words' : List ℕ) (d own : ℕ) (taken : IsTaken shares words words' d own) where
+    taken-at : IsPendingAt x b shares d
+    taken-at = way.marks.pending d taken.found
+
+    between : (j : ℕ) → x - d < j → j < b → get_or shares (x - j) 0 ≡ 0
+    between j low high =
+        let near : d ≤ x = taken-at.near in
+        let border : b ≤ x + 1 = way.tracing.border_in in
+        none-kept j high (taken.nearest (x - j) (omega arith))
+
+    taken-step : IsStep l rows x (x - d) shares own
+    taken-step =
+        let near : d ≤ x = taken-at.near in
+        let below : x - d < b = taken-at.below in
+        let n : ℕ = b - (x - d + 1) in
+        let e : b ≡ n + (x - d + 1) = omega arith in
+        record {
+          tracing =
+              lowered-to l rows x (x - d + 1) n shares (subst (λ v. IsTracing l rows x v shares) e way.tracing)
+              (λ j low high. between j (omega arith) (omega arith));
+          own_is = taken.own_is ∙ ap (λ v. get_or shares v 0) (let q : d ≡ x - (x - d) = omega arith in q);
+        }
+
+    own-some : 0 < own
+    own-some = let is = taken.own_is in let some = taken-at.some in omega (arith, is, some)
+
+    taken-next : IsNext l rows x b (x - d) own
+    taken-next =
+        step-is l rows x (x - d) shares own taken-step b
+        (λ j low high. share-none_kept l rows x b shares way.tracing j high (λ i ji ib. between i (omega arith) ib))
+        taken-at.below way.tracing.border_in own-some
+
+    back : x - (x - d) ≡ d
+    back = let near : d ≤ x = taken-at.near in omega arith
+
+    -- the other marks stay, and nothing is kept any more at the distance
+    taken-marks : IsMarked x (x - d) (set shares d 0) words'
+    taken-marks =
+        let near : d ≤ x = taken-at.near in
+        let below : x - d < b = taken-at.below in
+        record {
+          room = let r = way.marks.room in let e = taken.taken.room in omega (arith, e);
+          marked = λ p low some.
+              let apart : x - p ≡ d → ⊥ = λ e. omega arith in
+              let same = get_or-set_other shares d (x - p) 0 0 apart in
+              let kept : 0 < get_or (set shares d 0) (x - p) 0 = some in
+              let was : 0 < get_or shares (x - p) 0 = subst (λ v. 0 < v) same kept in
+              taken.taken.others (x - p) apart ∙ way.marks.marked p (omega arith) was;
+          pending = λ e is.
+              let other : e ≡ d → ⊥ = λ same. (let z : mark words' e ≡ 0 = subst (λ v. mark words' v ≡ 0) (sym same) taken.taken.here in let q : 1 ≡ 0 = sym is ∙ z in omega arith) in
+              let was : mark words e ≡ 1 = sym (taken.taken.others e other) ∙ is in
+              let at = way.marks.pending e was in
+              let far : d < e =
+              ⊎_elim (λ (less : e < d). let z = taken.nearest e less in absurd (omega arith)) (λ (more : d ≤ e). let o = other in omega arith) (cases_lt e d) in
+              let close : e ≤ x = at.near in
+              record { near = close; below = omega arith; some = rw (get_or-set_other shares d e 0 0 other) at.some };
+        }
+
+    -- the shares given to both parents are marked
+    next-marks : (row : Row) → slice_get rows (x - d) ≡ Some row → (after last : List ℕ) → GivesMark x words' after row.sire → GivesMark x after last row.dam →
+        IsMarked x (x - d) (given rows x (given rows x (set shares d 0) (x - d) own row.sire) (x - d) own row.dam) last
+    next-marks row e after last first second =
+        let empty : List ℕ = set shares d 0 in
+        let was : x < length shares = way.tracing.long in
+        let long : x < length empty = (let same = length-set shares d 0 in omega (arith, same, was)) in
+        let sire = given-marks rows x (x - d) own empty words' after row.sire taken-marks own-some (omega arith) long
+        (step-lower_sire l rows x (x - d) shares own taken-step row e) first in
+        let given_long = length-given rows x empty (x - d) own row.sire in
+        given-marks rows x (x - d) own (given rows x empty (x - d) own row.sire) after last row.dam sire own-some (omega arith)
+        (omega (arith, given_long, long)) (step-lower_dam l rows x (x - d) shares own taken-step row e) second
+
+    pub taken-met : (parents : Parents) → AreParentsAt rows (x - d) parents → IsMet l rows x b shares words' d own parents
+    taken-met parents at =
+        let row : Row = at.row in
+        let met : IsMet l rows x b shares words' d own (parents_of row) = record {
+          next = taken-next;
+          room_sire = λ p is.
+              subst (λ v. HasRoom l rows x (set shares v 0) (x - d) own p) back (step-room_sire l rows x (x - d) shares own taken-step row at.there p is);
+          room_dam = λ p is.
+              subst (λ v. HasRoom l rows x (given rows x (set shares v 0) (x - d) own row.sire) (x - d) own p) back
+              (step-room_dam l rows x (x - d) shares own taken-step row at.there p is);
+          under_way = λ after last first second.
+              record {
+                tracing =
+                    subst (λ v. IsTracing l rows x (x - d) (given rows x (given rows x (set shares v 0) (x - d) own row.sire) (x - d) own row.dam)) back
+                    (step-next l rows x (x - d) shares own taken-step row at.there);
+                marks = next-marks row at.there after last first second;
+              };
+        } in
+        subst (λ v. IsMet l rows x b shares words' d own v) (sym at.same) met
 
 -- a tracing whose animals are all met leaves nothing behind
 pub under_way-idle : (l : ℕ) (rows : List Row) (x animals : ℕ) (shares words : List ℕ) → IsUnderWay l rows x 0 shares words →

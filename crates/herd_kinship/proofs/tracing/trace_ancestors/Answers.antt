@@ -1,19 +1,18 @@
-use Rattle.std.proofs.Common.{◌≡◌, ℕ, ◌+◌, ◌*◌, ◌-◌, ◌<◌, ◌≤◌, slice_get, Some, lit<, arith, ◌∙◌}
+use Rattle.std.proofs.Common.{◌≡◌, ℕ, lit<, arith, ◌∙◌}
 use Rattle.herd_pedigree.specs.declared.TheConstants.{DEPTH_LIMIT, MOST_ANIMALS}
 use Rattle.herd_kinship.specs.Coefficients.{KnowsAncestors}
-use Rattle.herd_kinship.specs.FrozenAncestry.{ancestry_of, number_at}
-use Rattle.herd_kinship.specs.Table.{mendelian}
-use Rattle.herd_kinship.specs.Tracing.{IsNext, IsShareOf}
-use Rattle.herd_kinship.proofs.FrozenDepths.{depth_at-row, depth-at_most}
+use Rattle.herd_kinship.specs.Places.{AreParentsAt}
+use Rattle.herd_kinship.specs.Tracing.{IsNext}
 use Rattle.herd_kinship.proofs.KnownFacts.{known-next}
-use Rattle.herd_kinship.proofs.TermSums.{IsSummed, added, summed-start, summed-end}
+use Rattle.herd_kinship.proofs.ParentsFacts.{parents-depth, parents-shallow}
+use Rattle.herd_kinship.proofs.TermSums.{IsAdded, added, summed-start, summed-end}
+use Rattle.herd_kinship.proofs.tracing.trace_ancestors.Given.{Over}
+use Rattle.herd_kinship.proofs.tracing.trace_ancestors.Goals.{After-mendelian}
 use Rattle.herd_kinship.proofs.tracing.trace_ancestors.Goals as goal
 
 pub loop-met-init : goal.loop-met-init
 loop-met-init g c =
-    let rows = c.args.frozen.now in
-    let start : IsSummed DEPTH_LIMIT rows c.args.place c.args.place (c.args.place + 1) 0 =
-    summed-start DEPTH_LIMIT MOST_ANIMALS rows c.start.ensures.tracing.tracing.book c.args.place c.args.place c.requires.place c.requires.place in
+    let start = summed-start DEPTH_LIMIT MOST_ANIMALS c.args.frozen.now c.start.ensures.tracing.tracing.book c.args.place c.requires.place in
     record {
       same = c.start.ensures.place;
       tracing = rw (c.start.ensures.place, c.start.ensures.border) c.start.ensures.tracing;
@@ -22,141 +21,65 @@ loop-met-init g c =
 
 pub overflow_mul-steps : goal.overflow_mul-steps
 overflow_mul-steps g c =
-    let rows = c.args.frozen.now in
-    let x : ℕ = c.loop-met.tracing.place in
-    let lx = c.loop-met.invariant.tracing.tracing.place in
-    let same : x ≡ c.args.place = c.loop-met.invariant.same in
-    let own_row : slice_get rows x ≡ Some c.parents_at-depth.ensures.row = rw same c.parents_at-depth.ensures.there in
-    let next : IsNext DEPTH_LIMIT rows x c.loop-met.tracing.border c.in-Some.met.place c.in-Some.met.share = c.in-Some.ensures.next in
-    let dx = depth_at-row rows x c.parents_at-depth.ensures.row own_row in
-    let limit = depth-at_most DEPTH_LIMIT MOST_ANIMALS rows c.loop-met.invariant.tracing.tracing.book x lx in
-    rw c.parents_at-depth.ensures.same (omega (arith, dx, limit))
+    let shallow = parents-shallow DEPTH_LIMIT MOST_ANIMALS c.args.frozen.now c.len.ensures.frozen c.args.place c.parents_at-depth.result c.parents_at-depth.ensures in
+    omega arith
 
 pub overflow_mul-steps-in-Some : goal.overflow_mul-steps-in-Some
 overflow_mul-steps-in-Some g c =
-    let rows = c.args.frozen.now in
-    let x : ℕ = c.loop-met.tracing.place in
-    let lx = c.loop-met.invariant.tracing.tracing.place in
-    let same : x ≡ c.args.place = c.loop-met.invariant.same in
-    let own_row : slice_get rows x ≡ Some c.parents_at-depth.ensures.row = rw same c.parents_at-depth.ensures.there in
-    let next : IsNext DEPTH_LIMIT rows x c.loop-met.tracing.border c.in-Some.met.place c.in-Some.met.share = c.in-Some.ensures.next in
-    let dx = depth_at-row rows x c.parents_at-depth.ensures.row own_row in
-    let dy = depth_at-row rows c.in-Some.met.place c.parents_at.ensures.row c.parents_at.ensures.there in
-    let limit = depth-at_most DEPTH_LIMIT MOST_ANIMALS rows c.loop-met.invariant.tracing.tracing.book x lx in
-    let less = next.share_is.less_deep in
-    rw c.parents_at.ensures.same (omega (arith, dx, dy, less, limit))
+    let shallow = parents-shallow DEPTH_LIMIT MOST_ANIMALS c.args.frozen.now c.len.ensures.frozen c.in-Some.met.place c.parents_at.result c.parents_at.ensures in
+    omega arith
 
 pub overflow_sub-steps : goal.overflow_sub-steps
 overflow_sub-steps g c =
     let rows = c.args.frozen.now in
-    let x : ℕ = c.loop-met.tracing.place in
-    let lx = c.loop-met.invariant.tracing.tracing.place in
-    let same : x ≡ c.args.place = c.loop-met.invariant.same in
-    let own_row : slice_get rows x ≡ Some c.parents_at-depth.ensures.row = rw same c.parents_at-depth.ensures.there in
-    let next : IsNext DEPTH_LIMIT rows x c.loop-met.tracing.border c.in-Some.met.place c.in-Some.met.share = c.in-Some.ensures.next in
-    let dx = depth_at-row rows x c.parents_at-depth.ensures.row own_row in
-    let dy = depth_at-row rows c.in-Some.met.place c.parents_at.ensures.row c.parents_at.ensures.there in
+    let own_row : AreParentsAt rows c.loop-met.tracing.place c.parents_at-depth.result = rw c.loop-met.invariant.same c.parents_at-depth.ensures in
+    let dx = parents-depth rows c.loop-met.tracing.place c.parents_at-depth.result own_row in
+    let dy = parents-depth rows c.in-Some.met.place c.parents_at.result c.parents_at.ensures in
+    let next : IsNext DEPTH_LIMIT rows c.loop-met.tracing.place c.loop-met.tracing.border c.in-Some.met.place c.in-Some.met.share = c.in-Some.ensures.next in
     let less = next.share_is.less_deep in
-    rw (c.parents_at-depth.ensures.same, c.parents_at.ensures.same) (omega (arith, dx, dy, less))
+    omega (arith, dx, dy, less)
 
 pub mendelian-requires-clause-known : goal.mendelian-requires-clause-known
 mendelian-requires-clause-known g c =
+    let x : ℕ = c.loop-met.tracing.place in
+    let known : KnowsAncestors DEPTH_LIMIT c.args.frozen.now c.args.known.now x = rw c.loop-met.invariant.same c.requires.known in
+    known-next DEPTH_LIMIT MOST_ANIMALS c.args.frozen.now c.len.ensures.frozen c.args.known.now x c.loop-met.tracing.border c.in-Some.met.place c.in-Some.met.share
+    c.loop-met.invariant.tracing.tracing.place known c.in-Some.ensures.next
+
+-- what is added for the ancestor that is met
+met : (g : Over) (c : After-mendelian g) →
+    IsAdded DEPTH_LIMIT c.args.frozen.now c.loop-met.tracing.place c.in-Some.met.place c.mendelian.result c.in-Some.met.share c.loop-met.sum
+    c.parents_at-depth.result.depth c.parents_at.result.depth
+met g c =
     let rows = c.args.frozen.now in
     let x : ℕ = c.loop-met.tracing.place in
-    let lx = c.loop-met.invariant.tracing.tracing.place in
-    let same : x ≡ c.args.place = c.loop-met.invariant.same in
-    let own_row : slice_get rows x ≡ Some c.parents_at-depth.ensures.row = rw same c.parents_at-depth.ensures.there in
-    let next : IsNext DEPTH_LIMIT rows x c.loop-met.tracing.border c.in-Some.met.place c.in-Some.met.share = c.in-Some.ensures.next in
-    let known : KnowsAncestors DEPTH_LIMIT rows c.args.known.now x = rw same c.requires.known in
-    known-next DEPTH_LIMIT MOST_ANIMALS rows c.loop-met.invariant.tracing.tracing.book c.args.known.now x c.loop-met.tracing.border c.in-Some.met.place
-    c.in-Some.met.share lx known next
+    let own_row : AreParentsAt rows x c.parents_at-depth.result = rw c.loop-met.invariant.same c.parents_at-depth.ensures in
+    added DEPTH_LIMIT MOST_ANIMALS rows c.len.ensures.frozen x c.loop-met.invariant.tracing.tracing.place c.loop-met.tracing.border c.in-Some.met.place c.mendelian.result c.in-Some.met.share c.loop-met.sum
+    c.parents_at-depth.result c.parents_at.result (lit< tt) (lit< tt) own_row c.parents_at.ensures c.in-Some.ensures.next c.mendelian.ensures c.loop-met.invariant.summed
 
 pub term-sum-requires-clause-shift : goal.term-sum-requires-clause-shift
-term-sum-requires-clause-shift g c =
-    let rows = c.args.frozen.now in
-    let x : ℕ = c.loop-met.tracing.place in
-    let lx = c.loop-met.invariant.tracing.tracing.place in
-    let same : x ≡ c.args.place = c.loop-met.invariant.same in
-    let own_row : slice_get rows x ≡ Some c.parents_at-depth.ensures.row = rw same c.parents_at-depth.ensures.there in
-    let next : IsNext DEPTH_LIMIT rows x c.loop-met.tracing.border c.in-Some.met.place c.in-Some.met.share = c.in-Some.ensures.next in
-    let high : c.loop-met.tracing.border ≤ x + 1 = c.loop-met.invariant.tracing.tracing.border_in in
-    let low : c.in-Some.met.place < c.loop-met.tracing.border = next.below in
-    let part : c.mendelian.result ≡ mendelian (ancestry_of rows) DEPTH_LIMIT (number_at rows c.in-Some.met.place) = c.mendelian.ensures in
-    let own : IsShareOf rows x c.in-Some.met.place c.in-Some.met.share = next.share_is in
-    let sum = added DEPTH_LIMIT MOST_ANIMALS rows c.loop-met.invariant.tracing.tracing.book x x lx lx c.loop-met.tracing.border c.in-Some.met.place c.in-Some.met.share
-    c.in-Some.met.share c.loop-met.sum c.parents_at-depth.ensures.row c.parents_at-depth.ensures.row c.parents_at.ensures.row c.mendelian.result (lit< tt) low (omega arith)
-    (λ i a b. let z = next.between i a b in rw z (omega arith)) own own c.loop-met.invariant.summed own_row own_row c.parents_at.ensures.there part in
-    let steps : 2 * c.parents_at-depth.ensures.row.depth - 2 * c.parents_at.ensures.row.depth ≡ c.parents_at-depth.ensures.row.depth + c.parents_at-depth.ensures.row.depth - 2 * c.parents_at.ensures.row.depth =
-    omega arith in
-    let shift = sum.shift in rw (c.parents_at-depth.ensures.same, c.parents_at.ensures.same) (omega (arith, steps, shift))
+term-sum-requires-clause-shift g c = (met g (goal.at.term-sum-requires-clause-shift g c).After-mendelian).shift
 
 pub term-sum-requires-clause-fits : goal.term-sum-requires-clause-fits
-term-sum-requires-clause-fits g c =
-    let rows = c.args.frozen.now in
-    let x : ℕ = c.loop-met.tracing.place in
-    let lx = c.loop-met.invariant.tracing.tracing.place in
-    let same : x ≡ c.args.place = c.loop-met.invariant.same in
-    let own_row : slice_get rows x ≡ Some c.parents_at-depth.ensures.row = rw same c.parents_at-depth.ensures.there in
-    let next : IsNext DEPTH_LIMIT rows x c.loop-met.tracing.border c.in-Some.met.place c.in-Some.met.share = c.in-Some.ensures.next in
-    let high : c.loop-met.tracing.border ≤ x + 1 = c.loop-met.invariant.tracing.tracing.border_in in
-    let low : c.in-Some.met.place < c.loop-met.tracing.border = next.below in
-    let part : c.mendelian.result ≡ mendelian (ancestry_of rows) DEPTH_LIMIT (number_at rows c.in-Some.met.place) = c.mendelian.ensures in
-    let own : IsShareOf rows x c.in-Some.met.place c.in-Some.met.share = next.share_is in
-    let sum = added DEPTH_LIMIT MOST_ANIMALS rows c.loop-met.invariant.tracing.tracing.book x x lx lx c.loop-met.tracing.border c.in-Some.met.place c.in-Some.met.share
-    c.in-Some.met.share c.loop-met.sum c.parents_at-depth.ensures.row c.parents_at-depth.ensures.row c.parents_at.ensures.row c.mendelian.result (lit< tt) low (omega arith)
-    (λ i a b. let z = next.between i a b in rw z (omega arith)) own own c.loop-met.invariant.summed own_row own_row c.parents_at.ensures.there part in
-    let steps : 2 * c.parents_at-depth.ensures.row.depth - 2 * c.parents_at.ensures.row.depth ≡ c.parents_at-depth.ensures.row.depth + c.parents_at-depth.ensures.row.depth - 2 * c.parents_at.ensures.row.depth =
-    omega arith in
-    let below = sum.below_two in rw (c.parents_at-depth.ensures.same, c.parents_at.ensures.same, steps) (omega (arith, below))
+term-sum-requires-clause-fits g c = (met g (goal.at.term-sum-requires-clause-fits g c).After-mendelian).fits
 
 pub overflow_add-sum : goal.overflow_add-sum
 overflow_add-sum g c =
-    let rows = c.args.frozen.now in
-    let x : ℕ = c.loop-met.tracing.place in
-    let lx = c.loop-met.invariant.tracing.tracing.place in
-    let same : x ≡ c.args.place = c.loop-met.invariant.same in
-    let own_row : slice_get rows x ≡ Some c.parents_at-depth.ensures.row = rw same c.parents_at-depth.ensures.there in
-    let next : IsNext DEPTH_LIMIT rows x c.loop-met.tracing.border c.in-Some.met.place c.in-Some.met.share = c.in-Some.ensures.next in
-    let high : c.loop-met.tracing.border ≤ x + 1 = c.loop-met.invariant.tracing.tracing.border_in in
-    let low : c.in-Some.met.place < c.loop-met.tracing.border = next.below in
-    let part : c.mendelian.result ≡ mendelian (ancestry_of rows) DEPTH_LIMIT (number_at rows c.in-Some.met.place) = c.mendelian.ensures in
-    let own : IsShareOf rows x c.in-Some.met.place c.in-Some.met.share = next.share_is in
-    let sum = added DEPTH_LIMIT MOST_ANIMALS rows c.loop-met.invariant.tracing.tracing.book x x lx lx c.loop-met.tracing.border c.in-Some.met.place c.in-Some.met.share
-    c.in-Some.met.share c.loop-met.sum c.parents_at-depth.ensures.row c.parents_at-depth.ensures.row c.parents_at.ensures.row c.mendelian.result (lit< tt) low (omega arith)
-    (λ i a b. let z = next.between i a b in rw z (omega arith)) own own c.loop-met.invariant.summed own_row own_row c.parents_at.ensures.there part in
-    let steps : 2 * c.parents_at-depth.ensures.row.depth - 2 * c.parents_at.ensures.row.depth ≡ c.parents_at-depth.ensures.row.depth + c.parents_at-depth.ensures.row.depth - 2 * c.parents_at.ensures.row.depth =
-    omega arith in
-    let below = sum.below_two in rw (c.term-sum.ensures, c.parents_at-depth.ensures.same, c.parents_at.ensures.same, steps) (omega (arith, below))
+    let fits = (met g (goal.at.overflow_add-sum g c).After-mendelian).sum_fits in
+    rw c.term-sum.ensures (omega (arith, fits))
 
 pub loop-met-preserved : goal.loop-met-preserved
 loop-met-preserved g c =
-    let rows = c.args.frozen.now in
-    let x : ℕ = c.loop-met.tracing.place in
-    let lx = c.loop-met.invariant.tracing.tracing.place in
-    let same : x ≡ c.args.place = c.loop-met.invariant.same in
-    let own_row : slice_get rows x ≡ Some c.parents_at-depth.ensures.row = rw same c.parents_at-depth.ensures.there in
-    let next : IsNext DEPTH_LIMIT rows x c.loop-met.tracing.border c.in-Some.met.place c.in-Some.met.share = c.in-Some.ensures.next in
-    let high : c.loop-met.tracing.border ≤ x + 1 = c.loop-met.invariant.tracing.tracing.border_in in
-    let low : c.in-Some.met.place < c.loop-met.tracing.border = next.below in
-    let part : c.mendelian.result ≡ mendelian (ancestry_of rows) DEPTH_LIMIT (number_at rows c.in-Some.met.place) = c.mendelian.ensures in
-    let own : IsShareOf rows x c.in-Some.met.place c.in-Some.met.share = next.share_is in
-    let sum = added DEPTH_LIMIT MOST_ANIMALS rows c.loop-met.invariant.tracing.tracing.book x x lx lx c.loop-met.tracing.border c.in-Some.met.place c.in-Some.met.share
-    c.in-Some.met.share c.loop-met.sum c.parents_at-depth.ensures.row c.parents_at-depth.ensures.row c.parents_at.ensures.row c.mendelian.result (lit< tt) low (omega arith)
-    (λ i a b. let z = next.between i a b in rw z (omega arith)) own own c.loop-met.invariant.summed own_row own_row c.parents_at.ensures.there part in
-    let steps : 2 * c.parents_at-depth.ensures.row.depth - 2 * c.parents_at.ensures.row.depth ≡ c.parents_at-depth.ensures.row.depth + c.parents_at-depth.ensures.row.depth - 2 * c.parents_at.ensures.row.depth =
-    omega arith in
-    let place : c.meet_next.new.self.place ≡ x = c.meet_next.ensures.same in
-    let border : c.meet_next.new.self.border ≡ c.in-Some.met.place = c.in-Some.ensures.border in
+    let place : c.meet_next.new.self.place ≡ c.loop-met.tracing.place = c.meet_next.ensures.same in
     record {
-      same = place ∙ same;
+      same = place ∙ c.loop-met.invariant.same;
       tracing = c.meet_next.ensures.tracing;
-      summed = rw (place, border, c.term-sum.ensures, c.parents_at-depth.ensures.same, c.parents_at.ensures.same, steps) sum.summed;
+      summed = rw (place, c.in-Some.ensures.border, c.term-sum.ensures) (met g (goal.at.loop-met-preserved g c).After-mendelian).summed;
     }
 
 pub returns : goal.returns
 returns g c =
-    let rows = c.args.frozen.now in
     let x : ℕ = c.loop-met.tracing.place in
     rw (← c.loop-met.invariant.same)
-    (summed-end DEPTH_LIMIT MOST_ANIMALS rows c.loop-met.invariant.tracing.tracing.book x x c.loop-met.invariant.tracing.tracing.place c.loop-met.invariant.tracing.tracing.place
-    c.loop-met.tracing.border c.loop-met.sum c.in_default.ensures.all c.loop-met.invariant.summed)
+    (summed-end DEPTH_LIMIT MOST_ANIMALS c.args.frozen.now c.len.ensures.frozen x c.loop-met.invariant.tracing.tracing.place c.loop-met.tracing.border c.loop-met.sum
+    c.in_default.ensures.all c.loop-met.invariant.summed)

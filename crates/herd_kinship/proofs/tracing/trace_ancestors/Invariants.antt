@@ -9,7 +9,7 @@ abbrev pub invariant-loop-met : goal.invariant-loop-met
 invariant-loop-met g l = record {
   same : l.tracing.place ≡ l.fn.place;
   tracing : IsUnderWay DEPTH_LIMIT l.frozen l.tracing.place l.tracing.border l.tracing.shares.items l.tracing.pending.words.items;
-  summed : IsSummed DEPTH_LIMIT l.frozen l.tracing.place l.tracing.place l.tracing.border l.sum;
+  summed : IsSummed DEPTH_LIMIT l.frozen l.tracing.place l.tracing.border l.sum;
 }
 
 abbrev pub decreases-loop-met : goal.decreases-loop-met

@@ -6,30 +6,26 @@ use Rattle.herd_kinship.specs.Places.{sire_place}
 use Rattle.herd_kinship.proofs.CalfFacts.{calf-pair, linked-calf, linked-other, no-calf}
 use Rattle.herd_kinship.proofs.FrozenFacts.{frozen-placed}
 use Rattle.herd_kinship.proofs.ParentsFacts.{parents-sire, parents-within}
-use Rattle.herd_kinship.proofs.calves.Calves.of.Goals.{in-Some, in_default}
+use Rattle.herd_kinship.proofs.calves.Calves.of.Given.{Over}
+use Rattle.herd_kinship.proofs.calves.Calves.of.Goals.{in-Some, in_default, In-Some}
 use Rattle.herd_kinship.proofs.calves.Calves.of.Goals as goal
 
-pub index-requires : goal.index-requires
-index-requires g c =
+-- the sire stands before its calf
+within : (g : Over) (c : In-Some g) → c.in-Some.sire < length c.loop-calf.latest.items
+within g c =
     let rows = c.args.frozen.now in
     let i : ℕ = c.loop-calf.calf in
     let is : sire_place rows i ≡ Some c.in-Some.sire = parents-sire rows i c.parents_at.result c.parents_at.ensures ∙ c.in-Some.ensures.sire in
     let li = parents-within rows i c.parents_at.result c.parents_at.ensures in
     let lower : c.in-Some.sire < i = (frozen-placed DEPTH_LIMIT MOST_ANIMALS rows c.len-animals.ensures.frozen).below i c.in-Some.sire li (inl is) in
     let each : length c.loop-calf.latest.items ≡ length rows = c.loop-calf.invariant.each_sire in
-    let ok = c.loop-calf.latest.ok in
     omega arith
 
+pub index-requires : goal.index-requires
+index-requires g c = let low = within g (goal.at.index-requires g c).In-Some in let ok = c.loop-calf.latest.ok in omega arith
+
 pub index_mut-requires-in-Some : goal.index_mut-requires-in-Some
-index_mut-requires-in-Some g c =
-    let rows = c.args.frozen.now in
-    let i : ℕ = c.loop-calf.calf in
-    let is : sire_place rows i ≡ Some c.in-Some.sire = parents-sire rows i c.parents_at.result c.parents_at.ensures ∙ c.in-Some.ensures.sire in
-    let li = parents-within rows i c.parents_at.result c.parents_at.ensures in
-    let lower : c.in-Some.sire < i = (frozen-placed DEPTH_LIMIT MOST_ANIMALS rows c.len-animals.ensures.frozen).below i c.in-Some.sire li (inl is) in
-    let each : length c.loop-calf.latest.items ≡ length rows = c.loop-calf.invariant.each_sire in
-    let ok = c.loop-calf.latest.ok in
-    omega arith
+index_mut-requires-in-Some g c = let low = within g (goal.at.index_mut-requires-in-Some g c).In-Some in let ok = c.loop-calf.latest.ok in omega arith
 
 pub loop-calf-preserved : goal.loop-calf-preserved
 loop-calf-preserved g c =

@@ -1,9 +1,11 @@
-use Rattle.std.proofs.Common.{◌≡◌, ℕ, ◌-◌, ◌<◌, ◌≤◌, length, get_or, set, arith, refl, ◌∙◌, ap, subst}
+use Rattle.std.proofs.Common.{◌≡◌, ℕ, ◌-◌, length, set, arith, refl, ◌∙◌, ap, subst}
 use Rattle.std.proofs.lemmas.List.{get_or_read, length-set}
 use Rattle.herd_pedigree.specs.declared.TheConstants.{DEPTH_LIMIT}
 use Rattle.herd_kinship.specs.Tracing.{given, GivesMark}
 use Rattle.herd_kinship.proofs.TracingFacts.{length-given}
-use Rattle.herd_kinship.proofs.UnderWayFacts.{IsTaken, none-left, taken-at, taken-next, taken-room_sire, taken-room_dam, under_way-end, under_way-next}
+use Rattle.herd_kinship.proofs.UnderWayFacts.{IsMet, none-left, taken-met, under_way-end}
+use Rattle.herd_kinship.proofs.tracing.Tracing.meet_next.Given.{Over}
+use Rattle.herd_kinship.proofs.tracing.Tracing.meet_next.Goals.{After-parents_at-parents}
 use Rattle.herd_kinship.proofs.tracing.Tracing.meet_next.Goals as goal
 
 pub returns-in_default-clause-tracing : goal.returns-in_default-clause-tracing
@@ -17,47 +19,31 @@ returns-in_default-clause-all g c =
     none-left DEPTH_LIMIT c.args.frozen.now c.args.self.now.place c.args.self.now.border c.args.self.now.shares.items c.args.self.now.pending.words.items
     c.requires c.in_default.ensures.empty
 
-pub give-requires-clause-room : goal.give-requires-clause-room
-give-requires-clause-room g c =
-    let rows = c.args.frozen.now in
-    let x : ℕ = c.args.self.now.place in
-    let b : ℕ = c.args.self.now.border in
+-- what is met at the distance that is taken
+met : (g : Over) (c : After-parents_at-parents g) →
+    IsMet DEPTH_LIMIT c.args.frozen.now c.args.self.now.place c.args.self.now.border c.args.self.now.shares.items c.take_nearest.new.self.words.items c.in-Some.distance
+    c.index.result.now c.parents_at-parents.result
+met g c =
+    let d : ℕ = c.in-Some.distance in
     let shares = c.args.self.now.shares.items in
     let words = c.args.self.now.pending.words.items in
-    let d : ℕ = c.in-Some.distance in
-    let taken : IsTaken words c.take_nearest.new.self.words.items d = record {
+    let near = (c.requires.marks.pending d c.in-Some.ensures.found).near in
+    let long = c.requires.tracing.long in
+    taken-met DEPTH_LIMIT c.args.frozen.now c.args.self.now.place c.args.self.now.border shares words c.requires c.take_nearest.new.self.words.items d c.index.result.now
+    (record {
       found = c.in-Some.ensures.found;
       nearest = c.in-Some.ensures.nearest;
       taken = c.in-Some.ensures.taken;
-    } in
-    let at = taken-at DEPTH_LIMIT rows x b shares words c.requires c.take_nearest.new.self.words.items d taken in
-    let near : d ≤ x = at.near in
-    let long : x < length shares = c.requires.tracing.long in
-    let read : c.index.result.now ≡ get_or shares d 0 = get_or_read shares d c.index.result.now (omega arith) c.index.ensures 0 in
-    rw c.parents_at-parents.ensures.same
-    (taken-room_sire DEPTH_LIMIT rows x b shares words c.requires c.take_nearest.new.self.words.items d taken c.index.result.now read
-    c.parents_at-parents.ensures.row c.parents_at-parents.ensures.there)
+      own_is = get_or_read shares d c.index.result.now (omega (arith, near, long)) c.index.ensures 0;
+    })
+    c.parents_at-parents.result c.parents_at-parents.ensures
+
+pub give-requires-clause-room : goal.give-requires-clause-room
+give-requires-clause-room g c = (met g (goal.at.give-requires-clause-room g c).After-parents_at-parents).room_sire
 
 pub give-requires-2-clause-room : goal.give-requires-2-clause-room
 give-requires-2-clause-room g c =
-    let rows = c.args.frozen.now in
-    let x : ℕ = c.args.self.now.place in
-    let b : ℕ = c.args.self.now.border in
-    let shares = c.args.self.now.shares.items in
-    let words = c.args.self.now.pending.words.items in
-    let d : ℕ = c.in-Some.distance in
-    let taken : IsTaken words c.take_nearest.new.self.words.items d = record {
-      found = c.in-Some.ensures.found;
-      nearest = c.in-Some.ensures.nearest;
-      taken = c.in-Some.ensures.taken;
-    } in
-    let at = taken-at DEPTH_LIMIT rows x b shares words c.requires c.take_nearest.new.self.words.items d taken in
-    let near : d ≤ x = at.near in
-    let long : x < length shares = c.requires.tracing.long in
-    let read : c.index.result.now ≡ get_or shares d 0 = get_or_read shares d c.index.result.now (omega arith) c.index.ensures 0 in
-    rw (c.give.ensures.place, c.give.ensures.shares, c.parents_at-parents.ensures.same)
-    (taken-room_dam DEPTH_LIMIT rows x b shares words c.requires c.take_nearest.new.self.words.items d taken c.index.result.now read
-    c.parents_at-parents.ensures.row c.parents_at-parents.ensures.there)
+    rw (c.give.ensures.place, c.give.ensures.shares) (met g (goal.at.give-requires-2-clause-room g c).After-parents_at-parents).room_dam
 
 pub returns-clause-shares : goal.returns-clause-shares
 returns-clause-shares g c =
@@ -75,45 +61,18 @@ pub returns-clause-tracing : goal.returns-clause-tracing
 returns-clause-tracing g c =
     let rows = c.args.frozen.now in
     let x : ℕ = c.args.self.now.place in
-    let b : ℕ = c.args.self.now.border in
     let shares = c.args.self.now.shares.items in
-    let words = c.args.self.now.pending.words.items in
     let d : ℕ = c.in-Some.distance in
-    let taken : IsTaken words c.take_nearest.new.self.words.items d = record {
-      found = c.in-Some.ensures.found;
-      nearest = c.in-Some.ensures.nearest;
-      taken = c.in-Some.ensures.taken;
-    } in
-    let at = taken-at DEPTH_LIMIT rows x b shares words c.requires c.take_nearest.new.self.words.items d taken in
-    let near : d ≤ x = at.near in
-    let long : x < length shares = c.requires.tracing.long in
-    let read : c.index.result.now ≡ get_or shares d 0 = get_or_read shares d c.index.result.now (omega arith) c.index.ensures 0 in
+    let own : ℕ = c.index.result.now in
+    let parents = c.parents_at-parents.result in
+    let first = c.give.new.self.pending.words.items in
+    let last = c.give-2.new.self.pending.words.items in
     let place : c.give-2.new.self.place ≡ x = c.give-2.ensures.place ∙ c.give.ensures.place in
     let border : c.give-2.new.self.border ≡ x - d = c.give-2.ensures.border ∙ c.give.ensures.border in
-    let second : GivesMark x c.give.new.self.pending.words.items c.give-2.new.self.pending.words.items c.parents_at-parents.result.dam =
-    subst (λ v. GivesMark v c.give.new.self.pending.words.items c.give-2.new.self.pending.words.items c.parents_at-parents.result.dam) c.give.ensures.place c.give-2.ensures.marks in
-    let all : c.give-2.new.self.shares.items ≡ given rows x (given rows x (set shares d 0) (x - d) c.index.result.now c.parents_at-parents.result.sire) (x - d) c.index.result.now c.parents_at-parents.result.dam =
+    let second : GivesMark x first last parents.dam = subst (λ v. GivesMark v first last parents.dam) c.give.ensures.place c.give-2.ensures.marks in
+    let all : c.give-2.new.self.shares.items ≡ given rows x (given rows x (set shares d 0) (x - d) own parents.sire) (x - d) own parents.dam =
     c.give-2.ensures.shares ∙ rw (c.give.ensures.shares, c.give.ensures.place) refl in
-    let same = c.parents_at-parents.ensures.same in
-    rw (place, border, all, same)
-    (under_way-next DEPTH_LIMIT rows x b shares words c.take_nearest.new.self.words.items c.requires d taken c.index.result.now read c.parents_at-parents.ensures.row c.parents_at-parents.ensures.there
-    c.give.new.self.pending.words.items c.give-2.new.self.pending.words.items (rw same at c.give.ensures.marks) (rw same at second))
+    rw (place, border, all) ((met g (goal.at.returns-clause-tracing g c).After-parents_at-parents).under_way first last c.give.ensures.marks second)
 
 pub returns-clause-next : goal.returns-clause-next
-returns-clause-next g c =
-    let rows = c.args.frozen.now in
-    let x : ℕ = c.args.self.now.place in
-    let b : ℕ = c.args.self.now.border in
-    let shares = c.args.self.now.shares.items in
-    let words = c.args.self.now.pending.words.items in
-    let d : ℕ = c.in-Some.distance in
-    let taken : IsTaken words c.take_nearest.new.self.words.items d = record {
-      found = c.in-Some.ensures.found;
-      nearest = c.in-Some.ensures.nearest;
-      taken = c.in-Some.ensures.taken;
-    } in
-    let at = taken-at DEPTH_LIMIT rows x b shares words c.requires c.take_nearest.new.self.words.items d taken in
-    let near : d ≤ x = at.near in
-    let long : x < length shares = c.requires.tracing.long in
-    let read : c.index.result.now ≡ get_or shares d 0 = get_or_read shares d c.index.result.now (omega arith) c.index.ensures 0 in
-    taken-next DEPTH_LIMIT rows x b shares words c.requires c.take_nearest.new.self.words.items d taken c.index.result.now read
+returns-clause-next g c = (met g (goal.at.returns-clause-next g c).After-parents_at-parents).next
