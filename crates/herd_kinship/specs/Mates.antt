@@ -1,11 +1,12 @@
 -- What is kept from one sire to the next while the coefficients of their calves are written.
-use Rattle.std.specs.Prelude.{◌≡◌, ℕ, ◌*◌, ◌≤◌, List, length}
+use Rattle.std.specs.Prelude.{◌≡◌, ℕ, ◌*◌, ◌≤◌, length}
+use Rattle.herd_kinship.specs.declared.mates.Mates.{Mates}
 use Rattle.herd_kinship.specs.Pending.{mark}
 use Rattle.herd_kinship.specs.Tracing.{IsIdle}
 
 -- there is room for so many animals, nobody is marked, and nobody is traced
-pub record IsReady (animals : ℕ) (words shares pending column : List ℕ) : Type 0 where
-  pub room : animals ≤ 64 * length words
-  pub unmarked : (distance : ℕ) → mark words distance ≡ 0
-  pub idle : IsIdle animals shares pending
-  pub each : length column ≡ animals
+pub record IsReady {A : Type 0} (animals : ℕ) (mates : Mates A) : Type 0 where
+  pub room : animals ≤ 64 * length mates.marked.words.items
+  pub unmarked : (distance : ℕ) → mark mates.marked.words.items distance ≡ 0
+  pub idle : IsIdle animals mates.tracing.shares.items mates.tracing.pending.words.items
+  pub each : length mates.column.items ≡ animals

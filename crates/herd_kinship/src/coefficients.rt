@@ -71,9 +71,9 @@ fn write_calves<F: Allocator, C: Allocator, A: Allocator>(
 ) -> Result<(), AllocError>
     requires sire { sire < length frozen.now }
     requires calves { AreLinked frozen.now (length frozen.now) calves.now.latest.items calves.now.earlier.items }
-    requires ready { IsReady (length frozen.now) mates.old.marked.words.items mates.old.tracing.shares.items mates.old.tracing.pending.words.items mates.old.column.items }
+    requires ready { IsReady (length frozen.now) mates.old }
     requires known { KnowsReached DEPTH_LIMIT frozen.now sire known.old }
-    ensures ready { IfOk result (λ _. IsReady (length frozen.now) mates.new.marked.words.items mates.new.tracing.shares.items mates.new.tracing.pending.words.items mates.new.column.items) }
+    ensures ready { IfOk result (λ _. IsReady (length frozen.now) mates.new) }
     ensures known { IfOk result (λ _. KnowsReached DEPTH_LIMIT frozen.now (sire + 1) known.new) }
 {
     frozen.len();

@@ -27,7 +27,7 @@ pub struct Mates<A: Allocator> {
 impl<A: Allocator + Clone> Mates<A> {
     /// Of no sire yet, with room for so many animals.
     pub fn with_room(alloc: A, animals: u32) -> Result<Mates<A>, AllocError>
-        ensures { IfOk result (λ mates. IsReady animals mates.marked.words.items mates.tracing.shares.items mates.tracing.pending.words.items mates.column.items) }
+        ensures { IfOk result (IsReady animals) }
     {
         Ok(Mates {
             marked: Pending::with_room(alloc.clone()?, animals)?,
@@ -47,11 +47,11 @@ impl<A: Allocator> Mates<A> {
         known: &[u128],
         sire: u32,
     ) -> Result<(), AllocError>
-        requires ready { IsReady (length frozen.now) self.old.marked.words.items self.old.tracing.shares.items self.old.tracing.pending.words.items self.old.column.items }
+        requires ready { IsReady (length frozen.now) self.old }
         requires calves { AreLinked frozen.now (length frozen.now) calves.now.latest.items calves.now.earlier.items }
         requires known { KnowsAncestors DEPTH_LIMIT frozen.now known.now sire }
         requires sire { sire < length frozen.now }
-        ensures ready { IfOk result (λ _. IsReady (length frozen.now) self.new.marked.words.items self.new.tracing.shares.items self.new.tracing.pending.words.items self.new.column.items) }
+        ensures ready { IfOk result (λ _. IsReady (length frozen.now) self.new) }
         ensures related { IfOk result (λ _. (calf dam : ℕ) → sire_place frozen.now calf ≡ Some sire → dam_place frozen.now calf ≡ Some dam → slice_index self.new.column.items dam ≡ related DEPTH_LIMIT frozen.now sire (Some dam)) }
     {
         let last = frozen.len() - 1;

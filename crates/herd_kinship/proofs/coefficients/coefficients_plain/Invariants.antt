@@ -7,6 +7,6 @@ use Rattle.herd_kinship.proofs.coefficients.coefficients_plain.Given as goal
 -- the calves of the sires so far have their coefficients
 abbrev pub invariant-loop-sire : goal.invariant-loop-sire
 invariant-loop-sire g l = record {
-  ready : IsReady (length l.frozen) l.mates.marked.words.items l.mates.tracing.shares.items l.mates.tracing.pending.words.items l.mates.column.items;
+  ready : IsReady (length l.frozen) l.mates;
   known : KnowsReached DEPTH_LIMIT l.frozen l.sire l.known.items;
 }
