@@ -30,7 +30,7 @@ mating_faults l book sire dam =
 unfoldable pub mating_fault : ℕ → Book → List ℕ → List ℕ → Option MatingFault
 mating_fault l book sire dam = first_that_holds (mating_faults l book sire dam)
 
--- the number by which a fault is told
+-- the number of a fault; that of Memory is never told
 abbrev pub number_of : MatingFault → ℕ
 number_of SireMissing = 1
 number_of DamMissing = 2

@@ -66,7 +66,7 @@ impl<A: Allocator> Calves<A> {
         ensures near { (distance : ℕ) → mark marked.new.words.items distance ≡ 1 → distance ≤ last }
         ensures mates { (calf dam : ℕ) → sire_place frozen.now calf ≡ Some sire → dam_place frozen.now calf ≡ Some dam → mark marked.new.words.items (last - dam) ≡ 1 }
     {
-        frozen.len();
+        prove!(sire < frozen.len());
         let mut link = self.latest[sire as usize];
         while let Some(calf) = link {
             mark_parent(marked, last, parents_at(frozen, calf).dam);
@@ -90,7 +90,7 @@ impl<A: Allocator> Calves<A> {
         ensures calves { (calf dam : ℕ) → sire_place frozen.now calf ≡ Some sire → dam_place frozen.now calf ≡ Some dam → slice_index known.new calf ≡ slice_index column.now dam / 2 }
         ensures others { (other : ℕ) → (IsCalf frozen.now sire other → ⊥) → slice_index known.new other ≡ slice_index known.old other }
     {
-        frozen.len();
+        prove!(sire < frozen.len());
         let mut link = self.latest[sire as usize];
         while let Some(calf) = link {
             known[calf as usize] = with_parent(column, parents_at(frozen, calf).dam) / 2;

@@ -15,7 +15,7 @@ pub fn unit<A: Allocator>(frozen: &Frozen<A>, x: u32, y: u32)
     requires second { y < length frozen.now }
     ensures { KeepsHalves frozen.now (number_at frozen.now x) (number_at frozen.now y) }
 {
-    frozen.len();
+    prove!(x < frozen.len());
 }
 
 /// Entries are below 2, coefficients below 1, and Mendelian parts above 0 and at most 1.
@@ -24,7 +24,7 @@ pub fn bound<A: Allocator>(frozen: &Frozen<A>, x: u32, y: u32)
     requires second { y < length frozen.now }
     ensures { IsBounded DEPTH_LIMIT frozen.now (number_at frozen.now x) (number_at frozen.now y) }
 {
-    frozen.len();
+    prove!(x < frozen.len());
 }
 
 /// The table is the shares and the Mendelian parts multiplied.
@@ -33,7 +33,7 @@ pub fn decomposition<A: Allocator>(frozen: &Frozen<A>, x: u32, y: u32)
     requires second { y < length frozen.now }
     ensures { IsDecomposed DEPTH_LIMIT frozen.now (number_at frozen.now x) (number_at frozen.now y) }
 {
-    frozen.len();
+    prove!(x < frozen.len());
 }
 
 /// The rows by which the inverse is made diagonalise the table.
@@ -42,7 +42,7 @@ pub fn inverse_rows<A: Allocator>(frozen: &Frozen<A>, x: u32, y: u32)
     requires second { y < length frozen.now }
     ensures { IsDiagonalised DEPTH_LIMIT frozen.now (number_at frozen.now x) (number_at frozen.now y) }
 {
-    frozen.len();
+    prove!(x < frozen.len());
 }
 
 /// The relationships of an animal with all others are passed on from parents to offspring.
@@ -51,5 +51,5 @@ pub fn column<A: Allocator>(frozen: &Frozen<A>, s: u32, j: u32)
     requires second { j < length frozen.now }
     ensures { IsColumn DEPTH_LIMIT frozen.now s j }
 {
-    frozen.len();
+    prove!(s < frozen.len());
 }

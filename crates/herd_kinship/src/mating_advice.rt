@@ -32,7 +32,7 @@ pub enum MatingFault {
 }
 
 impl MatingFault {
-    /// The number by which it is told, from 1 on.
+    /// Its number in the order of the variants, from 1 on. Advice tells all but that of `Memory`.
     pub fn number(self) -> u8
         ensures { result ≡ number_of self }
     {
@@ -71,6 +71,7 @@ fn pair_of<F: Allocator>(
     ensures pair { IfOk result (λ pair. ArePair DEPTH_LIMIT frozen.now sire.now dam.now pair.sire pair.dam) }
     ensures fault { IfErr result (λ fault. mating_fault DEPTH_LIMIT (book_of frozen.now) sire.now dam.now ≡ Some fault) }
 {
+    // Taking the length ensures that the rows are those of a frozen book.
     frozen.len();
     let Some(sire_place) = frozen.place(sire) else {
         return Err(MatingFault::SireMissing);

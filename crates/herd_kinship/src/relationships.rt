@@ -50,9 +50,7 @@ impl<A: Allocator + Clone> Relationships<A> {
         );
         Ok(Relationships { column })
     }
-}
 
-impl<A: Allocator + Clone> Relationships<A> {
     /// The relationships of an animal, and none where it isn't in the book.
     pub fn of_number<F: Allocator, C: Allocator>(
         alloc: A,
@@ -63,6 +61,7 @@ impl<A: Allocator + Clone> Relationships<A> {
         requires { AreCoefficients DEPTH_LIMIT frozen.now coefficients.now }
         ensures { IfOk result (AreRelationshipsOf DEPTH_LIMIT frozen.now number.now) }
     {
+        // Taking the length ensures that the rows are those of a frozen book.
         frozen.len();
         match frozen.place(number) {
             Some(place) => Relationships::of(alloc, frozen, coefficients, place),
@@ -111,7 +110,7 @@ fn pass_on<F: Allocator>(frozen: &Frozen<F>, place: u32, column: &mut [u128])
     ensures long { length column.new ≡ length column.old }
     ensures related { (j : ℕ) → j < length frozen.now → slice_index column.new j ≡ related DEPTH_LIMIT frozen.now place (Some j) }
 {
-    frozen.len();
+    prove!(place < frozen.len());
     for j in 0..frozen.len() {
         let parents = parents_at(frozen, j);
         let both = with_parent(column, parents.sire) + with_parent(column, parents.dam);

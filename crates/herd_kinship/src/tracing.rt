@@ -58,7 +58,7 @@ impl<A: Allocator> Tracing<A> {
         ensures marks { length self.new.pending.words.items ≡ length self.old.pending.words.items }
         ensures tracing { IsUnderWay DEPTH_LIMIT frozen.now place (place + 1) self.new.shares.items self.new.pending.words.items }
     {
-        frozen.len();
+        prove!(place < frozen.len());
         self.place = place;
         self.border = place + 1;
         self.shares[0] = 1;
@@ -144,7 +144,7 @@ pub fn mendelian<F: Allocator>(frozen: &Frozen<F>, known: &[u128], place: u32) -
     requires known { KnowsAncestors DEPTH_LIMIT frozen.now known.now place }
     ensures { result ≡ mendelian_part (ancestry_of frozen.now) DEPTH_LIMIT (number_at frozen.now place) }
 {
-    frozen.len();
+    prove!(place < frozen.len());
     let parents = parents_at(frozen, place);
     ONE - quarter(known, parents.sire) - quarter(known, parents.dam)
 }
@@ -176,7 +176,7 @@ fn trace_ancestors<F: Allocator, A: Allocator + Clone>(
     requires known { KnowsAncestors DEPTH_LIMIT frozen.now known.now place }
     ensures { IfOk result (λ value. value ≡ entry (ancestry_of frozen.now) (2 * DEPTH_LIMIT) (Some (number_at frozen.now place)) (Some (number_at frozen.now place))) }
 {
-    frozen.len();
+    prove!(place < frozen.len());
     let depth = parents_at(frozen, place).depth;
     let mut tracing = Tracing::with_room(alloc, place + 1)?;
     tracing.start(frozen, place);
@@ -206,7 +206,7 @@ pub fn trace<F: Allocator, A: Allocator + Clone>(
     requires known { KnowsAncestors DEPTH_LIMIT frozen.now known.now place }
     ensures { IfOk result (λ value. value ≡ entry (ancestry_of frozen.now) (2 * DEPTH_LIMIT) (Some (number_at frozen.now place)) (Some (number_at frozen.now place))) }
 {
-    frozen.len();
+    prove!(place < frozen.len());
     let row = frozen.row(place);
     if has_both_parents(row) {
         trace_ancestors(alloc, frozen, known, place)
