@@ -21,7 +21,7 @@ use std::marker::Brand;
 use std::sync::Wait;
 use std::thread::Threads;
 
-/// The number of desks that clerks may have.
+/// The most desks that clerks may have. The help of `clerks` writes the number too.
 pub const MOST_DESKS: u16 = 16;
 
 /// Reads a command file, has its commands filed at this many desks, and writes how many calls of each desk were

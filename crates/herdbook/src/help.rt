@@ -4,6 +4,7 @@
 /// The version of the program, the newest of `CHANGELOG.md`.
 pub const VERSION: &str = "0.2.0";
 
+/// The end of the help of the program: what all subcommands read, and the statuses.
 pub const PROGRAM: &str = "\
 All commands read a command file from standard input: a CSV file with the header
 kind,animal,day,sire,dam,from,to or the same with embryo at its end. Begin with
@@ -18,6 +19,7 @@ Status:
      write was refused: standard error tells which
   2  the words aren't a command line, or one is no animal number";
 
+/// The end of the help of `file`.
 pub const FILE: &str = "\
 Reads a command file from standard input. Writes a line for each command, in
 their order: SERIAL,accepted or SERIAL,refused,NUMBER with the first rule that
@@ -32,6 +34,7 @@ Status:
      write was refused
   2  the words aren't a command line";
 
+/// The end of the help of `inbreeding`. Its N stands for the numbers of `--workers` and `--block`.
 pub const INBREEDING: &str = "\
 Reads a command file from standard input. Writes a line for each animal, by
 birth day and number: NUMBER,COEFFICIENT,PERCENT with a fraction in lowest terms
@@ -46,6 +49,7 @@ Status:
      refused
   2  the words aren't a command line";
 
+/// The end of the help of `certificate`.
 pub const CERTIFICATE: &str = "\
 Reads a command file from standard input. Writes the animal's number, sex, birth
 day, herd, the day since which it is there, the day on which it left, its
@@ -60,6 +64,7 @@ Status:
      memory or a write was refused
   2  the words aren't a command line, or NUMBER is no animal number";
 
+/// The end of the help of `mating`.
 pub const MATING: &str = "\
 Reads a command file from standard input. Writes a line for each sire, in the
 order given: SIRE,COEFFICIENT,PERCENT or SIRE,refused,FAULT, where FAULT is 1 or
@@ -74,6 +79,7 @@ Status:
   1  a record is faulty (nothing is written), or memory or a write was refused
   2  the words aren't a command line, or one is no animal number";
 
+/// The end of the help of `inverse`.
 pub const INVERSE: &str = "\
 Reads a command file from standard input. Writes what each animal adds to the
 inverse of the numerator relationship matrix: NUMBER,ROW,COLUMN,VALUE, each pair
@@ -87,6 +93,7 @@ Status:
   1  a record is faulty (nothing is written), or memory or a write was refused
   2  the words aren't a command line";
 
+/// The end of the help of `clerks`. Its K and M stand for the numbers of `--desks` and `--base`.
 pub const CLERKS: &str = "\
 Reads a command file from standard input. The first M commands are filed at desk
 1, the rest at K desks in turn, side by side. Writes how many commands each desk

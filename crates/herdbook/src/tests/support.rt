@@ -77,7 +77,8 @@ pub(super) fn number<R: AllocGlobal>(rt: &R, short: &str) -> Result<AnimalNumber
 /// What a run came to: its outcome, and what it wrote.
 pub type Ran = (Result<(), RunFault>, Vec<u8>);
 
-// Runs an order on the bytes of a command file. (A function that is given an order gets no proof today.)
+// Runs an order on the bytes of a command file. It is no function, since one that is given an order gets no proof today;
+// and it names the type of numbers, as `_unknown` does, without which its callers get none.
 macro_rules! ran {
     ($rt:expr, $order:expr, $bytes:expr) => {{
         let _unknown: Option<herd_animal::AnimalNumber> = None;
