@@ -1,3 +1,4 @@
+mod CommandFacts
 mod ProgramFacts
 mod SummaryFacts
 mod WordsFacts

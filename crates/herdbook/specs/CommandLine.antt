@@ -1,28 +1,34 @@
 -- The command line, as far as `clap` reads words by it.
-use Rattle.std.specs.Prelude.{true, [], ◌∷◌, codes, Some, pos}
+use Rattle.std.specs.Prelude.{◌≡◌, ℕ, true, false, [], ◌∷◌, codes, Some, pos}
 use Rattle.clap.specs.Lexer.{usize_max}
-use Rattle.clap.specs.Words.{App, Rule, new_app, new_rule, with_rule, with_subcommand}
+use Rattle.clap.specs.Words.{App, Rule, Text, app_of, new_app, new_rule, with_rule, with_subcommand}
 use Rattle.clap.specs.declared.builder.action.ArgAction.TheVariants.{Append}
+use Rattle.clap.specs.declared.builder.command.Command.{Command}
+use Rattle.clap.specs.declared.builder.command.Command.TheViews.{out-Command}
 use Rattle.clap.specs.declared.builder.value_parser.ValueParser.TheVariants.{Signed}
 use Rattle.herd_pool.specs.declared.limits.TheConstants.{MOST_WORKERS}
 use Rattle.herdbook.specs.declared.desks.TheConstants.{MOST_DESKS}
 use Rattle.herdbook.specs.declared.program.TheConstants.{LIMITS}
 
-abbrev pub workers_rule : Rule
-workers_rule = record (new_rule (codes "workers")) {
-  long = Some (codes "workers");
+-- a command that reads words by this line, and has no global argument
+pub record IsCommandOf (app : App) (command : Command) : Type 0 where
+  pub line : app_of command ≡ app
+  pub globals : (out-Command command).has_globals ≡ false
+
+-- an option of a number from `least` to `most`, which is `default` where it isn't given
+abbrev pub number_option : Text → ℕ → ℕ → Text → Rule
+number_option name least most default = record (new_rule name) {
+  long = Some name;
   value_names = 1;
-  defaults = codes "1" ∷ [];
-  parser = Some (Signed (pos 1) (pos MOST_WORKERS));
+  defaults = default ∷ [];
+  parser = Some (Signed (pos least) (pos most));
 }
 
+abbrev pub workers_rule : Rule
+workers_rule = number_option (codes "workers") 1 MOST_WORKERS (codes "1")
+
 abbrev pub block_rule : Rule
-block_rule = record (new_rule (codes "block")) {
-  long = Some (codes "block");
-  value_names = 1;
-  defaults = codes "256" ∷ [];
-  parser = Some (Signed (pos 1) (pos LIMITS.animals));
-}
+block_rule = number_option (codes "block") 1 LIMITS.animals (codes "256")
 
 abbrev pub inbreeding_line : App
 inbreeding_line = with_rule (with_rule (new_app (codes "inbreeding")) workers_rule) block_rule
@@ -51,20 +57,10 @@ abbrev pub mating_line : App
 mating_line = with_rule (with_rule (new_app (codes "mating")) dam_rule) sires_rule
 
 abbrev pub desks_rule : Rule
-desks_rule = record (new_rule (codes "desks")) {
-  long = Some (codes "desks");
-  value_names = 1;
-  defaults = codes "2" ∷ [];
-  parser = Some (Signed (pos 1) (pos MOST_DESKS));
-}
+desks_rule = number_option (codes "desks") 1 MOST_DESKS (codes "2")
 
 abbrev pub base_rule : Rule
-base_rule = record (new_rule (codes "base")) {
-  long = Some (codes "base");
-  value_names = 1;
-  defaults = codes "0" ∷ [];
-  parser = Some (Signed (pos 0) (pos LIMITS.steps));
-}
+base_rule = number_option (codes "base") 0 LIMITS.steps (codes "0")
 
 abbrev pub clerks_line : App
 clerks_line = with_rule (with_rule (new_app (codes "clerks")) desks_rule) base_rule

@@ -1,13 +1,12 @@
 //! The words of the command line.
 
 ghost use Rattle.std.specs.Prelude.{◌≡◌, [], IfErr, IfOk, codes, false, map, string_bytes};
-ghost use Rattle.clap.specs.Words.{app_of, fault_of, found_of, new_app, rows_of, subcommand_of, subcommand_rows_of};
-ghost use Rattle.clap.specs.declared.builder.command.Command.TheViews.{out-Command};
+ghost use Rattle.clap.specs.Words.{app_of, fault_of, found_of, new_app, one_of, rows_of, rule_of, subcommand_of, subcommand_rows_of};
 ghost use Rattle.herd_animal.specs.AnimalNumber.{IsAnimalNumber};
 ghost use Rattle.herd_animal.specs.NumberFault.{IsNumberFault};
-ghost use Rattle.herdbook.specs.CommandLine.{certificate_line, clerks_line, command_line, inbreeding_line, mating_line, runs_line};
+ghost use Rattle.herdbook.specs.CommandLine.{IsCommandOf, certificate_line, clerks_line, command_line, inbreeding_line, mating_line, number_option, runs_line};
 ghost use Rattle.herdbook.specs.Request.{IsTask, IsTaskFor};
-ghost use Rattle.herdbook.specs.Words.{IsAsked, IsAskedOfClerks, IsAskedOfInbreeding, IsFirstFault, IsRefused, IsUnread, IsWrongNumber, text_of, texts_of};
+ghost use Rattle.herdbook.specs.Words.{IsAsked, IsAskedOfClerks, IsAskedOfInbreeding, IsFirstFault, IsNumberOr, IsRefused, IsUnread, IsWrongNumber, text_of, texts_of};
 
 use crate::desks::MOST_DESKS;
 use crate::help;
@@ -21,17 +20,23 @@ use std::alloc::{AllocError, Global};
 /// What the words ask for.
 #[derive(Drop)]
 pub enum Request {
+    /// The reply to each command.
     File,
+    /// Each animal's coefficient, by so many workers, a block of so many animals at a time.
     Inbreeding {
         workers: u32,
         block: u32,
     },
+    /// The certificate of an animal.
     Certificate(AnimalNumber),
+    /// For each sire, in the order given, the coefficient of a calf of his and the dam's.
     Mating {
         dam: AnimalNumber,
         sires: Vec<AnimalNumber>,
     },
+    /// What each animal adds to the inverse relationship matrix.
     Inverse,
+    /// Filing at so many desks, the first `base` commands at desk 1 before any other.
     Clerks {
         desks: u32,
         base: u32,
@@ -40,8 +45,9 @@ pub enum Request {
 
 /// What is carried out for a request.
 pub enum Task<'a> {
+    /// One thread files the commands, and what is ordered of them is written.
     Run(Order<'a>),
-    /// The commands are filed at this many desks, from 1 to 16, the first so many of them at the first desk.
+    /// The commands are filed at this many desks, from 1 to `MOST_DESKS`, the first `base` of them at desk 1.
     Clerks { desks: u16, base: u32 },
 }
 
@@ -143,8 +149,8 @@ fn inbreeding_of(given: &ArgMatches<'_>) -> Request
     ensures { IsAskedOfInbreeding (rows_of (found_of given.now)) result }
 {
     Request::Inbreeding {
-        workers: given.get_one::<u32>("workers").unwrap_or(1),
-        block: given.get_one::<u32>("block").unwrap_or(DEFAULT_BLOCK),
+        workers: option_or(given, "workers", 1),
+        block: option_or(given, "block", DEFAULT_BLOCK),
     }
 }
 
@@ -152,9 +158,16 @@ fn clerks_of(given: &ArgMatches<'_>) -> Request
     ensures { IsAskedOfClerks (rows_of (found_of given.now)) result }
 {
     Request::Clerks {
-        desks: given.get_one::<u32>("desks").unwrap_or(2),
-        base: given.get_one::<u32>("base").unwrap_or(0),
+        desks: option_or(given, "desks", 2),
+        base: option_or(given, "base", 0),
     }
+}
+
+// The number of an option, and another where the words don't give it.
+fn option_or(given: &ArgMatches<'_>, id: &str, other: u32) -> u32
+    ensures { IsNumberOr other (one_of id.now (rows_of (found_of given.now))) result }
+{
+    given.get_one::<u32>(id).unwrap_or(other)
 }
 
 fn sires_of(alloc: Global, given: &ArgMatches<'_>) -> Result<Vec<AnimalNumber>, WordsFault>
@@ -224,28 +237,40 @@ fn runs<'a>(alloc: Global) -> Result<Command<'a>, AllocError>
 
 // A command with no arguments yet: its name, what it does in a line, and the end of its help.
 fn named<'a>(alloc: Global, name: &'a str, about: &'a str, more: &'a str) -> Command<'a>
-    ensures line { app_of result ≡ new_app name.entry.now }
-    ensures globals { (out-Command result).has_globals ≡ false }
+    ensures { IsCommandOf (new_app name.entry.now) result }
 {
     Command::new(alloc, name).about(about).after_help(more)
 }
 
-fn inbreeding<'a>(alloc: Global) -> Result<Command<'a>, AllocError>
-    ensures line { IfOk result (λ command. app_of command ≡ inbreeding_line) }
-    ensures globals { IfOk result (λ command. (out-Command command).has_globals ≡ false) }
+// An option of a number from `least` to `most`, with no help yet: its name, what help calls its number, and the number
+// where it isn't given.
+fn number_option<'a>(
+    alloc: Global,
+    name: &'a str,
+    value: &'a str,
+    least: u32,
+    most: u32,
+    default: &'a str,
+) -> Arg<'a>
+    ensures rule { rule_of result ≡ number_option name.entry.now least most default.entry.now }
+    ensures global { result.global ≡ false }
 {
-    let workers = Arg::new(alloc, "workers")
-        .long("workers")
-        .value_name("N")
-        .value_parser(clap::value_parser!(u32).range(1..=MOST_WORKERS as i64))
-        .default_value("1")
-        .help("How many threads, from 1 to 16");
-    let block = Arg::new(alloc, "block")
-        .long("block")
-        .value_name("N")
-        .value_parser(clap::value_parser!(u32).range(1..=LIMITS.animals as i64))
-        .default_value("256")
-        .help("Animals in a thread's block, 1 to 60,000");
+    Arg::new(alloc, name)
+        .long(name)
+        .value_name(value)
+        .value_parser(clap::value_parser!(u32).range(least as i64..=most as i64))
+        .default_value(default)
+}
+
+fn inbreeding<'a>(alloc: Global) -> Result<Command<'a>, AllocError>
+    ensures { IfOk result (IsCommandOf inbreeding_line) }
+{
+    let workers = number_option(alloc, "workers", "N", 1, MOST_WORKERS, "1").help(
+        "How many threads, from 1 to 16",
+    );
+    let block = number_option(alloc, "block", "N", 1, LIMITS.animals, "256").help(
+        "Animals in a thread's block, 1 to 60,000",
+    );
     named(
         alloc,
         "inbreeding",
@@ -257,8 +282,7 @@ fn inbreeding<'a>(alloc: Global) -> Result<Command<'a>, AllocError>
 }
 
 fn certificate<'a>(alloc: Global) -> Result<Command<'a>, AllocError>
-    ensures line { IfOk result (λ command. app_of command ≡ certificate_line) }
-    ensures globals { IfOk result (λ command. (out-Command command).has_globals ≡ false) }
+    ensures { IfOk result (IsCommandOf certificate_line) }
 {
     let number = Arg::new(alloc, "NUMBER")
         .required(true)
@@ -273,8 +297,7 @@ fn certificate<'a>(alloc: Global) -> Result<Command<'a>, AllocError>
 }
 
 fn mating<'a>(alloc: Global) -> Result<Command<'a>, AllocError>
-    ensures line { IfOk result (λ command. app_of command ≡ mating_line) }
-    ensures globals { IfOk result (λ command. (out-Command command).has_globals ≡ false) }
+    ensures { IfOk result (IsCommandOf mating_line) }
 {
     let dam = Arg::new(alloc, "dam")
         .long("dam")
@@ -297,21 +320,14 @@ fn mating<'a>(alloc: Global) -> Result<Command<'a>, AllocError>
 }
 
 fn clerks<'a>(alloc: Global) -> Result<Command<'a>, AllocError>
-    ensures line { IfOk result (λ command. app_of command ≡ clerks_line) }
-    ensures globals { IfOk result (λ command. (out-Command command).has_globals ≡ false) }
+    ensures { IfOk result (IsCommandOf clerks_line) }
 {
-    let desks = Arg::new(alloc, "desks")
-        .long("desks")
-        .value_name("K")
-        .value_parser(clap::value_parser!(u32).range(1..=MOST_DESKS as i64))
-        .default_value("2")
-        .help("How many desks, from 1 to 16");
-    let base = Arg::new(alloc, "base")
-        .long("base")
-        .value_name("M")
-        .value_parser(clap::value_parser!(u32).range(0..=LIMITS.steps as i64))
-        .default_value("0")
-        .help("Commands that desk 1 files first, to 1,000,000");
+    let desks = number_option(alloc, "desks", "K", 1, MOST_DESKS as u32, "2").help(
+        "How many desks, from 1 to 16",
+    );
+    let base = number_option(alloc, "base", "M", 0, LIMITS.steps, "0").help(
+        "Commands that desk 1 files first, to 1,000,000",
+    );
     named(
         alloc,
         "clerks",

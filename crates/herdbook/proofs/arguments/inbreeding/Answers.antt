@@ -1,32 +1,12 @@
 -- Each argument is added with its rule.
-use Rattle.std.proofs.Common.{rules, ◌≡◌, ap, ap₂, Some, [], ◌∷◌, pos, codes, false, ◌||◌, ◌∙◌}
+use Rattle.std.proofs.Common.{rules, codes}
 use Rattle.std.proofs.lemmas.Result.{IfOk-weaker}
-use Rattle.clap.specs.Words.{Rule, app_of, new_app, rule_of, with_rule}
-use Rattle.clap.specs.declared.builder.command.Command.TheViews.{out-Command}
-use Rattle.clap.specs.declared.builder.value_parser.ValueParser.TheVariants.{Signed}
-use Rattle.herd_pool.specs.declared.limits.TheConstants.{MOST_WORKERS}
+use Rattle.clap.specs.Words.{new_app, with_rule}
 use Rattle.herdbook.specs.CommandLine.{workers_rule, block_rule}
-use Rattle.herdbook.specs.declared.program.TheConstants.{LIMITS}
+use Rattle.herdbook.proofs.CommandFacts.{with_arg}
 use Rattle.herdbook.proofs.arguments.inbreeding.Goals as goal
 
-pub returns-clause-line : goal.returns-clause-line
-returns-clause-line c =
-    let made : c.range.result ≡ Signed (pos 1) (pos MOST_WORKERS) = rw (c.value_parser.ensures, c.new-2.ensures.start, c.new-2.ensures.end) at c.range.ensures in
-    let parser : c.value_parser-2.result.value_parser ≡ Some (Signed (pos 1) (pos MOST_WORKERS)) = c.value_parser-2.ensures.given.1 ∙ ap Some (c.value_parser-2.ensures.given.2 ∙ made) in
-    let workers : rule_of c.help-workers.result ≡ workers_rule = rw (c.help-workers.ensures, c.default_value.ensures, c.value_parser-2.ensures.others, parser, c.value_name.ensures, c.long.ensures) (ap (λ (r : Rule). record r { long = Some (codes "workers"); value_names = 1; defaults = codes "1" ∷ []; parser = Some (Signed (pos 1) (pos MOST_WORKERS)) }) c.new.ensures.rule) in
-    let workers_here : c.help-workers.result.global ≡ false = rw (c.help-workers.ensures, c.default_value.ensures, c.value_parser-2.ensures.others, c.value_name.ensures, c.long.ensures) c.new.ensures.optional.1 in
-    let made_too : c.range-2.result ≡ Signed (pos 1) (pos LIMITS.animals) = rw (c.value_parser-3.ensures, c.new-4.ensures.start, c.new-4.ensures.end) at c.range-2.ensures in
-    let parser_too : c.value_parser-4.result.value_parser ≡ Some (Signed (pos 1) (pos LIMITS.animals)) = c.value_parser-4.ensures.given.1 ∙ ap Some (c.value_parser-4.ensures.given.2 ∙ made_too) in
-    let block : rule_of c.help-block.result ≡ block_rule = rw (c.help-block.ensures, c.default_value-2.ensures, c.value_parser-4.ensures.others, parser_too, c.value_name-2.ensures, c.long-2.ensures) (ap (λ (r : Rule). record r { long = Some (codes "block"); value_names = 1; defaults = codes "256" ∷ []; parser = Some (Signed (pos 1) (pos LIMITS.animals)) }) c.new-3.ensures.rule) in
-    let block_here : c.help-block.result.global ≡ false = rw (c.help-block.ensures, c.default_value-2.ensures, c.value_parser-4.ensures.others, c.value_name-2.ensures, c.long-2.ensures) c.new-3.ensures.optional.1 in
-    let named : app_of c.named.result ≡ new_app (codes "inbreeding") = search rules in
-    let first : app_of c.in_ok-arg.field-0 ≡ with_rule (new_app (codes "inbreeding")) workers_rule = c.in_ok-arg.ensures.shape workers_here ∙ ap₂ with_rule named workers in
-    IfOk-weaker c.arg-2.result _ _ (λ command added. added.shape block_here ∙ ap₂ with_rule first block) c.arg-2.ensures
-
-pub returns-clause-globals : goal.returns-clause-globals
-returns-clause-globals c =
-    let named : (out-Command c.named.result).has_globals ≡ false = search rules in
-    let workers : c.help-workers.result.global ≡ false = rw (c.help-workers.ensures, c.default_value.ensures, c.value_parser-2.ensures.others, c.value_name.ensures, c.long.ensures) c.new.ensures.optional.1 in
-    let block : c.help-block.result.global ≡ false = rw (c.help-block.ensures, c.default_value-2.ensures, c.value_parser-4.ensures.others, c.value_name-2.ensures, c.long-2.ensures) c.new-3.ensures.optional.1 in
-    let first : (out-Command c.in_ok-arg.field-0).has_globals ≡ false = c.in_ok-arg.ensures.globals ∙ ap₂ (λ a b. a || b) named workers in
-    IfOk-weaker c.arg-2.result _ _ (λ command added. added.globals ∙ ap₂ (λ a b. a || b) first block) c.arg-2.ensures
+pub returns : goal.returns
+returns c =
+    let first = with_arg _ _ _ (new_app (codes "inbreeding")) workers_rule c.named.ensures (search rules) (search rules) c.in_ok-arg.ensures in
+    IfOk-weaker c.arg-2.result _ _ (λ command added. with_arg _ _ _ (with_rule (new_app (codes "inbreeding")) workers_rule) block_rule first (search rules) (search rules) added) c.arg-2.ensures
