@@ -3,7 +3,7 @@
 ghost use Rattle.std.specs.Prelude.{◌≡◌, ◌+◌, ◌≤◌, max, IfOk};
 ghost use Rattle.herd_office.specs.Parts.{AreNamed};
 
-use crate::filing::{Told, file_births, steps_at_close};
+use crate::filing::{Told, file_births, steps_at_close, told_of};
 use crate::founders::Founders;
 use crate::freezing::freeze_until;
 use anyhow::{Context, Result};
@@ -23,7 +23,7 @@ pub struct Times {
     pub total: u128,
 }
 
-/// Births by the calling thread, and then as many as `births` while an inspector freezes, or none.
+/// Births by the calling thread, and then as many as `births` while an inspector freezes, or none. Each was answered.
 pub fn file_beside<N: OfficeName + Send + Sync, R: Threads + Wait + Clock + Sync>(
     rt: &R,
     alloc: Global,
@@ -33,6 +33,8 @@ pub fn file_beside<N: OfficeName + Send + Sync, R: Threads + Wait + Clock + Sync
     freezing: bool,
 ) -> Result<(Told, Times)>
     requires { AreNamed N.name N.parts N.all N.book N.limits parts }
+    ensures steps { IfOk result (λ r. r.0.steps ≡ before + births) }
+    ensures accepted { IfOk result (λ r. r.0.accepted ≤ r.0.steps) }
 {
     let founders = Founders::new()?;
     let (office, mut desks, mut inspectors) = Office::<N, &R>::open(alloc, parts)?;
@@ -54,12 +56,10 @@ pub fn file_beside<N: OfficeName + Send + Sync, R: Threads + Wait + Clock + Sync
     );
     let (desk, late, times) = filed?;
     desks.push(desk)?;
-    inspectors.push(frozen?)?;
+    let (inspector, _froze) = frozen?;
+    inspectors.push(inspector)?;
     let steps = steps_at_close(rt, office, desks, inspectors)?;
-    let told = Told {
-        accepted: early.saturating_add(late),
-        steps,
-    };
+    let told = told_of(from + u64::from(births), early.saturating_add(late), steps)?;
     Ok((told, times))
 }
 

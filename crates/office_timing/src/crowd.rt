@@ -1,9 +1,9 @@
 //! Births at many desks beside inspectors, each on a thread of its own.
 
-ghost use Rattle.std.specs.Prelude.{◌≡◌, ◌≤◌};
+ghost use Rattle.std.specs.Prelude.{◌≡◌, ◌≤◌, IfOk};
 ghost use Rattle.herd_office.specs.Parts.{AreNamed};
 
-use crate::filing::{Told, file_births, part, steps_at_close};
+use crate::filing::{Told, file_births, part, steps_at_close, told_of};
 use crate::founders::Founders;
 use crate::freezing::freeze_until;
 use anyhow::Result;
@@ -16,7 +16,10 @@ use std::thread::{Threads, join, map_vec};
 
 type Filed<N> = Result<(Desk<N>, u64), FileFault>;
 
-/// Births in as many parts as there are desks, while all inspectors freeze, or none where `freezing` is false.
+type Froze<N> = Result<(Inspector<N>, bool), FreezeFault>;
+
+/// Births in as many parts as there are desks, while all inspectors freeze, or none where `freezing` is false. Each was
+/// answered.
 pub fn file_crowded<N: OfficeName + Send + Sync, R: Threads + Wait + Sync>(
     rt: &R,
     alloc: Global,
@@ -25,6 +28,8 @@ pub fn file_crowded<N: OfficeName + Send + Sync, R: Threads + Wait + Sync>(
     freezing: bool,
 ) -> Result<Told>
     requires { AreNamed N.name N.parts N.all N.book N.limits parts }
+    ensures steps { IfOk result (λ told. told.steps ≡ births) }
+    ensures accepted { IfOk result (λ told. told.accepted ≤ told.steps) }
 {
     let founders = Founders::new()?;
     let (office, desks, mut inspectors) = Office::<N, &R>::open(alloc, parts)?;
@@ -54,11 +59,9 @@ pub fn file_crowded<N: OfficeName + Send + Sync, R: Threads + Wait + Sync>(
         ),
     );
     let (desks, accepted) = gathered(alloc, filed?)?;
-    for inspector in frozen? {
-        idle.push(inspector?)?;
-    }
-    let steps = steps_at_close(rt, office, desks, idle)?;
-    Ok(Told { accepted, steps })
+    let inspectors = handed_back(idle, frozen?)?;
+    let steps = steps_at_close(rt, office, desks, inspectors)?;
+    told_of(u64::from(births), accepted, steps)
 }
 
 fn file_part<N: OfficeName, R: Wait>(
@@ -83,4 +86,17 @@ fn gathered<N: OfficeName>(alloc: Global, filed: Vec<Filed<N>>) -> Result<(Vec<D
         accepted = accepted.saturating_add(more);
     }
     Ok((desks, accepted))
+}
+
+// All inspectors: those that were idle, and those that froze.
+fn handed_back<N: OfficeName>(
+    idle: Vec<Inspector<N>>,
+    frozen: Vec<Froze<N>>,
+) -> Result<Vec<Inspector<N>>> {
+    let mut all = idle;
+    for one in frozen {
+        let (inspector, _froze) = one?;
+        all.push(inspector)?;
+    }
+    Ok(all)
 }

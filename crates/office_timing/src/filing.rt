@@ -68,3 +68,15 @@ pub fn steps_at_close<N: OfficeName, R: Wait>(
         Err(_unclosed) => bail!("the office isn't closed"),
     }
 }
+
+/// What is told of so many births, where each was answered, and no more were accepted.
+pub fn told_of(births: u64, accepted: u64, steps: u64) -> Result<Told>
+    ensures told { IfOk result (λ told. (told.accepted ≡ accepted) × (told.steps ≡ steps)) }
+    ensures all { IfOk result (λ told. told.steps ≡ births) }
+    ensures accepted { IfOk result (λ told. told.accepted ≤ told.steps) }
+{
+    if steps != births || accepted > steps {
+        bail!("births that weren't answered once each");
+    }
+    Ok(Told { accepted, steps })
+}

@@ -72,8 +72,8 @@ fn run_races<R: Threads + Wait + Print + Sync>(rt: &R, alloc: Global, times: u32
     run_duel(rt, alloc, Duel::Parents, times)?;
     run_duel(rt, alloc, Duel::Calving, times)?;
     run_duel(rt, alloc, Duel::Sales, times)?;
-    births(rt, alloc, times)?;
-    println!(rt; "one birth at sixteen desks: accepted once {times}")?;
+    let once = births(rt, alloc, times)?;
+    println!(rt; "one birth at sixteen desks: accepted once {once}")?;
     let Shares {
         none,
         one,

@@ -22,10 +22,18 @@ pub struct Raced {
 
 type Filed<N> = Result<(Desk<N>, u64), FileFault>;
 
-/// The race that is planned, in an office of its own.
-pub fn run_race<R: Threads + Wait + Sync>(rt: &R, alloc: Global, plan: &Plan) -> Result<Raced> {
+/// The race that is planned, in an office of its own. Each call was answered, or found the journal full.
+pub fn run_race<R: Threads + Wait + Sync>(rt: &R, alloc: Global, plan: &Plan) -> Result<Raced>
+    ensures limits { IfOk result (λ raced. raced.register.limits ≡ plan.now.limits) }
+    ensures all { IfOk result (λ raced. length raced.register.journal + raced.full ≡ plan.now.commands) }
+{
     let parts = OfficeParts::new(rt, alloc, plan.limits, plan.turns.len() as u16, 1)?;
-    race::<Brand, _>(rt, alloc, parts, plan)
+    let raced = race::<Brand, _>(rt, alloc, parts, plan)?;
+    let steps = raced.register.journal().len() as u64;
+    if raced.full > plan.commands || steps != plan.commands - raced.full {
+        bail!("calls that were neither answered nor found the journal full");
+    }
+    Ok(raced)
 }
 
 fn race<N: OfficeName + Send + Sync, R: Threads + Wait + Sync>(
@@ -35,6 +43,7 @@ fn race<N: OfficeName + Send + Sync, R: Threads + Wait + Sync>(
     plan: &Plan,
 ) -> Result<Raced>
     requires { AreNamed N.name N.parts N.all N.book N.limits parts }
+    ensures { IfOk result (λ raced. raced.register.limits ≡ N.limits) }
 {
     let (office, mut desks, inspectors) = Office::<N, &R>::open(alloc, parts)?;
     let start = Start::of(desks.len() as u16);
@@ -64,7 +73,7 @@ fn file_at_once<N: OfficeName, R: Wait>(
     start: &Start,
 ) -> Filed<N> {
     let turn = plan.turn(desk.number());
-    start.wait();
+    let _come = start.wait();
     let full = file_each(rt, office, &mut desk, turn)?;
     Ok((desk, full))
 }
@@ -106,7 +115,9 @@ fn closed<N: OfficeName, R: Wait>(
     office: Office<N, &R>,
     desks: Vec<Desk<N>>,
     inspectors: Vec<Inspector<N>>,
-) -> Result<Register<Global>> {
+) -> Result<Register<Global>>
+    ensures { IfOk result (λ register. register.limits ≡ N.limits) }
+{
     match office.close(rt, desks, inspectors) {
         Ok(register) => Ok(register),
         Err(_unclosed) => bail!("the office isn't closed"),

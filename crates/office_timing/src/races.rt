@@ -71,14 +71,18 @@ fn first_of(duel: Duel, cast: &Cast, raced: &Raced) -> Result<First>
     }
 }
 
-/// Runs the race of sixteen desks that file one birth so many times. Each time it was accepted once.
-pub fn births<R: Threads + Wait + Sync>(rt: &R, alloc: Global, times: u32) -> Result<()> {
+/// Runs the race of sixteen desks that file one birth so many times. How many were run: each time it was accepted once.
+pub fn births<R: Threads + Wait + Sync>(rt: &R, alloc: Global, times: u32) -> Result<u32>
+    ensures { IfOk result (λ counted. counted ≡ times) }
+{
     let cast = Cast::new()?;
     let plan = Plan::of_birth(alloc, &cast)?;
-    for _ in 0..times {
+    let mut counted = 0_u32;
+    for _race in 0..times {
         born_once(&run_race(rt, alloc, &plan)?)?;
+        counted += 1;
     }
-    Ok(())
+    Ok(counted)
 }
 
 // An error, unless the birth was accepted just once.

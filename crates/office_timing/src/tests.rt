@@ -40,7 +40,7 @@ fn races_end_as_they_may(rt: HostRuntime) -> Result<(), Fail> {
         let firsts = duels(&rt, rt.alloc(), duel, 5)?;
         assert_eq!(rt; firsts.one.wrapping_add(firsts.two), 5, "{duel:?}");
     }
-    births(&rt, rt.alloc(), 5)?;
+    assert_eq!(rt; births(&rt, rt.alloc(), 5)?, 5);
     let shares = rooms(&rt, rt.alloc(), 5)?;
     let one_or_none = shares.none.wrapping_add(shares.one);
     let all = one_or_none
