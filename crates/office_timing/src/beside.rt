@@ -2,12 +2,13 @@
 
 ghost use Rattle.std.specs.Prelude.{◌≡◌, ◌+◌, ◌≤◌, max, IfOk};
 ghost use Rattle.herd_office.specs.Parts.{AreNamed};
+ghost use mathlib.Core.List.{IsPrefix};
 
 use crate::filing::{Told, file_births, steps_at_close, told_of};
 use crate::founders::Founders;
 use crate::freezing::freeze_until;
 use anyhow::{Context, Result};
-use herd_office::{Desk, Office, OfficeName, OfficeParts};
+use herd_office::{Desk, FreezeFault, Inspector, Office, OfficeName, OfficeParts};
 use herd_register::{FileFault, Reply};
 use std::alloc::Global;
 use std::rt::Clock;
@@ -42,6 +43,7 @@ pub fn file_beside<N: OfficeName + Send + Sync, R: Threads + Wait + Clock + Sync
     let inspector = inspectors.pop().context("no inspector")?;
     let shared = &office;
     let from = u64::from(before);
+    let all = from + u64::from(births);
     let (desk, early) = file_births(rt, shared, desk, founders, (0, from))?;
     let done = AtomicBool::new(!freezing);
     let flag = &done;
@@ -52,15 +54,26 @@ pub fn file_beside<N: OfficeName + Send + Sync, R: Threads + Wait + Clock + Sync
             flag.store(true, Ordering::SeqCst);
             filed
         },
-        move || freeze_until(alloc, inspector, flag),
+        move || freeze_beside(alloc, inspector, flag),
     );
     let (desk, late, times) = filed?;
     desks.push(desk)?;
-    let (inspector, _froze) = frozen?;
-    inspectors.push(inspector)?;
+    inspectors.push(frozen?)?;
     let steps = steps_at_close(rt, office, desks, inspectors)?;
-    let told = told_of(from + u64::from(births), early.saturating_add(late), steps)?;
+    let told = told_of(all, early.saturating_add(late), steps)?;
     Ok((told, times))
+}
+
+// Freezes until the desk is done. The inspector.
+fn freeze_beside<N: OfficeName>(
+    alloc: Global,
+    inspector: Inspector<N>,
+    done: &AtomicBool,
+) -> Result<Inspector<N>, FreezeFault>
+    ensures { IfOk result (λ held. IsPrefix inspector.history held.history) }
+{
+    let (inspector, _froze) = freeze_until(alloc, inspector, done)?;
+    Ok(inspector)
 }
 
 // Files so many births, and times each call. The desk, how many were accepted, and what the calls took. A call that the
