@@ -18,3 +18,4 @@ pub mod Records
 pub mod Calves
 pub mod Correction
 pub mod Carry
+pub mod Whole

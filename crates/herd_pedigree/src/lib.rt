@@ -32,7 +32,7 @@ pub use frozen::PackedParents;
 #[doc(hidden)]
 pub use number_index::NumberIndex;
 #[doc(hidden)]
-pub use progeny::{Family, Progeny};
+pub use progeny::Progeny;
 #[doc(hidden)]
 pub use records::{Entry, Records};
 #[doc(hidden)]
