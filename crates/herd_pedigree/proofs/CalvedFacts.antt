@@ -1,5 +1,5 @@
 -- Whether an animal is the dam of one born after a day, by her calves alone.
-use Rattle.std.proofs.Common.{ℕ, ℤ, zero, suc, ◌<◌, ◌≡◌, ⊎_elim, refl, sym, ap, ◌∙◌, subst, Bool, true, false, not, ◌&&◌, ◌||◌, int_lt, List, [], ◌∷◌, Option, Some, None, length, slice_get, get_or, Contains, ◌↔◌}
+use Rattle.std.proofs.Common.{ℕ, ℤ, zero, suc, ◌≡◌, ⊎_elim, refl, sym, ap, ◌∙◌, subst, Bool, true, false, not, ◌&&◌, ◌||◌, int_lt, List, [], ◌∷◌, Option, Some, None, slice_get, get_or}
 use Rattle.std.specs.Str.{bytes_eq}
 use Rattle.std.specs.List.{IsDistinct, list_any}
 use Rattle.std.specs.Map.{keys_of, values_of}
@@ -7,7 +7,6 @@ use Rattle.std.specs.Option.{option_map_or}
 use Rattle.std.proofs.lemmas.Bool.{cases_Bool, false_from_ne_true, and_parts, or_left}
 use Rattle.std.proofs.lemmas.Option.{same_Some, slice_get-get_or}
 use Rattle.std.proofs.lemmas.List.Folds.{list_any_none}
-use Rattle.std.proofs.lemmas.List.{get_or_default}
 use Rattle.herd_pedigree.specs.declared.animal.Animal.{Animal}
 use Rattle.herd_pedigree.specs.Book.{Book, record_of, has_calved_after, is_calf_after}
 use Rattle.herd_pedigree.specs.Places.{parent_at, IsPlaceIn, AreParents}
@@ -59,15 +58,15 @@ module _ (book : Book) (dams : List (Option ℕ)) (a : AreParents book (λ anima
       no_place None is = is
       no_place (Some q) is = let entry = entry_from_key book q number is in no_record book q number entry.0 entry.1 absent
 
-  module _ (once : IsDistinct bytes_eq (keys_of book)) (place : ℕ) (at : slice_get (keys_of book) place ≡ Some number) (calves : List ℕ) (calves_are : (calf : ℕ) → Contains calves calf ↔ (parent_at dams calf ≡ Some place)) where
+  module _ (once : IsDistinct bytes_eq (keys_of book)) (place : ℕ) (at : slice_get (keys_of book) place ≡ Some number) where
     -- one of her calves counts
-    pub calf_found : (calf : ℕ) (animal : Animal) → Contains calves calf → slice_get (values_of book) calf ≡ Some animal → counts day animal ≡ true → has_calved_after book number day ≡ true
+    pub calf_found : (calf : ℕ) (animal : Animal) → parent_at dams calf ≡ Some place → slice_get (values_of book) calf ≡ Some animal → counts day animal ≡ true → has_calved_after book number day ≡ true
     calf_found calf animal is read t =
         let d : List ℕ × Animal = (number, animal) in
         let v = value_at book calf animal d read in
         let entry : List ℕ × Animal = get_or book calf d in
         let there : slice_get book calf ≡ Some (get_or book calf d) = slice_get-get_or book calf d v.0 in
-        let dam : (get_or book calf d).1.dam ≡ Some number = by (parent_at dams calf) (get_or book calf d).1.dam (a.each calf (get_or book calf d) there) ((calves_are calf).0 is) in
+        let dam : (get_or book calf d).1.dam ≡ Some number = by (parent_at dams calf) (get_or book calf d).1.dam (a.each calf (get_or book calf d) there) is in
         let counts_too : counts day (get_or book calf d).1 ≡ true = ap (λ x. counts day x) v.1 ∙ t in
         let names : option_map_or (bytes_eq number) (get_or book calf d).1.dam false ≡ true = ap (λ o. option_map_or (bytes_eq number) o false) dam ∙ bytes_itself number in
         any_found (λ entry. is_calf_after number day entry.1) book calf (get_or book calf d) there (λ i. both names counts_too i)
@@ -81,7 +80,7 @@ module _ (book : Book) (dams : List (Option ℕ)) (a : AreParents book (λ anima
         both {x} {y} e f = (λ i. e i && f i)
 
     -- none of them does
-    pub calf_missing : ((k : ℕ) → k < length calves → (entry : List ℕ × Animal) → slice_get book (get_or calves k 0) ≡ Some entry → counts day entry.1 ≡ false) → has_calved_after book number day ≡ false
+    pub calf_missing : ((calf : ℕ) → parent_at dams calf ≡ Some place → (entry : List ℕ × Animal) → slice_get book calf ≡ Some entry → counts day entry.1 ≡ false) → has_calved_after book number day ≡ false
     calf_missing none =
         list_any_none (λ entry. is_calf_after number day entry.1) book
         (λ k d h.
@@ -91,9 +90,7 @@ module _ (book : Book) (dams : List (Option ℕ)) (a : AreParents book (λ anima
         let dam = named number (get_or book k d).1.dam parts.0 in
         let there : slice_get book k ≡ Some (get_or book k d) = slice_get-get_or book k d h in
         let of_her : parent_at dams k ≡ Some place = by (parent_at dams k) (subst (λ o. IsPlaceIn (keys_of book) (parent_at dams k) o) dam (a.each k (get_or book k d) there)) in
-        let c = (calves_are k).1 of_her in
-        let same : get_or calves c.0 0 ≡ k = get_or_default calves c.0 0 k c.1 ∙ c.2 in
-        let f : counts day (get_or book k d).1 ≡ false = none c.0 c.1 (get_or book k d) (ap (λ v. slice_get book v) same ∙ there) in
+        let f : counts day (get_or book k d).1 ≡ false = none k of_her (get_or book k d) there in
         let u : counts day (get_or book k d).1 ≡ true = parts.1 in absurd (cc)))
       where
         by : (o : Option ℕ) → IsPlaceIn (keys_of book) o (Some number) → o ≡ Some place

@@ -6,15 +6,12 @@ use Rattle.std.proofs.lemmas.Option.{same_Some, slice_get_within}
 use Rattle.std.proofs.lemmas.List.{get_or-take, get_or-set_same, length-set, length-take-le, set-set, set-get_or}
 use Rattle.indexmap.specs.IndexMap.{set_value_at}
 use Rattle.herd_pedigree.specs.declared.animal.Animal.{Animal}
-use Rattle.herd_pedigree.specs.declared.undo.Undo.{Undo}
 use Rattle.herd_pedigree.specs.declared.undo.Undo.TheVariants.{Nothing, Birth, Record}
 use Rattle.herd_pedigree.specs.Lines.{Parentage, has_line}
 use Rattle.herd_pedigree.specs.Book.{Book, changed, with_parents}
 use Rattle.herd_pedigree.specs.Pedigree.{IsCorrection}
 use Rattle.herd_pedigree.specs.Depths.{IsParent, AreDepths}
 use Rattle.herd_pedigree.specs.Places.{parent_at, parentage_at, IsPlaceIn}
-use Rattle.herd_pedigree.specs.Progeny.{Progeny}
-use Rattle.herd_pedigree.specs.Whole.{HasRoom, IsWhole}
 use Rattle.herd_pedigree.specs.Carry.{IsSettled}
 use Rattle.herd_pedigree.specs.Kept.{IsKept}
 use Rattle.herd_pedigree.specs.Records.{NamesItsOwn}
@@ -27,20 +24,6 @@ use Rattle.herd_pedigree.proofs.SetFacts.{keys-set, set-changed, set-back, set_t
 use Rattle.herd_pedigree.proofs.CarryFacts.{settled-depths, settled-deep}
 use Rattle.herd_pedigree.proofs.ProgenyFacts.{parent-within}
 use Rattle.herd_pedigree.proofs.CheckFacts.{parents-within, sires-corrected, dams-corrected, closed-after, shallow-by_place}
-
--- more room is room
-pub HasRoom-more : (undo : Undo) (sires dams sires' dams' : Progeny) → sires'.parents ≡ sires.parents → dams'.parents ≡ dams.parents → ((p : ℕ) → slice_index sires.spare p ≤ slice_index sires'.spare p) → ((p : ℕ) → slice_index dams.spare p ≤ slice_index dams'.spare p) →
-    HasRoom undo sires dams → HasRoom undo sires' dams'
-HasRoom-more Nothing sires dams sires' dams' s d more more' room = tt
-HasRoom-more Birth sires dams sires' dams' s d more more' room = tt
-HasRoom-more (Record place animal sire dam) sires dams sires' dams' s d more more' room = (
-  λ p e n. let a = room.0 p e (λ h. n (ap (λ ps. parent_at ps place) s ∙ h)) in let b = more p in omega (arith, a, b),
-  λ p e n. let a = room.1 p e (λ h. n (ap (λ ps. parent_at ps place) d ∙ h)) in let b = more' p in omega (arith, a, b),
-)
-
--- no room is needed where the parents stay
-pub HasRoom-same : (place : ℕ) (animal : Animal) (sire dam : Option ℕ) (sires dams : Progeny) → sire ≡ parent_at sires.parents place → dam ≡ parent_at dams.parents place → HasRoom (Record place animal sire dam) sires dams
-HasRoom-same place animal sire dam sires dams s d = (λ p e n. absurd (n (sym s ∙ e)), λ p e n. absurd (n (sym d ∙ e)))
 
 -- the last animal, which was added last, has no calves
 module _ (l most : ℕ) (book : Book) (sires dams : List (Option ℕ)) (depths : List ℕ) (log : List (ℕ × ℕ)) (h : IsHeld l most book sires dams depths log Birth) where
@@ -83,10 +66,8 @@ module _ (l most : ℕ) (book : Book) (sires dams : List (Option ℕ)) (depths :
   names_its_own-before place entry at =
       ((parent_at (without_last sires) place, old.sires_are.each place entry at), (parent_at (without_last dams) place, old.dams_are.each place entry at))
 
-  pub IsWhole-before : (sires' dams' : Progeny) → sires'.parents ≡ without_last sires → dams'.parents ≡ without_last dams → IsWhole l most (without_last book) sires' dams' (without_last depths) log Nothing
-  IsWhole-before sires' dams' s d =
-      let held : IsHeld l most (without_last book) (without_last sires) (without_last dams) (without_last depths) log Nothing = record { kept = old; within = tt; before = λ was e. absurd (cc) } in
-      record { held = rw (s, d) held; room = tt }
+  pub IsHeld-before : IsHeld l most (without_last book) (without_last sires) (without_last dams) (without_last depths) log Nothing
+  IsHeld-before = record { kept = old; within = tt; before = λ was e. absurd (cc) }
 
   pub childless-sire : (c : ℕ) → parent_at sires c ≡ Some (length sires - 1) → ⊥
   childless-sire c e = none-of_last c (inl e)
@@ -198,11 +179,3 @@ module _ (l most : ℕ) (book : Book) (sires dams : List (Option ℕ)) (depths :
               let dams_same : slice_set (slice_set dams a dam) a was_dam ≡ dams = set-set dams a dam was_dam ∙ ap (λ o. slice_set dams a o) f ∙ set-get_or dams a None in
               rw (sires_same, dams_same, undone) (subst (λ old. IsKept l most old sires dams depths) back k);
         }
-
--- all that is kept, where only room was made
-pub IsWhole-more : (l most : ℕ) (book : Book) (sires dams sires' dams' : Progeny) (depths depths' : List ℕ) (log : List (ℕ × ℕ)) (undo : Undo) → IsWhole l most book sires dams depths log undo → sires'.parents ≡ sires.parents → dams'.parents ≡ dams.parents → depths' ≡ depths →
-    ((p : ℕ) → slice_index sires.spare p ≤ slice_index sires'.spare p) → ((p : ℕ) → slice_index dams.spare p ≤ slice_index dams'.spare p) → IsWhole l most book sires' dams' depths' log undo
-IsWhole-more l most book sires dams sires' dams' depths depths' log undo w s d e more more' = record {
-  held = rw (s, d, e) w.held;
-  room = HasRoom-more undo sires dams sires' dams' s d more more' w.room;
-}

@@ -1,356 +1,716 @@
--- The calves of each parent once an animal is added, linked, unlinked or taken away.
-use Rattle.std.proofs.Common.{map, ◌↔◌, Contains, take, ℕ, ◌+◌, ◌-◌, ◌<◌, ◌≤◌, ◌≡◌, ◌≢◌, ◌⊎◌, ⊎_elim, inl, inr, arith, refl, sym, ap, ◌∙◌, subst, List, [], ◌∷◌, ◌++◌, Option, Some, None, length, slice_get, slice_set, slice_index, get_or}
-use Rattle.std.proofs.lemmas.Bool.{cases_eq, cases_lt}
+-- The chains of calves once an animal is added, linked, unlinked or taken away.
+use Rattle.std.proofs.Common.{◌↔◌, Contains, take, ℕ, zero, suc, ◌+◌, ◌<◌, ◌≤◌, ◌≡◌, ◌≢◌, ◌⊎◌, ◌==◌, inl, inr, arith, refl, sym, ap, ◌∙◌, subst, cond, true, false, List, [], ◌∷◌, ◌++◌, Option, Some, None, length, slice_get, slice_set, get_or, is_some, unwrap_or, ⊎_elim}
+use Rattle.std.proofs.lemmas.Bool.{cases_eq, cases_lt, eq-eqb, ne_eqb}
 use Rattle.std.proofs.lemmas.Option.{same_Some, slice_get_within, slice_get-get_or, get_or_from_slice_get}
-use Rattle.std.proofs.lemmas.List.{get_or-set_same, get_or-set_other, get_or_append_left, get_or_push, get_or_past, get_or-take, length-set, length_push, length-take-le, length-map, map-set, set-get_or}
+use Rattle.std.proofs.lemmas.List.{ext_get_or, get_or-set_same, get_or-set_other, get_or_append_left, get_or_push, get_or_past, get_or-take, get_or-map, length-set, length_push, length-take-le, length-map}
+use Rattle.herd_pedigree.specs.declared.progeny.Family.{Family}
 use Rattle.herd_pedigree.specs.Places.{parent_at}
-use Rattle.herd_pedigree.specs.Calves.{AreCalves, calves_at}
-use Rattle.herd_pedigree.proofs.BookFacts.{push_cases, push_keeps, push_last}
-use Rattle.herd_pedigree.proofs.ListFacts.{map-at}
+use Rattle.herd_pedigree.specs.Calves.{AreChained, Show, alone, chain, family_at, first_of, next_of, parent_of, parents_of, previous_of, put}
 
 -- who has a parent is there
 pub parent-within : (parents : List (Option ℕ)) (c p : ℕ) → parent_at parents c ≡ Some p → c < length parents
 parent-within parents c p e =
-    ⊎_elim
-    (λ (h : c < length parents). h)
-    (λ (h : length parents ≤ c). let n : None ≡ Some p = sym (get_or_past parents c None h) ∙ e in absurd (cc))
-    (cases_lt c (length parents))
+    elim (cases_lt c (length parents)) [
+      | inl h ↦ h
+      | inr h ↦ let n : None ≡ Some p = sym (get_or_past parents c None h) ∙ e in absurd (cc)
+    ]
 
--- who has a calf is there
-list-within : (lists : List (List ℕ)) (p k c : ℕ) → slice_get (calves_at lists p) k ≡ Some c → p < length lists
-list-within lists p k c e =
-    ⊎_elim
-    (λ (h : p < length lists). h)
-    (λ (h : length lists ≤ p). let n : None ≡ Some c = sym (ap (λ l. slice_get l k) (get_or_past lists p [] h)) ∙ e in absurd (cc))
-    (cases_lt p (length lists))
+-- a place is that one or another
+is_place : (o : Option ℕ) (x : ℕ) → (o ≡ Some x) ⊎ (o ≢ Some x)
+is_place None x = inr (λ e. absurd (cc))
+is_place (Some p) x = elim (cases_eq p x) [ inl same ↦ inl (ap Some same) | inr other ↦ inr (λ e. other (same_Some _ _ e)) ]
 
--- a list without the element at a slot, whose place the last one took
-pub record IsSwapRemoved (old new : List ℕ) (slot : ℕ) : Type 0 where
-  pub shorter : length new + 1 ≡ length old
-  pub moved : (d : ℕ) → slot + 1 < length old → get_or new slot d ≡ get_or old (length old - 1) d
-  pub kept : (k d : ℕ) → k ≢ slot → k + 1 < length old → get_or new k d ≡ get_or old k d
+known : (o : Option ℕ) → (o ≡ None) ⊎ ((x : ℕ) × (o ≡ Some x))
+known None = inl refl
+known (Some x) = inr (x, refl)
 
-module _ (old new : List ℕ) (slot : ℕ) (r : IsSwapRemoved old new slot) where
-  -- an element that is left stood there, or was the last
-  left_from : (k c : ℕ) → slice_get new k ≡ Some c → (j : ℕ) × (slice_get old j ≡ Some c) × (((j ≡ k) × (k ≢ slot)) ⊎ ((k ≡ slot) × (j + 1 ≡ length old)))
-  left_from k c e =
-      let w = slice_get_within new k c e in
-      let n = r.shorter in
-      let is : get_or new k c ≡ c = get_or_from_slice_get new k c c e in
-      ⊎_elim
-      (λ (same : k ≡ slot).
-      let last : get_or old (length old - 1) c ≡ c = sym (ap (λ v. get_or new v c) same ∙ r.moved c (omega (arith, w, n, same))) ∙ is in
-      (length old - 1, slice_get-get_or old (length old - 1) c (omega (arith, w, n)) ∙ ap Some last, inr (same, omega (arith, w, n))))
-      (λ (other : k ≢ slot).
-      (k, slice_get-get_or old k c (omega (arith, w, n)) ∙ ap Some (sym (r.kept k c other (omega (arith, w, n))) ∙ is), inl (refl, other)))
-      (cases_eq k slot)
+put_is : (place value : Option ℕ) (f : ℕ → Option ℕ) (x : ℕ) → place ≡ Some x → put place value f x ≡ value
+put_is None value f x e = absurd (cc)
+put_is (Some p) value f x e = ap (λ t. cond t value (f x)) (eq-eqb x p (sym (same_Some _ _ e)))
 
-  still_at : (k c : ℕ) → slice_get old k ≡ Some c → k ≢ slot → k + 1 < length old → slice_get new k ≡ Some c
-  still_at k c e other low =
-      let n = r.shorter in
-      slice_get-get_or new k c (omega (arith, n, low)) ∙ ap Some (r.kept k c other low ∙ get_or_from_slice_get old k c c e)
+put_isnt : (place value : Option ℕ) (f : ℕ → Option ℕ) (x : ℕ) → place ≢ Some x → put place value f x ≡ f x
+put_isnt None value f x n = refl
+put_isnt (Some p) value f x n = ap (λ t. cond t value (f x)) (ne_eqb x p (λ e. n (ap Some (sym e))))
 
-  moved_to : (k c : ℕ) → slice_get old k ≡ Some c → k + 1 ≡ length old → slot + 1 < length old → slice_get new slot ≡ Some c
-  moved_to k c e last low =
-      let n = r.shorter in
-      let at : length old - 1 ≡ k = omega (arith, last) in
-      slice_get-get_or new slot c (omega (arith, n, low)) ∙ ap Some (r.moved c low ∙ ap (λ v. get_or old v c) at ∙ get_or_from_slice_get old k c c e)
+put_at : (p : ℕ) (value : Option ℕ) (f : ℕ → Option ℕ) → put (Some p) value f p ≡ value
+put_at p value f = put_is (Some p) value f p refl
 
-module _ (parents : List (Option ℕ)) (slots : List ℕ) (lists : List (List ℕ)) (a : AreCalves parents slots lists) where
-  other_parent : (c c' : ℕ) (o : Option ℕ) → c' ≢ c → parent_at (slice_set parents c o) c' ≡ parent_at parents c'
-  other_parent c c' o n = get_or-set_other parents c c' o None n
+put_off : (p : ℕ) (value : Option ℕ) (f : ℕ → Option ℕ) (x : ℕ) → x ≢ p → put (Some p) value f x ≡ f x
+put_off p value f x n = put_isnt (Some p) value f x (λ e. n (sym (same_Some _ _ e)))
 
-  other_list : (p p' : ℕ) (l : List ℕ) → p' ≢ p → calves_at (slice_set lists p l) p' ≡ calves_at lists p'
-  other_list p p' l n = get_or-set_other lists p p' l [] n
+-- an animal gets its first parent: it is the first calf, and that from before the next
+module _ (old new : List Family) (a : AreChained old) (c p : ℕ) (there : p < length old) (none : parent_of old c ≡ None)
+    (s : Show new (length old) (put (Some c) (Some p) (parent_of old)) (put (first_of old p) (Some c) (previous_of old)) (put (Some c) (first_of old p) (next_of old)) (put (Some p) (Some c) (first_of old))) where
+  rank_to : ℕ → ℕ
+  rank_to x = cond (x == c) a.top (a.rank x)
 
-  same_list : (p : ℕ) (l : List ℕ) → p < length lists → calves_at (slice_set lists p l) p ≡ l
-  same_list p l h = get_or-set_same lists p l [] h
+  rank_c : rank_to c ≡ a.top
+  unfolding rank_to
+  rank_c = ap (λ t. cond t a.top (a.rank c)) (eq-eqb c c refl)
 
-  -- an animal with no parent, at the end
-  pub calves-append : AreCalves (parents ++ None ∷ []) (slots ++ 0 ∷ []) (lists ++ [] ∷ [])
-  calves-append =
-      let n = length_push parents None in
-      let m = length_push slots 0 in
-      let k = length_push {X = List ℕ} lists [] in
-      let long = a.long in
-      let slots_long = a.slots_long in
-      let before : (c p : ℕ) → parent_at (parents ++ None ∷ []) c ≡ Some p → c < length parents = λ c p e.
-      let w = parent-within (parents ++ None ∷ []) c p e in
-      ⊎_elim
-      (λ (h : c < length parents). h)
-      (λ (h : length parents ≤ c).
-      let end : length parents ≡ c = omega (arith, h, w, n) in
-      let none : None ≡ Some p = sym (get_or_push parents None None c end) ∙ e in absurd (cc))
-      (cases_lt c (length parents)) in
-      let has_list : (p s c : ℕ) → slice_get (calves_at (lists ++ [] ∷ []) p) s ≡ Some c → slice_get (calves_at lists p) s ≡ Some c = λ p s c e.
-      let w = list-within (lists ++ [] ∷ []) p s c e in
-      ⊎_elim
-      (λ (h : p < length lists). sym (ap (λ l. slice_get l s) (get_or_append_left lists ([] ∷ []) [] p h)) ∙ e)
-      (λ (h : length lists ≤ p).
-      let end : length lists ≡ p = omega (arith, h, w, k) in
-      let none : None ≡ Some c = sym (ap (λ l. slice_get l s) (get_or_push {X = List ℕ} lists [] [] p end)) ∙ e in absurd (cc))
-      (cases_lt p (length lists)) in
-      record {
-        long = omega (arith, n, k, long);
-        slots_long = omega (arith, n, m, slots_long);
-        has = λ p c e.
-            let w = before c p e in
-            let old = a.has p c (sym (get_or_append_left parents (None ∷ []) None c w) ∙ e) in
-            let h = list-within lists p (slice_index slots c) c old in
-            let l : calves_at (lists ++ [] ∷ []) p ≡ calves_at lists p = get_or_append_left lists ([] ∷ []) [] p h in
-            let s : slice_index (slots ++ 0 ∷ []) c ≡ slice_index slots c = get_or_append_left slots (0 ∷ []) 0 c (omega (arith, w, slots_long)) in
-            (λ i. slice_get (l i) (s i)) ∙ old;
-        only = λ p s c e.
-            let old = a.only p s c (has_list p s c e) in
-            let w = parent-within parents c p old.0 in
-            (get_or_append_left parents (None ∷ []) None c w ∙ old.0, get_or_append_left slots (0 ∷ []) 0 c (omega (arith, w, slots_long)) ∙ old.1);
-      }
+  rank_off : (x : ℕ) → x ≢ c → rank_to x ≡ a.rank x
+  unfolding rank_to
+  rank_off x n = ap (λ t. cond t a.top (a.rank x)) (ne_eqb x c n)
 
-  -- an animal with no parent gets one
-  pub calves-link : (c p : ℕ) → c < length parents → p < length parents → parent_at parents c ≡ None →
-      AreCalves (slice_set parents c (Some p)) (slice_set slots c (length (calves_at lists p))) (slice_set lists p (calves_at lists p ++ c ∷ []))
-  calves-link c p here there none =
-      let list : List ℕ = calves_at lists p in
-      let long = a.long in
-      let slots_long = a.slots_long in
-      let at_p : calves_at (slice_set lists p (list ++ c ∷ [])) p ≡ list ++ c ∷ [] = same_list p (list ++ c ∷ []) (omega (arith, there, long)) in
-      let at_c : slice_index (slice_set slots c (length list)) c ≡ length list = get_or-set_same slots c (length list) 0 (omega (arith, here, slots_long)) in
-      record {
-        long = length-set lists p (list ++ c ∷ []) ∙ a.long ∙ sym (length-set parents c (Some p));
-        slots_long = length-set slots c (length list) ∙ a.slots_long ∙ sym (length-set parents c (Some p));
-        has = λ p' c' e.
-            ⊎_elim
-            (λ (is : c' ≡ c).
-            let e' : parent_at (slice_set parents c (Some p)) c ≡ Some p' = subst (λ v. parent_at (slice_set parents c (Some p)) v ≡ Some p') is e in
-            let same : p ≡ p' = same_Some _ _ (sym (get_or-set_same parents c (Some p) None here) ∙ e') in
-            let P : ℕ → ℕ → Type 0 = λ q v. slice_get (calves_at (slice_set lists p (list ++ c ∷ [])) q) (slice_index (slice_set slots c (length list)) v) ≡ Some v in
-            let base : P p c = (λ i. slice_get (at_p i) (at_c i)) ∙ push_last list c in
-            subst (λ v. P p' v) (sym is) (subst (λ q. P q c) same base))
-            (λ (other : c' ≢ c).
-            let old = a.has p' c' (sym (other_parent c c' (Some p) other) ∙ e) in
-            let s : slice_index (slice_set slots c (length list)) c' ≡ slice_index slots c' = get_or-set_other slots c c' (length list) 0 other in
-            ⊎_elim
-            (λ (is : p' ≡ p).
-            let old' : slice_get list (slice_index slots c') ≡ Some c' = subst (λ q. slice_get (calves_at lists q) (slice_index slots c') ≡ Some c') is old in
-            subst (λ q. slice_get (calves_at (slice_set lists p (list ++ c ∷ [])) q) (slice_index (slice_set slots c (length list)) c') ≡ Some c') (sym is)
-            ((λ i. slice_get (at_p i) (s i)) ∙ push_keeps list c c' (slice_index slots c') old'))
-            (λ (n : p' ≢ p). (λ i. slice_get (other_list p p' (list ++ c ∷ []) n i) (s i)) ∙ old)
-            (cases_eq p' p))
-            (cases_eq c' c);
-        only = λ p' k c' e.
-            let kept : (parent_at parents c' ≡ Some p') × (slice_index slots c' ≡ k) → (parent_at (slice_set parents c (Some p)) c' ≡ Some p') × (slice_index (slice_set slots c (length list)) c' ≡ k) = λ old.
-            ⊎_elim
-            (λ (is : c' ≡ c). let bad : None ≡ Some p' = sym none ∙ subst (λ v. parent_at parents v ≡ Some p') is old.0 in absurd (cc))
-            (λ (other : c' ≢ c). (other_parent c c' (Some p) other ∙ old.0, get_or-set_other slots c c' (length list) 0 other ∙ old.1))
-            (cases_eq c' c) in
-            ⊎_elim
-            (λ (is : p' ≡ p).
-            let e' : slice_get (list ++ c ∷ []) k ≡ Some c' = sym (ap (λ l. slice_get l k) at_p) ∙ subst (λ q. slice_get (calves_at (slice_set lists p (list ++ c ∷ [])) q) k ≡ Some c') is e in
-            ⊎_elim
-            (λ (old : slice_get list k ≡ Some c'). kept (a.only p' k c' (subst (λ q. slice_get (calves_at lists q) k ≡ Some c') (sym is) old)))
-            (λ new. (
-              ap (λ v. parent_at (slice_set parents c (Some p)) v) (sym new.1) ∙ get_or-set_same parents c (Some p) None here ∙ ap Some (sym is),
-              ap (λ v. slice_index (slice_set slots c (length list)) v) (sym new.1) ∙ at_c ∙ sym new.0,
-            ))
-            (push_cases list c c' k e'))
-            (λ (n : p' ≢ p). kept (a.only p' k c' (sym (ap (λ l. slice_get l k) (other_list p p' (list ++ c ∷ []) n)) ∙ e)))
-            (cases_eq p' p);
-      }
+  has_parent : (x q : ℕ) → parent_of old x ≡ Some q → x ≢ c
+  has_parent x q e is = let bad : None ≡ Some q = sym none ∙ ap (λ v. parent_of old v) (sym is) ∙ e in absurd (cc)
 
-  -- an animal loses its parent
-  pub calves-unlink : (c p : ℕ) → parent_at parents c ≡ Some p → (new slots' : List ℕ) → IsSwapRemoved (calves_at lists p) new (slice_index slots c) → length slots' ≡ length slots →
-      ((x : ℕ) → slice_get new (slice_index slots c) ≡ Some x → slice_index slots' x ≡ slice_index slots c) →
-      ((x : ℕ) → (slice_get new (slice_index slots c) ≡ Some x → ⊥) → slice_index slots' x ≡ slice_index slots x) →
-      AreCalves (slice_set parents c None) slots' (slice_set lists p new)
-  calves-unlink c p e new slots' r slots_same at off =
-      let list : List ℕ = calves_at lists p in
-      let s : ℕ = slice_index slots c in
-      let stood : slice_get list s ≡ Some c = a.has p c e in
-      let here : c < length parents = parent-within parents c p e in
-      let there : p < length lists = list-within lists p s c stood in
-      let short = r.shorter in
-      let at_p : calves_at (slice_set lists p new) p ≡ new = same_list p new there in
-      let moved_last : (x : ℕ) → slice_get new s ≡ Some x → (j : ℕ) × (slice_get list j ≡ Some x) × (j + 1 ≡ length list) = λ x h.
-      let l = left_from list new s r s x h in
-      (l.0, l.1, ⊎_elim (λ u. absurd (u.1 refl)) (λ u. u.1) l.2) in
-      record {
-        long = length-set lists p new ∙ a.long ∙ sym (length-set parents c None);
-        slots_long = slots_same ∙ a.slots_long ∙ sym (length-set parents c None);
-        has = λ p' c' h.
-            ⊎_elim
-            (λ (is : c' ≡ c).
-            let bad : None ≡ Some p' = sym (get_or-set_same parents c None None here) ∙ subst (λ v. parent_at (slice_set parents c None) v ≡ Some p') is h in absurd (cc))
-            (λ (other : c' ≢ c).
-            let is_p : parent_at parents c' ≡ Some p' = sym (other_parent c c' None other) ∙ h in
-            let old : slice_get (calves_at lists p') (slice_index slots c') ≡ Some c' = a.has p' c' is_p in
-            ⊎_elim
-            (λ (is : p' ≡ p).
-            let t : ℕ = slice_index slots c' in
-            let old' : slice_get list t ≡ Some c' = subst (λ q. slice_get (calves_at lists q) t ≡ Some c') is old in
-            let not_slot : t ≢ s = λ u. other (same_Some _ _ (sym old' ∙ ap (λ v. slice_get list v) u ∙ stood)) in
-            let w = slice_get_within list t c' old' in
-            let v = slice_get_within list s c stood in
-            let Q : Type 0 = slice_get (calves_at (slice_set lists p new) p) (slice_index slots' c') ≡ Some c' in
-            subst (λ q. slice_get (calves_at (slice_set lists p new) q) (slice_index slots' c') ≡ Some c') (sym is)
-            (⊎_elim
-            (λ (low : t + 1 < length list).
-            let same : slice_index slots' c' ≡ t = off c' (λ g. let m = moved_last c' g in let u = (a.only p m.0 c' m.1).1 in let last = m.2 in omega (arith, low, u, last)) in
-            (λ i. slice_get (at_p i) (same i)) ∙ still_at list new s r t c' old' not_slot low)
-            (λ (high : length list ≤ t + 1).
-            let to : slice_get new s ≡ Some c' = moved_to list new s r t c' old' (omega (arith, high, w)) (let n = not_slot in omega (arith, high, w, v, n)) in
-            (λ i. slice_get (at_p i) (at c' to i)) ∙ to)
-            (cases_lt (t + 1) (length list))))
-            (λ (n : p' ≢ p).
-            let same : slice_index slots' c' ≡ slice_index slots c' = off c' (λ g. let m = moved_last c' g in n (same_Some _ _ (sym is_p ∙ (a.only p m.0 c' m.1).0))) in
-            (λ i. slice_get (other_list p p' new n i) (same i)) ∙ old)
-            (cases_eq p' p))
-            (cases_eq c' c);
-        only = λ p' k c' h.
-            ⊎_elim
-            (λ (is : p' ≡ p).
-            let h' : slice_get new k ≡ Some c' = sym (ap (λ l. slice_get l k) at_p) ∙ subst (λ q. slice_get (calves_at (slice_set lists p new) q) k ≡ Some c') is h in
-            let w = slice_get_within new k c' h' in
-            let l = left_from list new s r k c' h' in
-            let old = a.only p l.0 c' l.1 in
-            let slot_is = old.1 in
-            let other : c' ≢ c = λ u.
-            let slot_c : s ≡ l.0 = ap (λ v. slice_index slots v) (sym u) ∙ slot_is in
-            ⊎_elim (λ v. let a = v.0 in v.1 (omega (arith, a, slot_c))) (λ v. let a = v.0 in let b = v.1 in absurd (omega (arith, a, b, slot_c, w, short))) l.2 in (
-              other_parent c c' None other ∙ old.0 ∙ ap Some (sym is),
-              ⊎_elim
-                  (λ v.
-                  let j_is = v.0 in
-                  off c' (λ g. let m = moved_last c' g in let u = (a.only p m.0 c' m.1).1 in let last = m.2 in absurd (omega (arith, u, last, slot_is, j_is, w, short))) ∙ slot_is ∙ j_is)
-                  (λ v. at c' (subst (λ z. slice_get new z ≡ Some c') v.0 h') ∙ sym v.0)
-                  l.2,
-            ))
-            (λ (n : p' ≢ p).
-            let old = a.only p' k c' (sym (ap (λ l. slice_get l k) (other_list p p' new n)) ∙ h) in
-            let other : c' ≢ c = λ u. n (same_Some _ _ (sym old.0 ∙ ap (λ v. parent_at parents v) u ∙ e)) in
-            let same : slice_index slots' c' ≡ slice_index slots c' = off c' (λ g. let m = moved_last c' g in n (same_Some _ _ (sym old.0 ∙ (a.only p m.0 c' m.1).0))) in
-            (other_parent c c' None other ∙ old.0, same ∙ old.1))
-            (cases_eq p' p);
-      }
+  parent_c : parent_of new c ≡ Some p
+  parent_c = s.parents c ∙ put_at c (Some p) (parent_of old)
 
--- the calves of a parent are those that have it
-pub calves-told : (parents : List (Option ℕ)) (slots : List ℕ) (lists : List (List ℕ)) → AreCalves parents slots lists → (p : ℕ) (list : List ℕ) → list ≡ calves_at lists p → (c : ℕ) → Contains list c ↔ (parent_at parents c ≡ Some p)
-calves-told parents slots lists a p list e c = (
-  λ is. (a.only p is.0 c (ap (λ l. slice_get l is.0) (sym e) ∙ slice_get-get_or list is.0 c is.1 ∙ ap Some is.2)).0,
-  λ is.
-      let has : slice_get list (slice_index slots c) ≡ Some c = ap (λ l. slice_get l (slice_index slots c)) e ∙ a.has p c is in
-      (slice_index slots c, slice_get_within list (slice_index slots c) c has, get_or_from_slice_get list (slice_index slots c) c c has),
-)
+  parent_off : (x : ℕ) → x ≢ c → parent_of new x ≡ parent_of old x
+  parent_off x n = s.parents x ∙ put_off c (Some p) (parent_of old) x n
+
+  next_c : next_of new c ≡ first_of old p
+  next_c = s.after c ∙ put_at c (first_of old p) (next_of old)
+
+  next_off : (x : ℕ) → x ≢ c → next_of new x ≡ next_of old x
+  next_off x n = s.after x ∙ put_off c (first_of old p) (next_of old) x n
+
+  previous_f : (x : ℕ) → first_of old p ≡ Some x → previous_of new x ≡ Some c
+  previous_f x e = s.before x ∙ put_is (first_of old p) (Some c) (previous_of old) x e
+
+  previous_off : (x : ℕ) → first_of old p ≢ Some x → previous_of new x ≡ previous_of old x
+  previous_off x n = s.before x ∙ put_isnt (first_of old p) (Some c) (previous_of old) x n
+
+  -- who isn't the first was not preceded by the calf
+  not_first : (x q : ℕ) → parent_of old x ≡ Some q → q ≢ p → first_of old p ≢ Some x
+  not_first x q e n is = n (same_Some _ _ (sym e ∙ (a.first p x is).0))
+
+  below_to : (x : ℕ) → rank_to x < a.top + 1
+  below_to x = elim (cases_eq x c) [
+    | inl same ↦ let r = ap (λ v. rank_to v) same in omega (arith, r, rank_c)
+    | inr other ↦ let r = rank_off x other in let b = a.below x in omega (arith, r, b)
+  ]
+
+  within_to : (x q : ℕ) → parent_of new x ≡ Some q → q < length new
+  within_to x q e =
+      let n = s.long in
+      elim (cases_eq x c) [
+        | inl same ↦ let is : p ≡ q = same_Some _ _ (sym parent_c ∙ ap (λ v. parent_of new v) (sym same) ∙ e) in omega (arith, is, there, n)
+        | inr other ↦ let w = a.within x q (sym (parent_off x other) ∙ e) in omega (arith, w, n)
+      ]
+
+  first_to : (q x : ℕ) → first_of new q ≡ Some x → (parent_of new x ≡ Some q) × (previous_of new x ≡ None)
+  first_to q x e = elim (cases_eq q p) [
+    | inl same ↦
+        let is : c ≡ x = same_Some _ _ (sym (put_at p (Some c) (first_of old)) ∙ sym (s.firsts p) ∙ ap (λ v. first_of new v) (sym same) ∙ e) in
+        let not : first_of old p ≢ Some c = λ f. has_parent c p (a.first p c f).0 refl in
+        subst (λ v. (parent_of new v ≡ Some q) × (previous_of new v ≡ None)) is (parent_c ∙ ap Some (sym same), previous_off c not ∙ (a.single c none).1)
+    | inr other ↦
+        let was = a.first q x (sym (put_off p (Some c) (first_of old) q other) ∙ sym (s.firsts q) ∙ e) in
+        (parent_off x (has_parent x q was.0) ∙ was.0, previous_off x (not_first x q was.0 other) ∙ was.1)
+  ]
+
+  foremost_to : (q x : ℕ) → parent_of new x ≡ Some q → previous_of new x ≡ None → first_of new q ≡ Some x
+  foremost_to q x e before = elim (cases_eq x c) [
+    | inl same ↦
+        let is : p ≡ q = same_Some _ _ (sym parent_c ∙ ap (λ v. parent_of new v) (sym same) ∙ e) in
+        ap (λ v. first_of new v) (sym is) ∙ s.firsts p ∙ put_at p (Some c) (first_of old) ∙ ap Some (sym same)
+    | inr other ↦
+        let was : parent_of old x ≡ Some q = sym (parent_off x other) ∙ e in
+        elim (is_place (first_of old p) x) [
+          | inl f ↦ let bad : None ≡ Some c = sym before ∙ previous_f x f in absurd (cc)
+          | inr n ↦
+              let old_first = a.foremost q x was (sym (previous_off x n) ∙ before) in
+              let not : q ≢ p = λ is. n (ap (λ v. first_of old v) (sym is) ∙ old_first) in
+              s.firsts q ∙ put_off p (Some c) (first_of old) q not ∙ old_first
+        ]
+  ]
+
+  next_to : (x y : ℕ) → next_of new x ≡ Some y → (previous_of new y ≡ Some x) × ((parent_of new y ≡ parent_of new x) × (rank_to y < rank_to x))
+  next_to x y e = elim (cases_eq x c) [
+    | inl same ↦
+        let f : first_of old p ≡ Some y = sym next_c ∙ ap (λ v. next_of new v) (sym same) ∙ e in
+        let was = a.first p y f in
+        let other = has_parent y p was.0 in
+        let r = rank_off y other in
+        let b = a.below y in
+        let less : rank_to y < rank_to c = omega (arith, r, b, rank_c) in
+        subst (λ v. (previous_of new y ≡ Some v) × ((parent_of new y ≡ parent_of new v) × (rank_to y < rank_to v))) (sym same)
+        (previous_f y f, (parent_off y other ∙ was.0 ∙ sym parent_c, less))
+    | inr n ↦
+        let was = a.next x y (sym (next_off x n) ∙ e) in
+        let other : y ≢ c = λ is. let bad : None ≡ Some x = sym (a.single c none).1 ∙ ap (λ v. previous_of old v) (sym is) ∙ was.0 in absurd (cc) in
+        let not : first_of old p ≢ Some y = λ f. let bad : None ≡ Some x = sym (a.first p y f).1 ∙ was.0 in absurd (cc) in
+        let ry = rank_off y other in
+        let rx = rank_off x n in
+        let less = was.1.1 in
+        (previous_off y not ∙ was.0, (parent_off y other ∙ was.1.0 ∙ sym (parent_off x n), omega (arith, ry, rx, less)))
+  ]
+
+  previous_to : (x y : ℕ) → previous_of new y ≡ Some x → next_of new x ≡ Some y
+  previous_to x y e = elim (is_place (first_of old p) y) [
+    | inl f ↦
+        let is : c ≡ x = same_Some _ _ (sym (previous_f y f) ∙ e) in
+        ap (λ v. next_of new v) (sym is) ∙ next_c ∙ f
+    | inr n ↦
+        let was = a.previous x y (sym (previous_off y n) ∙ e) in
+        let other : x ≢ c = λ is. let bad : None ≡ Some y = sym (a.single c none).0 ∙ ap (λ v. next_of old v) (sym is) ∙ was in absurd (cc) in
+        next_off x other ∙ was
+  ]
+
+  single_to : (x : ℕ) → parent_of new x ≡ None → (next_of new x ≡ None) × (previous_of new x ≡ None)
+  single_to x e = elim (cases_eq x c) [
+    | inl same ↦ let bad : None ≡ Some p = sym e ∙ ap (λ v. parent_of new v) same ∙ parent_c in absurd (cc)
+    | inr n ↦
+        let was : parent_of old x ≡ None = sym (parent_off x n) ∙ e in
+        let both = a.single x was in
+        let not : first_of old p ≢ Some x = λ f. let bad : None ≡ Some p = sym was ∙ (a.first p x f).0 in absurd (cc) in
+        (next_off x n ∙ both.0, previous_off x not ∙ both.1)
+  ]
+
+  pub chained-link : AreChained new
+  chained-link = record { rank = rank_to; top = a.top + 1; below = below_to; within = within_to; first = first_to; foremost = foremost_to; next = next_to; previous = previous_to; single = single_to }
+
+-- the place before which a calf stands first, where it does
+pub record IsLedBy (families : List Family) (c p : ℕ) (o : Option ℕ) : Type 0 where
+  pub first : previous_of families c ≡ None → o ≡ Some p
+  pub later : (q : ℕ) → previous_of families c ≡ Some q → o ≡ None
+
+-- an animal loses its parent: its neighbours stand beside each other
+module _ (old new : List Family) (a : AreChained old) (c p : ℕ) (has : parent_of old c ≡ Some p) (o : Option ℕ) (led : IsLedBy old c p o)
+    (s : Show new (length old) (put (Some c) None (parent_of old)) (put (Some c) None (put (next_of old c) (previous_of old c) (previous_of old))) (put (Some c) None (put (previous_of old c) (next_of old c) (next_of old))) (put o (next_of old c) (first_of old))) where
+  gone : parent_of new c ≡ None
+  gone = s.parents c ∙ put_at c None (parent_of old)
+
+  other_than : (x q : ℕ) → parent_of new x ≡ Some q → x ≢ c
+  other_than x q e is = let bad : None ≡ Some q = sym gone ∙ ap (λ v. parent_of new v) (sym is) ∙ e in absurd (cc)
+
+  kept : (x : ℕ) → x ≢ c → parent_of new x ≡ parent_of old x
+  kept x n = s.parents x ∙ put_off c None (parent_of old) x n
+
+  before_c : previous_of new c ≡ None
+  before_c = s.before c ∙ put_at c None (put (next_of old c) (previous_of old c) (previous_of old))
+
+  after_c : next_of new c ≡ None
+  after_c = s.after c ∙ put_at c None (put (previous_of old c) (next_of old c) (next_of old))
+
+  before_off : (x : ℕ) → x ≢ c → previous_of new x ≡ put (next_of old c) (previous_of old c) (previous_of old) x
+  before_off x n = s.before x ∙ put_off c None (put (next_of old c) (previous_of old c) (previous_of old)) x n
+
+  after_off : (x : ℕ) → x ≢ c → next_of new x ≡ put (previous_of old c) (next_of old c) (next_of old) x
+  after_off x n = s.after x ∙ put_off c None (put (previous_of old c) (next_of old c) (next_of old)) x n
+
+  before_is : (x : ℕ) → x ≢ c → next_of old c ≡ Some x → previous_of new x ≡ previous_of old c
+  before_is x n e = before_off x n ∙ put_is (next_of old c) (previous_of old c) (previous_of old) x e
+
+  before_kept : (x : ℕ) → x ≢ c → next_of old c ≢ Some x → previous_of new x ≡ previous_of old x
+  before_kept x n not = before_off x n ∙ put_isnt (next_of old c) (previous_of old c) (previous_of old) x not
+
+  after_is : (x : ℕ) → x ≢ c → previous_of old c ≡ Some x → next_of new x ≡ next_of old c
+  after_is x n e = after_off x n ∙ put_is (previous_of old c) (next_of old c) (next_of old) x e
+
+  after_kept : (x : ℕ) → x ≢ c → previous_of old c ≢ Some x → next_of new x ≡ next_of old x
+  after_kept x n not = after_off x n ∙ put_isnt (previous_of old c) (next_of old c) (next_of old) x not
+
+  -- the neighbours are others
+  next_other : (x : ℕ) → next_of old c ≡ Some x → x ≢ c
+  next_other x e is = let r = (a.next c x e).1.1 in let same = ap (λ v. a.rank v) is in absurd (omega (arith, r, same))
+
+  previous_other : (x : ℕ) → previous_of old c ≡ Some x → x ≢ c
+  previous_other x e is = let r = (a.next x c (a.previous x c e)).1.1 in let same = ap (λ v. a.rank v) is in absurd (omega (arith, r, same))
+
+  -- it led its siblings, or stood behind one
+  leads : ((previous_of old c ≡ None) × (o ≡ Some p)) ⊎ ((previous_of old c ≢ None) × (o ≡ None))
+  leads = by (previous_of old c) refl
+    where
+      by : (q : Option ℕ) → previous_of old c ≡ q → ((previous_of old c ≡ None) × (o ≡ Some p)) ⊎ ((previous_of old c ≢ None) × (o ≡ None))
+      by None e = inl (e, led.first e)
+      by (Some q) e = inr (λ n. let bad : None ≡ Some q = sym n ∙ e in absurd (cc), led.later q e)
+
+  within_from : (x q : ℕ) → parent_of new x ≡ Some q → q < length new
+  within_from x q e = let n = s.long in let w = a.within x q (sym (kept x (other_than x q e)) ∙ e) in omega (arith, w, n)
+
+  first_kept : (q : ℕ) → o ≢ Some q → first_of new q ≡ first_of old q
+  first_kept q n = s.firsts q ∙ put_isnt o (next_of old c) (first_of old) q n
+
+  first_is : (q : ℕ) → o ≡ Some q → first_of new q ≡ next_of old c
+  first_is q e = s.firsts q ∙ put_is o (next_of old c) (first_of old) q e
+
+  first_from : (q x : ℕ) → first_of new q ≡ Some x → (parent_of new x ≡ Some q) × (previous_of new x ≡ None)
+  first_from q x e = elim (is_place o q) [
+    | inl is ↦
+        let follows : next_of old c ≡ Some x = sym (first_is q is) ∙ e in
+        let was = a.next c x follows in
+        let other = next_other x follows in
+        elim leads [
+          | inl l ↦ (kept x other ∙ was.1.0 ∙ has ∙ sym l.1 ∙ is, before_is x other follows ∙ l.0)
+          | inr l ↦ let bad : None ≡ Some q = sym l.1 ∙ is in absurd (cc)
+        ]
+    | inr not ↦
+        let was = a.first q x (sym (first_kept q not) ∙ e) in
+        let other : x ≢ c = λ is.
+        let none : previous_of old c ≡ None = ap (λ v. previous_of old v) (sym is) ∙ was.1 in
+        not (led.first none ∙ sym has ∙ ap (λ v. parent_of old v) (sym is) ∙ was.0) in
+        let not_next : next_of old c ≢ Some x = λ f. let bad : None ≡ Some c = sym was.1 ∙ (a.next c x f).0 in absurd (cc) in
+        (kept x other ∙ was.0, before_kept x other not_next ∙ was.1)
+  ]
+
+  foremost_from : (q x : ℕ) → parent_of new x ≡ Some q → previous_of new x ≡ None → first_of new q ≡ Some x
+  foremost_from q x e none =
+      let other = other_than x q e in
+      let was : parent_of old x ≡ Some q = sym (kept x other) ∙ e in
+      elim (is_place (next_of old c) x) [
+        | inl follows ↦
+            let same : p ≡ q = same_Some _ _ (sym has ∙ sym (a.next c x follows).1.0 ∙ was) in
+            let l : o ≡ Some p = led.first (sym (before_is x other follows) ∙ none) in
+            first_is q (l ∙ ap Some same) ∙ follows
+        | inr not ↦
+            let leading = a.foremost q x was (sym (before_kept x other not) ∙ none) in
+            elim (is_place o q) [
+              | inl is ↦ elim leads [
+                | inl l ↦
+                    let same : p ≡ q = same_Some _ _ (sym l.1 ∙ is) in
+                    let itself : c ≡ x = same_Some _ _ (sym (a.foremost p c has l.0) ∙ ap (λ v. first_of old v) same ∙ leading) in absurd (other (sym itself))
+                | inr l ↦ let bad : None ≡ Some q = sym l.1 ∙ is in absurd (cc)
+              ]
+              | inr off ↦ first_kept q off ∙ leading
+            ]
+      ]
+
+  next_from : (x y : ℕ) → next_of new x ≡ Some y → (previous_of new y ≡ Some x) × ((parent_of new y ≡ parent_of new x) × (a.rank y < a.rank x))
+  next_from x y e =
+      let other : x ≢ c = λ is. let bad : None ≡ Some y = sym after_c ∙ ap (λ v. next_of new v) (sym is) ∙ e in absurd (cc) in
+      elim (is_place (previous_of old c) x) [
+        | inl precedes ↦
+            let follows : next_of old c ≡ Some y = sym (after_is x other precedes) ∙ e in
+            let up = a.next x c (a.previous x c precedes) in
+            let down = a.next c y follows in
+            let far = next_other y follows in
+            let r = up.1.1 in
+            let t = down.1.1 in
+            (before_is y far follows ∙ precedes, (kept y far ∙ down.1.0 ∙ up.1.0 ∙ sym (kept x other), omega (arith, r, t)))
+        | inr not ↦
+            let was = a.next x y (sym (after_kept x other not) ∙ e) in
+            let far : y ≢ c = λ is. not (ap (λ v. previous_of old v) (sym is) ∙ was.0) in
+            let apart : next_of old c ≢ Some y = λ f. other (same_Some _ _ (sym was.0 ∙ (a.next c y f).0)) in
+            (before_kept y far apart ∙ was.0, (kept y far ∙ was.1.0 ∙ sym (kept x other), was.1.1))
+      ]
+
+  previous_from : (x y : ℕ) → previous_of new y ≡ Some x → next_of new x ≡ Some y
+  previous_from x y e =
+      let far : y ≢ c = λ is. let bad : None ≡ Some x = sym before_c ∙ ap (λ v. previous_of new v) (sym is) ∙ e in absurd (cc) in
+      elim (is_place (next_of old c) y) [
+        | inl follows ↦
+            let precedes : previous_of old c ≡ Some x = sym (before_is y far follows) ∙ e in
+            after_is x (previous_other x precedes) precedes ∙ follows
+        | inr not ↦
+            let was = a.previous x y (sym (before_kept y far not) ∙ e) in
+            let other : x ≢ c = λ is. not (ap (λ v. next_of old v) (sym is) ∙ was) in
+            let apart : previous_of old c ≢ Some x = λ f. far (same_Some _ _ (sym was ∙ a.previous x c f)) in
+            after_kept x other apart ∙ was
+      ]
+
+  single_from : (x : ℕ) → parent_of new x ≡ None → (next_of new x ≡ None) × (previous_of new x ≡ None)
+  single_from x e = elim (cases_eq x c) [
+    | inl same ↦ (ap (λ v. next_of new v) same ∙ after_c, ap (λ v. previous_of new v) same ∙ before_c)
+    | inr other ↦
+        let both = a.single x (sym (kept x other) ∙ e) in
+        let not_before : previous_of old c ≢ Some x = λ f. let bad : None ≡ Some c = sym both.0 ∙ a.previous x c f in absurd (cc) in
+        let not_behind : next_of old c ≢ Some x = λ f. let bad : None ≡ Some c = sym both.1 ∙ (a.next c x f).0 in absurd (cc) in
+        (after_kept x other not_before ∙ both.0, before_kept x other not_behind ∙ both.1)
+  ]
+
+  pub chained-unlink : AreChained new
+  chained-unlink = record { rank = a.rank; top = a.top; below = a.below; within = within_from; first = first_from; foremost = foremost_from; next = next_from; previous = previous_from; single = single_from }
+
+-- what is kept of each stays as it was
+pub chained-same : (old new : List Family) → AreChained old → ((x : ℕ) → family_at new x ≡ family_at old x) → ((c p : ℕ) → parent_of old c ≡ Some p → p < length new) → AreChained new
+chained-same old new a e w = record {
+  rank = a.rank;
+  top = a.top;
+  below = a.below;
+  within = λ c p h. w c p (sym (parent c) ∙ h);
+  first = λ p c h. let was = a.first p c (sym (first p) ∙ h) in (parent c ∙ was.0, previous c ∙ was.1);
+  foremost = λ p c h n. first p ∙ a.foremost p c (sym (parent c) ∙ h) (sym (previous c) ∙ n);
+  next = λ c d h. let was = a.next c d (sym (next c) ∙ h) in (previous d ∙ was.0, (parent d ∙ was.1.0 ∙ sym (parent c), was.1.1));
+  previous = λ c d h. next c ∙ a.previous c d (sym (previous d) ∙ h);
+  single = λ c h. let was = a.single c (sym (parent c) ∙ h) in (next c ∙ was.0, previous c ∙ was.1);
+}
+  where
+    parent : (x : ℕ) → parent_of new x ≡ parent_of old x
+    parent x = ap (λ f. f.parent) (e x)
+
+    previous : (x : ℕ) → previous_of new x ≡ previous_of old x
+    previous x = ap (λ f. f.previous) (e x)
+
+    next : (x : ℕ) → next_of new x ≡ next_of old x
+    next x = ap (λ f. f.next) (e x)
+
+    first : (x : ℕ) → first_of new x ≡ first_of old x
+    first x = ap (λ f. f.first) (e x)
+
+-- an animal with no parent, at the end
+pub chained-append : (families : List Family) → AreChained families → AreChained (families ++ alone ∷ [])
+chained-append families a =
+    let n = length_push families alone in
+    let same : (x : ℕ) → family_at (families ++ alone ∷ []) x ≡ family_at families x = λ x.
+    elim (cases_lt x (length families)) [
+      | inl h ↦ get_or_append_left families (alone ∷ []) alone x h
+      | inr h ↦ elim (cases_eq (length families) x) [
+        | inl end ↦ get_or_push families alone alone x end ∙ sym (get_or_past families x alone h)
+        | inr past ↦ get_or_past (families ++ alone ∷ []) x alone (omega (arith, n, h, past)) ∙ sym (get_or_past families x alone h)
+      ]
+    ] in
+    chained-same families (families ++ alone ∷ []) a same (λ c p e. let w = a.within c p e in omega (arith, w, n))
 
 -- the last animal, which has neither parent nor calves, is taken away
-pub calves-pop : (parents : List (Option ℕ)) (slots : List ℕ) (lists : List (List ℕ)) → AreCalves parents slots lists → (n : ℕ) → n + 1 ≡ length parents → parent_at parents n ≡ None → ((c : ℕ) → parent_at parents c ≡ Some n → ⊥) →
-    AreCalves (take n parents) (take n slots) (take n lists)
-calves-pop parents slots lists a n e none childless =
-    let long = a.long in
-    let slots_long = a.slots_long in
-    let lp : length (take n parents) ≡ n = length-take-le n parents (omega (arith, e)) in
-    let ls : length (take n slots) ≡ n = length-take-le n slots (omega (arith, e, slots_long)) in
-    let ll : length (take n lists) ≡ n = length-take-le n lists (omega (arith, e, long)) in
-    let old_parent : (c p : ℕ) → parent_at (take n parents) c ≡ Some p → (c < n) × (parent_at parents c ≡ Some p) = λ c p h.
-    let w = parent-within (take n parents) c p h in
-    let low : c < n = omega (arith, w, lp) in
-    (low, sym (get_or-take n parents c None low) ∙ h) in
-    record {
-      long = ll ∙ sym lp;
-      slots_long = ls ∙ sym lp;
-      has = λ p c h.
-          let old = old_parent c p h in
-          let had = a.has p c old.1 in
-          let w = list-within lists p (slice_index slots c) c had in
-          let low : p < n =
-          ⊎_elim
-          (λ (l : p < n). l)
-          (λ (g : n ≤ p). let is : p ≡ n = omega (arith, g, w, e, long) in absurd (childless c (subst (λ q. parent_at parents c ≡ Some q) is old.1)))
-          (cases_lt p n) in
-          (λ i. slice_get (get_or-take n lists p [] low i) (get_or-take n slots c 0 old.0 i)) ∙ had;
-      only = λ p k c h.
-          let w = list-within (take n lists) p k c h in
-          let low : p < n = omega (arith, w, ll) in
-          let old = a.only p k c (sym (ap (λ l. slice_get l k) (get_or-take n lists p [] low)) ∙ h) in
-          let cw = parent-within parents c p old.0 in
-          let c_low : c < n =
-          ⊎_elim
-          (λ (l : c < n). l)
-          (λ (g : n ≤ c).
-          let is : c ≡ n = omega (arith, g, cw, e) in
-          let bad : None ≡ Some p = sym none ∙ subst (λ v. parent_at parents v ≡ Some p) is old.0 in absurd (cc))
-          (cases_lt c n) in
-          (get_or-take n parents c None c_low ∙ old.0, get_or-take n slots c 0 c_low ∙ old.1);
-    }
+pub chained-pop : (families : List Family) → AreChained families → (n : ℕ) → n + 1 ≡ length families → parent_of families n ≡ None → ((c : ℕ) → parent_of families c ≡ Some n → ⊥) → AreChained (take n families)
+chained-pop families a n e none childless =
+    let l : length (take n families) ≡ n = length-take-le n families (omega (arith, e)) in
+    let both = a.single n none in
+    let no_first : first_of families n ≡ None = nobody (first_of families n) (λ c f. childless c (a.first n c f).0) in
+    let is_alone : family_at families n ≡ alone = λ i. record { parent = none i; previous = both.1 i; next = both.0 i; first = no_first i } in
+    let same : (x : ℕ) → family_at (take n families) x ≡ family_at families x = λ x.
+    elim (cases_lt x n) [
+      | inl h ↦ get_or-take n families x alone h
+      | inr h ↦ elim (cases_eq x n) [
+        | inl end ↦ get_or_past (take n families) x alone (omega (arith, l, h)) ∙ sym (ap (λ v. family_at families v) end ∙ is_alone)
+        | inr past ↦ get_or_past (take n families) x alone (omega (arith, l, h)) ∙ sym (get_or_past families x alone (omega (arith, e, h, past)))
+      ]
+    ] in
+    chained-same families (take n families) a same
+    (λ c p h.
+    let w = a.within c p h in
+    let not : p ≢ n = λ is. childless c (h ∙ ap Some is) in omega (arith, w, l, e, not))
+  where
+    nobody : (o : Option ℕ) → ((c : ℕ) → o ≡ Some c → ⊥) → o ≡ None
+    nobody None h = refl
+    nobody (Some c) h = absurd (h c refl)
 
--- by the clauses of `swap_remove`
-pub swap_removed : (old new : List ℕ) (slot n m : ℕ) → n ≡ length old → m ≡ length new → m + 1 ≡ n →
-    ((d : ℕ) → slot + 1 < n → get_or new slot d ≡ get_or old (n - 1) d) → ((k d : ℕ) → k ≢ slot → k + 1 < n → get_or new k d ≡ get_or old k d) → IsSwapRemoved old new slot
-swap_removed old new slot n m a b e moved kept = record {
-  shorter = omega (arith, a, b, e);
-  moved = λ d h. moved d (omega (arith, a, h)) ∙ ap (λ k. get_or old (k - 1) d) a;
-  kept = λ k d other h. kept k d other (omega (arith, a, h));
+-- the parents as they are seen from outside
+pub parents-seen : (families : List Family) (x : ℕ) → parent_at (parents_of families) x ≡ parent_of families x
+parents-seen families x =
+    let n = length-map families (λ (family : Family). family.parent) in
+    elim (cases_lt x (length families)) [
+      | inl h ↦ get_or-map (λ (family : Family). family.parent) families x alone None h
+      | inr h ↦ get_or_past (parents_of families) x None (omega (arith, h, n)) ∙ sym (ap (λ (f : Family). f.parent) (get_or_past families x alone h))
+    ]
+
+-- by the parent of each
+pub parents-set : (old new : List Family) (c : ℕ) (o : Option ℕ) → c < length old → length new ≡ length old → ((x : ℕ) → parent_of new x ≡ put (Some c) o (parent_of old) x) → parents_of new ≡ slice_set (parents_of old) c o
+parents-set old new c o here n e =
+    let l = length-map old (λ (family : Family). family.parent) in
+    let m = length-map new (λ (family : Family). family.parent) in
+    let k = length-set (parents_of old) c o in
+    ext_get_or None (parents_of new) (slice_set (parents_of old) c o) (omega (arith, l, m, n, k))
+    (λ x h.
+    parents-seen new x ∙ e x
+    ∙ elim (cases_eq x c) [
+      | inl same ↦ put_is (Some c) o (parent_of old) x (ap Some (sym same)) ∙ sym (ap (λ v. get_or (slice_set (parents_of old) c o) v None) same ∙ get_or-set_same (parents_of old) c o None (omega (arith, here, l)))
+      | inr other ↦ put_off c o (parent_of old) x other ∙ sym (parents-seen old x) ∙ sym (get_or-set_other (parents_of old) c x o None other)
+    ])
+
+-- who has a parent is an animal
+pub animal-within : (families : List Family) (c p : ℕ) → parent_of families c ≡ Some p → c < length families
+animal-within families c p e =
+    elim (cases_lt c (length families)) [
+      | inl h ↦ h
+      | inr h ↦ let bad : None ≡ Some p = sym (ap (λ (f : Family). f.parent) (get_or_past families c alone h)) ∙ e in absurd (cc)
+    ]
+
+-- so many different numbers below n are at most n
+skipped : (ℕ → ℕ) → ℕ → ℕ → ℕ → ℕ
+skipped f n last i = cond (f i == n) (f last) (f i)
+
+skips : (f : ℕ → ℕ) (n last i : ℕ) → ((f i ≡ n) × (skipped f n last i ≡ f last)) ⊎ ((f i ≢ n) × (skipped f n last i ≡ f i))
+unfolding skipped
+skips f n last i = elim (cases_eq (f i) n) [
+  | inl same ↦ inl (same, ap (λ t. cond t (f last) (f i)) (eq-eqb (f i) n same))
+  | inr other ↦ inr (other, ap (λ t. cond t (f last) (f i)) (ne_eqb (f i) n other))
+]
+
+pub pigeonhole : (m n : ℕ) (f : ℕ → ℕ) → ((i : ℕ) → i < m → f i < n) → ((i j : ℕ) → i < j → j < m → f i ≢ f j) → m ≤ n
+pigeonhole zero n f low apart = omega arith
+pigeonhole (suc m) zero f low apart = let bad = low 0 (omega arith) in absurd (omega (arith, bad))
+pigeonhole (suc m) (suc n) f low apart =
+    let last = low m (omega arith) in
+    let fewer = pigeonhole m n (skipped f n m)
+    (λ i h.
+    let l = low i (omega (arith, h)) in
+    let d = apart i m h (omega arith) in
+    elim (skips f n m i) [
+      | inl s ↦ let a = s.0 in let b = s.1 in omega (arith, a, b, d, last)
+      | inr s ↦ let a = s.0 in let b = s.1 in omega (arith, a, b, l)
+    ])
+    (λ i j h k e.
+    let d = apart i j h (omega (arith, k)) in
+    let di = apart i m (omega (arith, h, k)) (omega arith) in
+    let dj = apart j m k (omega arith) in
+    elim (skips f n m i) [
+      | inl s ↦ elim (skips f n m j) [
+        | inl t ↦ d (s.0 ∙ sym t.0)
+        | inr t ↦ dj (sym (sym s.1 ∙ e ∙ t.1))
+      ]
+      | inr s ↦ elim (skips f n m j) [
+        | inl t ↦ di (sym s.1 ∙ e ∙ t.1)
+        | inr t ↦ d (sym s.1 ∙ e ∙ t.1)
+      ]
+    ]) in
+    omega (arith, fewer)
+
+-- k calves further on
+steps : List Family → ℕ → Option ℕ → Option ℕ
+steps families zero calf = calf
+steps families (suc k) None = None
+steps families (suc k) (Some calf) = steps families k (next_of families calf)
+
+steps_none : (families : List Family) (k : ℕ) → steps families k None ≡ None
+unfolding steps
+steps_none families zero = refl
+steps_none families (suc k) = refl
+
+step_on : (families : List Family) (k : ℕ) (at : Option ℕ) (c : ℕ) → steps families k at ≡ Some c → steps families (suc k) at ≡ next_of families c
+unfolding steps
+step_on families zero None c e = absurd (cc)
+step_on families zero (Some x) c e = ap (λ v. next_of families v) (same_Some _ _ e)
+step_on families (suc k) None c e = absurd (cc)
+step_on families (suc k) (Some x) c e = step_on families k (next_of families x) c e
+
+step_past : (families : List Family) (k : ℕ) (at : Option ℕ) → steps families k at ≡ None → steps families (suc k) at ≡ None
+unfolding steps
+step_past families zero None e = refl
+step_past families zero (Some x) e = absurd (cc)
+step_past families (suc k) None e = refl
+step_past families (suc k) (Some x) e = step_past families k (next_of families x) e
+
+chain-at : (families : List Family) (n k : ℕ) (at : Option ℕ) → k < n → slice_get (chain families n at) k ≡ steps families k at
+unfolding steps
+chain-at families zero k at h = absurd (omega (arith, h))
+chain-at families (suc n) zero None h = refl
+chain-at families (suc n) (suc k) None h = refl
+chain-at families (suc n) zero (Some c) h = refl
+chain-at families (suc n) (suc k) (Some c) h = chain-at families n k (next_of families c) (omega (arith, h))
+
+chain-past : (families : List Family) (n k : ℕ) (at : Option ℕ) (c : ℕ) → slice_get (chain families n at) k ≡ Some c → k < n
+chain-past families zero k at c e = absurd (cc)
+chain-past families (suc n) k None c e = absurd (cc)
+chain-past families (suc n) zero (Some x) c e = omega arith
+chain-past families (suc n) (suc k) (Some x) c e = let h = chain-past families n k (next_of families x) c e in omega (arith, h)
+
+module _ (families : List Family) (a : AreChained families) (p : ℕ) where
+  -- each calf is reached from the first
+  reached : (m c : ℕ) → parent_of families c ≡ Some p → a.top ≤ m + a.rank c → (k : ℕ) × (steps families k (first_of families p) ≡ Some c)
+  unfolding steps
+  reached zero c e h = let b = a.below c in absurd (omega (arith, b, h))
+  reached (suc m) c e h = elim (known (previous_of families c)) [
+    | inl none ↦ (0, a.foremost p c e none)
+    | inr some ↦
+        let on = a.previous some.0 c some.1 in
+        let was = a.next some.0 c on in
+        let r = was.1.1 in
+        let before = reached m some.0 (sym was.1.0 ∙ e) (omega (arith, h, r)) in
+        (suc before.0, step_on families before.0 (first_of families p) some.0 before.1 ∙ on)
+  ]
+
+  -- all of them are its calves
+  steps_to : (k c : ℕ) → steps families k (first_of families p) ≡ Some c → parent_of families c ≡ Some p
+  unfolding steps
+  steps_to zero c e = (a.first p c e).0
+  steps_to (suc k) c e = elim (known (steps families k (first_of families p))) [
+    | inl none ↦ let bad : None ≡ Some c = sym (step_past families k (first_of families p) none) ∙ e in absurd (cc)
+    | inr some ↦ (a.next some.0 c (sym (step_on families k (first_of families p) some.0 some.1) ∙ e)).1.0 ∙ steps_to k some.0 some.1
+  ]
+
+  -- those that come later are of lower rank
+  falls : (i j : ℕ) (x y : ℕ) → i < j → steps families i (first_of families p) ≡ Some x → steps families j (first_of families p) ≡ Some y → a.rank y < a.rank x
+  unfolding steps
+  falls i zero x y h e f = absurd (omega (arith, h))
+  falls i (suc j) x y h e f = elim (known (steps families j (first_of families p))) [
+    | inl none ↦ let bad : None ≡ Some y = sym (step_past families j (first_of families p) none) ∙ f in absurd (cc)
+    | inr some ↦
+        let r = (a.next some.0 y (sym (step_on families j (first_of families p) some.0 some.1) ∙ f)).1.1 in
+        elim (cases_eq i j) [
+          | inl same ↦
+              let is_x : some.0 ≡ x = same_Some _ _ (sym some.1 ∙ ap (λ k. steps families k (first_of families p)) (sym same) ∙ e) in
+              let t = ap (λ v. a.rank v) is_x in omega (arith, r, t)
+          | inr other ↦ let t = falls i j x some.0 (omega (arith, h, other)) e some.1 in omega (arith, r, t)
+        ]
+  ]
+
+  -- a chain goes on without a gap
+  all_before : (k i c : ℕ) → i ≤ k → steps families k (first_of families p) ≡ Some c → (x : ℕ) × (steps families i (first_of families p) ≡ Some x)
+  all_before zero i c h e = (c, ap (λ v. steps families v (first_of families p)) (let is : i ≡ 0 = omega (arith, h) in is) ∙ e)
+  all_before (suc k) i c h e = elim (cases_eq i (suc k)) [
+    | inl same ↦ (c, ap (λ v. steps families v (first_of families p)) same ∙ e)
+    | inr other ↦ elim (known (steps families k (first_of families p))) [
+      | inl none ↦ let bad : None ≡ Some c = sym (step_past families k (first_of families p) none) ∙ e in absurd (cc)
+      | inr some ↦ all_before k i some.0 (omega (arith, h, other)) some.1
+    ]
+  ]
+
+  at_step : ℕ → ℕ
+  at_step i = unwrap_or (steps families i (first_of families p)) 0
+
+  at_step_is : (i c : ℕ) → steps families i (first_of families p) ≡ Some c → at_step i ≡ c
+  unfolding at_step
+  at_step_is i c e = ap (λ o. unwrap_or o 0) e
+
+  -- so that it has no more calves than there are animals
+  short : (k c : ℕ) → steps families k (first_of families p) ≡ Some c → k < length families
+  short k c e =
+      let fits = pigeonhole (suc k) (length families) at_step
+      (λ i h.
+      let x = all_before k i c (omega (arith, h)) e in
+      let n = at_step_is i x.0 x.1 in
+      let w = animal-within families x.0 p (steps_to i x.0 x.1) in
+      omega (arith, n, w))
+      (λ i j h l is.
+      let x = all_before k i c (omega (arith, h, l)) e in
+      let y = all_before k j c (omega (arith, l)) e in
+      let r = falls i j x.0 y.0 h x.1 y.1 in
+      let same : x.0 ≡ y.0 = sym (at_step_is i x.0 x.1) ∙ is ∙ at_step_is j y.0 y.1 in
+      let t = ap (λ v. a.rank v) same in
+      absurd (omega (arith, r, t))) in
+      omega (arith, fits)
+
+  -- the chain holds just the calves
+  pub calves-told : (c : ℕ) → Contains (chain families (length families) (first_of families p)) c ↔ (parent_at (parents_of families) c ≡ Some p)
+  calves-told c =
+      let calves : List ℕ = chain families (length families) (first_of families p) in (
+        λ is.
+            let at : slice_get calves is.0 ≡ Some c = slice_get-get_or calves is.0 c is.1 ∙ ap Some is.2 in
+            let k = chain-past families (length families) is.0 (first_of families p) c at in
+            parents-seen families c ∙ steps_to is.0 c (sym (chain-at families (length families) is.0 (first_of families p) k) ∙ at),
+        λ e.
+            let r = reached a.top c (sym (parents-seen families c) ∙ e) (omega arith) in
+            let at : slice_get calves r.0 ≡ Some c = chain-at families (length families) r.0 (first_of families p) (short r.0 c r.1) ∙ r.1 in
+            (r.0, slice_get_within calves r.0 c at, get_or_from_slice_get calves r.0 c c at),
+      )
+
+-- a parent with no first calf has none
+pub no-calves : (families : List Family) → AreChained families → (p : ℕ) → first_of families p ≡ None → (c : ℕ) → parent_of families c ≡ Some p → ⊥
+no-calves families a p none c e =
+    let r = reached families a p a.top c e (omega arith) in
+    let bad : None ≡ Some c = sym (steps_none families r.0) ∙ ap (λ o. steps families r.0 o) (sym none) ∙ r.1 in absurd (cc)
+
+-- no animals
+pub chained-empty : AreChained []
+chained-empty = record {
+  rank = λ c. 0;
+  top = 1;
+  below = λ c. omega arith;
+  within = λ c p e. absurd (cc);
+  first = λ p c e. absurd (cc);
+  foremost = λ p c e n. absurd (cc);
+  next = λ c d e. absurd (cc);
+  previous = λ c d e. absurd (cc);
+  single = λ c e. (refl, refl);
 }
 
--- the same of lists that are seen through their owners
-module _ {V : Type 0} (f : V → List ℕ) (parents : List (Option ℕ)) (slots : List ℕ) (vs : List V) (a : AreCalves parents slots (map f vs)) where
-  pub owner-within : (p : ℕ) → p < length parents → p < length vs
-  owner-within p h = let n = length-map vs f in let m = a.long in omega (arith, h, n, m)
+-- the same of what is handed out
+pub calves-shown : (families : List Family) → AreChained families → (p : ℕ) (fs : List Family) (most : ℕ) (first : Option ℕ) → fs ≡ families → most ≡ length families → first ≡ first_of families p → (c : ℕ) → Contains (chain fs most first) c ↔ (parent_at (parents_of families) c ≡ Some p)
+calves-shown families a p fs most first e m f c = rw (e, m, f) (calves-told families a p c)
 
-  pub slot-within : (c : ℕ) → c < length parents → c < length slots
-  slot-within c h = let m = a.slots_long in omega (arith, h, m)
+everywhere : {f g : ℕ → Option ℕ} → ((x : ℕ) → f x ≡ g x) → f ≡ g
+everywhere h = λ i x. h x i
 
-  pub parent-owner : (c p : ℕ) → parent_at parents c ≡ Some p → p < length vs
-  parent-owner c p e = let n = length-map vs f in let w = list-within (map f vs) p (slice_index slots c) c (a.has p c e) in omega (arith, n, w)
+-- the four writes that join a calf
+pub joined : (old l1 l2 l3 new : List Family) (c p : ℕ) (first : Option ℕ) →
+    Show l1 (length old) (parent_of old) (previous_of old) (next_of old) (put (Some p) (Some c) (first_of old)) →
+    Show l2 (length l1) (parent_of l1) (put first (Some c) (previous_of l1)) (next_of l1) (first_of l1) →
+    Show l3 (length l2) (parent_of l2) (previous_of l2) (put (Some c) first (next_of l2)) (first_of l2) →
+    Show new (length l3) (put (Some c) (Some p) (parent_of l3)) (previous_of l3) (next_of l3) (first_of l3) →
+    Show new (length old) (put (Some c) (Some p) (parent_of old)) (put first (Some c) (previous_of old)) (put (Some c) first (next_of old)) (put (Some p) (Some c) (first_of old))
+joined old l1 l2 l3 new c p first s t u v =
+    let parents = everywhere v.parents ∙ ap (λ f. put (Some c) (Some p) f) (everywhere u.parents ∙ everywhere t.parents ∙ everywhere s.parents) in
+    let before = everywhere v.before ∙ everywhere u.before ∙ everywhere t.before ∙ ap (λ f. put first (Some c) f) (everywhere s.before) in
+    let after = everywhere v.after ∙ everywhere u.after ∙ ap (λ f. put (Some c) first f) (everywhere t.after ∙ everywhere s.after) in
+    let firsts = everywhere v.firsts ∙ everywhere u.firsts ∙ everywhere t.firsts ∙ everywhere s.firsts in
+    record {
+      long = v.long ∙ u.long ∙ t.long ∙ s.long;
+      parents = λ x. ap (λ f. f x) parents;
+      before = λ x. ap (λ f. f x) before;
+      after = λ x. ap (λ f. f x) after;
+      firsts = λ x. ap (λ f. f x) firsts;
+    }
 
-  pub owned : (p : ℕ) (v : V) → p < length vs → v ≡ get_or vs p v → f v ≡ calves_at (map f vs) p
-  owned p v h e = sym (map-at f vs p v v [] h e)
+-- the six that part it from its siblings
+pub parted : (old l1 l2 l3 l4 l5 new : List Family) (c : ℕ) (o next previous : Option ℕ) →
+    Show l1 (length old) (parent_of old) (previous_of old) (next_of old) (put o next (first_of old)) →
+    Show l2 (length l1) (parent_of l1) (previous_of l1) (put previous next (next_of l1)) (first_of l1) →
+    Show l3 (length l2) (parent_of l2) (put next previous (previous_of l2)) (next_of l2) (first_of l2) →
+    Show l4 (length l3) (parent_of l3) (previous_of l3) (put (Some c) None (next_of l3)) (first_of l3) →
+    Show l5 (length l4) (parent_of l4) (put (Some c) None (previous_of l4)) (next_of l4) (first_of l4) →
+    Show new (length l5) (put (Some c) None (parent_of l5)) (previous_of l5) (next_of l5) (first_of l5) →
+    Show new (length old) (put (Some c) None (parent_of old)) (put (Some c) None (put next previous (previous_of old))) (put (Some c) None (put previous next (next_of old))) (put o next (first_of old))
+parted old l1 l2 l3 l4 l5 new c o next previous s t u v w z =
+    let parents = everywhere z.parents ∙ ap (λ f. put (Some c) None f) (everywhere w.parents ∙ everywhere v.parents ∙ everywhere u.parents ∙ everywhere t.parents ∙ everywhere s.parents) in
+    let before = everywhere z.before ∙ everywhere w.before ∙ ap (λ f. put (Some c) None f) (everywhere v.before ∙ everywhere u.before ∙ ap (λ f. put next previous f) (everywhere t.before ∙ everywhere s.before)) in
+    let after = everywhere z.after ∙ everywhere w.after ∙ everywhere v.after ∙ ap (λ f. put (Some c) None f) (everywhere u.after ∙ everywhere t.after ∙ ap (λ f. put previous next f) (everywhere s.after)) in
+    let firsts = everywhere z.firsts ∙ everywhere w.firsts ∙ everywhere v.firsts ∙ everywhere u.firsts ∙ everywhere t.firsts ∙ everywhere s.firsts in
+    record {
+      long = z.long ∙ w.long ∙ v.long ∙ u.long ∙ t.long ∙ s.long;
+      parents = λ x. ap (λ f. f x) parents;
+      before = λ x. ap (λ f. f x) before;
+      after = λ x. ap (λ f. f x) after;
+      firsts = λ x. ap (λ f. f x) firsts;
+    }
 
-  pub stood-within : (c p : ℕ) (v : V) → parent_at parents c ≡ Some p → v ≡ get_or vs p v → slice_index slots c < length (f v)
-  stood-within c p v e is = slice_get_within (f v) (slice_index slots c) c (ap (λ l. slice_get l (slice_index slots c)) (owned p v (parent-owner c p e) is) ∙ a.has p c e)
+-- a place that is shown to be none's, in a chain of nobody
+module _ (families : List Family) (a : AreChained families) (c : ℕ) where
+  pub next-within : (x : ℕ) → next_of families c ≡ Some x → x < length families
+  next-within x e = elim (known (parent_of families c)) [
+    | inl none ↦ let bad : None ≡ Some x = sym (a.single c none).0 ∙ e in absurd (cc)
+    | inr some ↦ animal-within families x some.0 ((a.next c x e).1.0 ∙ some.1)
+  ]
 
-  -- an owner changed, and not its list
-  pub owner-same : (p : ℕ) (v w : V) → p < length vs → v ≡ get_or vs p v → f w ≡ f v → AreCalves parents slots (map f (slice_set vs p w))
-  owner-same p v w h e is =
-      let same : map f (slice_set vs p w) ≡ map f vs =
-      map-set f vs p w ∙ ap (λ l. slice_set (map f vs) p l) (is ∙ owned p v h e) ∙ set-get_or (map f vs) p [] in
-      subst (λ ls. AreCalves parents slots ls) (sym same) a
+  pub previous-within : (x : ℕ) → previous_of families c ≡ Some x → x < length families
+  previous-within x e = elim (known (parent_of families c)) [
+    | inl none ↦ let bad : None ≡ Some x = sym (a.single c none).1 ∙ e in absurd (cc)
+    | inr some ↦ animal-within families x some.0 (sym (a.next x c (a.previous x c e)).1.0 ∙ some.1)
+  ]
 
-  pub owner-linked : (c p : ℕ) (v w : V) (slot : ℕ) → c < length parents → p < length parents → parent_at parents c ≡ None → v ≡ get_or vs p v → f w ≡ f v ++ c ∷ [] → slot ≡ length (f v) →
-      AreCalves (slice_set parents c (Some p)) (slice_set slots c slot) (map f (slice_set vs p w))
-  owner-linked c p v w slot here there none e is at =
-      let own : f v ≡ calves_at (map f vs) p = owned p v (owner-within p there) e in
-      let lists : map f (slice_set vs p w) ≡ slice_set (map f vs) p (calves_at (map f vs) p ++ c ∷ []) =
-      map-set f vs p w ∙ ap (λ l. slice_set (map f vs) p l) (is ∙ ap (λ l. l ++ c ∷ []) own) in
-      let stands : slot ≡ length (calves_at (map f vs) p) = at ∙ ap (λ l. length l) own in
-      subst (λ ls. AreCalves (slice_set parents c (Some p)) (slice_set slots c slot) ls) (sym lists)
-      (subst (λ s. AreCalves (slice_set parents c (Some p)) (slice_set slots c s) (slice_set (map f vs) p (calves_at (map f vs) p ++ c ∷ []))) (sym stands) (calves-link parents slots (map f vs) a c p here there none))
+  -- where it has no parent, all stays
+  pub part-alone : (o : Option ℕ) (new : List Family) → parent_of families c ≡ None → o ≡ None →
+      Show new (length families) (put (Some c) None (parent_of families)) (put (Some c) None (put (next_of families c) (previous_of families c) (previous_of families))) (put (Some c) None (put (previous_of families c) (next_of families c) (next_of families))) (put o (next_of families c) (first_of families)) →
+      (x : ℕ) → family_at new x ≡ family_at families x
+  part-alone o new none off s x =
+      let both = a.single c none in
+      let no_next : (value : Option ℕ) (f : ℕ → Option ℕ) → put (next_of families c) value f x ≡ f x = λ value f. ap (λ q. put q value f x) both.0 in
+      let no_previous : (value : Option ℕ) (f : ℕ → Option ℕ) → put (previous_of families c) value f x ≡ f x = λ value f. ap (λ q. put q value f x) both.1 in
+      let first : first_of new x ≡ first_of families x = s.firsts x ∙ ap (λ q. put q (next_of families c) (first_of families) x) off in
+      elim (cases_eq x c) [
+        | inl same ↦
+            let parent : parent_of new x ≡ parent_of families x = s.parents x ∙ put_is (Some c) None (parent_of families) x (ap Some (sym same)) ∙ sym (ap (λ v. parent_of families v) same ∙ none) in
+            let previous : previous_of new x ≡ previous_of families x = s.before x ∙ put_is (Some c) None (put (next_of families c) (previous_of families c) (previous_of families)) x (ap Some (sym same)) ∙ sym (ap (λ v. previous_of families v) same ∙ both.1) in
+            let next : next_of new x ≡ next_of families x = s.after x ∙ put_is (Some c) None (put (previous_of families c) (next_of families c) (next_of families)) x (ap Some (sym same)) ∙ sym (ap (λ v. next_of families v) same ∙ both.0) in
+            λ i. record { parent = parent i; previous = previous i; next = next i; first = first i }
+        | inr other ↦
+            let parent : parent_of new x ≡ parent_of families x = s.parents x ∙ put_off c None (parent_of families) x other in
+            let previous : previous_of new x ≡ previous_of families x = s.before x ∙ put_off c None (put (next_of families c) (previous_of families c) (previous_of families)) x other ∙ no_next (previous_of families c) (previous_of families) in
+            let next : next_of new x ≡ next_of families x = s.after x ∙ put_off c None (put (previous_of families c) (next_of families c) (next_of families)) x other ∙ no_previous (next_of families c) (next_of families) in
+            λ i. record { parent = parent i; previous = previous i; next = next i; first = first i }
+      ]
 
-  module _ (c p : ℕ) (v w : V) (e : parent_at parents c ≡ Some p) (is : v ≡ get_or vs p v) (r : IsSwapRemoved (f v) (f w) (slice_index slots c)) where
-    removed : IsSwapRemoved (calves_at (map f vs) p) (f w) (slice_index slots c)
-    removed = subst (λ l. IsSwapRemoved l (f w) (slice_index slots c)) (owned p v (parent-owner c p e) is) r
+-- whether it had a parent or not
+pub chained-part : (old new : List Family) → AreChained old → (c : ℕ) (o : Option ℕ) → (previous_of old c ≡ None → o ≡ parent_of old c) → ((q : ℕ) → previous_of old c ≡ Some q → o ≡ None) →
+    Show new (length old) (put (Some c) None (parent_of old)) (put (Some c) None (put (next_of old c) (previous_of old c) (previous_of old))) (put (Some c) None (put (previous_of old c) (next_of old c) (next_of old))) (put o (next_of old c) (first_of old)) →
+    AreChained new
+chained-part old new a c o first later s = elim (known (parent_of old c)) [
+  | inl none ↦ chained-same old new a (part-alone old a c o new none (first (a.single c none).1 ∙ none) s) (λ x p e. let w = a.within x p e in let n = s.long in omega (arith, w, n))
+  | inr some ↦ chained-unlink old new a c some.0 some.1 o (record { first = λ n. first n ∙ some.1; later = later }) s
+]
 
-    -- where it was the last
-    pub owner-unlinked_last : slice_index slots c ≡ length (f w) → AreCalves (slice_set parents c None) slots (map f (slice_set vs p w))
-    owner-unlinked_last end =
-        subst (λ ls. AreCalves (slice_set parents c None) slots ls) (sym (map-set f vs p w))
-        (calves-unlink parents slots (map f vs) a c p e (f w) slots removed refl
-        (λ x g. let u = slice_get_within (f w) (slice_index slots c) x g in absurd (omega (arith, u, end)))
-        (λ x g. refl))
+-- what is written behind the part that is left changes nothing
+pub take-set : {X : Type 0} (xs : List X) (n : ℕ) (v : X) → n < length xs → take n (slice_set xs n v) ≡ take n xs
+take-set xs n v h =
+    let m = length-set xs n v in
+    let a = length-take-le n xs (omega (arith, h)) in
+    let b = length-take-le n (slice_set xs n v) (omega (arith, h, m)) in
+    ext_get_or v (take n (slice_set xs n v)) (take n xs) (omega (arith, a, b))
+    (λ i l.
+    let low : i < n = omega (arith, l, b) in
+    get_or-take n (slice_set xs n v) i v low ∙ get_or-set_other xs n i v v (λ is. let bad : i ≡ n = is in absurd (omega (arith, bad, low))) ∙ sym (get_or-take n xs i v low))
 
-    -- the one that takes its place is there
-    pub mover-within : (x : ℕ) → slice_get (f w) (slice_index slots c) ≡ Some x → x < length slots
-    mover-within x g =
-        let l = left_from (calves_at (map f vs) p) (f w) (slice_index slots c) removed (slice_index slots c) x g in
-        slot-within x (parent-within parents x p (a.only p l.0 x l.1).0)
+pub some_if : (o : Option ℕ) → is_some o ≡ true → (x : ℕ) × (o ≡ Some x)
+some_if None e = absurd (cc)
+some_if (Some x) e = (x, refl)
 
-    -- where another takes its place
-    pub owner-unlinked_moved : (x : ℕ) → slice_get (f w) (slice_index slots c) ≡ Some x → AreCalves (slice_set parents c None) (slice_set slots x (slice_index slots c)) (map f (slice_set vs p w))
-    owner-unlinked_moved x g =
-        let s : ℕ = slice_index slots c in
-        subst (λ ls. AreCalves (slice_set parents c None) (slice_set slots x s) ls) (sym (map-set f vs p w))
-        (calves-unlink parents slots (map f vs) a c p e (f w) (slice_set slots x s) removed (length-set slots x s)
-        (λ y h. let same : x ≡ y = same_Some _ _ (sym g ∙ h) in ap (λ z. slice_index (slice_set slots x s) z) (sym same) ∙ get_or-set_same slots x s 0 (mover-within x g))
-        (λ y h. get_or-set_other slots x y s 0 (λ u. h (g ∙ ap Some (sym u)))))
+pub none_if_not : (o : Option ℕ) → is_some o ≡ false → o ≡ None
+none_if_not None e = refl
+none_if_not (Some x) e = absurd (cc)
 
 -- an animal with no calves has none either once its own parent is taken away
 pub still_childless : (parents : List (Option ℕ)) (n : ℕ) → n < length parents → ((c : ℕ) → parent_at parents c ≡ Some n → ⊥) → (c : ℕ) → parent_at (slice_set parents n None) c ≡ Some n → ⊥

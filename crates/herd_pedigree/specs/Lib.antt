@@ -18,4 +18,3 @@ pub mod Records
 pub mod Calves
 pub mod Correction
 pub mod Carry
-pub mod Whole

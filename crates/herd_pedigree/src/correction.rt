@@ -8,7 +8,7 @@ ghost use Rattle.herd_pedigree.specs.declared.TheConstants.{DEPTH_LIMIT};
 
 use crate::DEPTH_LIMIT;
 use crate::depth::{depth_with, undo_writes};
-use crate::progeny::Progeny;
+use crate::progeny::{Calves, Progeny};
 use std::alloc::{AllocError, Allocator};
 
 /// The parents of all animals by place, as they would be if one had these.
@@ -61,8 +61,8 @@ impl<A: Allocator> Correction<'_, A> {
         requires { IsSound self.now }
         ensures { IsTrue result → (x : ℕ) → IsParent (corrected self.now) self.now.place x → ⊥ }
     {
-        self.sires.calves(self.place).is_empty()
-            && self.dams.calves(self.place).is_empty()
+        !self.sires.has_calves(self.place)
+            && !self.dams.has_calves(self.place)
             && !self.is_new_parent(self.place)
     }
 
@@ -246,15 +246,15 @@ fn has_greater(depths: &[u8], log: &[(u32, u8)], limit: u8) -> bool
 
 // Puts the calves but one behind the others.
 fn push_others<A: Allocator>(
-    calves: &[u32],
+    calves: Calves<'_>,
     one: u32,
     pending: &mut Vec<u32, A>,
 ) -> Result<(), AllocError>
-    ensures { OnOk result (pending.new.items ≡ pending.old.items ++ filter (λ calf. not (calf == one)) calves.now) }
+    ensures { OnOk result (pending.new.items ≡ pending.old.items ++ filter (λ calf. not (calf == one)) calves.entry) }
 {
     for calf in calves {
-        if *calf != one {
-            pending.push(*calf)?;
+        if calf != one {
+            pending.push(calf)?;
         }
     }
     Ok(())

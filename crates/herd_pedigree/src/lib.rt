@@ -32,7 +32,7 @@ pub use frozen::PackedParents;
 #[doc(hidden)]
 pub use number_index::NumberIndex;
 #[doc(hidden)]
-pub use progeny::Progeny;
+pub use progeny::{Family, Progeny};
 #[doc(hidden)]
 pub use records::{Entry, Records};
 #[doc(hidden)]

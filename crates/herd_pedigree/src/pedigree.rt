@@ -1,4 +1,4 @@
-ghost use Rattle.std.specs.Prelude.{◌≡◌, ◌<◌, ◌≤◌, [], ◌++◌, ◌∷◌, ℕ, List, length, slice_index, Option, None, Some, IfNone, IfOk, IfSome, OnOk, OnErr, IsSome, is_some};
+ghost use Rattle.std.specs.Prelude.{◌≡◌, ◌<◌, ◌≤◌, [], ◌++◌, ◌∷◌, ℕ, List, length, Option, None, Some, IfNone, IfOk, IfSome, OnOk, OnErr, IsSome, is_some};
 ghost use Rattle.std.specs.Map.{keys_of};
 ghost use Rattle.herd_pedigree.specs.Book.{IsDepthOf, changed, has_calved_after, record_of, with_left, with_owner, with_parents};
 ghost use Rattle.herd_pedigree.specs.Frozen.{IsFrozenFrom};
@@ -38,15 +38,14 @@ pub struct Pedigree<A: Allocator> {
 
 impl<A: Allocator> Model for Pedigree<A> {
     ghost use Rattle.herd_pedigree.specs.Pedigree.{Pedigree};
-    ghost use Rattle.herd_pedigree.specs.Undo.{undone_book};
-    ghost use Rattle.herd_pedigree.specs.Whole.{IsWhole};
+    ghost use Rattle.herd_pedigree.specs.Undo.{IsHeld, undone_book};
     ghost use Rattle.herd_pedigree.specs.declared.TheConstants.{DEPTH_LIMIT, MOST_ANIMALS};
 
     ghost Value = { Pedigree };
 
     ghost view = { λ p. record { book = p.records.book; before = undone_book p.undo p.records.book } };
 
-    ghost invariant = { λ p. IsWhole DEPTH_LIMIT MOST_ANIMALS p.records.book p.sires p.dams p.depths.items p.old_depths.items p.undo };
+    ghost invariant = { λ p. IsHeld DEPTH_LIMIT MOST_ANIMALS p.records.book p.sires.parents p.dams.parents p.depths.items p.old_depths.items p.undo };
 }
 
 impl<A: Allocator + Copy> Pedigree<A> {
@@ -173,8 +172,8 @@ impl<A: Allocator + Copy> Pedigree<A> {
         let depth = depth_with(&self.depths, sire, dam) as u8;
         self.records.reserve()?;
         self.depths.reserve(1)?;
-        reserve(&mut self.sires, sire)?;
-        reserve(&mut self.dams, dam)?;
+        self.sires.reserve()?;
+        self.dams.reserve()?;
         self.records.push(number, animal, sire, dam);
         if self.depths.push(depth).is_err() {
             unreachable!();
@@ -226,8 +225,6 @@ impl<A: Allocator + Copy> Pedigree<A> {
         if let Some(fault) = record_fault(animal.birth, &sire, &dam, animal.embryo) {
             return Ok(Some(fault));
         }
-        self.sires.reserve_calf(sire.place)?;
-        self.dams.reserve_calf(dam.place)?;
         let correction = Correction {
             sires: &self.sires,
             dams: &self.dams,
@@ -290,7 +287,7 @@ impl<A: Allocator> Pedigree<A> {
             return false;
         };
         for calf in self.dams.calves(place as u32) {
-            let calf = self.records.animal_at(*calf as usize);
+            let calf = self.records.animal_at(calf as usize);
             if !calf.embryo && day < calf.birth {
                 return true;
             }
@@ -387,16 +384,4 @@ impl<A: Allocator> Pedigree<A> {
     {
         frozen_from(alloc, &self.records)
     }
-}
-
-// Makes room for one more animal with this parent.
-fn reserve<A: Allocator>(progeny: &mut Progeny<A>, parent: Option<u32>) -> Result<(), AllocError>
-    requires within { (p : ℕ) → parent ≡ Some p → p < length progeny.old.parents }
-    ensures parents { progeny.new.parents ≡ progeny.old.parents }
-    ensures spare { (p : ℕ) → slice_index progeny.old.spare p ≤ slice_index progeny.new.spare p }
-    ensures room { OnOk result (0 < progeny.new.room) }
-    ensures reserved { OnOk result ((p : ℕ) → parent ≡ Some p → 0 < slice_index progeny.new.spare p) }
-{
-    progeny.reserve_animal()?;
-    progeny.reserve_calf(parent)
 }

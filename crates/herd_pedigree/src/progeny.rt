@@ -1,43 +1,122 @@
-//! The parents of one sex by place, with the calves of each.
-ghost use Rattle.std.specs.Prelude.{◌≡◌, ◌≢◌, ◌+◌, ◌-◌, ◌^◌, ◌<◌, ◌≤◌, ◌↔◌, ℕ, [], ◌++◌, ◌∷◌, Some, None, Contains, length, slice_index, slice_set, OnOk};
-ghost use Rattle.herd_pedigree.specs.Calves.{HasRoomFor};
+//! The parents of one sex by place, with the calves of each in a chain.
+ghost use Rattle.std.specs.Prelude.{◌≡◌, ◌+◌, ◌^◌, ◌-◌, ◌<◌, ◌↔◌, ℕ, [], ◌++◌, ◌∷◌, Some, None, Contains, length, slice_set, IsFalse, IsTrue, OnOk};
+ghost use Rattle.std.specs.Iterator.{YieldsFirst, item_count};
+ghost use Rattle.herd_pedigree.specs.Calves.{AreChained, Show, first_of, next_of, parent_of, parents_of, previous_of, put};
 ghost use Rattle.herd_pedigree.specs.Places.{parent_at};
 ghost use Rattle.herd_pedigree.specs.Undo.{without_last};
 
 use std::alloc::{AllocError, Allocator};
 use std::marker::Model;
 
+/// What is kept of an animal: its parent, and the calves of that parent that stand beside it.
+#[derive(Clone, Copy)]
+pub struct Family {
+    parent: Option<u32>,
+    previous: Option<u32>,
+    next: Option<u32>,
+    // The first of its own calves.
+    first: Option<u32>,
+}
+
 /// The sire, or the dam, of each animal by place, and the calves of each parent.
 #[derive(Drop)]
 pub struct Progeny<A: Allocator> {
-    parents: Vec<Option<u32>, A>,
-    // Where each stands among the calves of its parent, so that it is taken out without a search.
-    slots: Vec<usize, A>,
-    calves: Vec<Vec<u32, A>, A>,
+    families: Vec<Family, A>,
 }
 
 impl<A: Allocator> Model for Progeny<A> {
-    ghost use Rattle.std.specs.Prelude.{◌-◌, min, map, vec_len, vec_capacity};
-    ghost use Rattle.herd_pedigree.specs.Calves.{AreCalves};
+    ghost use Rattle.std.specs.Prelude.{◌-◌, vec_len, vec_capacity};
+    ghost use Rattle.herd_pedigree.specs.Calves.{AreChained, parents_of};
     ghost use Rattle.herd_pedigree.specs.Progeny.{Progeny};
 
     ghost Value = { Progeny };
 
-    ghost view = { λ p. record { parents = p.parents.items; spare = map (λ list. vec_capacity list - vec_len list) p.calves.items; room = min (vec_capacity p.parents - vec_len p.parents) (min (vec_capacity p.slots - vec_len p.slots) (vec_capacity p.calves - vec_len p.calves)) } };
+    ghost view = { λ p. record { parents = parents_of p.families.items; room = vec_capacity p.families - vec_len p.families } };
 
-    ghost invariant = { λ p. AreCalves p.parents.items p.slots.items (map (λ list. list.items) p.calves.items) };
+    ghost invariant = { λ p. AreChained p.families.items };
 }
 
-impl<A: Allocator + Copy> Progeny<A> {
+/// The calves of a parent, from the one that was linked last on.
+#[derive(Drop)]
+pub struct Calves<'a> {
+    families: &'a [Family],
+    next: Option<u32>,
+    // No chain is longer than there are animals.
+    most: usize,
+}
+
+impl<'a> Model for Calves<'a> {
+    ghost use Rattle.std.specs.Prelude.{ℕ, List};
+    ghost use Rattle.herd_pedigree.specs.Calves.{chain};
+
+    ghost Value = { List ℕ };
+
+    ghost view = { λ c. chain c.families.now c.most c.next };
+}
+
+impl<'a> Iterator for Calves<'a> {
+    type Item = u32;
+
+    ghost next_gives = { YieldsFirst (λ rest. rest) };
+
+    ghost remaining = { item_count (λ rest. rest) };
+
+    fn next(&mut self) -> Option<u32> {
+        self.most = self.most.checked_sub(1)?;
+        let calf = self.next?;
+        self.next = match self.families.get(calf as usize) {
+            Some(family) => family.next,
+            None => None,
+        };
+        Some(calf)
+    }
+}
+
+impl<A: Allocator> Progeny<A> {
     /// No animals. It takes no memory.
     pub fn new(alloc: A) -> Self
         ensures { result.parents ≡ [] }
     {
         Progeny {
-            parents: Vec::new(alloc),
-            slots: Vec::new(alloc),
-            calves: Vec::new(alloc),
+            families: Vec::new(alloc),
         }
+    }
+
+    /// The place of the parent of the animal at a place.
+    pub fn parent(&self, place: u32) -> Option<u32>
+        requires { place < length self.now.parents }
+        ensures { result ≡ parent_at self.now.parents place }
+    {
+        self.families[place as usize].parent
+    }
+
+    /// Whether the animal at a place has calves.
+    pub fn has_calves(&self, place: u32) -> bool
+        requires { place < length self.now.parents }
+        ensures some { IsTrue result → (calf : ℕ) × (parent_at self.now.parents calf ≡ Some place) }
+        ensures none { IsFalse result → (calf : ℕ) → parent_at self.now.parents calf ≡ Some place → ⊥ }
+    {
+        self.families[place as usize].first.is_some()
+    }
+
+    /// The places of the calves of the animal at a place.
+    pub fn calves(&self, place: u32) -> Calves<'_>
+        requires { place < length self.now.parents }
+        ensures { (calf : ℕ) → Contains result calf ↔ (parent_at self.now.parents calf ≡ Some place) }
+    {
+        Calves {
+            families: self.families.as_slice(),
+            next: self.families[place as usize].first,
+            most: self.families.len(),
+        }
+    }
+
+    /// Makes room for one more animal.
+    pub fn reserve(&mut self) -> Result<(), AllocError>
+        ensures parents { self.new.parents ≡ self.old.parents }
+        ensures room { OnOk result (0 < self.new.room) }
+    {
+        self.families.reserve(1)
     }
 
     /// Adds an animal with this parent. It takes no memory.
@@ -45,10 +124,9 @@ impl<A: Allocator + Copy> Progeny<A> {
         requires few { length self.old.parents + 1 < 2 ^ 32 }
         requires within { (p : ℕ) → parent ≡ Some p → p < length self.old.parents }
         requires room { 0 < self.old.room }
-        requires spare { (p : ℕ) → parent ≡ Some p → 0 < slice_index self.old.spare p }
         ensures { self.new.parents ≡ self.old.parents ++ parent ∷ [] }
     {
-        let calf = self.parents.len() as u32;
+        let calf = self.families.len() as u32;
         self.push_alone();
         if let Some(parent) = parent {
             self.link(calf, parent);
@@ -58,76 +136,25 @@ impl<A: Allocator + Copy> Progeny<A> {
     // Adds an animal with no known parent.
     fn push_alone(&mut self)
         requires { 0 < self.old.room }
-        ensures parents { self.new.parents ≡ self.old.parents ++ None ∷ [] }
-        ensures spare { (p : ℕ) → p < length self.old.parents → slice_index self.new.spare p ≡ slice_index self.old.spare p }
+        ensures { self.new.parents ≡ self.old.parents ++ None ∷ [] }
     {
-        let no_calves = Vec::new(*self.parents.allocator());
-        if self.parents.push(None).is_err() {
+        let alone = Family {
+            parent: None,
+            previous: None,
+            next: None,
+            first: None,
+        };
+        if self.families.push(alone).is_err() {
             unreachable!();
         }
-        if self.slots.push(0).is_err() {
-            unreachable!();
-        }
-        if self.calves.push(no_calves).is_err() {
-            unreachable!();
-        }
-    }
-}
-
-impl<A: Allocator> Progeny<A> {
-    /// The place of the parent of the animal at a place.
-    pub fn parent(&self, place: u32) -> Option<u32>
-        requires { place < length self.now.parents }
-        ensures { result ≡ parent_at self.now.parents place }
-    {
-        self.parents[place as usize]
     }
 
-    /// The places of the calves of the animal at a place.
-    pub fn calves(&self, place: u32) -> &[u32]
-        requires { place < length self.now.parents }
-        ensures { (calf : ℕ) → Contains result.now calf ↔ (parent_at self.now.parents calf ≡ Some place) }
-    {
-        self.calves[place as usize].as_slice()
-    }
-
-    /// Makes room for one more animal.
-    pub fn reserve_animal(&mut self) -> Result<(), AllocError>
-        ensures parents { self.new.parents ≡ self.old.parents }
-        ensures spare { self.new.spare ≡ self.old.spare }
-        ensures room { OnOk result (0 < self.new.room) }
-    {
-        self.parents.reserve(1)?;
-        self.slots.reserve(1)?;
-        self.calves.reserve(1)?;
-        Ok(())
-    }
-
-    /// Makes room for one more calf of the parent.
-    pub fn reserve_calf(&mut self, parent: Option<u32>) -> Result<(), AllocError>
-        requires within { (p : ℕ) → parent ≡ Some p → p < length self.old.parents }
-        ensures parents { self.new.parents ≡ self.old.parents }
-        ensures room { self.new.room ≡ self.old.room }
-        ensures spare { (p : ℕ) → slice_index self.old.spare p ≤ slice_index self.new.spare p }
-        ensures reserved { OnOk result ((p : ℕ) → parent ≡ Some p → 0 < slice_index self.new.spare p) }
-    {
-        if let Some(parent) = parent {
-            self.calves[parent as usize].reserve(1)?;
-        }
-        Ok(())
-    }
-
-    /// Sets the parent of the animal at a place. It takes no memory, and leaves room to set it back.
+    /// Sets the parent of the animal at a place. It takes no memory.
     pub fn set(&mut self, place: u32, parent: Option<u32>)
         requires here { place < length self.old.parents }
         requires within { (p : ℕ) → parent ≡ Some p → p < length self.old.parents }
-        requires room { HasRoomFor self.old place parent }
-        ensures parents { self.new.parents ≡ slice_set self.old.parents place parent }
-        ensures room { HasRoomFor self.new place (parent_at self.old.parents place) }
+        ensures { self.new.parents ≡ slice_set self.old.parents place parent }
     {
-        if self.parents[place as usize] == parent {
-            return;
-        }
         self.unlink(place);
         if let Some(parent) = parent {
             self.link(place, parent);
@@ -141,11 +168,9 @@ impl<A: Allocator> Progeny<A> {
         requires childless { (calf : ℕ) → parent_at self.old.parents calf ≡ Some (length self.old.parents - 1) → ⊥ }
         ensures { self.new.parents ≡ without_last self.old.parents }
     {
-        let last = self.parents.len() - 1;
+        let last = self.families.len() - 1;
         self.unlink(last as u32);
-        self.parents.truncate(last);
-        self.slots.truncate(last);
-        self.calves.truncate(last);
+        self.families.truncate(last);
     }
 
     // Gives a parent to an animal that has none.
@@ -153,37 +178,101 @@ impl<A: Allocator> Progeny<A> {
         requires here { calf < length self.old.parents }
         requires within { parent < length self.old.parents }
         requires none { parent_at self.old.parents calf ≡ None }
-        requires spare { 0 < slice_index self.old.spare parent }
-        ensures parents { self.new.parents ≡ slice_set self.old.parents calf (Some parent) }
-        ensures spare { (p : ℕ) → p ≢ parent → slice_index self.new.spare p ≡ slice_index self.old.spare p }
+        ensures { self.new.parents ≡ slice_set self.old.parents calf (Some parent) }
     {
-        let list = &mut self.calves[parent as usize];
-        let slot = list.len();
-        if list.push(calf).is_err() {
-            unreachable!();
-        }
-        self.slots[calf as usize] = slot;
-        self.parents[calf as usize] = Some(parent);
+        join(&mut self.families, calf, parent);
     }
 
     // Takes the parent of an animal away.
     fn unlink(&mut self, calf: u32)
         requires { calf < length self.old.parents }
-        ensures parents { self.new.parents ≡ slice_set self.old.parents calf None }
-        ensures spare { (p : ℕ) → slice_index self.old.spare p ≤ slice_index self.new.spare p }
-        ensures freed { (p : ℕ) → parent_at self.old.parents calf ≡ Some p → 0 < slice_index self.new.spare p }
+        ensures { self.new.parents ≡ slice_set self.old.parents calf None }
     {
-        let Some(parent) = self.parents[calf as usize] else {
-            return;
-        };
-        self.parents[calf as usize] = None;
-        let slot = self.slots[calf as usize];
-        let list = &mut self.calves[parent as usize];
-        let _ = list.swap_remove(slot);
-        if slot == list.len() {
-            return;
-        }
-        let moved = list[slot];
-        self.slots[moved as usize] = slot;
+        part(&mut self.families, calf);
+    }
+}
+
+// Puts an animal before the other calves of a parent.
+fn join(families: &mut [Family], calf: u32, parent: u32)
+    requires chained { AreChained families.old }
+    requires here { calf < length families.old }
+    requires within { parent < length families.old }
+    requires none { parent_of families.old calf ≡ None }
+    ensures chained { AreChained families.new }
+    ensures parents { parents_of families.new ≡ slice_set (parents_of families.old) calf (Some parent) }
+{
+    let first = families[parent as usize].first;
+    set_first(families, Some(parent), Some(calf));
+    set_previous(families, first, Some(calf));
+    set_next(families, Some(calf), first);
+    set_parent(families, calf, Some(parent));
+}
+
+// Takes an animal from among the calves of its parent, where it has one.
+fn part(families: &mut [Family], calf: u32)
+    requires chained { AreChained families.old }
+    requires here { calf < length families.old }
+    ensures chained { AreChained families.new }
+    ensures parents { parents_of families.new ≡ slice_set (parents_of families.old) calf None }
+{
+    let own = families[calf as usize];
+    set_first(families, led_by(own), own.next);
+    set_next(families, own.previous, own.next);
+    set_previous(families, own.next, own.previous);
+    set_next(families, Some(calf), None);
+    set_previous(families, Some(calf), None);
+    set_parent(families, calf, None);
+}
+
+// The parent of which an animal is the first calf.
+fn led_by(own: Family) -> Option<u32>
+    ensures first { own.previous ≡ None → result ≡ own.parent }
+    ensures later { (previous : ℕ) → own.previous ≡ Some previous → result ≡ None }
+{
+    match own.previous {
+        Some(_) => None,
+        None => own.parent,
+    }
+}
+
+// Sets the parent of the animal at a place.
+fn set_parent(families: &mut [Family], place: u32, parent: Option<u32>)
+    requires { place < length families.old }
+    ensures { Show families.new (length families.old) (put (Some place) parent (parent_of families.old)) (previous_of families.old) (next_of families.old) (first_of families.old) }
+{
+    let family = families[place as usize];
+    families[place as usize] = Family { parent, ..family };
+}
+
+// Sets which calf stands before that at a place, where there is one.
+fn set_previous(families: &mut [Family], place: Option<u32>, previous: Option<u32>)
+    requires { (p : ℕ) → place ≡ Some p → p < length families.old }
+    ensures { Show families.new (length families.old) (parent_of families.old) (put place previous (previous_of families.old)) (next_of families.old) (first_of families.old) }
+{
+    if let Some(place) = place {
+        let family = families[place as usize];
+        families[place as usize] = Family { previous, ..family };
+    }
+}
+
+// Sets which calf stands behind that at a place, where there is one.
+fn set_next(families: &mut [Family], place: Option<u32>, next: Option<u32>)
+    requires { (p : ℕ) → place ≡ Some p → p < length families.old }
+    ensures { Show families.new (length families.old) (parent_of families.old) (previous_of families.old) (put place next (next_of families.old)) (first_of families.old) }
+{
+    if let Some(place) = place {
+        let family = families[place as usize];
+        families[place as usize] = Family { next, ..family };
+    }
+}
+
+// Sets the first calf of the animal at a place, where there is one.
+fn set_first(families: &mut [Family], place: Option<u32>, first: Option<u32>)
+    requires { (p : ℕ) → place ≡ Some p → p < length families.old }
+    ensures { Show families.new (length families.old) (parent_of families.old) (previous_of families.old) (next_of families.old) (put place first (first_of families.old)) }
+{
+    if let Some(place) = place {
+        let family = families[place as usize];
+        families[place as usize] = Family { first, ..family };
     }
 }

@@ -1,11 +1,9 @@
 use Rattle.std.proofs.Common.{rules, sym, ap, ◌∙◌, subst, ◌≡◌, ℕ, List, [], ◌∷◌, ◌++◌, Option, None, slice_index}
 use Rattle.std.specs.Map.{keys_of}
 use Rattle.herd_pedigree.specs.Book.{Book, record_of}
-use Rattle.herd_pedigree.specs.declared.undo.Undo.TheVariants.{Birth}
 use Rattle.herd_pedigree.specs.Pedigree.{IsBirth}
 use Rattle.herd_pedigree.specs.Depths.{depth_from}
 use Rattle.herd_pedigree.specs.Places.{IsPlaceIn}
-use Rattle.herd_pedigree.specs.Undo.{IsHeld}
 use Rattle.herd_pedigree.specs.declared.TheConstants.{DEPTH_LIMIT, MOST_ANIMALS}
 use Rattle.herd_pedigree.proofs.KeptFacts.{IsHeld-push}
 use Rattle.herd_pedigree.proofs.UndoFacts.{birth-view}
@@ -29,9 +27,7 @@ invariant_of-self-2 g c =
     let dams_are : c.push-4.new.self.parents ≡ dams ++ dam ∷ [] = c.push-4.ensures ∙ ap (λ ps. ps ++ dam ∷ []) c.reserve-4.ensures.parents in
     let depth : c.depth_with-depth.result ≡ depth_from (slice_index depths) sire dam = c.depth_with-depth.ensures.depth ∙ ap (λ ds. depth_from (slice_index ds) sire dam) c.deref.ensures.value in
     let depths_are : c.push-2.new.self.items ≡ depths ++ depth_from (slice_index depths) sire dam ∷ [] = search (rules, depth) in
-    let held : IsHeld DEPTH_LIMIT MOST_ANIMALS c.push.new.self.book c.push-3.new.self.parents c.push-4.new.self.parents c.push-2.new.self.items log Birth =
-    rw (entries, sires_are, dams_are, depths_are) (IsHeld-push DEPTH_LIMIT MOST_ANIMALS book sires dams depths c.self.invariant.held.kept c.args.number c.args.animal absent sire dam sire_is dam_is birth log) in
-    record { held = held; room = tt }
+    rw (entries, sires_are, dams_are, depths_are) (IsHeld-push DEPTH_LIMIT MOST_ANIMALS book sires dams depths c.self.invariant.kept c.args.number c.args.animal absent sire dam sire_is dam_is birth log)
 
 pub returns-clause-added : goal.returns-clause-added
 returns-clause-added g c =

@@ -43,7 +43,7 @@ returns-then-depth_with-from-clause-fault g c =
     let limit = c.from.ensures in
     let at_limit = c.if-depth_with-from.true in
     let fault : Some TooDeep ≡ parent_fault DEPTH_LIMIT book c.args.number birth s d embryo =
-    newborn-fault DEPTH_LIMIT MOST_ANIMALS book c.self.inside.sires.parents c.self.inside.dams.parents depths c.self.invariant.held.kept c.args.number absent birth s d embryo sire dam told sire_is dam_is true
+    newborn-fault DEPTH_LIMIT MOST_ANIMALS book c.self.inside.sires.parents c.self.inside.dams.parents depths c.self.invariant.kept c.args.number absent birth s d embryo sire dam told sire_is dam_is true
     (lt-ltb DEPTH_LIMIT (depth_from (slice_index depths) sire dam) (omega (arith, at_limit, limit, depth))) in
     subst (λ p. Some TooDeep ≡ parent_fault DEPTH_LIMIT p.book c.args.number birth s d embryo) c.self.view_is fault
 
@@ -67,7 +67,7 @@ add_below-requires-clause-birth g c =
     let limit = c.from.ensures in
     let at_limit = c.if-depth_with-from.false in
     let fault : None ≡ parent_fault DEPTH_LIMIT book c.args.number birth s d embryo =
-    newborn-fault DEPTH_LIMIT MOST_ANIMALS book c.self.inside.sires.parents c.self.inside.dams.parents depths c.self.invariant.held.kept c.args.number absent birth s d embryo sire dam told sire_is dam_is false
+    newborn-fault DEPTH_LIMIT MOST_ANIMALS book c.self.inside.sires.parents c.self.inside.dams.parents depths c.self.invariant.kept c.args.number absent birth s d embryo sire dam told sire_is dam_is false
     (le-ltb DEPTH_LIMIT (depth_from (slice_index depths) sire dam) (omega (arith, at_limit, limit, depth))) in
     record {
       absent = c.requires.absent;
@@ -129,6 +129,6 @@ returns-clause-fault g c =
     let limit = c.from.ensures in
     let at_limit = c.if-depth_with-from.false in
     let fault : None ≡ parent_fault DEPTH_LIMIT book c.args.number birth s d embryo =
-    newborn-fault DEPTH_LIMIT MOST_ANIMALS book c.self.inside.sires.parents c.self.inside.dams.parents depths c.self.invariant.held.kept c.args.number absent birth s d embryo sire dam told sire_is dam_is false
+    newborn-fault DEPTH_LIMIT MOST_ANIMALS book c.self.inside.sires.parents c.self.inside.dams.parents depths c.self.invariant.kept c.args.number absent birth s d embryo sire dam told sire_is dam_is false
     (le-ltb DEPTH_LIMIT (depth_from (slice_index depths) sire dam) (omega (arith, at_limit, limit, depth))) in
     subst (λ p. None ≡ parent_fault DEPTH_LIMIT p.book c.args.number birth s d embryo) c.self.view_is fault

@@ -8,7 +8,7 @@ use Rattle.herd_pedigree.proofs.pedigree.Pedigree.depth.Goals as goal
 
 pub returns-clause-depth : goal.returns-clause-depth
 returns-clause-depth g c =
-    let kept = c.self.invariant.held.kept in
+    let kept = c.self.invariant.kept in
     let entries = c.self.inside.records.book in
     let depths = c.self.inside.depths.items in
     let place = c.in_ok-place.place in

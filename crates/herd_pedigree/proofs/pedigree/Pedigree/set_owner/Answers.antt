@@ -9,7 +9,6 @@ use Rattle.herd_pedigree.specs.Places.{IsPlaceIn}
 use Rattle.herd_pedigree.specs.Undo.{IsHeld}
 use Rattle.herd_pedigree.specs.declared.TheConstants.{DEPTH_LIMIT, MOST_ANIMALS}
 use Rattle.herd_pedigree.proofs.BookFacts.{at_position, entry_from_both}
-use Rattle.herd_pedigree.proofs.HeldFacts.{HasRoom-same}
 use Rattle.herd_pedigree.proofs.LawfulChanges.{lawful-owner}
 use Rattle.herd_pedigree.proofs.SetFacts.{IsHeld-same, record-view}
 use Rattle.herd_pedigree.proofs.pedigree.Pedigree.set_owner.Goals as goal
@@ -22,7 +21,7 @@ set-requires-clause-sire g c =
     let a : Animal = c.animal_at-animal.result in
     let at : slice_get book place ≡ Some (number, a) = entry_from_both book place number a (at_position book number place (sym c.in-Some.ensures.index)) c.animal_at-animal.ensures in
     subst (λ o. IsPlaceIn (keys_of book) c.parent-sire.result o) (sym (ap (λ v. v.sire) c.with_owner.ensures))
-    (subst (λ o. IsPlaceIn (keys_of book) o a.sire) (sym c.parent-sire.ensures) (c.self.invariant.held.kept.sires_are.each place (number, a) at))
+    (subst (λ o. IsPlaceIn (keys_of book) o a.sire) (sym c.parent-sire.ensures) (c.self.invariant.kept.sires_are.each place (number, a) at))
 
 pub set-requires-clause-dam : goal.set-requires-clause-dam
 set-requires-clause-dam g c =
@@ -32,7 +31,7 @@ set-requires-clause-dam g c =
     let a : Animal = c.animal_at-animal.result in
     let at : slice_get book place ≡ Some (number, a) = entry_from_both book place number a (at_position book number place (sym c.in-Some.ensures.index)) c.animal_at-animal.ensures in
     subst (λ o. IsPlaceIn (keys_of book) c.parent-dam.result o) (sym (ap (λ v. v.dam) c.with_owner.ensures))
-    (subst (λ o. IsPlaceIn (keys_of book) o a.dam) (sym c.parent-dam.ensures) (c.self.invariant.held.kept.dams_are.each place (number, a) at))
+    (subst (λ o. IsPlaceIn (keys_of book) o a.dam) (sym c.parent-dam.ensures) (c.self.invariant.kept.dams_are.each place (number, a) at))
 
 pub invariant_of-self : goal.invariant_of-self
 invariant_of-self g c =
@@ -40,7 +39,7 @@ invariant_of-self g c =
     let sires : List (Option ℕ) = c.self.inside.sires.parents in
     let dams : List (Option ℕ) = c.self.inside.dams.parents in
     let depths : List ℕ = c.self.inside.depths.items in
-    let kept = c.self.invariant.held.kept in
+    let kept = c.self.invariant.kept in
     let number : List ℕ = c.args.number in
     let place : ℕ = c.in-Some.place in
     let a : Animal = c.animal_at-animal.result in
@@ -51,10 +50,7 @@ invariant_of-self g c =
     let set : c.set.new.self.book ≡ set_value_at book place (with_owner c.args.herd c.args.day a) = c.set.ensures ∙ ap (λ v. set_value_at book place v) c.with_owner.ensures in
     let held : IsHeld DEPTH_LIMIT MOST_ANIMALS (set_value_at book place (with_owner c.args.herd c.args.day a)) sires dams depths c.clear.new.self.items (Record place a sire dam) =
     IsHeld-same DEPTH_LIMIT MOST_ANIMALS book sires dams depths kept place number a at (with_owner c.args.herd c.args.day) refl refl (lawful-owner DEPTH_LIMIT MOST_ANIMALS book number c.args.herd c.args.day kept.lawful asked) c.clear.new.self.items c.clear.ensures.items sire dam c.parent-sire.ensures c.parent-dam.ensures in
-    record {
-      held = subst (λ b. IsHeld DEPTH_LIMIT MOST_ANIMALS b sires dams depths c.clear.new.self.items (Record place a sire dam)) (sym set) held;
-      room = HasRoom-same place a sire dam c.self.inside.sires c.self.inside.dams c.parent-sire.ensures c.parent-dam.ensures;
-    }
+    subst (λ b. IsHeld DEPTH_LIMIT MOST_ANIMALS b sires dams depths c.clear.new.self.items (Record place a sire dam)) (sym set) held
 
 pub returns : goal.returns
 returns g c =
@@ -65,4 +61,4 @@ returns g c =
     let at : slice_get book place ≡ Some (number, a) = entry_from_both book place number a (at_position book number place (sym c.in-Some.ensures.index)) c.animal_at-animal.ensures in
     let set : c.set.new.self.book ≡ set_value_at book place (with_owner c.args.herd c.args.day a) = c.set.ensures ∙ ap (λ v. set_value_at book place v) c.with_owner.ensures in
     subst (λ b. record { book = b; before = Some (set_value_at b place a) } ≡ changed_to c.args.self.now (changed c.args.self.now.book number (with_owner c.args.herd c.args.day))) (sym set)
-    (record-view c.args.self.now book c.self.invariant.held.kept.lawful.once place number a (with_owner c.args.herd c.args.day) at (ap (λ p. p.book) c.self.view_is))
+    (record-view c.args.self.now book c.self.invariant.kept.lawful.once place number a (with_owner c.args.herd c.args.day) at (ap (λ p. p.book) c.self.view_is))

@@ -10,10 +10,9 @@ use Rattle.herd_pedigree.specs.Lines.{has_line}
 use Rattle.herd_pedigree.specs.Book.{Book, changed, record_of, with_parents}
 use Rattle.herd_pedigree.specs.Pedigree.{IsCorrection, changed_to}
 use Rattle.herd_pedigree.specs.Depths.{IsParent}
-use Rattle.herd_pedigree.specs.Places.{IsPlaceIn, parent_at, parentage_at}
+use Rattle.herd_pedigree.specs.Places.{IsPlaceIn, parentage_at}
 use Rattle.herd_pedigree.specs.ParentFault.{first_that_holds, is_missing, is_too_deep, parent_fault, record_faults, record_named}
 use Rattle.herd_pedigree.specs.declared.parent_fault.ParentFault.TheVariants.{TooDeep}
-use Rattle.herd_pedigree.specs.Calves.{HasRoomFor}
 use Rattle.herd_pedigree.specs.Carry.{IsSettled}
 use Rattle.herd_pedigree.specs.Undo.{IsHeld}
 use Rattle.herd_pedigree.specs.declared.TheConstants.{DEPTH_LIMIT, MOST_ANIMALS}
@@ -21,14 +20,14 @@ use Rattle.herd_pedigree.proofs.BookFacts.{at_position, entry_from_both, lookup_
 use Rattle.herd_pedigree.proofs.SetFacts.{record-view}
 use Rattle.herd_pedigree.proofs.CheckFacts.{closed-after, fault-first, fault-rest, found_none, settled-exchange, too_deep-told_by}
 use Rattle.herd_pedigree.proofs.FaultFacts.{no_record_fault}
-use Rattle.herd_pedigree.proofs.HeldFacts.{IsWhole-more, IsHeld-corrected}
+use Rattle.herd_pedigree.proofs.HeldFacts.{IsHeld-corrected}
 use Rattle.herd_pedigree.proofs.pedigree.Pedigree.set_parents_if_sound.Goals as goal
 
 pub returns-in-Some-record_fault-clause-fault : goal.returns-in-Some-record_fault-clause-fault
 returns-in-Some-record_fault-clause-fault g c =
     let book : Book = c.self.inside.records.book in
     let number : List ℕ = c.args.number in
-    let kept = c.self.invariant.held.kept in
+    let kept = c.self.invariant.kept in
     let place : ℕ = c.in-Some.index in
     let at : slice_get (keys_of book) place ≡ Some number = at_position book number place (sym c.in-Some.ensures.index) in
     let a : Animal = c.animal_at-animal.result in
@@ -50,7 +49,7 @@ carry_if_shallow-requires-clause-sound g c =
     let sires : List (Option ℕ) = c.self.inside.sires.parents in
     let dams : List (Option ℕ) = c.self.inside.dams.parents in
     let depths : List ℕ = c.self.inside.depths.items in
-    let kept = c.self.invariant.held.kept in
+    let kept = c.self.invariant.kept in
     let place : ℕ = c.in-Some.index in
     let sire : Option ℕ = c.find-sire.result.place in
     let dam : Option ℕ = c.find-dam.result.place in
@@ -66,15 +65,8 @@ carry_if_shallow-requires-clause-sound g c =
     let at : slice_get (keys_of book) place ≡ Some number = at_position book number place (sym c.in-Some.ensures.index) in
     let m = kept.sires_are.long in
     let here : place < length sires = let w = c.in-Some.ensures.within in omega (arith, w, m) in
-    let sp : c.reserve_calf.new.self.parents ≡ sires = c.reserve_calf.ensures.parents in
-    let dp : c.reserve_calf-2.new.self.parents ≡ dams = c.reserve_calf-2.ensures.parents in
-    let P : List (Option ℕ) → List (Option ℕ) → Type 0 = λ ss ds. (p x : ℕ) → IsParent (parentage_at (slice_set ss place sire) (slice_set ds place dam)) p x → p < length ss in
-    let closed : P sires dams = closed-after DEPTH_LIMIT MOST_ANIMALS book sires dams depths kept number place at sire dam c.args.sire c.args.dam sire_is dam_is in
-    record {
-      here = subst (λ ss. place < length ss) (sym sp) here;
-      wide = ap (λ ds. length ds) dp ∙ kept.dams_are.long ∙ sym m ∙ sym (ap (λ ss. length ss) sp);
-      closed = subst (λ ss. P ss c.reserve_calf-2.new.self.parents) (sym sp) (subst (λ ds. P sires ds) (sym dp) closed);
-    }
+    let closed : (p x : ℕ) → IsParent (parentage_at (slice_set sires place sire) (slice_set dams place dam)) p x → p < length sires = closed-after DEPTH_LIMIT MOST_ANIMALS book sires dams depths kept number place at sire dam c.args.sire c.args.dam sire_is dam_is in
+    record { here = here; wide = kept.dams_are.long ∙ sym m; closed = closed }
 
 pub carry_if_shallow-requires-clause-settled : goal.carry_if_shallow-requires-clause-settled
 carry_if_shallow-requires-clause-settled g c =
@@ -83,7 +75,7 @@ carry_if_shallow-requires-clause-settled g c =
     let sires : List (Option ℕ) = c.self.inside.sires.parents in
     let dams : List (Option ℕ) = c.self.inside.dams.parents in
     let depths : List ℕ = c.self.inside.depths.items in
-    let kept = c.self.invariant.held.kept in
+    let kept = c.self.invariant.kept in
     let place : ℕ = c.in-Some.index in
     let sire : Option ℕ = c.find-sire.result.place in
     let dam : Option ℕ = c.find-dam.result.place in
@@ -99,34 +91,22 @@ carry_if_shallow-requires-clause-settled g c =
     let at : slice_get (keys_of book) place ≡ Some number = at_position book number place (sym c.in-Some.ensures.index) in
     let m = kept.sires_are.long in
     let here : place < length sires = let w = c.in-Some.ensures.within in omega (arith, w, m) in
-    let sp : c.reserve_calf.new.self.parents ≡ sires = c.reserve_calf.ensures.parents in
-    let dp : c.reserve_calf-2.new.self.parents ≡ dams = c.reserve_calf-2.ensures.parents in
-    let P : List (Option ℕ) → List (Option ℕ) → List ℕ → Type 0 = λ ss ds hs. IsSettled DEPTH_LIMIT (parentage_at (slice_set ss place sire) (slice_set ds place dam)) (slice_index hs) (place ∷ []) in
-    let settled : P sires dams depths = settled-exchange DEPTH_LIMIT MOST_ANIMALS book sires dams depths kept place sire dam here in
-    subst (λ ss. P ss c.reserve_calf-2.new.self.parents c.deref_mut.result.now) (sym sp)
-    (subst (λ ds. P sires ds c.deref_mut.result.now) (sym dp) (subst (λ hs. P sires dams hs) (sym c.deref_mut.ensures.value) settled))
-
-pub invariant_of-self-in_err-log : goal.invariant_of-self-in_err-log
-invariant_of-self-in_err-log g c =
-    let inside = c.self.inside in
-    let long : length c.carry_if_shallow.new.depths ≡ inside.depths.len = c.carry_if_shallow.auto.depths ∙ c.deref_mut.ensures.len in
-    let back : (with_items inside.depths c.carry_if_shallow.new.depths).items ≡ inside.depths.items = with_items_is inside.depths c.carry_if_shallow.new.depths long ∙ c.in_err-log.ensures.err ∙ c.deref_mut.ensures.value in
-    IsWhole-more DEPTH_LIMIT MOST_ANIMALS inside.records.book inside.sires inside.dams c.reserve_calf.new.self c.reserve_calf-2.new.self inside.depths.items (with_items inside.depths c.carry_if_shallow.new.depths).items inside.old_depths.items inside.undo
-    c.self.invariant c.reserve_calf.ensures.parents c.reserve_calf-2.ensures.parents back c.reserve_calf.ensures.spare c.reserve_calf-2.ensures.spare
+    let P : List ℕ → Type 0 = λ hs. IsSettled DEPTH_LIMIT (parentage_at (slice_set sires place sire) (slice_set dams place dam)) (slice_index hs) (place ∷ []) in
+    let settled : P depths = settled-exchange DEPTH_LIMIT MOST_ANIMALS book sires dams depths kept place sire dam here in
+    subst P (sym c.deref_mut.ensures.value) settled
 
 pub invariant_of-self-in_default-2 : goal.invariant_of-self-in_default-2
 invariant_of-self-in_default-2 g c =
     let inside = c.self.inside in
     let long : length c.carry_if_shallow.new.depths ≡ inside.depths.len = c.carry_if_shallow.auto.depths ∙ c.deref_mut.ensures.len in
     let back : (with_items inside.depths c.carry_if_shallow.new.depths).items ≡ inside.depths.items = with_items_is inside.depths c.carry_if_shallow.new.depths long ∙ (rw c.in_default-2.is at c.in_ok-log.ensures.same) ∙ c.deref_mut.ensures.value in
-    IsWhole-more DEPTH_LIMIT MOST_ANIMALS inside.records.book inside.sires inside.dams c.reserve_calf.new.self c.reserve_calf-2.new.self inside.depths.items (with_items inside.depths c.carry_if_shallow.new.depths).items inside.old_depths.items inside.undo
-    c.self.invariant c.reserve_calf.ensures.parents c.reserve_calf-2.ensures.parents back c.reserve_calf.ensures.spare c.reserve_calf-2.ensures.spare
+    rw back c.self.invariant
 
 pub returns-in_default-2-clause-fault : goal.returns-in_default-2-clause-fault
 returns-in_default-2-clause-fault g c =
     let book : Book = c.self.inside.records.book in
     let number : List ℕ = c.args.number in
-    let kept = c.self.invariant.held.kept in
+    let kept = c.self.invariant.kept in
     let place : ℕ = c.in-Some.index in
     let at : slice_get (keys_of book) place ≡ Some number = at_position book number place (sym c.in-Some.ensures.index) in
     let a : Animal = c.animal_at-animal.result in
@@ -146,10 +126,7 @@ returns-in_default-2-clause-fault g c =
     let missing = no_record_fault birth s (record_named book s) d (record_named book d) embryo told in
     let sire_is : IsPlaceIn (keys_of book) sire s = c.find-sire.ensures.place (ap (λ r. is_missing s r) c.find-sire.ensures.record ∙ missing.sire_there) in
     let dam_is : IsPlaceIn (keys_of book) dam d = c.find-dam.ensures.place (ap (λ r. is_missing d r) c.find-dam.ensures.record ∙ missing.dam_there) in
-    let sp : c.reserve_calf.new.self.parents ≡ sires = c.reserve_calf.ensures.parents in
-    let dp : c.reserve_calf-2.new.self.parents ≡ dams = c.reserve_calf-2.ensures.parents in
-    let L : List (Option ℕ) → List (Option ℕ) → Type 0 = λ ss ds. (x : ℕ) × IsTrue (has_line (parentage_at (slice_set ss place sire) (slice_set ds place dam)) (DEPTH_LIMIT + 1) x) in
-    let line : L sires dams = subst (λ ds. L sires ds) dp (subst (λ ss. L ss c.reserve_calf-2.new.self.parents) sp (rw c.in_default-2.is at c.in_ok-log.ensures.deep)) in
+    let line : (x : ℕ) × IsTrue (has_line (parentage_at (slice_set sires place sire) (slice_set dams place dam)) (DEPTH_LIMIT + 1) x) = rw c.in_default-2.is at c.in_ok-log.ensures.deep in
     let deep : true ≡ is_too_deep DEPTH_LIMIT book number s d =
     too_deep-told_by DEPTH_LIMIT MOST_ANIMALS book sires dams depths kept number place at sire dam s d sire_is dam_is true (λ _. line) (λ no. absurd (true≢false no)) in
     let told_by : IfSome (record_of book number) (λ animal. Some TooDeep ≡ parent_fault DEPTH_LIMIT book number animal.birth s d animal.embryo) = rw there (fault-rest DEPTH_LIMIT book number birth s d embryo true told deep) in
@@ -188,7 +165,7 @@ invariant_of-self-2 g c =
     let sires : List (Option ℕ) = c.self.inside.sires.parents in
     let dams : List (Option ℕ) = c.self.inside.dams.parents in
     let depths : List ℕ = c.self.inside.depths.items in
-    let kept = c.self.invariant.held.kept in
+    let kept = c.self.invariant.kept in
     let place : ℕ = c.in-Some.index in
     let sire : Option ℕ = c.find-sire.result.place in
     let dam : Option ℕ = c.find-dam.result.place in
@@ -204,15 +181,12 @@ invariant_of-self-2 g c =
     let at : slice_get (keys_of book) place ≡ Some number = at_position book number place (sym c.in-Some.ensures.index) in
     let m = kept.sires_are.long in
     let here : place < length sires = let w = c.in-Some.ensures.within in omega (arith, w, m) in
-    let sp : c.reserve_calf.new.self.parents ≡ sires = c.reserve_calf.ensures.parents in
-    let dp : c.reserve_calf-2.new.self.parents ≡ dams = c.reserve_calf-2.ensures.parents in
     let a : Animal = c.animal_at-animal.result in
     let entry : slice_get book place ≡ Some (number, a) = entry_from_both book place number a at c.animal_at-animal.ensures in
     let written : c.set.new.self.book ≡ set_value_at book place (with_parents c.args.sire c.args.dam a) =
     c.set.ensures ∙ ap (λ v. set_value_at book place v) (c.with_parents-corrected.ensures ∙ (λ i. with_parents (c.find-sire.ensures.number i) (c.find-dam.ensures.number i) a)) in
     let there : record_of book number ≡ Some a = lookup_at book kept.lawful.once place number a entry in
-    let S : List (Option ℕ) → List (Option ℕ) → Type 0 = λ ss ds. (x : ℕ) → IsFalse (has_line (parentage_at (slice_set ss place sire) (slice_set ds place dam)) (DEPTH_LIMIT + 1) x) in
-    let shallow : S sires dams = subst (λ ds. S sires ds) dp (subst (λ ss. S ss c.reserve_calf-2.new.self.parents) sp (rw c.in-Some-2.is at c.in_ok-log.ensures.shallow)) in
+    let shallow : (x : ℕ) → IsFalse (has_line (parentage_at (slice_set sires place sire) (slice_set dams place dam)) (DEPTH_LIMIT + 1) x) = rw c.in-Some-2.is at c.in_ok-log.ensures.shallow in
     let fine : false ≡ is_too_deep DEPTH_LIMIT book number s d =
     too_deep-told_by DEPTH_LIMIT MOST_ANIMALS book sires dams depths kept number place at sire dam s d sire_is dam_is false (λ yes. absurd (false≢true yes)) (λ _. shallow) in
     let no_fault : None ≡ parent_fault DEPTH_LIMIT book number birth s d embryo = fault-rest DEPTH_LIMIT book number birth s d embryo false told fine in
@@ -221,31 +195,26 @@ invariant_of-self-2 g c =
     let after : List ℕ = c.carry_if_shallow.new.depths in
     let len : length c.deref_mut.result.now ≡ length depths = ap (λ hs. length hs) c.deref_mut.ensures.value in
     let long : length after ≡ length depths = c.carry_if_shallow.auto.depths ∙ len in
-    let P : List (Option ℕ) → List (Option ℕ) → Type 0 = λ ss ds. IsSettled DEPTH_LIMIT (parentage_at (slice_set ss place sire) (slice_set ds place dam)) (slice_index after) [] in
-    let settled : P sires dams = subst (λ ds. P sires ds) dp (subst (λ ss. P ss c.reserve_calf-2.new.self.parents) sp (rw c.in-Some-2.is at c.in_ok-log.ensures.settled)) in
+    let settled : IsSettled DEPTH_LIMIT (parentage_at (slice_set sires place sire) (slice_set dams place dam)) (slice_index after) [] = rw c.in-Some-2.is at c.in_ok-log.ensures.settled in
     let held : IsHeld DEPTH_LIMIT MOST_ANIMALS (set_value_at book place (with_parents c.args.sire c.args.dam a)) (slice_set sires place sire) (slice_set dams place dam) after log (Record place a c.parent.result c.parent-2.result) =
     IsHeld-corrected DEPTH_LIMIT MOST_ANIMALS book sires dams depths kept number place at a entry sire dam c.args.sire c.args.dam sire_is dam_is asked after long settled log
     (subst (λ n. All (λ (write : ℕ × ℕ). write.0 < n) log) len (rw c.in-Some-2.is at c.in_ok-log.ensures.logged))
     ((rw c.in-Some-2.is at c.in_ok-log.ensures.undone) ∙ c.deref_mut.ensures.value)
-    c.parent.result c.parent-2.result (c.parent.ensures ∙ ap (λ ss. parent_at ss place) sp) (c.parent-2.ensures ∙ ap (λ ds. parent_at ds place) dp) in
+    c.parent.result c.parent-2.result c.parent.ensures c.parent-2.ensures in
     let back : (with_items c.self.inside.depths after).items ≡ after = with_items_is c.self.inside.depths after (c.carry_if_shallow.auto.depths ∙ c.deref_mut.ensures.len) in
-    let sires_are : c.set-2.new.self.parents ≡ slice_set sires place sire = c.set-2.ensures.parents ∙ ap (λ ss. slice_set ss place sire) sp in
-    let dams_are : c.set-3.new.self.parents ≡ slice_set dams place dam = c.set-3.ensures.parents ∙ ap (λ ds. slice_set ds place dam) dp in
+    let sires_are : c.set-2.new.self.parents ≡ slice_set sires place sire = c.set-2.ensures in
+    let dams_are : c.set-3.new.self.parents ≡ slice_set dams place dam = c.set-3.ensures in
     let Q : Book → List (Option ℕ) → List (Option ℕ) → List ℕ → Type 0 = λ b ss ds hs. IsHeld DEPTH_LIMIT MOST_ANIMALS b ss ds hs log (Record place a c.parent.result c.parent-2.result) in
-    record {
-      held =
-          subst (λ b. Q b c.set-2.new.self.parents c.set-3.new.self.parents (with_items c.self.inside.depths after).items) (sym written)
-          (subst (λ ss. Q (set_value_at book place (with_parents c.args.sire c.args.dam a)) ss c.set-3.new.self.parents (with_items c.self.inside.depths after).items) (sym sires_are)
-          (subst (λ ds. Q (set_value_at book place (with_parents c.args.sire c.args.dam a)) (slice_set sires place sire) ds (with_items c.self.inside.depths after).items) (sym dams_are)
-          (subst (λ hs. Q (set_value_at book place (with_parents c.args.sire c.args.dam a)) (slice_set sires place sire) (slice_set dams place dam) hs) (sym back) held)));
-      room = (subst (λ o. HasRoomFor c.set-2.new.self place o) (sym c.parent.ensures) c.set-2.ensures.room, subst (λ o. HasRoomFor c.set-3.new.self place o) (sym c.parent-2.ensures) c.set-3.ensures.room);
-    }
+    subst (λ b. Q b c.set-2.new.self.parents c.set-3.new.self.parents (with_items c.self.inside.depths after).items) (sym written)
+    (subst (λ ss. Q (set_value_at book place (with_parents c.args.sire c.args.dam a)) ss c.set-3.new.self.parents (with_items c.self.inside.depths after).items) (sym sires_are)
+    (subst (λ ds. Q (set_value_at book place (with_parents c.args.sire c.args.dam a)) (slice_set sires place sire) ds (with_items c.self.inside.depths after).items) (sym dams_are)
+    (subst (λ hs. Q (set_value_at book place (with_parents c.args.sire c.args.dam a)) (slice_set sires place sire) (slice_set dams place dam) hs) (sym back) held)))
 
 pub returns-clause-fault : goal.returns-clause-fault
 returns-clause-fault g c =
     let book : Book = c.self.inside.records.book in
     let number : List ℕ = c.args.number in
-    let kept = c.self.invariant.held.kept in
+    let kept = c.self.invariant.kept in
     let place : ℕ = c.in-Some.index in
     let at : slice_get (keys_of book) place ≡ Some number = at_position book number place (sym c.in-Some.ensures.index) in
     let a : Animal = c.animal_at-animal.result in
@@ -265,10 +234,7 @@ returns-clause-fault g c =
     let missing = no_record_fault birth s (record_named book s) d (record_named book d) embryo told in
     let sire_is : IsPlaceIn (keys_of book) sire s = c.find-sire.ensures.place (ap (λ r. is_missing s r) c.find-sire.ensures.record ∙ missing.sire_there) in
     let dam_is : IsPlaceIn (keys_of book) dam d = c.find-dam.ensures.place (ap (λ r. is_missing d r) c.find-dam.ensures.record ∙ missing.dam_there) in
-    let sp : c.reserve_calf.new.self.parents ≡ sires = c.reserve_calf.ensures.parents in
-    let dp : c.reserve_calf-2.new.self.parents ≡ dams = c.reserve_calf-2.ensures.parents in
-    let S : List (Option ℕ) → List (Option ℕ) → Type 0 = λ ss ds. (x : ℕ) → IsFalse (has_line (parentage_at (slice_set ss place sire) (slice_set ds place dam)) (DEPTH_LIMIT + 1) x) in
-    let shallow : S sires dams = subst (λ ds. S sires ds) dp (subst (λ ss. S ss c.reserve_calf-2.new.self.parents) sp (rw c.in-Some-2.is at c.in_ok-log.ensures.shallow)) in
+    let shallow : (x : ℕ) → IsFalse (has_line (parentage_at (slice_set sires place sire) (slice_set dams place dam)) (DEPTH_LIMIT + 1) x) = rw c.in-Some-2.is at c.in_ok-log.ensures.shallow in
     let fine : false ≡ is_too_deep DEPTH_LIMIT book number s d =
     too_deep-told_by DEPTH_LIMIT MOST_ANIMALS book sires dams depths kept number place at sire dam s d sire_is dam_is false (λ yes. absurd (false≢true yes)) (λ _. shallow) in
     let no_fault : None ≡ parent_fault DEPTH_LIMIT book number birth s d embryo = fault-rest DEPTH_LIMIT book number birth s d embryo false told fine in
@@ -282,15 +248,13 @@ returns-clause-set g c =
     let sires : List (Option ℕ) = c.self.inside.sires.parents in
     let dams : List (Option ℕ) = c.self.inside.dams.parents in
     let depths : List ℕ = c.self.inside.depths.items in
-    let kept = c.self.invariant.held.kept in
+    let kept = c.self.invariant.kept in
     let place : ℕ = c.in-Some.index in
     let sire : Option ℕ = c.find-sire.result.place in
     let dam : Option ℕ = c.find-dam.result.place in
     let at : slice_get (keys_of book) place ≡ Some number = at_position book number place (sym c.in-Some.ensures.index) in
     let m = kept.sires_are.long in
     let here : place < length sires = let w = c.in-Some.ensures.within in omega (arith, w, m) in
-    let sp : c.reserve_calf.new.self.parents ≡ sires = c.reserve_calf.ensures.parents in
-    let dp : c.reserve_calf-2.new.self.parents ≡ dams = c.reserve_calf-2.ensures.parents in
     let a : Animal = c.animal_at-animal.result in
     let entry : slice_get book place ≡ Some (number, a) = entry_from_both book place number a at c.animal_at-animal.ensures in
     let written : c.set.new.self.book ≡ set_value_at book place (with_parents c.args.sire c.args.dam a) =

@@ -1,18 +1,21 @@
-use Rattle.std.proofs.Common.{sym, ◌∙◌, subst, ◌≡◌, ◌<◌, ◌↔◌, ℕ, List, map, Option, Some, Contains, length}
-use Rattle.herd_pedigree.specs.Calves.{calves_at}
+use Rattle.std.proofs.Common.{arith, sym, ap, ◌∙◌, subst, ◌≡◌, ◌<◌, ◌↔◌, ℕ, List, Some, Contains, length}
+use Rattle.std.proofs.lemmas.List.{get_or_default, length-map}
+use Rattle.herd_pedigree.specs.declared.progeny.Family.{Family}
+use Rattle.herd_pedigree.specs.Calves.{alone, chain, first_of}
 use Rattle.herd_pedigree.specs.Places.{parent_at}
 use Rattle.herd_pedigree.specs.Progeny.{Progeny}
-use Rattle.herd_pedigree.proofs.ProgenyFacts.{calves-told, owned, owner-within}
+use Rattle.herd_pedigree.proofs.ProgenyFacts.{calves-shown}
 use Rattle.herd_pedigree.proofs.progeny.Progeny.calves.Goals as goal
 
 pub returns : goal.returns
 returns g c =
-    let inside = c.self.inside in
-    let parents : List (Option ℕ) = inside.parents.items in
+    let families : List Family = c.self.inside.families.items in
     let place : ℕ = c.args.place in
-    let here : place < length parents = subst (λ p. place < length p.parents) (sym c.self.view_is) c.requires in
-    let within = owner-within (λ list. list.items) parents inside.slots.items inside.calves.items c.self.invariant place here in
-    let is : c.as_slice.result.now ≡ calves_at (map (λ list. list.items) inside.calves.items) place =
-    c.as_slice.ensures.value ∙ owned (λ list. list.items) parents inside.slots.items inside.calves.items c.self.invariant place c.index.result.now within c.index.ensures in
-    let P : Progeny → Type 0 = λ p. (calf : ℕ) → Contains c.as_slice.result.now calf ↔ (parent_at p.parents calf ≡ Some place) in
-    subst P c.self.view_is (calves-told parents inside.slots.items (map (λ list. list.items) inside.calves.items) c.self.invariant place c.as_slice.result.now is)
+    let n = length-map families (λ (family : Family). family.parent) in
+    let within : place < length c.args.self.now.parents = c.requires in
+    let seen = ap (λ p. length p.parents) c.self.view_is in
+    let here : place < length families = omega (arith, within, seen, n) in
+    let first : c.index.result.now.first ≡ first_of families place = ap (λ f. f.first) (c.index.ensures ∙ sym (get_or_default families place alone c.index.result.now here)) in
+    let most : c.len.result ≡ length families = c.len.ensures ∙ c.self.inside.families.ok.0 in
+    let P : Progeny → Type 0 = λ p. (calf : ℕ) → Contains (chain c.as_slice.result.now c.len.result c.index.result.now.first) calf ↔ (parent_at p.parents calf ≡ Some place) in
+    subst P c.self.view_is (calves-shown families c.self.invariant place c.as_slice.result.now c.len.result c.index.result.now.first c.as_slice.ensures.value most first)
