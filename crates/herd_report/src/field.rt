@@ -5,18 +5,21 @@ ghost use Rattle.herd_report.specs.Field.{day_in, herd_in, is_animal_number, is_
 use crate::line_fault::LineCause;
 use herd_animal::{AnimalNumber, Day, Herd};
 
+/// The animal number that a field is.
 pub fn animal(text: &[u8], cause: LineCause) -> Result<AnimalNumber, LineCause>
     ensures { result ≡ (if is_animal_number text.now then Ok text.now else Err cause) }
 {
     AnimalNumber::parse(text).or(Err(cause))
 }
 
+/// The day that a field tells.
 pub fn day(text: &[u8], cause: LineCause) -> Result<Day, LineCause>
     ensures { result ≡ (if is_day text.now then Ok (day_in text.now) else Err cause) }
 {
     Day::parse(text).or(Err(cause))
 }
 
+/// The herd that a field tells.
 pub fn herd(text: &[u8], cause: LineCause) -> Result<Herd, LineCause>
     ensures { result ≡ (if is_herd text.now then Ok (herd_in text.now) else Err cause) }
 {
@@ -30,6 +33,7 @@ fn is_unknown(text: &[u8]) -> bool
     text.is_empty() || text == b"0".as_slice()
 }
 
+/// The parent that a field names: none where it's empty or `0`.
 #[tactic(auto, unfolding(crate::specs::Field::is_parent, crate::specs::Field::parent_in))]
 pub fn parent(text: &[u8], cause: LineCause) -> Result<Option<AnimalNumber>, LineCause>
     ensures { result ≡ (if is_parent text.now then Ok (parent_in text.now) else Err cause) }
@@ -41,6 +45,7 @@ pub fn parent(text: &[u8], cause: LineCause) -> Result<Option<AnimalNumber>, Lin
     }
 }
 
+/// Whether a birth is of an embryo: `1`, or empty where it isn't.
 #[tactic(auto, unfolding(crate::specs::Field::is_embryo, crate::specs::Field::is_embryo_flag))]
 pub fn embryo(text: &[u8], cause: LineCause) -> Result<bool, LineCause>
     ensures { result ≡ (if is_embryo_flag text.now then Ok (is_embryo text.now) else Err cause) }
@@ -54,6 +59,7 @@ pub fn embryo(text: &[u8], cause: LineCause) -> Result<bool, LineCause>
     }
 }
 
+/// Nothing, as in each field that a command doesn't use.
 pub fn unused(text: &[u8]) -> Result<(), LineCause>
     ensures { result ≡ (if is_empty text.now then Ok tt else Err LineCause.FieldNotUsed) }
 {

@@ -11,11 +11,13 @@ const MOST_TURNS: u32 = 100_000;
 /// Where as many threads wait for each other as are expected.
 #[derive(Drop)]
 pub struct Start {
+    /// How many threads wait for each other.
     pub expected: u64,
     arrived: AtomicU64,
 }
 
 impl Start {
+    /// A start at which `expected` threads will wait, and none has come.
     pub fn of(expected: u16) -> Start
         ensures { result.expected ≡ expected }
     {
