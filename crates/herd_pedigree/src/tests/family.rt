@@ -15,6 +15,15 @@ pub(super) fn family() -> [Change; 5] {
     ]
 }
 
+/// Three more cows without offspring.
+pub(super) fn cows() -> [Change; 3] {
+    [
+        Change::Birth(Cow(6), *b"2005-01-01", UNKNOWN),
+        Change::Birth(Cow(7), *b"2005-01-01", UNKNOWN),
+        Change::Birth(Cow(8), *b"2005-01-01", UNKNOWN),
+    ]
+}
+
 /// The cow gets her first calf.
 pub(super) fn birth() -> Change {
     Change::Birth(Bull(5), *b"2006-01-01", Pair::of_dam(Cow(2)))

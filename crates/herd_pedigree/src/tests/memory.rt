@@ -1,7 +1,7 @@
 //! A pedigree whose memory is refused answers so and is as before, or it answers in full.
 
-use super::changes::{Change, expect_filed, file, pedigree_of};
-use super::family::{birth, family, no_parents, older_sire, sire};
+use super::changes::{Change, expect_filed, file, file_all, pedigree_of};
+use super::family::{birth, cows, family, no_parents, older_sire, sire};
 use super::seen::{Seen, family_seen};
 use crate::{Frozen, Pedigree, Row};
 use linked_list_allocator::LocalHeap;
@@ -49,17 +49,29 @@ fn refusals(
     TIMES
 }
 
-// What the family's book tells after a change, where there is enough memory.
-fn seen_after(rt: &impl Abort, alloc: Global, change: Change) -> Result<[Seen; 6], Fail> {
+// What the family's book tells after some changes and one more, where there is enough memory.
+fn seen_after(
+    rt: &impl Abort,
+    alloc: Global,
+    before: &[Change],
+    change: Change,
+) -> Result<[Seen; 6], Fail> {
     let mut pedigree = pedigree_of(rt, alloc, &family())?;
+    file_all(rt, &mut pedigree, before)?;
     expect_filed(rt, &mut pedigree, change, None)?;
     Ok(family_seen(rt, &pedigree))
 }
 
-// In a crowded heap a change is refused at first, and then made.
-fn expect_in_time(rt: &impl Abort, alloc: Global, change: Change) -> Result<(), Fail> {
+// In a crowded heap a change that follows some others is refused at first, and then made.
+fn expect_in_time(
+    rt: &impl Abort,
+    alloc: Global,
+    before: &[Change],
+    change: Change,
+) -> Result<(), Fail> {
     let heap = small_heap(alloc)?;
     let mut pedigree = pedigree_of(rt, &heap, &family())?;
+    file_all(rt, &mut pedigree, before)?;
     let mut blocks = crowd(alloc, &heap)?;
     assert!(rt;
         refusals(rt, &mut pedigree, &mut blocks, change) > 0,
@@ -67,28 +79,29 @@ fn expect_in_time(rt: &impl Abort, alloc: Global, change: Change) -> Result<(), 
     );
     assert_eq!(rt;
         family_seen(rt, &pedigree),
-        seen_after(rt, alloc, change)?,
+        seen_after(rt, alloc, before, change)?,
         "{change:?}"
     );
     Ok(())
 }
 
+// The book has eight animals, and no room for a ninth.
 #[test]
 fn adds_an_animal_in_time(rt: HostRuntime) -> Result<(), Fail> {
-    expect_in_time(&rt, rt.alloc(), birth())
+    expect_in_time(&rt, rt.alloc(), &cows(), birth())
 }
 
 // The check is refused first: it searches the descendants.
 #[test]
 fn checks_parents_in_time(rt: HostRuntime) -> Result<(), Fail> {
-    expect_in_time(&rt, rt.alloc(), older_sire())
+    expect_in_time(&rt, rt.alloc(), &[], older_sire())
 }
 
 // Neither asks the check for memory, as nobody gets deeper.
 #[test]
 fn sets_parents_in_time(rt: HostRuntime) -> Result<(), Fail> {
-    expect_in_time(&rt, rt.alloc(), no_parents())?;
-    expect_in_time(&rt, rt.alloc(), sire())
+    expect_in_time(&rt, rt.alloc(), &[], no_parents())?;
+    expect_in_time(&rt, rt.alloc(), &[], sire())
 }
 
 fn rows_of<A: Allocator>(frozen: &Frozen<A>) -> Option<[Row; 5]> {
