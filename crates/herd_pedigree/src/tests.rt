@@ -8,5 +8,6 @@ mod filing;
 mod memory;
 mod names;
 mod refusals;
+pub(crate) mod rows;
 mod seen;
 mod taking_back;

@@ -72,6 +72,8 @@ impl<'a> Columns<'a> {
         }
     }
 
+    // None of the four is inlined: a command is written at once where it is wanted, and not moved in pieces.
+    #[inline(never)]
     fn birth(&self) -> Result<Command, LineCause>
         ensures { result ≡ command_or_fault kind.Birth (texts_of self.now) }
     {
@@ -92,6 +94,7 @@ impl<'a> Columns<'a> {
         })
     }
 
+    #[inline(never)]
     fn parents(&self) -> Result<Command, LineCause>
         ensures { result ≡ command_or_fault kind.Parents (texts_of self.now) }
     {
@@ -105,6 +108,7 @@ impl<'a> Columns<'a> {
         Ok(Command::Parents { animal, sire, dam })
     }
 
+    #[inline(never)]
     fn transfer(&self) -> Result<Command, LineCause>
         ensures { result ≡ command_or_fault kind.Transfer (texts_of self.now) }
     {
@@ -123,6 +127,7 @@ impl<'a> Columns<'a> {
         })
     }
 
+    #[inline(never)]
     fn exit(&self) -> Result<Command, LineCause>
         ensures { result ≡ command_or_fault kind.Exit (texts_of self.now) }
     {

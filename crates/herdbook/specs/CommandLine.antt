@@ -7,7 +7,7 @@ use Rattle.clap.specs.declared.builder.command.Command.{Command}
 use Rattle.clap.specs.declared.builder.command.Command.TheViews.{out-Command}
 use Rattle.clap.specs.declared.builder.value_parser.ValueParser.TheVariants.{Signed}
 use Rattle.herd_pool.specs.declared.limits.TheConstants.{MOST_WORKERS}
-use Rattle.herdbook.specs.declared.desks.TheConstants.{MOST_DESKS}
+use Rattle.herd_office.specs.declared.limits.TheConstants.{MOST_DESKS}
 use Rattle.herdbook.specs.declared.program.TheConstants.{LIMITS}
 
 -- a command that reads words by this line, and has no global argument

@@ -7,7 +7,7 @@ use Rattle.herdbook.specs.declared.arguments.Request.{Request}
 use Rattle.herdbook.specs.declared.arguments.Request.TheVariants.{File as FileAsked, Inbreeding as InbreedingAsked, Certificate as CertificateAsked, Mating as MatingAsked, Inverse as InverseAsked, Clerks as ClerksAsked}
 use Rattle.herdbook.specs.declared.arguments.Task.{Task}
 use Rattle.herdbook.specs.declared.arguments.Task.TheVariants.{Run, Clerks}
-use Rattle.herdbook.specs.declared.desks.TheConstants.{MOST_DESKS}
+use Rattle.herd_office.specs.declared.limits.TheConstants.{MOST_DESKS}
 use Rattle.herd_report.specs.Run.{IsOrder}
 
 -- mating advice is ordered for this dam and these sires

@@ -8,11 +8,11 @@ ghost use Rattle.herdbook.specs.CommandLine.{IsCommandOf, certificate_line, cler
 ghost use Rattle.herdbook.specs.Request.{IsTask, IsTaskFor};
 ghost use Rattle.herdbook.specs.Words.{IsAsked, IsAskedOfClerks, IsAskedOfInbreeding, IsFirstFault, IsNumberOr, IsRefused, IsUnread, IsWrongNumber, text_of, texts_of};
 
-use crate::desks::MOST_DESKS;
 use crate::help;
 use crate::program::LIMITS;
 use clap::{Arg, ArgAction, ArgMatches, Command};
 use herd_animal::{AnimalNumber, NumberFault};
+use herd_office::MOST_DESKS;
 use herd_pool::{DEFAULT_BLOCK, MOST_WORKERS};
 use herd_report::Order;
 use std::alloc::{AllocError, Global};

@@ -1,7 +1,7 @@
 //! A clerk, who files commands at a desk one after the other.
 ghost use Rattle.std.specs.Prelude.{◌≡◌, ◌+◌, ◌≤◌, length, None, OnOk};
 ghost use Rattle.herd_register.specs.declared.limits.TheConstants.{MOST_STEPS};
-ghost use Rattle.herdbook.specs.declared.desks.TheConstants.{MOST_DESKS};
+ghost use Rattle.herd_office.specs.declared.limits.TheConstants.{MOST_DESKS};
 
 use crate::clerk_fault::ClerkFault;
 use herd_office::{Desk, Filed, Office, OfficeName, Slip};

@@ -1,7 +1,7 @@
 //! Clerks who file side by side, each in a thread of its own.
 ghost use Rattle.std.specs.Prelude.{◌≡◌, ◌≤◌, IfOk, length, vec_len};
 ghost use Rattle.herd_register.specs.declared.limits.TheConstants.{MOST_STEPS};
-ghost use Rattle.herdbook.specs.declared.desks.TheConstants.{MOST_DESKS};
+ghost use Rattle.herd_office.specs.declared.limits.TheConstants.{MOST_DESKS};
 
 use crate::clerk::{Clerk, Turn};
 use crate::clerk_fault::ClerkFault;

@@ -4,9 +4,9 @@ ghost use Rattle.herd_register.specs.Register.{AreLimits};
 ghost use Rattle.herd_register.specs.declared.limits.TheConstants.{MOST_STEPS};
 ghost use Rattle.herd_report.specs.CommandFile.{commands};
 ghost use Rattle.herd_office.specs.Parts.{AreNamed};
+ghost use Rattle.herd_office.specs.declared.limits.TheConstants.{MOST_DESKS};
 ghost use Rattle.herdbook.specs.Clerks.{EndsClerks, IsFiledBy, office_limits};
 ghost use Rattle.herdbook.specs.Summary.{IsSummaryOf, TellsOf, count_of};
-ghost use Rattle.herdbook.specs.declared.desks.TheConstants.{MOST_DESKS};
 
 use crate::clerk::{Clerk, Turn};
 use crate::clerk_fault::ClerkFault;
@@ -20,9 +20,6 @@ use std::io::{Read, Write};
 use std::marker::Brand;
 use std::sync::Wait;
 use std::thread::Threads;
-
-/// The most desks that clerks may have. The help of `clerks` writes the number too.
-pub const MOST_DESKS: u16 = 16;
 
 /// Reads a command file, has its commands filed at this many desks, and writes how many calls of each desk were
 /// answered, how many steps and animals there are then, and how many steps an inspector has seen.

@@ -3,6 +3,7 @@ ghost use Rattle.herd_pedigree.specs.Lawful.{IsLawful};
 ghost use Rattle.herd_pedigree.specs.declared.TheConstants.{DEPTH_LIMIT, MOST_ANIMALS};
 
 use super::freeze_list;
+use crate::tests::rows::row_at;
 use crate::{Animal, Frozen, Parents, Row};
 use herd_animal::{AnimalNumber, Day, Herd};
 use linked_list_allocator::LocalHeap;
@@ -79,7 +80,7 @@ fn rows_in<A: Allocator>(frozen: &Frozen<A>) -> Option<[Row; 3]> {
     if frozen.len() != 3 {
         return None;
     }
-    Some([*frozen.row(0), *frozen.row(1), *frozen.row(2)])
+    Some([row_at(frozen, 0)?, row_at(frozen, 1)?, row_at(frozen, 2)?])
 }
 
 #[test]

@@ -2,6 +2,7 @@
 
 use super::changes::{Change, expect_filed, file, file_all, pedigree_of};
 use super::family::{birth, cows, family, no_parents, older_sire, sire};
+use super::rows::row_at;
 use super::seen::{Seen, family_seen};
 use crate::{Frozen, Pedigree, Row};
 use linked_list_allocator::LocalHeap;
@@ -109,11 +110,11 @@ fn rows_of<A: Allocator>(frozen: &Frozen<A>) -> Option<[Row; 5]> {
         return None;
     }
     Some([
-        *frozen.row(0),
-        *frozen.row(1),
-        *frozen.row(2),
-        *frozen.row(3),
-        *frozen.row(4),
+        row_at(frozen, 0)?,
+        row_at(frozen, 1)?,
+        row_at(frozen, 2)?,
+        row_at(frozen, 3)?,
+        row_at(frozen, 4)?,
     ])
 }
 

@@ -64,7 +64,15 @@ fn rows_in<A: Allocator>(frozen: &Frozen<A>) -> Option<[Row; 3]> {
     if frozen.len() != 3 {
         return None;
     }
-    Some([*frozen.row(0), *frozen.row(1), *frozen.row(2)])
+    Some([row_at(frozen, 0)?, row_at(frozen, 1)?, row_at(frozen, 2)?])
+}
+
+fn row_at<A: Allocator>(frozen: &Frozen<A>, place: u32) -> Option<Row> {
+    if place < frozen.len() {
+        Some(*frozen.row(place))
+    } else {
+        None
+    }
 }
 
 #[test]
