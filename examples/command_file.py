@@ -5,7 +5,8 @@
 
 The spreadsheet is a CSV file with commas, in UTF-8 with a byte-order mark or without. It has the columns id, sex, born,
 sire, dam and owner, in any order and with any others beside them; its rows stand in any order. sex is M or F (or male,
-female), born is YYYY-MM-DD or DD.MM.YYYY, sire and dam are ids of the same spreadsheet, or empty. What it does:
+female), born is YYYY-MM-DD or DD.MM.YYYY, sire and dam are ids of the same spreadsheet, or empty, 0 or - where they are
+unknown. What it does:
 
 - gives each animal a number: breed, country, sex, and twelve digits that count the animals in order of birth;
 - adds a parent that has no row as a founder, born on the day of --founders;
@@ -25,6 +26,7 @@ import sys
 
 COLUMNS = ["id", "sex", "born", "sire", "dam", "owner"]
 SEXES = {"M": "M", "MALE": "M", "F": "F", "FEMALE": "F"}
+UNKNOWN = ("", "0", "-")
 NO_OWNER = 99999999
 
 
@@ -65,6 +67,7 @@ def read_animals(file):
         else:
             row["sex"] = SEXES[row["sex"].upper()]
             row["born"] = day_of(row["born"])
+            row["sire"], row["dam"] = ("" if row[column] in UNKNOWN else row[column] for column in ("sire", "dam"))
             animals[row["id"]] = row
     return animals
 

@@ -2,14 +2,17 @@
 """program.py PROGRAM: tries the built herd book program from outside.
 
 It runs the examples of the README as they stand there, the script and the recipes of `examples/`, each order on the
-sample books beside `reference.py`, help and its examples, each status and text of the README's table, and then each
-order on a small book with the nth growth of memory, read, write or start of a thread refused (`refuse.c`), for n from 1
-until a run meets no refusal; and the races of `office_timing`, which the gate built too. The last line is `N passed, M failed`; the status is 1 if anything failed.
+sample books beside `reference.py`, help, whose texts stand in `help/`, and its examples, the limits, each status and
+text of the README's table but for `no reader's place`, and then each order on a small book with the nth growth of
+memory, read, write or start of a thread refused (`refuse.c`), for n from 1 until a run meets no refusal; writes of long
+texts too. Last come the programs that are to be timed, which the gate built too. The last line is `N passed, M failed`;
+the status is 1 if anything failed.
 """
 import concurrent.futures
 import csv
 import fractions
 import importlib.util
+import itertools
 import os
 import pathlib
 import re
@@ -26,6 +29,8 @@ TOP = pathlib.Path(__file__).resolve().parent.parent
 BOOKS = [TOP / "examples" / name for name in ("first.csv", "ayrshire.csv")]
 HEADER = "kind,animal,day,sire,dam,from,to\n"
 SECONDS = 60
+# the bytes of a part, in which long texts are written
+PART = 65_536
 
 RACES = [
     "a calf gets its sire, then its dam",
@@ -81,6 +86,11 @@ def founder(number):
 
 def animal(sex, number):
     return f"HOLGBR{sex}{number:012}"
+
+
+def males(count):
+    """So many founders of one birth day."""
+    return HEADER + "".join(founder(animal("M", one)) for one in range(1, count + 1))
 
 
 def full_sibs(generations):
@@ -187,6 +197,7 @@ class Checks:
         accepted = "".join(f"{serial},accepted\n" for serial in range(1, 502))
         self.expect("the society's book", wrote(accepted), ["file"], made.stdout)
         self.encodings(script, room, made)
+        self.unknown_parents(script, room)
         self.recipes(room, made.stdout)
 
     def encodings(self, script, room, made):
@@ -199,6 +210,15 @@ class Checks:
             done = subprocess.run(script, cwd=room, input=given, capture_output=True, timeout=SECONDS)
             found = Done(done.returncode, done.stdout, done.stderr)
             self.count(found == wanted, f"command_file.py: {given[:4]!r}: {found}")
+
+    def unknown_parents(self, script, room):
+        """An unknown parent's cell is empty, `0` or `-`, and no founder is made of it."""
+        for unknown in "", "0", "-":
+            rows = f"id,sex,born,sire,dam,owner\na,M,2000-01-01,{unknown},{unknown},x\nb,F,2001-01-01,a,{unknown},x\n"
+            done = subprocess.run(script, cwd=room, input=rows, capture_output=True, text=True, timeout=SECONDS)
+            first, second = animal("M", 1), animal("F", 2)
+            wanted = HEADER + f"birth,{first},2000-01-01,0,0,,1\nbirth,{second},2001-01-01,{first},0,,1\n"
+            self.count((done.stdout, done.stderr) == (wanted, ""), f"command_file.py: unknown as {unknown!r}: {done}")
 
     def recipes(self, room, book):
         listed = self.run(["inbreeding"], book).out.decode()
@@ -241,6 +261,21 @@ class Checks:
             self.orders_on(path.name, path.read_text())
         self.orders_on("full sibs", full_sibs(7))
         self.orders_on("no records", HEADER)
+        for text in BOOKS[1].read_text(), full_sibs(7):
+            self.inverse_by_table(text)
+
+    def inverse_by_table(self, text):
+        """What the animals add, summed up by row and column and mirrored, times the relationship matrix is the identity."""
+        book = reference.filed(text)[0]
+        numbers, relationship = list(book.animals), book.relationships()
+        inverse = dict.fromkeys(itertools.product(numbers, numbers), 0)
+        for line in self.run(["inverse"], text).out.decode().splitlines():
+            _, row, column, value = line.split(",")
+            for at in {(row, column), (column, row)}:
+                inverse[at] += fractions.Fraction(value)
+        product = lambda row, column: sum(inverse[row, one] * relationship(one, column) for one in numbers)
+        wrong = [at for at in inverse if product(*at) != (at[0] == at[1])]
+        self.count(numbers and not wrong, f"the inverse times the relationships isn't the identity at {wrong[:9]}")
 
     def orders_on(self, name, text):
         numbers = sorted(reference.filed(text)[0].animals)
@@ -295,7 +330,7 @@ class Checks:
     def help_of(self, order):
         asked = self.run([*order, "--help"])
         text = asked.out.decode()
-        self.count(asked.status == 0 and not asked.err, f"help: {order}: {asked}")
+        self.count(asked == wrote((TOP / f"tests/help/{(order or ['herdbook'])[0]}.txt").read_text()), f"help: {order}: {asked}")
         self.count(all(len(line) <= 80 for line in text.splitlines()), f"help: {order}: a line is longer than 80 columns: {text}")
         self.count("from standard input" in text and "Usage: " in text, f"help: {order}: what is read isn't told: {text}")
         self.expect("help", asked, ["help", *order])
@@ -307,18 +342,32 @@ class Checks:
         done = self.run(words, full_sibs(3))
         self.count(done.status == 0 and done.out, f"help: {order}: its example: {done}")
 
+    # -- limits
+
+    def limits(self):
+        """A book of 60,000 animals is full, and a block may be as long; commands beyond a million are in `line_faults`."""
+        replies = "".join(f"{serial},accepted\n" for serial in range(1, 60_001)) + "60001,refused,2\n"
+        self.expect("a full book", wrote(replies), ["file"], males(60_001))
+        counts = "desk 1 answered 60001\ndesk 2 answered 0\nsteps 60001\nanimals 60000\nseen 60001\n"
+        self.expect("a full book", wrote(counts), ["clerks", "--base", "1000000"], males(60_001))
+        self.expect("the widest block", self.run(["inbreeding"], SMALL), WIDEST_BLOCK, SMALL)
+        for words, limits in (["inbreeding"], ["1 to 16", "1 to 60,000"]), (["clerks"], ["1 to 16", "to 1,000,000"]):
+            told = self.run([*words, "--help"]).out.decode()
+            self.count(all(limit in told for limit in limits), f"help: {words}: its limits: {told}")
+
     # -- the table of statuses
 
     def words(self):
-        for words in [
-            [], ["sell"], ["file", "x"], ["inbreeding", "--workers", "17"], ["inbreeding", "--workers", "0"],
-            ["inbreeding", "--block", "0"], ["inbreeding", "--block", "60001"], ["inbreeding", "--workers", "many"],
-            ["certificate"], ["mating", "--dam", animal("F", 1)], ["mating", animal("M", 1)], ["inverse", "--desks", "1"],
-            ["clerks", "--desks", "0"], ["clerks", "--desks", "17"], ["clerks", "--base", "1000001"], ["clerks", "--base", "-1"],
+        for words, told in [
+            ([], "Usage: "), (["sell"], "'sell'"), (["file", "x"], "'x'"), (["inbreeding", "--workers", "17"], "'17'"),
+            (["inbreeding", "--workers", "0"], "'0'"), (["inbreeding", "--block", "0"], "'0'"), (["inbreeding", "--block", "60001"], "'60001'"),
+            (["inbreeding", "--workers", "many"], "'many'"), (["certificate"], "<NUMBER>"), (["mating", "--dam", animal("F", 1)], "<SIRE>"),
+            (["mating", animal("M", 1)], "--dam <NUMBER>"), (["inverse", "--desks", "1"], "'--desks'"), (["clerks", "--desks", "0"], "'0'"),
+            (["clerks", "--desks", "17"], "'17'"), (["clerks", "--base", "1000001"], "'1000001'"), (["clerks", "--base", "-1"], "'-1'"),
         ]:  # fmt: skip
             done = self.run(words, HEADER)
-            told = done.err.startswith(b"error: ") or b"Usage" in done.err
-            self.count(done.status == 2 and not done.out and told, f"no command line: {words}: {done}")
+            right = done.err.startswith(b"error: ") or not words
+            self.count(done.status == 2 and not done.out and right and told.encode() in done.err, f"no command line: {words}: {done}")
         for words in [b"\xff"], [b"certificate", b"HOLGBRM00000000000\xff"], [b"mating", b"--dam", b"\xc3", b"M"]:
             self.expect("words", fault("a word isn't UTF-8 text", status=2), words)
 
@@ -409,17 +458,14 @@ class Checks:
         self.count(False, f"{what}: {words}: still refused")
 
     def refused_growths(self):
-        def is_right(order):
-            faults = [r"no memory", while_reading(order)]
-            faults += ["no thread"] if order in ("inbreeding", "clerks") else []
-            return lambda wanted, done: done == wanted or is_fault(order, wanted, done, faults)
-
-        for words in each_order():
-            refused = self.until_none("growth", words, SMALL, {"REFUSE": "growth"}, is_right(words[0]))
-            self.count(refused, f"no growth was refused: {words}")
-            self.until_none("all growths from", words, SMALL, {"REFUSE": "growth", "REFUSE_LAST": 1 << 40}, is_right(words[0]))
+        for words in [*each_order(), WIDEST_BLOCK]:
+            for what, last in ("growth", {}), ("all growths from", {"REFUSE_LAST": 1 << 40}):
+                right = Growths(words)
+                refused = self.until_none(what, words, SMALL, {"REFUSE": "growth"} | last, right)
+                self.count(refused and right.filed, f"no growth was refused, or none once records were read: {words}")
         for words in ["--help"], ["clerks", "--help"], ["--version"], ["inbreeding", "--workers", "17"], ["certificate", "M"], [b"\xff"], []:
-            self.until_none("growth", words, "", {"REFUSE": "growth"}, is_right(""))
+            right = lambda wanted, done: done == wanted or done == fault("no memory")
+            self.until_none("growth", words, "", {"REFUSE": "growth"}, right)
 
     def refused_growths_before_a_line_fault(self):
         """A line fault is told before a want of memory while filing: once a file is read, no refused growth hides it."""
@@ -444,6 +490,9 @@ class Checks:
         for words in each_order():
             right = lambda wanted, done: is_fault(words[0], wanted, done, [r"record (\d+): fault 11 Read"])
             self.count(self.until_none("read", words, SMALL, {"REFUSE": "read"}, right), f"no read was refused: {words}")
+        for words in ["--help"], ["mating", "--help"], ["--version"], ["sell"], ["certificate", "M"], [b"\xff"]:
+            asked = self.until_none("read", words, SMALL, {"REFUSE": "read"}, lambda wanted, done: False)
+            self.count(asked == 0, f"a book was read for words that ask for none: {words}")
 
     def refused_writes(self):
         for words in [*each_order(), ["--help"]]:
@@ -456,10 +505,54 @@ class Checks:
             kept = lambda wanted, done: (done.status, done.out) == (wanted.status, wanted.out)
             self.count(self.until_none("told", words, SMALL, {"REFUSE": "told"}, kept), f"nothing was told: {words}")
 
+    def long_texts(self):
+        """A text of several parts is written part by part; where a write is refused, the parts before it are there."""
+        text = males(12_000) + founder(animal("F", 1))
+        sires = [animal("M", one) for one in range(1, 5_001)]
+        for words in ["file"], ["inbreeding"], ["inverse"], ["mating", "--dam", animal("F", 1), *sires]:
+            lengths = []
+
+            def is_right(wanted, done):
+                lengths.append(len(done.out))
+                return done == wrote(wanted.out[: len(done.out)].decode(), "herdbook: write fault\n", 1)
+
+            writes = self.until_none("part", words, text, {"REFUSE": "write"}, is_right)
+            longest = len(self.run(words, text).out)
+            # the last call of the check met no refusal
+            parts = [after - before for before, after in zip(lengths[:writes], lengths[1:writes])]
+            self.count(lengths[:1] == [0] and parts and all(PART <= part < 2 * PART for part in parts), f"parts: {words[:3]}: {lengths}")
+            self.count(0 < longest - lengths[writes - 1] < 2 * PART, f"the last part: {words[:3]}: {longest}, {lengths}")
+
+    # -- the programs that are to be timed
+
+    def timing(self, name):
+        return Checks(TOP / f"crates/{name}/out/{name}", self.room)
+
+    def timed_offices(self):
+        """Births of `office_timing`, more of them than a book takes too, with and without inspectors."""
+        office = self.timing("office_timing")
+        for births, desks, inspectors in (0, 1, 0), (9, 16, 15), (500, 3, 1), (60_001, 1, 0):
+            told = f"{min(births, 60_000)} accepted, {births} steps\n"
+            office.expect("births", wrote(told), ["births", str(births), str(desks), str(inspectors)])
+        for before, births, inspectors in (3, 5, 0), (7, 8, 1):
+            done = office.run(["beside", str(before), str(births), str(inspectors)])
+            told = f"{before + births} accepted, {before + births} steps\n"
+            times = re.fullmatch(r"(\d+) ns longest, (\d+) ns in all\n", done.err.decode())
+            longest, total = map(int, times.groups()) if times else (0, 0)
+            right = (done.status, done.out) == (0, told.encode()) and 0 < longest <= total <= births * longest
+            office.count(right, f"beside: {before}, {births}, {inspectors}: {done}")
+        self.passed, self.failed = self.passed + office.passed, self.failed + office.failed
+
+    def timed_pedigrees(self):
+        """Each task of `pedigree_timing` tells how many animals there are."""
+        pedigree = self.timing("pedigree_timing")
+        for words, animals in (["births", "100"], 100), (["freeze", "100"], 100), (["corrections", "130", "40"], 130):
+            pedigree.expect("a timed pedigree", wrote(f"{animals}\n"), words)
+        self.passed, self.failed = self.passed + pedigree.passed, self.failed + pedigree.failed
+
     def races(self):
         """The program of the office's timing runs each of its races three times."""
-        timing = Checks(TOP / "crates/office_timing/out/office_timing", self.room)
-        done = timing.run(["races", "3"])
+        done = self.timing("office_timing").run(["races", "3"])
         lines = [line.rpartition(" ") for line in done.out.decode().splitlines()]
         self.count(done.status == 0 and [text for text, _, _ in lines] == RACES, f"races: {done}")
         counts = [int(count) for _, _, count in lines]
@@ -467,10 +560,16 @@ class Checks:
         self.count(sums == [3] * 5, f"races: {done}")
 
     def refused_threads(self):
+        """Each start of a thread is refused in turn: there are as many as desks, and in a level as workers or as blocks."""
         right = lambda wanted, done: done == fault("no thread")
-        for words in ["inbreeding", "--workers", "4", "--block", "1"], ["clerks", "--desks", "4", "--base", "1000000"]:
-            refused = self.until_none("thread", words, SMALL, {"REFUSE": "thread"}, right)
-            self.count(refused, f"no thread was refused: {words}")
+        inbreeding = lambda workers, block: ["inbreeding", "--workers", str(workers), "--block", str(block)]
+        clerks = lambda desks: ["clerks", "--desks", str(desks), "--base", "1000000"]
+        for words, threads in [
+            (inbreeding(1, 1), 0), (inbreeding(2, 1), 2), (inbreeding(4, 1), 4), (inbreeding(16, 1), 8), (inbreeding(16, 3), 3),
+            (inbreeding(4, 4), 2), (inbreeding(4, 8), 0), (clerks(1), 1), (clerks(4), 4), (clerks(16), 16),
+        ]:  # fmt: skip
+            refused = self.until_none("thread", words, males(8), {"REFUSE": "thread"}, right)
+            self.count(refused == threads, f"{refused} threads were started: {words}")
 
     def little_memory(self):
         """The system itself refuses memory, at each of some sizes of the address space."""
@@ -491,6 +590,26 @@ def inverse_entry(text, row, column):
     return sum(fractions.Fraction(value) for _, r, c, value in parts if {r, c} == {row, column})
 
 
+class Growths:
+    """What a run may answer whose nth growth is refused, asked for one n after the other."""
+
+    def __init__(self, words):
+        self.order, self.latest, self.filed = words[0], 0, False
+        self.faults = ["no memory", while_reading(self.order)]
+        # a level of one block starts no thread
+        self.faults += ["no thread"] if "clerks" in words or words[-2:] == ["--block", "1"] else []
+
+    def __call__(self, wanted, done):
+        entry = re.match(rb"herdbook: record (\d+): ", done.err)
+        if entry:
+            # a later growth is never told of an earlier record
+            is_later, self.latest = int(entry.group(1)) >= self.latest, int(entry.group(1))
+            self.filed = False
+            return is_later and is_fault(self.order, wanted, done, self.faults)
+        self.filed |= self.latest > 0 and done == fault("no memory")
+        return done == wanted or is_fault(self.order, wanted, done, self.faults)
+
+
 class Folder:
     """A folder as standard input."""
 
@@ -502,6 +621,10 @@ class Folder:
 
 
 SMALL = full_sibs(4) + f"exit,{animal('M', 1)},2010-01-01,,,,\nparents,{animal('F', 8)},,{animal('M', 1)},0,,\n" + founder(animal("M", 1))
+
+
+# one block in each level
+WIDEST_BLOCK = ["inbreeding", "--workers", "3", "--block", "60000"]
 
 
 def each_order():
@@ -543,9 +666,9 @@ def main(program):
         subprocess.run(["cc", "-O1", "-shared", "-fPIC", "-o", f"{room}/refuse.so", TOP / "tests/refuse.c", "-ldl"], check=True)
         checks = Checks(program, room)
         for group in [
-            checks.readme, checks.examples, checks.help, checks.orders, checks.clerks, checks.words, checks.wrong_numbers, checks.line_faults, checks.other_statuses,
+            checks.readme, checks.examples, checks.help, checks.orders, checks.clerks, checks.limits, checks.words, checks.wrong_numbers, checks.line_faults, checks.other_statuses,
             checks.failing_writes, checks.refused_growths, checks.refused_growths_before_a_line_fault, checks.refused_reads, checks.refused_writes, checks.refused_threads,
-            checks.little_memory, checks.races,
+            checks.long_texts, checks.little_memory, checks.timed_offices, checks.timed_pedigrees, checks.races,
         ]:  # fmt: skip
             before = checks.passed, checks.failed
             try:
