@@ -351,9 +351,6 @@ class Checks:
         counts = "desk 1 answered 60001\ndesk 2 answered 0\nsteps 60001\nanimals 60000\nseen 60001\n"
         self.expect("a full book", wrote(counts), ["clerks", "--base", "1000000"], males(60_001))
         self.expect("the widest block", self.run(["inbreeding"], SMALL), WIDEST_BLOCK, SMALL)
-        for words, limits in (["inbreeding"], ["1 to 16", "1 to 60,000"]), (["clerks"], ["1 to 16", "to 1,000,000"]):
-            told = self.run([*words, "--help"]).out.decode()
-            self.count(all(limit in told for limit in limits), f"help: {words}: its limits: {told}")
 
     # -- the table of statuses
 
@@ -516,12 +513,12 @@ class Checks:
                 lengths.append(len(done.out))
                 return done == wrote(wanted.out[: len(done.out)].decode(), "herdbook: write fault\n", 1)
 
-            writes = self.until_none("part", words, text, {"REFUSE": "write"}, is_right)
-            longest = len(self.run(words, text).out)
-            # the last call of the check met no refusal
-            parts = [after - before for before, after in zip(lengths[:writes], lengths[1:writes])]
-            self.count(lengths[:1] == [0] and parts and all(PART <= part < 2 * PART for part in parts), f"parts: {words[:3]}: {lengths}")
-            self.count(0 < longest - lengths[writes - 1] < 2 * PART, f"the last part: {words[:3]}: {longest}, {lengths}")
+            self.until_none("part", words, text, {"REFUSE": "write"}, is_right)
+            # where the parts begin, and the end
+            bounds = [*lengths, len(self.run(words, text).out)]
+            *parts, last = (after - before for before, after in zip(bounds, bounds[1:]))
+            right = bounds[0] == 0 and len(parts) > 1 and all(PART <= part < 2 * PART for part in parts) and 0 < last < 2 * PART
+            self.count(right, f"parts: {words[:3]}: {bounds}")
 
     # -- the programs that are to be timed
 
