@@ -528,7 +528,7 @@ class Checks:
     def timed_offices(self):
         """Births of `office_timing`, more of them than a book takes too, with and without inspectors."""
         office = self.timing("office_timing")
-        for births, desks, inspectors in (0, 1, 0), (9, 16, 15), (500, 3, 1), (60_001, 1, 0):
+        for births, desks, inspectors in (0, 1, 0), (9, 16, 15), (50, 1, 0), (50, 3, 2), (500, 3, 1), (60_001, 1, 0):
             told = f"{min(births, 60_000)} accepted, {births} steps\n"
             office.expect("births", wrote(told), ["births", str(births), str(desks), str(inspectors)])
         for before, births, inspectors in (3, 5, 0), (7, 8, 1):
@@ -538,14 +538,24 @@ class Checks:
             longest, total = map(int, times.groups()) if times else (0, 0)
             right = (done.status, done.out) == (0, told.encode()) and 0 < longest <= total <= births * longest
             office.count(right, f"beside: {before}, {births}, {inspectors}: {done}")
+        self.no_tasks(office, "births 9 17 0", "births 9 0 0", "births 9 1 16", "births 9 1", "beside 7 8 2", "beside 7 8", "races", "races -1", "race 9", "")
         self.passed, self.failed = self.passed + office.passed, self.failed + office.failed
 
     def timed_pedigrees(self):
         """Each task of `pedigree_timing` tells how many animals there are."""
         pedigree = self.timing("pedigree_timing")
-        for words, animals in (["births", "100"], 100), (["freeze", "100"], 100), (["corrections", "130", "40"], 130):
-            pedigree.expect("a timed pedigree", wrote(f"{animals}\n"), words)
+        for words, animals in [
+            ("births 0", 0), ("births 100", 100), ("freeze 100", 100), ("corrections 0 0", 1), ("corrections 130 5", 130), ("corrections 130 40", 130),
+        ]:  # fmt: skip
+            pedigree.expect("a timed pedigree", wrote(f"{animals}\n"), words.split())
+        self.no_tasks(pedigree, "corrections 9", "births many", "deaths 7", "births", "")
         self.passed, self.failed = self.passed + pedigree.passed, self.failed + pedigree.failed
+
+    def no_tasks(self, program, *lines):
+        """Words that ask for no task are told, and nothing is done."""
+        for line in lines:
+            done = program.run(line.split())
+            program.count(done.status == 1 and not done.out and done.err, f"no task: {line}: {done}")
 
     def races(self):
         """The program of the office's timing runs each of its races three times."""

@@ -1,6 +1,6 @@
 use crate::fractions::Fraction;
 
-/// An entry of the inverse, by places; the row isn't before the column in age order.
+/// An entry of the inverse, by places. In what an animal contributes the row isn't before the column in age order.
 #[derive(Clone, Copy, Debug, PartialEq, Eq)]
 pub struct Entry {
     pub row: u32,

@@ -2,7 +2,7 @@ ghost use Rattle.std.specs.Prelude.{◌≡◌, ◌<◌, ◌⊎◌};
 ghost use Rattle.std.specs.Int.{IsPowerOfTwo};
 ghost use Rattle.herd_kinship.specs.Fraction.{halved, IsLowest};
 
-/// A number in lowest terms. Zero isn't negative and has the denominator 1.
+/// A number, as `lowest` gives it: in lowest terms, zero not negative and with the denominator 1.
 #[derive(Clone, Copy, Debug, PartialEq, Eq)]
 pub struct Fraction {
     pub negative: bool,

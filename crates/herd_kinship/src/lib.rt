@@ -13,8 +13,6 @@ mod mating_advice;
 mod numerators;
 mod pending;
 mod relationships;
-#[cfg(test)]
-mod tests;
 mod tracing;
 
 pub use coefficients::{Coefficients, coefficients_plain};

@@ -88,7 +88,7 @@ fn make_desk<N: OfficeName>(number: u16, share: Share<N>, history: &History<N>) 
     }
 }
 
-/// Files a command at a desk, on the value under the lock. After a fault all is as it was.
+/// Files a command at a desk, on the value under the lock. After a fault nothing was filed.
 pub fn file_on<N: OfficeName, W: Wait, R: Wait + Drop, A: Allocator + Copy>(
     rt: &W,
     inside: &mut Inside<N, R, A>,

@@ -54,6 +54,3 @@ pub use inspector::Inspector;
 pub use limits::{MOST_DESKS, MOST_INSPECTORS};
 pub use name::OfficeName;
 pub use office::{Inside, Office, OfficeParts, Unclosed};
-
-#[cfg(test)]
-mod tests;

@@ -20,7 +20,6 @@ mod KeptFacts
 mod SetFacts
 mod CheckFacts
 mod UndoFacts
-pub mod FamilyFacts
 mod ListFacts
 mod ProgenyFacts
 mod CarryFacts

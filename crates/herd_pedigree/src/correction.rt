@@ -48,7 +48,7 @@ impl<A: Allocator> Correction<'_, A> {
         }
     }
 
-    // Whether an animal is one of the parents that are exchanged for others.
+    // Whether an animal is one of the new parents.
     fn is_new_parent(&self, place: u32) -> bool
         requires { IsSound self.now }
         ensures { IsTrue result ↔ IsParent (corrected self.now) place self.now.place }

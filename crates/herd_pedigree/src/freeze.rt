@@ -6,9 +6,6 @@ ghost use Rattle.herd_pedigree.specs.Freeze.{AreRanks, AreRows, IsAgeOrder, IsRa
 ghost use Rattle.herd_pedigree.specs.Lawful.{IsLawful};
 ghost use Rattle.herd_pedigree.specs.declared.TheConstants.{DEPTH_LIMIT, MOST_ANIMALS};
 
-#[cfg(test)]
-mod tests;
-
 use crate::age_order::{AgeKey, by_age, ranks_of};
 use crate::animal::Animal;
 use crate::frozen::{Frozen, Row};

@@ -17,8 +17,6 @@ mod pedigree;
 mod progeny;
 mod records;
 mod registered;
-#[cfg(test)]
-mod tests;
 mod undo;
 
 pub use animal::Animal;

@@ -12,7 +12,8 @@ use std::alloc::{AllocError, Allocator};
 ///
 /// The list of coefficients is proved, whatever the gate does. That `enter` is called for each block of a level once,
 /// before the first of its animals, and `trace` for each animal once, on the thread that took its block, is not:
-/// nor is it that several threads take blocks. Gates that count and gates that wait for one another test it.
+/// nor is it that several threads take blocks. Tests try it, on founders with gates that count, and with gates
+/// that wait for one another.
 pub trait Gate: Sync {
     /// A thread has taken this block of the level, and begins with it.
     fn enter(&self, level: u8, block: u32);

@@ -9,8 +9,6 @@ mod merge;
 mod pool;
 mod pool_fault;
 mod queue;
-#[cfg(test)]
-mod tests;
 mod worker;
 
 pub use gate::{Gate, NoGate};

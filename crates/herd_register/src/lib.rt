@@ -18,6 +18,3 @@ pub use limits::{Limits, MOST_STEPS};
 pub use register::Register;
 pub use reply::{Refusal, Reply};
 pub use step::Step;
-
-#[cfg(test)]
-mod tests;

@@ -21,9 +21,6 @@ use itoa::Buffer;
 use std::alloc::{AllocError, Allocator};
 use std::io::Write;
 
-#[cfg(test)]
-mod tests;
-
 /// Writes the certificate of an animal: its record, its coefficient, and its ancestors up to three parents away.
 pub fn write_certificate<W: Write, A: Allocator, F: Allocator, C: Allocator>(
     alloc: A,

@@ -7,9 +7,6 @@ use herd_animal::AnimalNumber;
 use herd_kinship::{Fraction, fraction, hundredths};
 use std::alloc::{AllocError, Allocator};
 
-#[cfg(test)]
-mod tests;
-
 /// Adds the line of an animal and its coefficient.
 pub(crate) fn push_coefficient_line<A: Allocator>(
     output: &mut Output<A>,

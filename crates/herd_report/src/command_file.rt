@@ -17,7 +17,7 @@ pub struct Commands {
     pub fault: Option<LineFault>,
 }
 
-/// Reads a command file of either version, and no record after its first fault.
+/// Reads a command file of either version, up to its first fault.
 ///
 /// The faults `Read` and `Memory` don't stand in the file: they tell the entry that was being read.
 pub fn read_commands<R: Read + Drop>(alloc: Global, reader: R, most: u32) -> Commands
@@ -54,6 +54,3 @@ fn list_commands<R: Read + Drop>(
     }
     Ok(())
 }
-
-#[cfg(test)]
-mod tests;

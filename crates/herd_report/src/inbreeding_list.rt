@@ -15,9 +15,6 @@ use herd_pedigree::Frozen;
 use std::alloc::Allocator;
 use std::io::Write;
 
-#[cfg(test)]
-mod tests;
-
 /// Writes the coefficient of inbreeding of each animal of a book, in age order.
 pub fn write_inbreeding<W: Write, A: Allocator, F: Allocator, C: Allocator>(
     alloc: A,

@@ -17,9 +17,6 @@ use herd_pedigree::Frozen;
 use std::alloc::{AllocError, Allocator};
 use std::io::Write;
 
-#[cfg(test)]
-mod tests;
-
 /// Writes what each animal of a book contributes to the inverse of the table of relationships, in age order.
 pub fn write_inverse<W: Write, A: Allocator, F: Allocator, C: Allocator>(
     alloc: A,

@@ -2,10 +2,6 @@
 #![tactic(auto)]
 
 mod ancestors;
-#[cfg(test)]
-mod assert_writes;
-#[cfg(test)]
-mod breaks_after;
 mod certificate;
 mod coefficient_text;
 mod columns;
@@ -23,10 +19,6 @@ mod records;
 mod replies;
 mod report_fault;
 mod run_fault;
-#[cfg(test)]
-mod stops_after;
-#[cfg(test)]
-mod test_books;
 mod version;
 
 pub use certificate::write_certificate;

@@ -16,9 +16,6 @@ use herd_pedigree::Frozen;
 use std::alloc::{AllocError, Allocator};
 use std::io::Write;
 
-#[cfg(test)]
-mod tests;
-
 /// Writes for each sire the coefficient that a calf of it and the dam would have, or why there is none.
 ///
 /// The dam's relationships with all animals are computed once for all sires, by one tracing and one pass over the book.

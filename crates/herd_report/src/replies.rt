@@ -9,9 +9,6 @@ use herd_register::{Reply, Step};
 use std::alloc::{AllocError, Allocator};
 use std::io::Write;
 
-#[cfg(test)]
-mod tests;
-
 /// Writes a line for each step of a journal, numbered from 1.
 pub fn write_replies<W: Write, A: Allocator>(
     alloc: A,

@@ -48,6 +48,3 @@ fn tell<R: Print + Eprint>(rt: &R, ending: Ending) -> ExitCode {
     }
     ExitCode::from(status)
 }
-
-#[cfg(test)]
-mod tests;

@@ -161,7 +161,7 @@ fn print_mating(
 ) -> io::Result<()>
     requires { AreCoefficients DEPTH_LIMIT frozen.now coefficients.now }
 {
-    // `mating` gives the coefficient that a calf of the two would have, or tells why there can be none.
+    // `mating` gives the coefficient that a calf of the two would have, or tells why there is none.
     match mating(alloc, frozen, coefficients, &sire, &dam) {
         Ok(numerator) => {
             let coefficient = fraction(numerator);

@@ -140,6 +140,3 @@ fn timed<R: Threads + Wait + Clock + Sync>(
     let parts = OfficeParts::new(rt, alloc, LIMITS, 1, 1)?;
     file_beside::<Brand, _>(rt, alloc, parts, before, births, freezing)
 }
-
-#[cfg(test)]
-mod tests;

@@ -9,7 +9,7 @@ use crate::duel::Duel;
 use herd_register::{Command, Limits};
 use std::alloc::{AllocError, Global};
 
-/// What is filed at desk 1 before a race, and then what each desk files, all at the same time.
+/// What desk 1 files before a race, and what each desk files in it.
 #[derive(Drop)]
 pub struct Plan {
     pub limits: Limits,

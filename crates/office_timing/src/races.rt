@@ -40,7 +40,7 @@ impl Firsts {
     }
 }
 
-/// Runs a race of two desks so many times. Each of them ended as it may.
+/// Runs a race of two desks so many times. It is an error where one ended otherwise than it may.
 pub fn duels<R: Threads + Wait + Sync>(
     rt: &R,
     alloc: Global,
@@ -71,7 +71,8 @@ fn first_of(duel: Duel, cast: &Cast, raced: &Raced) -> Result<First>
     }
 }
 
-/// Runs the race of sixteen desks that file one birth so many times. How many were run: each time it was accepted once.
+/// Runs the race of sixteen desks that file one birth so many times. How many were run; it is an error where the birth
+/// wasn't accepted just once.
 pub fn births<R: Threads + Wait + Sync>(rt: &R, alloc: Global, times: u32) -> Result<u32>
     ensures { IfOk result (λ counted. counted ≡ times) }
 {
@@ -144,7 +145,8 @@ impl Shares {
     }
 }
 
-/// Runs the race of two desks for three steps that fit so many times. Each time three of six births were filed.
+/// Runs the race of two desks for three steps that fit so many times. It is an error where not just three of the six
+/// births were filed.
 pub fn rooms<R: Threads + Wait + Sync>(rt: &R, alloc: Global, times: u32) -> Result<Shares>
     ensures { IfOk result (λ shares. shares.none + shares.one + shares.two + shares.three ≡ times) }
 {

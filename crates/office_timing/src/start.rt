@@ -17,7 +17,7 @@ pub struct Start {
 }
 
 impl Start {
-    /// A start at which `expected` threads will wait, and none has come.
+    /// A start for so many threads.
     pub fn of(expected: u16) -> Start
         ensures { result.expected ≡ expected }
     {

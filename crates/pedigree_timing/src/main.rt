@@ -15,6 +15,3 @@ fn main(rt: HostRuntime) -> Result<()> {
     println!(rt; "{animals}")?;
     Ok(())
 }
-
-#[cfg(test)]
-mod tests;

@@ -1,0 +1,5 @@
+//! Tests of animals, days and herds: texts, and how they are read.
+#![tactic(auto)]
+
+#[cfg(test)]
+mod tests;

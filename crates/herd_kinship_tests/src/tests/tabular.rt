@@ -1,0 +1,94 @@
+//! The list of coefficients beside the tabular method.
+
+use super::books::{
+    FATHER_AND_DAUGHTER, FULL_SIBS, HALF_COUSINS, HALF_SIBS, book, generations, with_one_parent,
+};
+use herd_kinship::*;
+use herd_pedigree::Frozen;
+use std::alloc::Global;
+use std::process::Abort;
+use std::test::Fail;
+
+// The table of relationships of all pairs, computed line by line.
+#[derive(Drop)]
+struct Table {
+    width: u32,
+    cells: Vec<u128>,
+}
+
+impl Table {
+    fn index(&self, first: u32, second: u32) -> usize {
+        first.wrapping_mul(self.width).wrapping_add(second) as usize
+    }
+
+    fn at(&self, first: Option<u32>, second: Option<u32>) -> u128 {
+        match (first, second) {
+            (Some(first), Some(second)) => {
+                let index = self.index(first, second);
+                self.cells.get(index).copied().unwrap_or(0)
+            }
+            _ => 0,
+        }
+    }
+
+    fn set(&mut self, first: u32, second: u32, value: u128) {
+        let index = self.index(first, second);
+        if index < self.cells.len() {
+            self.cells[index] = value;
+        }
+    }
+}
+
+fn table_of(alloc: Global, frozen: &Frozen<Global>) -> Result<Table, Fail> {
+    let width = frozen.len();
+    let cells = vec![in alloc; 0u128; width.wrapping_mul(width) as usize]?;
+    let mut table = Table { width, cells };
+    for young in 0..width {
+        let row = frozen.row(young);
+        for old in 0..young {
+            let sire = table.at(Some(old), row.sire);
+            let value = sire.wrapping_add(table.at(Some(old), row.dam)) / 2;
+            table.set(old, young, value);
+            table.set(young, old, value);
+        }
+        let own = ONE.wrapping_add(table.at(row.sire, row.dam) / 2);
+        table.set(young, young, own);
+    }
+    Ok(table)
+}
+
+fn agrees_with_its_table(
+    rt: &impl Abort,
+    alloc: Global,
+    frozen: &Frozen<Global>,
+) -> Result<(), Fail> {
+    let table = table_of(alloc, frozen)?;
+    let coefficients = coefficients_plain(alloc, frozen)?;
+    for place in 0..frozen.len() {
+        let row = frozen.row(place);
+        let expected = table.at(row.sire, row.dam) / 2;
+        assert_eq!(rt; coefficients.numerator(place), expected, "{place}");
+    }
+    Ok(())
+}
+
+#[test]
+fn agrees_with_the_tabular_method(rt: HostRuntime) -> Result<(), Fail> {
+    agrees_with_its_table(&rt, rt.alloc(), &book(&rt, rt.alloc(), &FULL_SIBS)?)?;
+    agrees_with_its_table(&rt, rt.alloc(), &book(&rt, rt.alloc(), &HALF_SIBS)?)?;
+    agrees_with_its_table(
+        &rt,
+        rt.alloc(),
+        &book(&rt, rt.alloc(), &FATHER_AND_DAUGHTER)?,
+    )?;
+    agrees_with_its_table(&rt, rt.alloc(), &book(&rt, rt.alloc(), &HALF_COUSINS)?)?;
+    agrees_with_its_table(&rt, rt.alloc(), &with_one_parent(&rt, rt.alloc())?)
+}
+
+#[test]
+fn agrees_with_the_tabular_method_over_generations(rt: HostRuntime) -> Result<(), Fail> {
+    for last in [4, 28, 60] {
+        agrees_with_its_table(&rt, rt.alloc(), &generations(&rt, rt.alloc(), last)?)?;
+    }
+    Ok(())
+}

@@ -1,0 +1,60 @@
+//! Offices that are closed too soon.
+ghost use Rattle.std.specs.Prelude.{◌≡◌};
+ghost use Rattle.herd_office.specs.Parts.{AreNamed};
+
+use super::commands::founder;
+use super::filing::{closed, limits, not_closed};
+use herd_office::*;
+use std::alloc::Global;
+use std::marker::Brand;
+use std::process::Abort;
+use std::sync::Wait;
+use std::test::*;
+
+#[test]
+fn all_is_handed_back(rt: HostRuntime) -> Result<(), Fail> {
+    let parts = OfficeParts::new(&rt, rt.alloc(), limits(10), 2, 16)?;
+    close_thrice::<Brand, _>(&rt, rt.alloc(), parts)
+}
+
+fn close_thrice<N: OfficeName, R: Wait + Abort>(
+    rt: &R,
+    alloc: Global,
+    parts: OfficeParts<&R>,
+) -> Result<(), Fail>
+    requires { AreNamed N.name N.parts N.all N.book N.limits parts }
+{
+    let (office, mut desks, mut inspectors) = Office::<N, &R>::open(alloc, parts)?;
+    let kept = desks.pop().expect(rt, "two desks");
+    let inspector = inspectors.pop().expect(rt, "an inspector");
+    let handed = (office, desks, inspectors);
+    let (office, mut desks, inspectors) = not_closed(rt, handed, Cause::DeskMissing);
+    let mut desk = desks.pop().expect(rt, "a desk");
+    desk.file(rt, &office, founder(rt, b'M', 1))
+        .expect(rt, "filed");
+    desks.push(desk).expect(rt, "room");
+    desks.push(kept).expect(rt, "room");
+    let handed = (office, desks, inspectors);
+    let (office, desks, mut inspectors) = not_closed(rt, handed, Cause::InspectorMissing);
+    inspectors.push(inspector).expect(rt, "room");
+    assert_eq!(rt; inspectors.len(), 16);
+    expect_one_birth(rt, alloc, &mut inspectors);
+    let register = closed(rt, office, desks, inspectors)?;
+    assert_eq!(rt;
+        (register.journal().len(), register.pedigree().len()),
+        (1, 1)
+    );
+    Ok(())
+}
+
+// Each inspector sees the one birth.
+fn expect_one_birth<N: OfficeName>(
+    rt: &impl Abort,
+    alloc: Global,
+    inspectors: &mut Vec<Inspector<N>>,
+) {
+    for inspector in inspectors {
+        let frozen = inspector.freeze(alloc).expect(rt, "frozen");
+        assert_eq!(rt; (frozen.len(), inspector.steps_seen()), (1, 1));
+    }
+}

@@ -1,0 +1,199 @@
+//! Offices whose memory is refused: each call is made again until it is granted what it asks for.
+ghost use Rattle.std.specs.Prelude.{◌≡◌};
+ghost use Rattle.herd_office.specs.Parts.{AreNamed};
+
+use super::commands::founder;
+use super::filing::{closed, limits};
+use herd_office::*;
+use herd_register::FileFault;
+use linked_list_allocator::LocalHeap;
+use std::alloc::{AllocError, Allocator, Global};
+use std::marker::Brand;
+use std::process::Abort;
+use std::sync::Wait;
+use std::test::*;
+
+// More than the blocks that a heap has.
+const TIMES: u32 = 4_096;
+
+// What takes up a heap, if there is one.
+#[derive(Drop)]
+struct Crowd<'a> {
+    heap: Option<&'a LocalHeap>,
+    blocks: Vec<Vec<u8, &'a LocalHeap>, Global>,
+}
+
+impl Crowd<'_> {
+    // Takes up all that is left, by small blocks.
+    fn fill(&mut self) -> Result<(), AllocError> {
+        let Some(heap) = self.heap else {
+            return Ok(());
+        };
+        for _ in 0..TIMES {
+            match Vec::with_capacity(heap, 16) {
+                Ok(block) => self.blocks.push(block)?,
+                Err(AllocError) => break,
+            }
+        }
+        Ok(())
+    }
+
+    fn give_back(&mut self) {
+        drop(self.blocks.pop());
+    }
+}
+
+// Opens an office and uses it, with a block given back each time that memory is refused. How often it was: while the office
+// was made, while births were filed, and while the book was frozen.
+fn use_in_time<R: Wait + Abort, A: Allocator + Copy>(
+    rt: &R,
+    global: Global,
+    alloc: A,
+    crowd: &mut Crowd<'_>,
+) -> Result<(u32, u32, u32), Fail> {
+    for refused in 0..TIMES {
+        if let Some((filing, freezing)) = opened(rt, global, alloc, crowd)? {
+            return Ok((refused, filing, freezing));
+        }
+        crowd.give_back();
+    }
+    Ok((TIMES, 0, 0))
+}
+
+// How often memory was refused in an office that was opened, if it was.
+fn opened<R: Wait + Abort, A: Allocator + Copy>(
+    rt: &R,
+    global: Global,
+    alloc: A,
+    crowd: &mut Crowd<'_>,
+) -> Result<Option<(u32, u32)>, Fail> {
+    match OfficeParts::new(rt, global, limits(10), 5, 5) {
+        Ok(parts) => used::<Brand, _, _>(rt, global, alloc, parts, crowd),
+        Err(fault) => {
+            assert_eq!(rt; fault, OpenFault::Memory);
+            Ok(None)
+        }
+    }
+}
+
+fn used<N: OfficeName, R: Wait + Abort, A: Allocator + Copy>(
+    rt: &R,
+    global: Global,
+    alloc: A,
+    parts: OfficeParts<&R>,
+    crowd: &mut Crowd<'_>,
+) -> Result<Option<(u32, u32)>, Fail>
+    requires { AreNamed N.name N.parts N.all N.book N.limits parts }
+{
+    let (office, mut desks, mut inspectors) = match Office::<N, &R, A>::open(alloc, parts) {
+        Ok(opened) => opened,
+        Err(fault) => {
+            assert_eq!(rt; fault, OpenFault::Memory);
+            return Ok(None);
+        }
+    };
+    let mut desk = desks.pop().expect(rt, "a desk");
+    let mut inspector = inspectors.pop().expect(rt, "an inspector");
+    let mut filing: u32 = 0;
+    let mut freezing: u32 = 0;
+    for births in 0..5_u16 {
+        let more = file_in_time(
+            rt,
+            global,
+            &office,
+            (&mut desk, &mut inspector),
+            births,
+            crowd,
+        );
+        filing = filing.wrapping_add(more);
+        let more = freeze_in_time(rt, alloc, &mut inspector, births, crowd);
+        freezing = freezing.wrapping_add(more);
+    }
+    desks.push(desk)?;
+    inspectors.push(inspector)?;
+    // Closing takes no memory.
+    crowd.fill()?;
+    let register = closed(rt, office, desks, inspectors)?;
+    assert_eq!(rt; register.journal().len(), 5);
+    Ok(Some((filing, freezing)))
+}
+
+// Files a birth after so many, with a block given back each time. A call that was refused leaves no trace. How often it was.
+fn file_in_time<N: OfficeName, R: Wait + Abort, A: Allocator + Copy>(
+    rt: &R,
+    global: Global,
+    office: &Office<N, &R, A>,
+    (desk, inspector): (&mut Desk<N>, &mut Inspector<N>),
+    births: u16,
+    crowd: &mut Crowd<'_>,
+) -> u32 {
+    for refused in 0..TIMES {
+        match desk.file(rt, office, founder(rt, b'M', births)) {
+            Ok(filed) => {
+                assert_eq!(rt; filed.serial, u32::from(births) + 1);
+                return refused;
+            }
+            Err(fault) => assert_eq!(rt;
+                (fault, desk.answered()),
+                (FileFault::Memory, u64::from(births))
+            ),
+        }
+        let frozen = inspector.freeze(global).expect(rt, "frozen");
+        assert_eq!(rt;
+            (frozen.len(), inspector.steps_seen()),
+            (u32::from(births), u64::from(births))
+        );
+        crowd.give_back();
+    }
+    TIMES
+}
+
+// Freezes the book that has a birth more than was seen, with a block given back each time. How often it was refused.
+fn freeze_in_time<N: OfficeName, A: Allocator + Copy>(
+    rt: &impl Abort,
+    alloc: A,
+    inspector: &mut Inspector<N>,
+    births: u16,
+    crowd: &mut Crowd<'_>,
+) -> u32 {
+    for refused in 0..TIMES {
+        match inspector.freeze(alloc) {
+            Ok(frozen) => {
+                assert_eq!(rt; frozen.len(), u32::from(births) + 1);
+                assert_eq!(rt; inspector.steps_seen(), u64::from(births) + 1);
+                return refused;
+            }
+            Err(fault) => assert_eq!(rt;
+                (fault, inspector.steps_seen()),
+                (FreezeFault::Memory, u64::from(births))
+            ),
+        }
+        crowd.give_back();
+    }
+    TIMES
+}
+
+#[test]
+fn refused_memory_leaves_no_trace(rt: HostRuntime) -> Result<(), Fail> {
+    let heap = LocalHeap::new(rt.alloc(), 16_384)?;
+    let mut crowd = Crowd {
+        heap: Some(&heap),
+        blocks: Vec::new(rt.alloc()),
+    };
+    crowd.fill()?;
+    let (opening, filing, freezing) = use_in_time(&rt, rt.alloc(), &heap, &mut crowd)?;
+    assert!(rt; 0 < opening && 0 < filing && 0 < freezing);
+    Ok(())
+}
+
+// Each growth may be refused once from outside.
+#[test]
+fn the_systems_memory_is_enough(rt: HostRuntime) -> Result<(), Fail> {
+    let mut none = Crowd {
+        heap: None,
+        blocks: Vec::new(rt.alloc()),
+    };
+    let (opening, filing, freezing) = use_in_time(&rt, rt.alloc(), rt.alloc(), &mut none)?;
+    assert!(rt; opening.wrapping_add(filing).wrapping_add(freezing) < 2);
+    Ok(())
+}

@@ -1,0 +1,190 @@
+//! What inspectors see.
+ghost use Rattle.std.specs.Prelude.{◌≡◌};
+ghost use Rattle.herd_office.specs.Parts.{AreNamed};
+
+use super::commands::{founder, number};
+use super::filing::{closed, file_one, limits};
+use herd_office::*;
+use herd_pedigree::Frozen;
+use herd_register::{Refusal, Reply};
+use std::alloc::Global;
+use std::marker::Brand;
+use std::process::Abort;
+use std::sync::Wait;
+use std::test::*;
+use std::thread::{Threads, join};
+
+// Whether the bulls of these digits are there.
+fn has_all(rt: &impl Abort, frozen: &Frozen<Global>, bulls: &[u16]) -> bool {
+    for digits in bulls {
+        let bull = number(rt, b'M', *digits);
+        if frozen.place(&bull).is_none() {
+            return false;
+        }
+    }
+    true
+}
+
+#[test]
+fn an_inspector_sees_what_was_filed(rt: HostRuntime) -> Result<(), Fail> {
+    let parts = OfficeParts::new(&rt, rt.alloc(), limits(3), 1, 1)?;
+    inspect::<Brand, _>(&rt, rt.alloc(), parts)
+}
+
+fn inspect<N: OfficeName + Send + Sync, R: Threads + Wait + Abort + Sync>(
+    rt: &R,
+    alloc: Global,
+    parts: OfficeParts<&R>,
+) -> Result<(), Fail>
+    requires { AreNamed N.name N.parts N.all N.book N.limits parts }
+{
+    let (office, mut desks, mut inspectors) = Office::<N, &R>::open(alloc, parts)?;
+    let desk = desks.pop().expect(rt, "a desk");
+    let mut inspector = inspectors.pop().expect(rt, "an inspector");
+    let (desk, first) = see_unlearnt(rt, alloc, &office, desk, &mut inspector);
+    let mut desk = see_learnt(rt, alloc, &office, desk, &mut inspector, &first);
+    see_refused(rt, alloc, &office, &mut desk, &mut inspector);
+    desks.push(desk).expect(rt, "room");
+    inspectors.push(inspector).expect(rt, "room");
+    let register = closed(rt, office, desks, inspectors)?;
+    assert_eq!(rt; register.journal().len(), 3);
+    Ok(())
+}
+
+// An inspector that was told nothing sees what a thread filed that was joined.
+fn see_unlearnt<N: OfficeName + Send + Sync, R: Threads + Wait + Abort + Sync>(
+    rt: &R,
+    alloc: Global,
+    office: &Office<N, &R>,
+    desk: Desk<N>,
+    inspector: &mut Inspector<N>,
+) -> (Desk<N>, Slip<N>) {
+    let birth = &founder(rt, b'M', 1);
+    let ((desk, filed), ()) = join(rt, move || file_one(rt, office, desk, birth), || ());
+    let frozen = inspector.freeze(alloc).expect(rt, "frozen");
+    assert!(rt; has_all(rt, &frozen, &[1]));
+    let Filed {
+        serial: _,
+        reply: _,
+        slip,
+    } = filed.expect(rt, "filed");
+    assert_eq!(rt; (slip.steps(), inspector.steps_seen()), (1, 1));
+    (desk, slip)
+}
+
+// One that learns a slip has seen its steps, and an older slip takes nothing away.
+fn see_learnt<N: OfficeName, R: Wait + Abort>(
+    rt: &R,
+    alloc: Global,
+    office: &Office<N, &R>,
+    mut desk: Desk<N>,
+    inspector: &mut Inspector<N>,
+    first: &Slip<N>,
+) -> Desk<N> {
+    let birth = founder(rt, b'M', 2);
+    let second = desk.file(rt, office, birth).expect(rt, "filed");
+    inspector.learn(&second.slip);
+    inspector.learn(first);
+    assert_eq!(rt; inspector.steps_seen(), 2);
+    let once = inspector.freeze(alloc).expect(rt, "frozen");
+    let twice = inspector.freeze(alloc).expect(rt, "frozen");
+    assert!(rt; has_all(rt, &once, &[1, 2]) && has_all(rt, &twice, &[1, 2]));
+    assert_eq!(rt; inspector.steps_seen(), 2);
+    desk
+}
+
+// A refused command is a step too, which an inspector sees who was told nothing of it.
+fn see_refused<N: OfficeName, R: Wait + Abort>(
+    rt: &R,
+    alloc: Global,
+    office: &Office<N, &R>,
+    desk: &mut Desk<N>,
+    inspector: &mut Inspector<N>,
+) {
+    let again = founder(rt, b'M', 1);
+    let filed = desk.file(rt, office, again).expect(rt, "filed");
+    let there = Reply::Refused(Refusal::AlreadyThere);
+    assert_eq!(rt; (filed.serial, filed.reply), (3, there));
+    let frozen = inspector.freeze(alloc).expect(rt, "frozen");
+    assert_eq!(rt; (frozen.len(), inspector.steps_seen()), (2, 3));
+}
+
+#[test]
+fn books_only_grow_beside_two_desks(rt: HostRuntime) -> Result<(), Fail> {
+    let parts = OfficeParts::new(&rt, rt.alloc(), limits(1000), 2, 1)?;
+    beside::<Brand, _>(&rt, rt.alloc(), parts)
+}
+
+fn beside<N: OfficeName + Send + Sync, R: Threads + Wait + Abort + Sync>(
+    rt: &R,
+    alloc: Global,
+    parts: OfficeParts<&R>,
+) -> Result<(), Fail>
+    requires { AreNamed N.name N.parts N.all N.book N.limits parts }
+{
+    let (office, mut desks, mut inspectors) = Office::<N, &R>::open(alloc, parts)?;
+    let right = desks.pop().expect(rt, "two desks");
+    let left = desks.pop().expect(rt, "two desks");
+    let inspector = inspectors.pop().expect(rt, "an inspector");
+    let shared = &office;
+    let ((a, b), mut inspector) = join(
+        rt,
+        move || {
+            join(
+                rt,
+                move || file_many(rt, shared, left, 0),
+                move || file_many(rt, shared, right, 500),
+            )
+        },
+        move || freeze_often(rt, alloc, inspector),
+    );
+    inspector.learn(&a.expect(rt, "a slip"));
+    inspector.learn(&b.expect(rt, "a slip"));
+    assert_eq!(rt; inspector.steps_seen(), 1000);
+    let frozen = inspector.freeze(alloc).expect(rt, "frozen");
+    assert_eq!(rt; (frozen.len(), inspector.steps_seen()), (1000, 1000));
+    Ok(())
+}
+
+// A desk files 500 births. The last slip.
+fn file_many<N: OfficeName, R: Wait + Abort>(
+    rt: &R,
+    office: &Office<N, &R>,
+    mut desk: Desk<N>,
+    from: u16,
+) -> Option<Slip<N>> {
+    let mut last = None;
+    for k in 0..500_u16 {
+        let birth = founder(rt, b'M', from.wrapping_add(k));
+        let filed = desk.file(rt, office, birth).expect(rt, "filed");
+        assert_eq!(rt; filed.reply, Reply::Accepted);
+        last = Some(filed.slip);
+    }
+    last
+}
+
+// Freezes 1,000 times. Each book has all animals of the one before.
+fn freeze_often<N: OfficeName>(
+    rt: &impl Abort,
+    alloc: Global,
+    mut inspector: Inspector<N>,
+) -> Inspector<N> {
+    let mut before = inspector.freeze(alloc).expect(rt, "frozen");
+    for _ in 1..1000_u16 {
+        let after = inspector.freeze(alloc).expect(rt, "frozen");
+        assert!(rt; contains(&after, &before));
+        before = after;
+    }
+    inspector
+}
+
+// Both are in age order, so the rows of the earlier book are met one after the other.
+fn contains(after: &Frozen<Global>, before: &Frozen<Global>) -> bool {
+    let mut found = 0;
+    for place in 0..after.len() {
+        if found < before.len() && after.row(place).number == before.row(found).number {
+            found += 1;
+        }
+    }
+    found == before.len()
+}

@@ -1,0 +1,14 @@
+//! A pedigree by itself: what its calls answer, and what they leave.
+
+mod changes;
+mod corrections;
+mod deep_books;
+mod family;
+mod filing;
+mod freezing;
+mod memory;
+mod names;
+mod refusals;
+mod rows;
+mod seen;
+mod taking_back;

@@ -1,0 +1,124 @@
+//! Corrections of parents: what is asked of them, and what they leave.
+
+use super::changes::{Change, expect_faults, expect_filed, pedigree_of};
+use super::family::family;
+use super::names::Name::{Bull, Cow};
+use super::names::{Pair, UNKNOWN, number_of};
+use super::seen::{depth_of, has_calved_after, seen_of};
+use herd_animal::AnimalNumber;
+use herd_pedigree::{Frozen, ParentFault, Parents, Pedigree};
+use std::alloc::Global;
+use std::process::Abort;
+use std::test::Fail;
+
+// A bull, a cow, and a calf of the bull.
+fn births() -> [Change; 3] {
+    [
+        Change::Birth(Bull(1), *b"2000-01-01", UNKNOWN),
+        Change::Birth(Cow(2), *b"2000-01-01", UNKNOWN),
+        Change::Birth(Bull(3), *b"2002-01-01", Pair::of_sire(Bull(1))),
+    ]
+}
+
+// Their book, once the calf has its dam.
+fn corrected(rt: &impl Abort, alloc: Global) -> Result<Pedigree<Global>, Fail> {
+    let mut pedigree = pedigree_of(rt, alloc, &births())?;
+    let correction = Change::Parents(Bull(3), Pair::of(Bull(1), Cow(2)));
+    expect_filed(rt, &mut pedigree, correction, None)?;
+    Ok(pedigree)
+}
+
+#[test]
+fn a_calf_gets_its_dam(rt: HostRuntime) -> Result<(), Fail> {
+    let pedigree = corrected(&rt, rt.alloc())?;
+    assert_eq!(rt; depth_of(&rt, &pedigree, Bull(3)), Some(1));
+    assert!(rt; has_calved_after(&rt, &pedigree, Cow(2), *b"2001-12-31"));
+    assert!(rt; !has_calved_after(&rt, &pedigree, Cow(2), *b"2002-01-01"));
+    Ok(())
+}
+
+fn freeze_corrected(rt: &impl Abort, alloc: Global) -> Result<Frozen<Global>, Fail> {
+    let pedigree = corrected(rt, alloc)?;
+    Ok(pedigree.freeze(alloc)?)
+}
+
+fn places(rt: &impl Abort, frozen: &Frozen<Global>) -> [Option<u32>; 3] {
+    [
+        frozen.place(&Cow(2).number(rt)),
+        frozen.place(&Bull(1).number(rt)),
+        frozen.place(&Bull(3).number(rt)),
+    ]
+}
+
+#[test]
+fn a_corrected_book_is_frozen(rt: HostRuntime) -> Result<(), Fail> {
+    let frozen = freeze_corrected(&rt, rt.alloc())?;
+    assert_eq!(rt; places(&rt, &frozen), [Some(0), Some(1), Some(2)]);
+    assert_eq!(rt; frozen.len(), 3);
+    let parents = Parents {
+        sire: Some(1),
+        dam: Some(0),
+        depth: 1,
+    };
+    assert_eq!(rt; frozen.parents(2), parents);
+    Ok(())
+}
+
+// A bull, his son, and a half sister of the son that is registered last.
+fn half_sibs() -> [Change; 3] {
+    [
+        Change::Birth(Bull(1), *b"2000-01-01", UNKNOWN),
+        Change::Birth(Bull(3), *b"2004-01-01", Pair::of_sire(Bull(1))),
+        Change::Birth(Cow(2), *b"2002-01-01", Pair::of_sire(Bull(1))),
+    ]
+}
+
+fn dam_in(rt: &impl Abort, pedigree: &Pedigree<Global>) -> Option<AnimalNumber> {
+    let animal = seen_of(rt, pedigree, Bull(3)).animal?;
+    animal.dam
+}
+
+// The son gets these parents, and then has this depth.
+fn expect_corrected(
+    rt: &impl Abort,
+    pedigree: &mut Pedigree<Global>,
+    parents: Pair,
+    depth: u8,
+) -> Result<(), Fail> {
+    expect_filed(rt, pedigree, Change::Parents(Bull(3), parents), None)?;
+    assert_eq!(rt; depth_of(rt, pedigree, Bull(3)), Some(depth));
+    assert_eq!(rt; dam_in(rt, pedigree), number_of(rt, parents.dam));
+    Ok(())
+}
+
+// The half sister becomes the dam, and then is unknown again.
+#[test]
+fn a_dam_registered_later_is_set_and_unset(rt: HostRuntime) -> Result<(), Fail> {
+    let mut pedigree = pedigree_of(&rt, rt.alloc(), &half_sibs())?;
+    expect_corrected(&rt, &mut pedigree, Pair::of(Bull(1), Cow(2)), 2)?;
+    expect_corrected(&rt, &mut pedigree, Pair::of_sire(Bull(1)), 1)
+}
+
+// An ancestor with a later birth day than the recorded one, as an offspring of its own line.
+fn returning() -> [(Change, ParentFault); 2] {
+    let day = *b"2006-01-01";
+    [
+        (
+            Change::Birth(Bull(1), day, Pair::of_sire(Bull(4))),
+            ParentFault::TooDeep,
+        ),
+        (
+            Change::Birth(Bull(1), day, Pair::of_sire(Bull(1))),
+            ParentFault::TooDeep,
+        ),
+    ]
+}
+
+#[test]
+fn a_line_that_comes_back_is_too_deep(rt: HostRuntime) -> Result<(), Fail> {
+    let mut pedigree = pedigree_of(&rt, rt.alloc(), &family())?;
+    expect_faults(&rt, &mut pedigree, &returning())?;
+    let parents = Pair::of(Bull(9), Cow(2));
+    let other = Change::Birth(Bull(1), *b"2006-01-01", parents);
+    expect_filed(&rt, &mut pedigree, other, None)
+}

@@ -1,0 +1,110 @@
+//! A book as deep as the limit allows.
+
+use super::changes::{Change, expect_filed, file_all};
+use super::names::Name::{Bull, Cow};
+use super::names::{DayText, Pair, UNKNOWN};
+use super::seen::{depth_of, seen_of};
+use super::taking_back::take_back;
+use herd_pedigree::{DEPTH_LIMIT, ParentFault, Pedigree};
+use std::alloc::Global;
+use std::process::Abort;
+use std::test::Fail;
+
+// The pairs of the generations are born a year apart.
+fn birth_day(generation: u8) -> DayText {
+    let mut text = *b"2000-01-01";
+    text[2] = b'0' + generation / 10 % 10;
+    text[3] = b'0' + generation % 10;
+    text
+}
+
+// The pair of the generation before.
+fn parents_of(generation: u8) -> Pair {
+    match generation.checked_sub(1) {
+        Some(before) => {
+            let serial = u32::from(before);
+            Pair::of(Bull(serial), Cow(serial))
+        }
+        None => UNKNOWN,
+    }
+}
+
+fn file_pair(rt: &impl Abort, pedigree: &mut Pedigree<Global>, generation: u8) -> Result<(), Fail> {
+    let serial = u32::from(generation);
+    let birth = birth_day(generation);
+    let parents = parents_of(generation);
+    let bull = Change::Birth(Bull(serial), birth, parents);
+    let cow = Change::Birth(Cow(serial), birth, parents);
+    expect_filed(rt, pedigree, bull, None)?;
+    expect_filed(rt, pedigree, cow, None)
+}
+
+// An old bull, and a son of his that is older than the pairs.
+fn older_bulls() -> [Change; 2] {
+    [
+        Change::Birth(Bull(101), *b"1980-01-01", UNKNOWN),
+        Change::Birth(Bull(102), *b"1990-01-01", Pair::of_sire(Bull(101))),
+    ]
+}
+
+// Sixty generations of one pair each, and the two older bulls.
+fn deep_book(rt: &impl Abort, alloc: Global) -> Result<Pedigree<Global>, Fail> {
+    let mut pedigree = Pedigree::new(alloc);
+    for generation in 0..DEPTH_LIMIT {
+        file_pair(rt, &mut pedigree, generation)?;
+    }
+    file_all(rt, &mut pedigree, &older_bulls())?;
+    Ok(pedigree)
+}
+
+// The bull of the first generation has this depth, his mate none, and each further pair is a step deeper than he.
+fn expect_depths(rt: &impl Abort, pedigree: &Pedigree<Global>, first: u8) {
+    assert_eq!(rt; depth_of(rt, pedigree, Bull(0)), Some(first));
+    assert_eq!(rt; depth_of(rt, pedigree, Cow(0)), Some(0));
+    for generation in 1..DEPTH_LIMIT {
+        let wanted = generation.checked_add(first);
+        let serial = u32::from(generation);
+        assert_eq!(rt; depth_of(rt, pedigree, Bull(serial)), wanted);
+        assert_eq!(rt; depth_of(rt, pedigree, Cow(serial)), wanted);
+    }
+}
+
+#[test]
+fn a_sire_two_steps_deep_makes_lines_too_long(rt: HostRuntime) -> Result<(), Fail> {
+    let mut pedigree = deep_book(&rt, rt.alloc())?;
+    expect_depths(&rt, &pedigree, 0);
+    let first = seen_of(&rt, &pedigree, Bull(0));
+    let correction = Change::Parents(Bull(0), Pair::of_sire(Bull(102)));
+    expect_filed(&rt, &mut pedigree, correction, Some(ParentFault::TooDeep))?;
+    assert_eq!(rt; seen_of(&rt, &pedigree, Bull(0)), first);
+    expect_depths(&rt, &pedigree, 0);
+    Ok(())
+}
+
+// The first bull gets this sire, and so a depth of one.
+fn set_sire(rt: &impl Abort, pedigree: &mut Pedigree<Global>) -> Result<(), Fail> {
+    let correction = Change::Parents(Bull(0), Pair::of_sire(Bull(101)));
+    expect_filed(rt, pedigree, correction, None)?;
+    expect_depths(rt, pedigree, 1);
+    Ok(())
+}
+
+#[test]
+fn a_founder_as_sire_just_fits(rt: HostRuntime) -> Result<(), Fail> {
+    let mut pedigree = deep_book(&rt, rt.alloc())?;
+    set_sire(&rt, &mut pedigree)?;
+    let calf = Change::Birth(Bull(103), *b"2060-01-01", Pair::of_sire(Bull(59)));
+    expect_filed(&rt, &mut pedigree, calf, Some(ParentFault::TooDeep))?;
+    expect_filed(&rt, &mut pedigree, Change::Parents(Bull(0), UNKNOWN), None)?;
+    expect_depths(&rt, &pedigree, 0);
+    Ok(())
+}
+
+#[test]
+fn sixty_depths_are_taken_back(rt: HostRuntime) -> Result<(), Fail> {
+    let mut pedigree = deep_book(&rt, rt.alloc())?;
+    set_sire(&rt, &mut pedigree)?;
+    take_back(&rt, &mut pedigree);
+    expect_depths(&rt, &pedigree, 0);
+    Ok(())
+}

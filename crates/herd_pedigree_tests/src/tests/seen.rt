@@ -1,0 +1,53 @@
+//! What a pedigree tells of its animals.
+
+use super::names::Name::{Bull, Cow};
+use super::names::{DayText, Name, day};
+use herd_pedigree::{Animal, Pedigree};
+use std::alloc::Allocator;
+use std::process::Abort;
+
+#[derive(Clone, Copy, Debug, PartialEq, Eq)]
+pub struct Seen {
+    pub animal: Option<Animal>,
+    pub depth: Option<u8>,
+    pub has_calved: bool,
+}
+
+/// What the pedigree tells of an animal.
+pub(super) fn seen_of<A: Allocator>(rt: &impl Abort, pedigree: &Pedigree<A>, name: Name) -> Seen {
+    let number = name.number(rt);
+    Seen {
+        animal: pedigree.get(&number),
+        depth: pedigree.depth(&number),
+        has_calved: pedigree.calved_after(&number, day(rt, *b"1990-01-01")),
+    }
+}
+
+/// What the pedigree tells of each animal of the family, and of one that isn't born yet.
+pub(super) fn family_seen<A: Allocator>(rt: &impl Abort, pedigree: &Pedigree<A>) -> [Seen; 6] {
+    [
+        seen_of(rt, pedigree, Bull(9)),
+        seen_of(rt, pedigree, Bull(1)),
+        seen_of(rt, pedigree, Cow(2)),
+        seen_of(rt, pedigree, Cow(3)),
+        seen_of(rt, pedigree, Bull(4)),
+        seen_of(rt, pedigree, Bull(5)),
+    ]
+}
+
+pub(super) fn depth_of<A: Allocator>(
+    rt: &impl Abort,
+    pedigree: &Pedigree<A>,
+    name: Name,
+) -> Option<u8> {
+    pedigree.depth(&name.number(rt))
+}
+
+pub(super) fn has_calved_after<A: Allocator>(
+    rt: &impl Abort,
+    pedigree: &Pedigree<A>,
+    name: Name,
+    text: DayText,
+) -> bool {
+    pedigree.calved_after(&name.number(rt), day(rt, text))
+}

@@ -1,0 +1,174 @@
+//! What no clause says: that the threads work at the same time, that each block is entered and each animal traced
+//! once, and that memory suffices.
+mod books;
+mod gates;
+
+ghost use Rattle.std.specs.Prelude.{◌≤◌, ◌*◌};
+ghost use Rattle.herd_pool.specs.declared.limits.TheConstants.{MOST_WORKERS};
+
+use books::{founders, generations};
+use gates::{AtAnimals, AtBlocks, Counts, Meeting, OneRefused, ThirdFirst};
+use herd_kinship::{ONE, coefficients_plain};
+use herd_pedigree::Frozen;
+use herd_pool::*;
+use std::alloc::Global;
+use std::process::Abort;
+use std::sync::Wait;
+use std::test::Fail;
+use std::thread::Threads;
+
+// Five generations of one male and one female, each of the pair before.
+const FIVE_GENERATIONS: [u128; 10] = [
+    0,
+    0,
+    0,
+    0,
+    ONE / 4,
+    ONE / 4,
+    ONE / 8 * 3,
+    ONE / 8 * 3,
+    ONE / 2,
+    ONE / 2,
+];
+
+// The last two of sixty-one generations.
+const LAST: u128 = 1_152_917_451_867_309_095 << 60;
+
+// How many turns a gate waits for a thread that is running.
+const LONG: u32 = 1_000_000_000;
+
+// The pool gives the list of one thread, by any of these numbers of workers and lengths of blocks.
+fn expect_plain<R: Threads + Wait + Abort + Sync>(
+    rt: &R,
+    alloc: Global,
+    frozen: &Frozen<Global>,
+) -> Result<(), PoolFault> {
+    let plain = coefficients_plain(alloc, frozen)?;
+    for workers in [1, 2, 16] {
+        expect_in_blocks(rt, alloc, frozen, workers, plain.list())?;
+    }
+    Ok(())
+}
+
+fn expect_in_blocks<R: Threads + Wait + Abort + Sync>(
+    rt: &R,
+    alloc: Global,
+    frozen: &Frozen<Global>,
+    workers: u32,
+    wanted: &[u128],
+) -> Result<(), PoolFault>
+    requires { (1 ≤ workers) × (workers ≤ MOST_WORKERS) }
+{
+    for block in [1, 7, 60_000] {
+        let found = coefficients(rt, alloc, frozen, workers, block, &NoGate)?;
+        assert_eq!(rt;
+            found.list(),
+            wanted,
+            "{workers} workers, blocks of {block}"
+        );
+    }
+    Ok(())
+}
+
+#[test]
+fn five_generations(rt: HostRuntime) -> Result<(), Fail> {
+    let frozen = generations(&rt, rt.alloc(), 5)?;
+    let plain = coefficients_plain(rt.alloc(), &frozen)?;
+    assert_eq!(rt; plain.list(), FIVE_GENERATIONS.as_slice());
+    expect_plain(&rt, rt.alloc(), &frozen)?;
+    Ok(())
+}
+
+#[test]
+fn the_deepest_book(rt: HostRuntime) -> Result<(), Fail> {
+    let frozen = generations(&rt, rt.alloc(), 61)?;
+    let plain = coefficients_plain(rt.alloc(), &frozen)?;
+    assert_eq!(rt; plain.len(), 122);
+    assert_eq!(rt; plain.list().last(), Some(&LAST));
+    expect_plain(&rt, rt.alloc(), &frozen)?;
+    Ok(())
+}
+
+#[test]
+fn three_workers_enter_before_any_leaves(rt: HostRuntime) -> Result<(), Fail> {
+    let frozen = founders(&rt, rt.alloc(), 3)?;
+    let gate = AtBlocks(Meeting::of(3, LONG));
+    let found = coefficients(&rt, rt.alloc(), &frozen, 3, 1, &gate)?;
+    assert_eq!(rt; found.list(), [0, 0, 0].as_slice());
+    assert!(rt; !gate.0.is_late());
+    Ok(())
+}
+
+#[test]
+fn two_workers_trace_at_once(rt: HostRuntime) -> Result<(), Fail> {
+    let frozen = generations(&rt, rt.alloc(), 5)?;
+    let gate = AtAnimals(Meeting::of(2, LONG));
+    let found = coefficients(&rt, rt.alloc(), &frozen, 2, 1, &gate)?;
+    assert_eq!(rt; found.list(), FIVE_GENERATIONS.as_slice());
+    assert!(rt; !gate.0.is_late());
+    Ok(())
+}
+
+// The meeting tells workers that run one after another.
+#[test]
+fn one_worker_waits_in_vain(rt: HostRuntime) -> Result<(), Fail> {
+    let frozen = generations(&rt, rt.alloc(), 5)?;
+    let gate = AtAnimals(Meeting::of(2, 1000));
+    let found = coefficients(&rt, rt.alloc(), &frozen, 1, 1, &gate)?;
+    assert_eq!(rt; found.list(), FIVE_GENERATIONS.as_slice());
+    assert!(rt; gate.0.is_late());
+    Ok(())
+}
+
+// Two workers and three blocks: whoever is free takes the third.
+#[test]
+fn a_free_worker_takes_the_next_block(rt: HostRuntime) -> Result<(), Fail> {
+    let frozen = founders(&rt, rt.alloc(), 3)?;
+    let gate = ThirdFirst(Meeting::of(1, LONG));
+    let found = coefficients(&rt, rt.alloc(), &frozen, 2, 1, &gate)?;
+    assert_eq!(rt; found.list(), [0, 0, 0].as_slice());
+    assert!(rt; !gate.0.is_late());
+    Ok(())
+}
+
+#[test]
+fn each_block_and_each_animal_once(rt: HostRuntime) -> Result<(), Fail> {
+    let frozen = founders(&rt, rt.alloc(), 1000)?;
+    let gate = Counts::of(rt.alloc(), 143, 1000)?;
+    let found = coefficients(&rt, rt.alloc(), &frozen, 16, 7, &gate)?;
+    assert_eq!(rt; found.len(), 1000);
+    assert!(rt; found.list().iter().all(|numerator| *numerator == 0));
+    assert!(rt; gate.are_once());
+    Ok(())
+}
+
+// One tracing after another is refused memory. The second call meets no refusal.
+#[test]
+fn memory_refused_to_a_tracing(rt: HostRuntime) -> Result<(), Fail> {
+    let frozen = generations(&rt, rt.alloc(), 5)?;
+    for place in 0..10 {
+        let gate = OneRefused::of(place);
+        let refused = coefficients(&rt, rt.alloc(), &frozen, 2, 1, &gate);
+        assert!(rt;
+            matches!(&refused, Err(PoolFault::Memory)),
+            "tracing {place}"
+        );
+        let found = coefficients(&rt, rt.alloc(), &frozen, 2, 1, &gate)?;
+        assert_eq!(rt; found.list(), FIVE_GENERATIONS.as_slice());
+    }
+    Ok(())
+}
+
+// Where memory was refused, a second call gives the list.
+#[test]
+fn once_more_with_memory(rt: HostRuntime) -> Result<(), Fail> {
+    let Ok(frozen) = generations(&rt, rt.alloc(), 5) else {
+        return Ok(());
+    };
+    let found = match coefficients(&rt, rt.alloc(), &frozen, 2, 1, &NoGate) {
+        Ok(found) => found,
+        Err(_) => coefficients(&rt, rt.alloc(), &frozen, 2, 1, &NoGate)?,
+    };
+    assert_eq!(rt; found.list(), FIVE_GENERATIONS.as_slice());
+    Ok(())
+}

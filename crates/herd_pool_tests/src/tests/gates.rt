@@ -1,0 +1,196 @@
+//! Gates that hold a thread until another has come, gates that count, and gates that refuse memory.
+use herd_pedigree::Frozen;
+use herd_pool::Gate;
+use std::alloc::{AllocError, Allocator, Global};
+use std::sync::atomic::{AtomicBool, AtomicU64, Ordering};
+use std::thread;
+
+/// Waits until so many have come, for at most so many turns.
+#[derive(Drop)]
+pub struct Meeting {
+    expected: u64,
+    turns: u32,
+    arrived: AtomicU64,
+    late: AtomicBool,
+}
+
+impl Meeting {
+    pub(crate) fn of(expected: u64, turns: u32) -> Meeting {
+        Meeting {
+            expected,
+            turns,
+            arrived: AtomicU64::new(0),
+            late: AtomicBool::new(false),
+        }
+    }
+
+    /// Someone has waited for all turns, and fewer have come.
+    pub(crate) fn is_late(&self) -> bool {
+        self.late.load(Ordering::SeqCst)
+    }
+
+    fn arrive(&self) {
+        self.arrived.fetch_add(1, Ordering::SeqCst);
+    }
+
+    fn wait(&self) {
+        for _ in 0..self.turns {
+            if self.arrived.load(Ordering::SeqCst) >= self.expected {
+                return;
+            }
+            thread::yield_now();
+        }
+        self.late.store(true, Ordering::SeqCst);
+    }
+}
+
+/// A meeting where blocks begin.
+#[derive(Drop)]
+pub struct AtBlocks(pub Meeting);
+
+impl Gate for AtBlocks {
+    fn enter(&self, _level: u8, _block: u32) {
+        self.0.arrive();
+        self.0.wait();
+    }
+}
+
+/// A meeting where animals are traced.
+#[derive(Drop)]
+pub struct AtAnimals(pub Meeting);
+
+impl Gate for AtAnimals {
+    fn enter(&self, _level: u8, _block: u32) {}
+
+    fn trace<F: Allocator, A: Allocator + Clone>(
+        &self,
+        alloc: A,
+        frozen: &Frozen<F>,
+        known: &[u128],
+        place: u32,
+    ) -> Result<u128, AllocError> {
+        self.0.arrive();
+        self.0.wait();
+        herd_kinship::trace(alloc, frozen, known, place)
+    }
+}
+
+/// A meeting for which the animal at place 0 waits, until the one at place 2 has come.
+#[derive(Drop)]
+pub struct ThirdFirst(pub Meeting);
+
+impl Gate for ThirdFirst {
+    fn enter(&self, _level: u8, _block: u32) {}
+
+    fn trace<F: Allocator, A: Allocator + Clone>(
+        &self,
+        alloc: A,
+        frozen: &Frozen<F>,
+        known: &[u128],
+        place: u32,
+    ) -> Result<u128, AllocError> {
+        match place {
+            0 => self.0.wait(),
+            2 => self.0.arrive(),
+            _ => {}
+        }
+        herd_kinship::trace(alloc, frozen, known, place)
+    }
+}
+
+/// Counts how often each block of level 0 begins and each animal is traced.
+#[derive(Drop)]
+pub struct Counts {
+    entered: Vec<AtomicU64>,
+    traced: Vec<AtomicU64>,
+    /// Blocks and animals beyond these, and blocks of other levels.
+    others: AtomicU64,
+}
+
+impl Counts {
+    pub(crate) fn of(alloc: Global, blocks: u32, animals: u32) -> Result<Counts, AllocError> {
+        Ok(Counts {
+            entered: zeros(alloc, blocks)?,
+            traced: zeros(alloc, animals)?,
+            others: AtomicU64::new(0),
+        })
+    }
+
+    /// Each block and each animal has come once, and no other.
+    pub(crate) fn are_once(&self) -> bool {
+        are_ones(&self.entered) && are_ones(&self.traced) && self.others.load(Ordering::SeqCst) == 0
+    }
+
+    fn count(&self, counts: &[AtomicU64], at: u32) {
+        match counts.get(at as usize) {
+            Some(count) => count.fetch_add(1, Ordering::SeqCst),
+            None => self.others.fetch_add(1, Ordering::SeqCst),
+        };
+    }
+}
+
+impl Gate for Counts {
+    fn enter(&self, level: u8, block: u32) {
+        if level == 0 {
+            self.count(&self.entered, block);
+        } else {
+            self.others.fetch_add(1, Ordering::SeqCst);
+        }
+    }
+
+    fn trace<F: Allocator, A: Allocator + Clone>(
+        &self,
+        alloc: A,
+        frozen: &Frozen<F>,
+        known: &[u128],
+        place: u32,
+    ) -> Result<u128, AllocError> {
+        self.count(&self.traced, place);
+        herd_kinship::trace(alloc, frozen, known, place)
+    }
+}
+
+/// Refuses memory to one tracing, counted from 0.
+#[derive(Drop)]
+pub struct OneRefused {
+    refused: u64,
+    traced: AtomicU64,
+}
+
+impl OneRefused {
+    pub(crate) fn of(refused: u64) -> OneRefused {
+        OneRefused {
+            refused,
+            traced: AtomicU64::new(0),
+        }
+    }
+}
+
+impl Gate for OneRefused {
+    fn enter(&self, _level: u8, _block: u32) {}
+
+    fn trace<F: Allocator, A: Allocator + Clone>(
+        &self,
+        alloc: A,
+        frozen: &Frozen<F>,
+        known: &[u128],
+        place: u32,
+    ) -> Result<u128, AllocError> {
+        if self.traced.fetch_add(1, Ordering::SeqCst) == self.refused {
+            return Err(AllocError);
+        }
+        herd_kinship::trace(alloc, frozen, known, place)
+    }
+}
+
+fn zeros(alloc: Global, count: u32) -> Result<Vec<AtomicU64>, AllocError> {
+    let mut counts = Vec::new(alloc);
+    for _ in 0..count {
+        counts.push(AtomicU64::new(0))?;
+    }
+    Ok(counts)
+}
+
+fn are_ones(counts: &[AtomicU64]) -> bool {
+    counts.iter().all(|count| count.load(Ordering::SeqCst) == 1)
+}

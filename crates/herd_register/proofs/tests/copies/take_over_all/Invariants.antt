@@ -1,5 +1,0 @@
-use Rattle.std.proofs.Common.{◌≡◌, take}
-use Rattle.herd_register.proofs.tests.copies.take_over_all.Given as goal
-
-abbrev pub invariant-loop-step : goal.invariant-loop-step
-invariant-loop-step g l = (l.copybook.limits ≡ l.initial.copybook.limits) × (l.copybook.journal ≡ take l.step-index l.steps)

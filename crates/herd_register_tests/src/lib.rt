@@ -1,0 +1,5 @@
+//! Tests of the register: replies and books, with and without memory.
+#![tactic(auto)]
+
+#[cfg(test)]
+mod tests;
