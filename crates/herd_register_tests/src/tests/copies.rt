@@ -102,6 +102,7 @@ fn freezes_in_age_order(rt: HostRuntime) -> Result<(), Fail> {
     {
         assert_eq!(rt; frozen.place(number), Some(place as u32));
     }
+    assert!(rt; frozen.len() == 3);
     let calf = frozen.parents(2);
     assert_eq!(rt; (calf.sire, calf.dam), (Some(1), Some(0)));
     Ok(())
