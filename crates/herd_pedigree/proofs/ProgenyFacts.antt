@@ -607,17 +607,17 @@ everywhere : {f g : ℕ → Option ℕ} → ((x : ℕ) → f x ≡ g x) → f �
 everywhere h = λ i x. h x i
 
 -- the four writes that join a calf
-pub joined : (old l1 l2 l3 new : List Family) (c p : ℕ) (first : Option ℕ) →
-    Show l1 (length old) (parent_of old) (previous_of old) (next_of old) (put (Some p) (Some c) (first_of old)) →
-    Show l2 (length l1) (parent_of l1) (put first (Some c) (previous_of l1)) (next_of l1) (first_of l1) →
-    Show l3 (length l2) (parent_of l2) (previous_of l2) (put (Some c) first (next_of l2)) (first_of l2) →
-    Show new (length l3) (put (Some c) (Some p) (parent_of l3)) (previous_of l3) (next_of l3) (first_of l3) →
-    Show new (length old) (put (Some c) (Some p) (parent_of old)) (put first (Some c) (previous_of old)) (put (Some c) first (next_of old)) (put (Some p) (Some c) (first_of old))
-joined old l1 l2 l3 new c p first s t u v =
-    let parents = everywhere v.parents ∙ ap (λ f. put (Some c) (Some p) f) (everywhere u.parents ∙ everywhere t.parents ∙ everywhere s.parents) in
-    let before = everywhere v.before ∙ everywhere u.before ∙ everywhere t.before ∙ ap (λ f. put first (Some c) f) (everywhere s.before) in
-    let after = everywhere v.after ∙ everywhere u.after ∙ ap (λ f. put (Some c) first f) (everywhere t.after ∙ everywhere s.after) in
-    let firsts = everywhere v.firsts ∙ everywhere u.firsts ∙ everywhere t.firsts ∙ everywhere s.firsts in
+pub joined : (old l1 l2 l3 new : List Family) (c p : ℕ) (own shared first : Option ℕ) → own ≡ Some c → shared ≡ Some p → first ≡ first_of old p →
+    Show l1 (length old) (parent_of old) (previous_of old) (next_of old) (put shared own (first_of old)) →
+    Show l2 (length l1) (parent_of l1) (put first own (previous_of l1)) (next_of l1) (first_of l1) →
+    Show l3 (length l2) (parent_of l2) (previous_of l2) (put own first (next_of l2)) (first_of l2) →
+    Show new (length l3) (put (Some c) shared (parent_of l3)) (previous_of l3) (next_of l3) (first_of l3) →
+    Show new (length old) (put (Some c) (Some p) (parent_of old)) (put (first_of old p) (Some c) (previous_of old)) (put (Some c) (first_of old p) (next_of old)) (put (Some p) (Some c) (first_of old))
+joined old l1 l2 l3 new c p own shared first is_own is_shared is_first s t u v =
+    let parents = everywhere v.parents ∙ ap (λ f. put (Some c) shared f) (everywhere u.parents ∙ everywhere t.parents ∙ everywhere s.parents) ∙ ap (λ o. put (Some c) o (parent_of old)) is_shared in
+    let before = everywhere v.before ∙ everywhere u.before ∙ everywhere t.before ∙ ap (λ f. put first own f) (everywhere s.before) ∙ ap (λ o. put o own (previous_of old)) is_first ∙ ap (λ o. put (first_of old p) o (previous_of old)) is_own in
+    let after = everywhere v.after ∙ everywhere u.after ∙ ap (λ f. put own first f) (everywhere t.after ∙ everywhere s.after) ∙ ap (λ o. put o first (next_of old)) is_own ∙ ap (λ o. put (Some c) o (next_of old)) is_first in
+    let firsts = everywhere v.firsts ∙ everywhere u.firsts ∙ everywhere t.firsts ∙ everywhere s.firsts ∙ ap (λ o. put o own (first_of old)) is_shared ∙ ap (λ o. put (Some p) o (first_of old)) is_own in
     record {
       long = v.long ∙ u.long ∙ t.long ∙ s.long;
       parents = λ x. ap (λ f. f x) parents;
@@ -627,19 +627,22 @@ joined old l1 l2 l3 new c p first s t u v =
     }
 
 -- the six that part it from its siblings
-pub parted : (old l1 l2 l3 l4 l5 new : List Family) (c : ℕ) (o next previous : Option ℕ) →
+pub parted : (old l1 l2 l3 l4 l5 new : List Family) (c : ℕ) (own none o next previous : Option ℕ) → own ≡ Some c → none ≡ None → next ≡ next_of old c → previous ≡ previous_of old c →
     Show l1 (length old) (parent_of old) (previous_of old) (next_of old) (put o next (first_of old)) →
     Show l2 (length l1) (parent_of l1) (previous_of l1) (put previous next (next_of l1)) (first_of l1) →
     Show l3 (length l2) (parent_of l2) (put next previous (previous_of l2)) (next_of l2) (first_of l2) →
-    Show l4 (length l3) (parent_of l3) (previous_of l3) (put (Some c) None (next_of l3)) (first_of l3) →
-    Show l5 (length l4) (parent_of l4) (put (Some c) None (previous_of l4)) (next_of l4) (first_of l4) →
-    Show new (length l5) (put (Some c) None (parent_of l5)) (previous_of l5) (next_of l5) (first_of l5) →
-    Show new (length old) (put (Some c) None (parent_of old)) (put (Some c) None (put next previous (previous_of old))) (put (Some c) None (put previous next (next_of old))) (put o next (first_of old))
-parted old l1 l2 l3 l4 l5 new c o next previous s t u v w z =
-    let parents = everywhere z.parents ∙ ap (λ f. put (Some c) None f) (everywhere w.parents ∙ everywhere v.parents ∙ everywhere u.parents ∙ everywhere t.parents ∙ everywhere s.parents) in
-    let before = everywhere z.before ∙ everywhere w.before ∙ ap (λ f. put (Some c) None f) (everywhere v.before ∙ everywhere u.before ∙ ap (λ f. put next previous f) (everywhere t.before ∙ everywhere s.before)) in
-    let after = everywhere z.after ∙ everywhere w.after ∙ everywhere v.after ∙ ap (λ f. put (Some c) None f) (everywhere u.after ∙ everywhere t.after ∙ ap (λ f. put previous next f) (everywhere s.after)) in
-    let firsts = everywhere z.firsts ∙ everywhere w.firsts ∙ everywhere v.firsts ∙ everywhere u.firsts ∙ everywhere t.firsts ∙ everywhere s.firsts in
+    Show l4 (length l3) (parent_of l3) (previous_of l3) (put own none (next_of l3)) (first_of l3) →
+    Show l5 (length l4) (parent_of l4) (put own none (previous_of l4)) (next_of l4) (first_of l4) →
+    Show new (length l5) (put (Some c) none (parent_of l5)) (previous_of l5) (next_of l5) (first_of l5) →
+    Show new (length old) (put (Some c) None (parent_of old)) (put (Some c) None (put (next_of old c) (previous_of old c) (previous_of old))) (put (Some c) None (put (previous_of old c) (next_of old c) (next_of old))) (put o (next_of old c) (first_of old))
+parted old l1 l2 l3 l4 l5 new c own none o next previous is_own is_none is_next is_previous s t u v w z =
+    let written : (f : ℕ → Option ℕ) → put own none f ≡ put (Some c) None f = λ f. ap (λ q. put q none f) is_own ∙ ap (λ q. put (Some c) q f) is_none in
+    let around : (f : ℕ → Option ℕ) → put next previous f ≡ put (next_of old c) (previous_of old c) f = λ f. ap (λ q. put q previous f) is_next ∙ ap (λ q. put (next_of old c) q f) is_previous in
+    let across : (f : ℕ → Option ℕ) → put previous next f ≡ put (previous_of old c) (next_of old c) f = λ f. ap (λ q. put q next f) is_previous ∙ ap (λ q. put (previous_of old c) q f) is_next in
+    let parents = everywhere z.parents ∙ ap (λ f. put (Some c) none f) (everywhere w.parents ∙ everywhere v.parents ∙ everywhere u.parents ∙ everywhere t.parents ∙ everywhere s.parents) ∙ ap (λ q. put (Some c) q (parent_of old)) is_none in
+    let before = everywhere z.before ∙ everywhere w.before ∙ ap (λ f. put own none f) (everywhere v.before ∙ everywhere u.before ∙ ap (λ f. put next previous f) (everywhere t.before ∙ everywhere s.before) ∙ around (previous_of old)) ∙ written (put (next_of old c) (previous_of old c) (previous_of old)) in
+    let after = everywhere z.after ∙ everywhere w.after ∙ everywhere v.after ∙ ap (λ f. put own none f) (everywhere u.after ∙ everywhere t.after ∙ ap (λ f. put previous next f) (everywhere s.after) ∙ across (next_of old)) ∙ written (put (previous_of old c) (next_of old c) (next_of old)) in
+    let firsts = everywhere z.firsts ∙ everywhere w.firsts ∙ everywhere v.firsts ∙ everywhere u.firsts ∙ everywhere t.firsts ∙ everywhere s.firsts ∙ ap (λ q. put o q (first_of old)) is_next in
     record {
       long = z.long ∙ w.long ∙ v.long ∙ u.long ∙ t.long ∙ s.long;
       parents = λ x. ap (λ f. f x) parents;
@@ -683,6 +686,13 @@ module _ (families : List Family) (a : AreChained families) (c : ℕ) where
             let next : next_of new x ≡ next_of families x = s.after x ∙ put_off c None (put (previous_of families c) (next_of families c) (next_of families)) x other ∙ no_previous (next_of families c) (next_of families) in
             λ i. record { parent = parent i; previous = previous i; next = next i; first = first i }
       ]
+
+-- the parent whose chain it leads is an animal
+pub led-within : (families : List Family) → AreChained families → (c : ℕ) (o : Option ℕ) → (previous_of families c ≡ None → o ≡ parent_of families c) → ((q : ℕ) → previous_of families c ≡ Some q → o ≡ None) → (p : ℕ) → o ≡ Some p → p < length families
+led-within families a c o first later p e = elim (known (previous_of families c)) [
+  | inl none ↦ a.within c p (sym (first none) ∙ e)
+  | inr some ↦ let bad : None ≡ Some p = sym (later some.0 some.1) ∙ e in absurd (cc)
+]
 
 -- whether it had a parent or not
 pub chained-part : (old new : List Family) → AreChained old → (c : ℕ) (o : Option ℕ) → (previous_of old c ≡ None → o ≡ parent_of old c) → ((q : ℕ) → previous_of old c ≡ Some q → o ≡ None) →

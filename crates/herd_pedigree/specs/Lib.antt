@@ -4,6 +4,7 @@ pub mod ParentFault
 pub mod Lawful
 pub mod Pedigree
 pub mod Places
+pub mod PackedPlace
 pub mod Links
 pub mod Listed
 pub mod Frozen

@@ -12,6 +12,7 @@ mod links;
 mod listed;
 mod named;
 mod number_index;
+mod packed_place;
 mod parent_fault;
 mod pedigree;
 mod progeny;
@@ -29,6 +30,8 @@ pub use pedigree::Pedigree;
 pub use frozen::PackedParents;
 #[doc(hidden)]
 pub use number_index::NumberIndex;
+#[doc(hidden)]
+pub use packed_place::PackedPlace;
 #[doc(hidden)]
 pub use progeny::{Family, Progeny};
 #[doc(hidden)]

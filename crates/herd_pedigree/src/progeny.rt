@@ -1,21 +1,22 @@
 //! The parents of one sex by place, with the calves of each in a chain.
 ghost use Rattle.std.specs.Prelude.{◌≡◌, ◌+◌, ◌^◌, ◌-◌, ◌<◌, ◌↔◌, ℕ, [], ◌++◌, ◌∷◌, Some, None, Contains, length, slice_set, IsFalse, IsTrue, OnOk};
 ghost use Rattle.std.specs.Iterator.{YieldsFirst, item_count};
-ghost use Rattle.herd_pedigree.specs.Calves.{AreChained, Show, first_of, next_of, parent_of, parents_of, previous_of, put};
+ghost use Rattle.herd_pedigree.specs.Calves.{AreChained, Show, family_at, first_of, next_of, parent_of, parents_of, previous_of, put};
 ghost use Rattle.herd_pedigree.specs.Places.{parent_at};
 ghost use Rattle.herd_pedigree.specs.Undo.{without_last};
 
+use crate::packed_place::PackedPlace;
 use std::alloc::{AllocError, Allocator};
 use std::marker::Model;
 
 /// What is kept of an animal: its parent, and the calves of that parent that stand beside it.
 #[derive(Clone, Copy)]
 pub struct Family {
-    parent: Option<u32>,
-    previous: Option<u32>,
-    next: Option<u32>,
+    parent: PackedPlace,
+    previous: PackedPlace,
+    next: PackedPlace,
     // The first of its own calves.
-    first: Option<u32>,
+    first: PackedPlace,
 }
 
 /// The sire, or the dam, of each animal by place, and the calves of each parent.
@@ -65,7 +66,7 @@ impl<'a> Iterator for Calves<'a> {
         self.most = self.most.checked_sub(1)?;
         let calf = self.next?;
         self.next = match self.families.get(calf as usize) {
-            Some(family) => family.next,
+            Some(family) => family.next.get(),
             None => None,
         };
         Some(calf)
@@ -87,7 +88,7 @@ impl<A: Allocator> Progeny<A> {
         requires { place < length self.now.parents }
         ensures { result ≡ parent_at self.now.parents place }
     {
-        self.families[place as usize].parent
+        family_at(&self.families, place).parent.get()
     }
 
     /// Whether the animal at a place has calves.
@@ -96,7 +97,7 @@ impl<A: Allocator> Progeny<A> {
         ensures some { IsTrue result → (calf : ℕ) × (parent_at self.now.parents calf ≡ Some place) }
         ensures none { IsFalse result → (calf : ℕ) → parent_at self.now.parents calf ≡ Some place → ⊥ }
     {
-        self.families[place as usize].first.is_some()
+        family_at(&self.families, place).first.get().is_some()
     }
 
     /// The places of the calves of the animal at a place.
@@ -106,7 +107,7 @@ impl<A: Allocator> Progeny<A> {
     {
         Calves {
             families: self.families.as_slice(),
-            next: self.families[place as usize].first,
+            next: family_at(&self.families, place).first.get(),
             most: self.families.len(),
         }
     }
@@ -139,10 +140,10 @@ impl<A: Allocator> Progeny<A> {
         ensures { self.new.parents ≡ self.old.parents ++ None ∷ [] }
     {
         let alone = Family {
-            parent: None,
-            previous: None,
-            next: None,
-            first: None,
+            parent: PackedPlace::none(),
+            previous: PackedPlace::none(),
+            next: PackedPlace::none(),
+            first: PackedPlace::none(),
         };
         if self.families.push(alone).is_err() {
             unreachable!();
@@ -151,6 +152,7 @@ impl<A: Allocator> Progeny<A> {
 
     /// Sets the parent of the animal at a place. It takes no memory.
     pub fn set(&mut self, place: u32, parent: Option<u32>)
+        requires few { length self.old.parents < 2 ^ 32 }
         requires here { place < length self.old.parents }
         requires within { (p : ℕ) → parent ≡ Some p → p < length self.old.parents }
         ensures { self.new.parents ≡ slice_set self.old.parents place parent }
@@ -175,6 +177,7 @@ impl<A: Allocator> Progeny<A> {
 
     // Gives a parent to an animal that has none.
     fn link(&mut self, calf: u32, parent: u32)
+        requires few { length self.old.parents < 2 ^ 32 }
         requires here { calf < length self.old.parents }
         requires within { parent < length self.old.parents }
         requires none { parent_at self.old.parents calf ≡ None }
@@ -185,7 +188,8 @@ impl<A: Allocator> Progeny<A> {
 
     // Takes the parent of an animal away.
     fn unlink(&mut self, calf: u32)
-        requires { calf < length self.old.parents }
+        requires few { length self.old.parents < 2 ^ 32 }
+        requires here { calf < length self.old.parents }
         ensures { self.new.parents ≡ slice_set self.old.parents calf None }
     {
         part(&mut self.families, calf);
@@ -195,48 +199,63 @@ impl<A: Allocator> Progeny<A> {
 // Puts an animal before the other calves of a parent.
 fn join(families: &mut [Family], calf: u32, parent: u32)
     requires chained { AreChained families.old }
+    requires few { length families.old < 2 ^ 32 }
     requires here { calf < length families.old }
     requires within { parent < length families.old }
     requires none { parent_of families.old calf ≡ None }
     ensures chained { AreChained families.new }
     ensures parents { parents_of families.new ≡ slice_set (parents_of families.old) calf (Some parent) }
 {
-    let first = families[parent as usize].first;
-    set_first(families, Some(parent), Some(calf));
-    set_previous(families, first, Some(calf));
-    set_next(families, Some(calf), first);
-    set_parent(families, calf, Some(parent));
+    let first = family_at(families, parent).first;
+    let own = PackedPlace::at(calf);
+    let shared = PackedPlace::at(parent);
+    set_first(families, shared, own);
+    set_previous(families, first, own);
+    set_next(families, own, first);
+    set_parent(families, calf, shared);
 }
 
 // Takes an animal from among the calves of its parent, where it has one.
 fn part(families: &mut [Family], calf: u32)
     requires chained { AreChained families.old }
+    requires few { length families.old < 2 ^ 32 }
     requires here { calf < length families.old }
     ensures chained { AreChained families.new }
     ensures parents { parents_of families.new ≡ slice_set (parents_of families.old) calf None }
 {
-    let own = families[calf as usize];
-    set_first(families, led_by(own), own.next);
-    set_next(families, own.previous, own.next);
-    set_previous(families, own.next, own.previous);
-    set_next(families, Some(calf), None);
-    set_previous(families, Some(calf), None);
-    set_parent(families, calf, None);
+    let family = family_at(families, calf);
+    let own = PackedPlace::at(calf);
+    let none = PackedPlace::none();
+    set_first(families, led_by(&family), family.next);
+    set_next(families, family.previous, family.next);
+    set_previous(families, family.next, family.previous);
+    set_next(families, own, none);
+    set_previous(families, own, none);
+    set_parent(families, calf, none);
+}
+
+// What is kept of the animal at a place.
+#[inline(always)]
+fn family_at(families: &[Family], place: u32) -> Family
+    requires { place < length families.now }
+    ensures { result ≡ family_at families.now place }
+{
+    families[place as usize]
 }
 
 // The parent of which an animal is the first calf.
-fn led_by(own: Family) -> Option<u32>
-    ensures first { own.previous ≡ None → result ≡ own.parent }
-    ensures later { (previous : ℕ) → own.previous ≡ Some previous → result ≡ None }
+fn led_by(family: &Family) -> PackedPlace
+    ensures first { family.now.previous ≡ None → result ≡ family.now.parent }
+    ensures later { (calf : ℕ) → family.now.previous ≡ Some calf → result ≡ None }
 {
-    match own.previous {
-        Some(_) => None,
-        None => own.parent,
+    match family.previous.get() {
+        Some(_) => PackedPlace::none(),
+        None => family.parent,
     }
 }
 
 // Sets the parent of the animal at a place.
-fn set_parent(families: &mut [Family], place: u32, parent: Option<u32>)
+fn set_parent(families: &mut [Family], place: u32, parent: PackedPlace)
     requires { place < length families.old }
     ensures { Show families.new (length families.old) (put (Some place) parent (parent_of families.old)) (previous_of families.old) (next_of families.old) (first_of families.old) }
 {
@@ -245,33 +264,33 @@ fn set_parent(families: &mut [Family], place: u32, parent: Option<u32>)
 }
 
 // Sets which calf stands before that at a place, where there is one.
-fn set_previous(families: &mut [Family], place: Option<u32>, previous: Option<u32>)
+fn set_previous(families: &mut [Family], place: PackedPlace, previous: PackedPlace)
     requires { (p : ℕ) → place ≡ Some p → p < length families.old }
     ensures { Show families.new (length families.old) (parent_of families.old) (put place previous (previous_of families.old)) (next_of families.old) (first_of families.old) }
 {
-    if let Some(place) = place {
+    if let Some(place) = place.get() {
         let family = families[place as usize];
         families[place as usize] = Family { previous, ..family };
     }
 }
 
 // Sets which calf stands behind that at a place, where there is one.
-fn set_next(families: &mut [Family], place: Option<u32>, next: Option<u32>)
+fn set_next(families: &mut [Family], place: PackedPlace, next: PackedPlace)
     requires { (p : ℕ) → place ≡ Some p → p < length families.old }
     ensures { Show families.new (length families.old) (parent_of families.old) (previous_of families.old) (put place next (next_of families.old)) (first_of families.old) }
 {
-    if let Some(place) = place {
+    if let Some(place) = place.get() {
         let family = families[place as usize];
         families[place as usize] = Family { next, ..family };
     }
 }
 
 // Sets the first calf of the animal at a place, where there is one.
-fn set_first(families: &mut [Family], place: Option<u32>, first: Option<u32>)
+fn set_first(families: &mut [Family], place: PackedPlace, first: PackedPlace)
     requires { (p : ℕ) → place ≡ Some p → p < length families.old }
     ensures { Show families.new (length families.old) (parent_of families.old) (previous_of families.old) (next_of families.old) (put place first (first_of families.old)) }
 {
-    if let Some(place) = place {
+    if let Some(place) = place.get() {
         let family = families[place as usize];
         families[place as usize] = Family { first, ..family };
     }

@@ -1,17 +1,19 @@
 //! The records of a book, which keep the places of the parents for their numbers.
-ghost use Rattle.std.specs.Prelude.{◌≡◌, ◌<◌, [], ◌++◌, ◌∷◌, length, position, slice_get, None, IfSome, OnOk, is_some};
+ghost use Rattle.std.specs.Prelude.{◌≡◌, ◌<◌, ◌^◌, [], ◌++◌, ◌∷◌, length, position, slice_get, None, IfSome, OnOk, is_some};
 ghost use Rattle.std.specs.List.{IsDistinct};
 ghost use Rattle.std.specs.Map.{keys_of, values_of};
 ghost use Rattle.std.specs.Str.{bytes_eq};
 ghost use Rattle.indexmap.specs.IndexMap.{set_value_at};
 ghost use Rattle.herd_pedigree.specs.Book.{is_there, record_of};
 ghost use Rattle.herd_pedigree.specs.Links.{IsLinkAt};
+ghost use Rattle.herd_pedigree.specs.PackedPlace.{nowhere};
 ghost use Rattle.herd_pedigree.specs.Places.{IsPlaceIn};
 ghost use Rattle.herd_pedigree.specs.Records.{NamesItsOwn, named, number_at};
 ghost use Rattle.herd_pedigree.specs.Undo.{without_last};
 
 use crate::animal::Animal;
 use crate::links::Link;
+use crate::packed_place::PackedPlace;
 use herd_animal::{AnimalNumber, Day, Herd};
 use indexmap::IndexMap;
 use std::alloc::{AllocError, Allocator};
@@ -22,8 +24,8 @@ use std::marker::Model;
 #[derive(Clone, Copy)]
 pub struct Entry {
     birth: Day,
-    sire: Option<u32>,
-    dam: Option<u32>,
+    sire: PackedPlace,
+    dam: PackedPlace,
     embryo: bool,
     herd: Herd,
     since: Day,
@@ -50,6 +52,8 @@ impl<A: Allocator> Model for Records<A> {
 impl Entry {
     // What is kept of an animal whose parents stand at these places.
     fn new(animal: Animal, sire: Option<u32>, dam: Option<u32>) -> Entry
+        requires sire { IfSome sire (λ place. place < nowhere) }
+        requires dam { IfSome dam (λ place. place < nowhere) }
         ensures sire { result.sire ≡ sire }
         ensures dam { result.dam ≡ dam }
         ensures birth { result.birth ≡ animal.birth }
@@ -60,8 +64,8 @@ impl Entry {
     {
         Entry {
             birth: animal.birth,
-            sire,
-            dam,
+            sire: PackedPlace::of(sire),
+            dam: PackedPlace::of(dam),
             embryo: animal.embryo,
             herd: animal.herd,
             since: animal.since,
@@ -140,8 +144,8 @@ impl<A: Allocator> Records<A> {
     {
         let entry = &self.entries[place];
         Link {
-            sire: entry.sire,
-            dam: entry.dam,
+            sire: entry.sire.get(),
+            dam: entry.dam.get(),
         }
     }
 
@@ -152,8 +156,8 @@ impl<A: Allocator> Records<A> {
     {
         Animal {
             birth: entry.birth,
-            sire: self.number_at(entry.sire),
-            dam: self.number_at(entry.dam),
+            sire: self.number_at(entry.sire.get()),
+            dam: self.number_at(entry.dam.get()),
             embryo: entry.embryo,
             herd: entry.herd,
             since: entry.since,
@@ -188,6 +192,7 @@ impl<A: Allocator> Records<A> {
         dam: Option<u32>,
     )
         requires absent { record_of self.old.book number ≡ None }
+        requires few { length self.old.book < 2 ^ 32 }
         requires sire { IsPlaceIn (keys_of self.old.book) sire animal.sire }
         requires dam { IsPlaceIn (keys_of self.old.book) dam animal.dam }
         requires room { 0 < self.old.room }
@@ -205,6 +210,7 @@ impl<A: Allocator> Records<A> {
     /// Sets the record at a place, to that of an animal whose parents stand at these places. It takes no memory.
     pub fn set(&mut self, place: usize, animal: Animal, sire: Option<u32>, dam: Option<u32>)
         requires within { place < length self.old.book }
+        requires few { length self.old.book < 2 ^ 32 }
         requires sire { IsPlaceIn (keys_of self.old.book) sire animal.sire }
         requires dam { IsPlaceIn (keys_of self.old.book) dam animal.dam }
         ensures { self.new.book ≡ set_value_at self.old.book place animal }

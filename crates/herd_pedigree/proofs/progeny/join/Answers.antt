@@ -1,24 +1,26 @@
-use Rattle.std.proofs.Common.{arith, List}
+use Rattle.std.proofs.Common.{arith, ap, sym, ◌∙◌, ◌≡◌, List, ℕ, length}
 use Rattle.herd_pedigree.specs.declared.progeny.Family.{Family}
-use Rattle.herd_pedigree.specs.Calves.{first_of}
+use Rattle.herd_pedigree.specs.Calves.{Show, first_of, next_of, parent_of, previous_of, put}
 use Rattle.herd_pedigree.proofs.ProgenyFacts.{animal-within, chained-link, joined, parents-set}
 use Rattle.herd_pedigree.proofs.progeny.join.Goals as goal
 
 pub set_previous-requires : goal.set_previous-requires
 set_previous-requires c =
     λ p e.
-    let w = animal-within c.args.families.now p c.args.parent (c.requires.chained.first c.args.parent p e).0 in
+    let w = animal-within c.args.families.now p c.args.parent (c.requires.chained.first c.args.parent p (sym (ap (λ (f : Family). f.first) c.family_at-first.ensures) ∙ e)).0 in
     let n = c.set_first.ensures.long in
     omega (arith, w, n)
 
 pub returns-clause-chained : goal.returns-clause-chained
 returns-clause-chained c =
     let old : List Family = c.args.families.now in
-    let s = joined old c.set_first.new.families c.set_previous.new.families c.set_next.new.families c.set_parent.new.families c.args.calf c.args.parent (first_of old c.args.parent) c.set_first.ensures c.set_previous.ensures c.set_next.ensures c.set_parent.ensures in
+    let s = joined old c.set_first.new.families c.set_previous.new.families c.set_next.new.families c.set_parent.new.families c.args.calf c.args.parent c.at-own.result c.at-shared.result c.family_at-first.result.first
+    c.at-own.ensures c.at-shared.ensures (ap (λ (f : Family). f.first) c.family_at-first.ensures) c.set_first.ensures c.set_previous.ensures c.set_next.ensures c.set_parent.ensures in
     chained-link old c.set_parent.new.families c.requires.chained c.args.calf c.args.parent c.requires.within c.requires.none s
 
 pub returns-clause-parents : goal.returns-clause-parents
 returns-clause-parents c =
     let old : List Family = c.args.families.now in
-    let s = joined old c.set_first.new.families c.set_previous.new.families c.set_next.new.families c.set_parent.new.families c.args.calf c.args.parent (first_of old c.args.parent) c.set_first.ensures c.set_previous.ensures c.set_next.ensures c.set_parent.ensures in
+    let s = joined old c.set_first.new.families c.set_previous.new.families c.set_next.new.families c.set_parent.new.families c.args.calf c.args.parent c.at-own.result c.at-shared.result c.family_at-first.result.first
+    c.at-own.ensures c.at-shared.ensures (ap (λ (f : Family). f.first) c.family_at-first.ensures) c.set_first.ensures c.set_previous.ensures c.set_next.ensures c.set_parent.ensures in
     parents-set old c.set_parent.new.families c.args.calf _ c.requires.here s.long s.parents

@@ -1,7 +1,7 @@
 use Rattle.std.proofs.Common.{arith, sym, ap, ◌∙◌, ◌≡◌, ◌<◌, ℕ, List, None, length, is_some}
 use Rattle.std.proofs.lemmas.List.{get_or_default, length-map}
 use Rattle.herd_pedigree.specs.declared.progeny.Family.{Family}
-use Rattle.herd_pedigree.specs.Calves.{alone, first_of}
+use Rattle.herd_pedigree.specs.Calves.{family_at, first_of}
 use Rattle.herd_pedigree.specs.Places.{parent_at}
 use Rattle.herd_pedigree.proofs.ProgenyFacts.{no-calves, parents-seen, none_if_not, some_if}
 use Rattle.herd_pedigree.proofs.progeny.Progeny.has_calves.Goals as goal
@@ -11,11 +11,7 @@ returns-clause-some g c =
     λ yes.
     let families : List Family = c.self.inside.families.items in
     let place : ℕ = c.args.place in
-    let n = length-map families (λ (family : Family). family.parent) in
-    let within = c.requires in
-    let seen = ap (λ p. length p.parents) c.self.view_is in
-    let here : place < length families = omega (arith, within, seen, n) in
-    let first : c.index.result.now.first ≡ first_of families place = ap (λ f. f.first) (c.index.ensures ∙ sym (get_or_default families place alone c.index.result.now here)) in
+    let first : c.get.result ≡ first_of families place = c.get.ensures ∙ ap (λ (f : Family). f.first) (c.family_at.ensures ∙ ap (λ fs. family_at fs place) c.deref.ensures.value) in
     let calf = some_if (first_of families place) (ap (λ o. is_some o) (sym first) ∙ sym c.is_some.ensures ∙ yes) in
     (calf.0, ap (λ p. parent_at p.parents calf.0) (sym c.self.view_is) ∙ parents-seen families calf.0 ∙ (c.self.invariant.first place calf.0 calf.1).0)
 
@@ -24,10 +20,6 @@ returns-clause-none g c =
     λ no calf e.
     let families : List Family = c.self.inside.families.items in
     let place : ℕ = c.args.place in
-    let n = length-map families (λ (family : Family). family.parent) in
-    let within = c.requires in
-    let seen = ap (λ p. length p.parents) c.self.view_is in
-    let here : place < length families = omega (arith, within, seen, n) in
-    let first : c.index.result.now.first ≡ first_of families place = ap (λ f. f.first) (c.index.ensures ∙ sym (get_or_default families place alone c.index.result.now here)) in
+    let first : c.get.result ≡ first_of families place = c.get.ensures ∙ ap (λ (f : Family). f.first) (c.family_at.ensures ∙ ap (λ fs. family_at fs place) c.deref.ensures.value) in
     let none : first_of families place ≡ None = none_if_not (first_of families place) (ap (λ o. is_some o) (sym first) ∙ sym c.is_some.ensures ∙ no) in
     no-calves families c.self.invariant place none calf (sym (parents-seen families calf) ∙ ap (λ p. parent_at p.parents calf) c.self.view_is ∙ e)

@@ -8,5 +8,6 @@ pub returns : goal.returns
 returns g c =
     let es : List (List ℕ × Entry) = c.self.inside.entries.entries in
     let entry : Entry = c.index-entry.result.now in
-    subst (λ r. IsLinkAt r.book c.args.place (record { sire = entry.sire; dam = entry.dam })) c.self.view_is
-    (link-kept es c.args.place entry c.index-entry.ensures c.self.invariant)
+    rw (c.get.ensures, c.get-2.ensures)
+    (subst (λ r. IsLinkAt r.book c.args.place (record { sire = entry.sire; dam = entry.dam })) c.self.view_is
+    (link-kept es c.args.place entry c.index-entry.ensures c.self.invariant))
