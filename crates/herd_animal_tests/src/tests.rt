@@ -1,3 +1,5 @@
+mod texts;
+
 use herd_animal::*;
 use std::test::Fail;
 

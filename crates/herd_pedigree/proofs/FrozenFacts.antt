@@ -3,16 +3,15 @@ use Rattle.std.proofs.Common.{ℕ, ◌+◌, ◌<◌, ◌≤◌, ◌≡◌, ◌�
 use Rattle.std.specs.Prelude.{IfNone, IfSome}
 use Rattle.std.specs.Map.{keys_of}
 use Rattle.std.specs.List.{filter, range_with_len}
-use Rattle.std.specs.Option.{unwrap_or}
 use Rattle.std.proofs.lemmas.Option.{slice_get_within, get_or_from_slice_get}
 use Rattle.std.proofs.lemmas.Bool.{cases_lt, false_from_ne_true, ne_eqb}
 use Rattle.std.proofs.lemmas.List.{length-map, get_or-map, get_or_past}
 use Rattle.std.proofs.lemmas.List.FromFn.{length-map-range_with_len, get_or-map-range_with_len}
 use Rattle.herd_pedigree.specs.declared.frozen.Row.{Row}
-use Rattle.herd_pedigree.specs.declared.frozen.PackedParents.{PackedParents}
 use Rattle.herd_pedigree.specs.Book.{is_there, record_of}
-use Rattle.herd_pedigree.specs.Frozen.{IsFrozen, IsFrozenRow, IsPlaceOf, book_of, numbers_of, parents_of, depth_at, level_of, levels_of}
-use Rattle.herd_pedigree.specs.Packed.{packed_of, unknown}
+use Rattle.herd_pedigree.specs.Frozen.{IsFrozen, IsFrozenRow, IsPlaceOf, book_of, numbers_of, depth_at, level_of, levels_of}
+use Rattle.herd_pedigree.specs.Packed.{FitPacked}
+use Rattle.herd_pedigree.specs.PackedPlace.{nowhere}
 use Rattle.herd_pedigree.proofs.BookFacts.{is_some_with, key_from_entry, place_of, there}
 use Rattle.herd_pedigree.proofs.FrozenDepthFacts.{IsDepthOf-le}
 
@@ -42,24 +41,18 @@ parent-within rows None number is = tt
 parent-within rows (Some p) None is = absurd is
 parent-within rows (Some p) (Some x) is = subst (λ n. p < n) (length-map rows (λ r. r.number)) (slice_get_within (numbers_of rows) p x is)
 
--- the place of a parent is told as it was kept
-place-unpacked : (n : ℕ) (parent found : Option ℕ) (place : ℕ) → n < unknown → IfSome parent (λ p. p < n) → place ≡ unwrap_or parent unknown → (place ≡ unknown → found ≡ None) → (place ≢ unknown → found ≡ Some place) → found ≡ parent
-place-unpacked n None found place few within is none some = none is
-place-unpacked n (Some p) found place few within is none some = some (λ e. omega (arith, is, e, few, within)) ∙ ap Some is
-
--- and so are those of both
-pub parents-unpacked : (l most : ℕ) (rows : List Row) → IsFrozen l most rows → most < unknown → (place : ℕ) (row : Row) → slice_get rows place ≡ Some row → (packed : PackedParents) → packed ≡ packed_of row → (sire dam : Option ℕ) →
-    (packed.sire ≡ unknown → sire ≡ None) → (packed.sire ≢ unknown → sire ≡ Some packed.sire) → (packed.dam ≡ unknown → dam ≡ None) → (packed.dam ≢ unknown → dam ≡ Some packed.dam) →
-    parents_of row ≡ record { sire = sire; dam = dam; depth = packed.depth }
-parents-unpacked l most rows frozen small place row at packed is sire dam sire_none sire_some dam_none dam_some =
+-- the places of parents can be kept in four bytes
+pub fit-packed : (l most : ℕ) (rows : List Row) → IsFrozen l most rows → most < nowhere → (place : ℕ) (row : Row) → slice_get rows place ≡ Some row → FitPacked row
+fit-packed l most rows frozen small place row at =
     let its_row : IsFrozenRow rows row = frozen.each place row at in
-    let few : length (book_of rows) ≤ most = frozen.lawful.few in
-    let long : length (book_of rows) ≡ length rows = length-map rows (λ r. (r.number, r.animal)) in
-    let less : length rows < unknown = omega (arith, few, long, small) in
-    let by_sire : sire ≡ row.sire = place-unpacked (length rows) row.sire sire packed.sire less (parent-within rows row.sire row.animal.sire its_row.sire) (ap (λ (p : PackedParents). p.sire) is) sire_none sire_some in
-    let by_dam : dam ≡ row.dam = place-unpacked (length rows) row.dam dam packed.dam less (parent-within rows row.dam row.animal.dam its_row.dam) (ap (λ (p : PackedParents). p.dam) is) dam_none dam_some in
-    let depth : packed.depth ≡ row.depth = ap (λ (p : PackedParents). p.depth) is in
-    λ i. record { sire = sym by_sire i; dam = sym by_dam i; depth = sym depth i }
+    record { sire = below row.sire (parent-within rows row.sire row.animal.sire its_row.sire); dam = below row.dam (parent-within rows row.dam row.animal.dam its_row.dam) }
+  where
+    below : (parent : Option ℕ) → IfSome parent (λ p. p < length rows) → IfSome parent (λ p. p < nowhere)
+    below None within = tt
+    below (Some p) within =
+        let few : length (book_of rows) ≤ most = frozen.lawful.few in
+        let long : length (book_of rows) ≡ length rows = length-map rows (λ r. (r.number, r.animal)) in
+        omega (arith, within, few, long, small)
 
 -- a list in which no element passes a test
 filter_none : (p : ℕ → Bool) (xs : List ℕ) → ((x : ℕ) → p x ≡ false) → filter p xs ≡ []

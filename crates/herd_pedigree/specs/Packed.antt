@@ -1,12 +1,13 @@
 -- The parents of a frozen row as they are kept.
-use Rattle.std.specs.Prelude.{ℕ}
-use Rattle.std.specs.Option.{unwrap_or}
+use Rattle.std.specs.Prelude.{◌<◌, IfSome}
 use Rattle.herd_pedigree.specs.declared.frozen.Row.{Row}
 use Rattle.herd_pedigree.specs.declared.frozen.PackedParents.{PackedParents}
-
--- what is kept for a parent that isn't known; no place is so great
-abbrev pub unknown : ℕ
-unknown = 4294967295
+use Rattle.herd_pedigree.specs.PackedPlace.{nowhere}
 
 abbrev pub packed_of : Row → PackedParents
-packed_of row = record { sire = unwrap_or row.sire unknown; dam = unwrap_or row.dam unknown; depth = row.depth }
+packed_of row = record { sire = row.sire; dam = row.dam; depth = row.depth }
+
+-- the places of both parents can be kept in four bytes
+pub record FitPacked (row : Row) : Type 0 where
+  pub sire : IfSome row.sire (λ place. place < nowhere)
+  pub dam : IfSome row.dam (λ place. place < nowhere)

@@ -3,7 +3,7 @@ use Rattle.std.specs.Prelude.{◌≡◌, ℕ, ◌<◌, List, map, length, slice_
 use Rattle.std.specs.Map.{keys_of}
 use Rattle.std.specs.Option.{option_and_then}
 use Rattle.herd_pedigree.specs.declared.animal.Animal.{Animal}
-use Rattle.herd_pedigree.specs.declared.records.Entry.{Entry}
+use Rattle.herd_pedigree.specs.declared.records.StoredRecord.{StoredRecord}
 use Rattle.herd_pedigree.specs.Book.{Book}
 use Rattle.herd_pedigree.specs.Places.{IsPlaceIn}
 
@@ -17,7 +17,7 @@ abbrev pub number_at : List (List ℕ) → Option ℕ → Option (List ℕ)
 number_at numbers place = option_and_then (slice_get numbers) place
 
 -- the record of an entry, with the numbers of the parents for their places
-abbrev pub named : List (List ℕ) → Entry → Animal
+abbrev pub named : List (List ℕ) → StoredRecord → Animal
 named numbers entry = record {
   birth = entry.birth;
   sire = number_at numbers entry.sire;
@@ -29,19 +29,19 @@ named numbers entry = record {
 }
 
 -- the book of entries, with the numbers of all animals
-abbrev pub book_with : List (List ℕ) → List (List ℕ × Entry) → Book
+abbrev pub book_with : List (List ℕ) → List (List ℕ × StoredRecord) → Book
 book_with numbers entries = map (λ entry. (entry.0, named numbers entry.1)) entries
 
 -- the book of all entries
-abbrev pub book_of : List (List ℕ × Entry) → Book
-book_of entries = book_with (keys_of entries) entries
+abbrev pub stored_book : List (List ℕ × StoredRecord) → Book
+stored_book entries = book_with (keys_of entries) entries
 
 -- the parents of entries stand among n animals
-abbrev pub StandAmong : ℕ → List (List ℕ × Entry) → Type 0
-StandAmong n entries = (place : ℕ) (entry : List ℕ × Entry) → slice_get entries place ≡ Some entry → IfSome entry.1.sire (λ p. p < n) × IfSome entry.1.dam (λ p. p < n)
+abbrev pub StandAmong : ℕ → List (List ℕ × StoredRecord) → Type 0
+StandAmong n entries = (place : ℕ) (entry : List ℕ × StoredRecord) → slice_get entries place ≡ Some entry → IfSome entry.1.sire (λ p. p < n) × IfSome entry.1.dam (λ p. p < n)
 
 -- and they stand among the entries
-abbrev pub AreClosed : List (List ℕ × Entry) → Type 0
+abbrev pub AreClosed : List (List ℕ × StoredRecord) → Type 0
 AreClosed entries = StandAmong (length entries) entries
 
 -- each parent that a book names stands in it

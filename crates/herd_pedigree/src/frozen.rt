@@ -1,12 +1,13 @@
-ghost use Rattle.std.specs.Prelude.{◌≡◌, ◌≢◌, ◌<◌, false, length, map, slice_get, None, Some, IfOk, IfSome, IfNone};
+ghost use Rattle.std.specs.Prelude.{◌≡◌, ◌<◌, false, length, map, slice_get, All, Some, IfOk, IfSome, IfNone};
 ghost use Rattle.herd_pedigree.specs.Book.{is_there};
 ghost use Rattle.herd_pedigree.specs.Frozen.{IsFrozen, book_of, level_of, numbers_of, parents_of};
-ghost use Rattle.herd_pedigree.specs.Packed.{packed_of, unknown};
+ghost use Rattle.herd_pedigree.specs.Packed.{FitPacked, packed_of};
 ghost use Rattle.herd_pedigree.specs.declared.TheConstants.{DEPTH_LIMIT, MOST_ANIMALS};
 
 use crate::animal::Animal;
 use crate::levels::levels_of;
 use crate::number_index::NumberIndex;
+use crate::packed_place::PackedPlace;
 use herd_animal::AnimalNumber;
 use std::alloc::{AllocError, Allocator};
 use std::marker::Model;
@@ -35,11 +36,11 @@ pub struct Parents {
     pub depth: u8,
 }
 
-/// What is kept of a row's parents: the place of each, and `u32::MAX` for one that isn't known.
+/// What is kept of a row's parents, in twelve bytes.
 #[derive(Clone, Copy)]
 pub struct PackedParents {
-    pub(crate) sire: u32,
-    pub(crate) dam: u32,
+    pub(crate) sire: PackedPlace,
+    pub(crate) dam: PackedPlace,
     pub(crate) depth: u8,
 }
 
@@ -103,8 +104,8 @@ impl<A: Allocator> Frozen<A> {
     {
         let packed = self.parents[place as usize];
         Parents {
-            sire: unpacked(packed.sire),
-            dam: unpacked(packed.dam),
+            sire: packed.sire.get(),
+            dam: packed.dam.get(),
             depth: packed.depth,
         }
     }
@@ -140,22 +141,14 @@ impl<A: Allocator + Clone> Frozen<A> {
 
 // The rows without their records.
 fn parents_column<A: Allocator>(alloc: A, rows: &[Row]) -> Result<Vec<PackedParents, A>, AllocError>
+    requires { All FitPacked rows.now }
     ensures { IfOk result (λ parents. parents.items ≡ map packed_of rows.now) }
 {
     rows.iter()
         .map(|row| PackedParents {
-            sire: row.sire.unwrap_or(u32::MAX),
-            dam: row.dam.unwrap_or(u32::MAX),
+            sire: PackedPlace::of(row.sire),
+            dam: PackedPlace::of(row.dam),
             depth: row.depth,
         })
         .collect(alloc)
-}
-
-// The place of a parent by what is kept of it.
-#[inline(always)]
-fn unpacked(place: u32) -> Option<u32>
-    ensures unknown { place ≡ unknown → result ≡ None }
-    ensures known { place ≢ unknown → result ≡ Some place }
-{
-    if place == u32::MAX { None } else { Some(place) }
 }

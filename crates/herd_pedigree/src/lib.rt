@@ -35,7 +35,7 @@ pub use packed_place::PackedPlace;
 #[doc(hidden)]
 pub use progeny::{Family, Progeny};
 #[doc(hidden)]
-pub use records::{Entry, Records};
+pub use records::{Records, StoredRecord};
 #[doc(hidden)]
 pub use undo::Undo;
 

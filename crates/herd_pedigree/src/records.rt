@@ -22,7 +22,7 @@ use std::marker::Model;
 
 /// What is kept of an animal under its number: its record, with the places of the parents that are known.
 #[derive(Clone, Copy)]
-pub struct Entry {
+pub struct StoredRecord {
     birth: Day,
     sire: PackedPlace,
     dam: PackedPlace,
@@ -35,23 +35,23 @@ pub struct Entry {
 /// The records in the order of registration, found by their numbers. A place counts from 0 in this order.
 #[derive(Drop)]
 pub struct Records<A: Allocator> {
-    entries: IndexMap<AnimalNumber, Entry, BuildHasherDefault<FoldHasher>, A>,
+    entries: IndexMap<AnimalNumber, StoredRecord, BuildHasherDefault<FoldHasher>, A>,
 }
 
 impl<A: Allocator> Model for Records<A> {
     ghost use Rattle.indexmap.specs.IndexMap.{spare};
-    ghost use Rattle.herd_pedigree.specs.Records.{AreClosed, Records, book_of};
+    ghost use Rattle.herd_pedigree.specs.Records.{AreClosed, Records, stored_book};
 
     ghost Value = { Records };
 
-    ghost view = { λ r. record { book = book_of r.entries.entries; room = spare r.entries } };
+    ghost view = { λ r. record { book = stored_book r.entries.entries; room = spare r.entries } };
 
     ghost invariant = { λ r. AreClosed r.entries.entries };
 }
 
-impl Entry {
+impl StoredRecord {
     // What is kept of an animal whose parents stand at these places.
-    fn new(animal: Animal, sire: Option<u32>, dam: Option<u32>) -> Entry
+    fn new(animal: Animal, sire: Option<u32>, dam: Option<u32>) -> StoredRecord
         requires sire { IfSome sire (λ place. place < nowhere) }
         requires dam { IfSome dam (λ place. place < nowhere) }
         ensures sire { result.sire ≡ sire }
@@ -62,7 +62,7 @@ impl Entry {
         ensures since { result.since ≡ animal.since }
         ensures left { result.left ≡ animal.left }
     {
-        Entry {
+        StoredRecord {
             birth: animal.birth,
             sire: PackedPlace::of(sire),
             dam: PackedPlace::of(dam),
@@ -151,7 +151,7 @@ impl<A: Allocator> Records<A> {
 
     // The record that an entry is of.
     #[inline(always)]
-    fn named(&self, entry: &Entry) -> Animal
+    fn named(&self, entry: &StoredRecord) -> Animal
         ensures { result ≡ named (keys_of self.now.book) entry.now }
     {
         Animal {
@@ -200,7 +200,7 @@ impl<A: Allocator> Records<A> {
     {
         if self
             .entries
-            .insert(number, Entry::new(animal, sire, dam))
+            .insert(number, StoredRecord::new(animal, sire, dam))
             .is_err()
         {
             unreachable!();
@@ -215,7 +215,7 @@ impl<A: Allocator> Records<A> {
         requires dam { IsPlaceIn (keys_of self.old.book) dam animal.dam }
         ensures { self.new.book ≡ set_value_at self.old.book place animal }
     {
-        self.entries[place] = Entry::new(animal, sire, dam);
+        self.entries[place] = StoredRecord::new(animal, sire, dam);
     }
 
     /// Takes the last animal away, which is nobody's parent. It takes no memory.

@@ -8,7 +8,7 @@ use Rattle.std.proofs.lemmas.Bool.{le-ltb, lt-ltb}
 use Rattle.std.proofs.lemmas.List.Quantifiers.{position-Some}
 use Rattle.herd_pedigree.specs.declared.animal.Animal.{Animal}
 use Rattle.herd_pedigree.specs.Book.{Book, changed, is_there, record_of}
-use Rattle.herd_register.specs.Records.{AreInRoom, with_record_in}
+use Rattle.herd_register.specs.CopiedRecords.{AreInRoom, with_record_in}
 
 -- a number is there where some number of the book is equal to it
 is_there-list_any : (book : Book) (number : List ℕ) → is_there book number ≡ list_any (bytes_eq number) (keys_of book)

@@ -7,7 +7,7 @@ use Rattle.herd_register.specs.declared.limits.Limits.{Limits}
 use Rattle.herd_register.specs.declared.reply.Reply.{Reply}
 use Rattle.herd_register.specs.declared.reply.Reply.TheVariants.{Accepted, Refused}
 use Rattle.herd_register.specs.declared.step.Step.{Step}
-use Rattle.herd_register.specs.Records.{with_record_in}
+use Rattle.herd_register.specs.CopiedRecords.{with_record_in}
 use Rattle.herd_register.specs.Register.{AreLimits}
 use Rattle.herd_register.specs.Run.{newborn, set}
 

@@ -2,5 +2,5 @@ pub mod Refusal
 pub mod Run
 pub mod Command
 pub mod Register
-pub mod Records
+pub mod CopiedRecords
 pub mod Copybook

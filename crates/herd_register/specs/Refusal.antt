@@ -6,23 +6,23 @@ use Rattle.herd_register.specs.declared.reply.Refusal.{Refusal}
 use Rattle.herd_register.specs.declared.reply.Refusal.TheVariants.{AlreadyThere, BookFull, SireMissing, DamMissing, SireNotMale, DamNotFemale, SireNotOlder, DamNotOlder, DamGone, TooDeep, NotRegistered, Gone, NotOwner, DayTooEarly, SameHerd, CalvedLater}
 
 -- the number that replies print
-abbrev pub number_of : Refusal → ℕ
-number_of AlreadyThere = 1
-number_of BookFull = 2
-number_of SireMissing = 3
-number_of DamMissing = 4
-number_of SireNotMale = 5
-number_of DamNotFemale = 6
-number_of SireNotOlder = 7
-number_of DamNotOlder = 8
-number_of DamGone = 9
-number_of TooDeep = 10
-number_of NotRegistered = 11
-number_of Gone = 12
-number_of NotOwner = 13
-number_of DayTooEarly = 14
-number_of SameHerd = 15
-number_of CalvedLater = 16
+abbrev pub refusal_number : Refusal → ℕ
+refusal_number AlreadyThere = 1
+refusal_number BookFull = 2
+refusal_number SireMissing = 3
+refusal_number DamMissing = 4
+refusal_number SireNotMale = 5
+refusal_number DamNotFemale = 6
+refusal_number SireNotOlder = 7
+refusal_number DamNotOlder = 8
+refusal_number DamGone = 9
+refusal_number TooDeep = 10
+refusal_number NotRegistered = 11
+refusal_number Gone = 12
+refusal_number NotOwner = 13
+refusal_number DayTooEarly = 14
+refusal_number SameHerd = 15
+refusal_number CalvedLater = 16
 
 -- a fault of parents as a refusal
 abbrev pub refusal_of : ParentFault → Refusal

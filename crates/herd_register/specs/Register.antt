@@ -23,8 +23,8 @@ pub record Register : Type 0 where
   pub can_withdraw : Bool
 
 -- the book of a register: that of its commands
-abbrev pub book_of : Register → Book
-book_of register = run_book register.limits (commands_of register.journal)
+abbrev pub register_book : Register → Book
+register_book register = run_book register.limits (commands_of register.journal)
 
 abbrev pub register_of : Limits → List Step → Bool → Register
 register_of limits journal can_withdraw = record { limits = limits; journal = journal; can_withdraw = can_withdraw }
@@ -57,7 +57,7 @@ pub record HasBefore (limits : Limits) (steps : List Step) (before : Option Book
 -- pedigree and replies are those of the commands in the journal, within the limits
 pub record IsRegister (register : Register) (pedigree : Pedigree) : Type 0 where
   pub limits : AreLimits register.limits
-  pub book : pedigree.book ≡ book_of register
+  pub book : pedigree.book ≡ register_book register
   pub legal : IsLegal register.limits register.journal
   pub room : length register.journal ≤ register.limits.steps
   pub before : IsTrue register.can_withdraw → HasBefore register.limits register.journal pedigree.before

@@ -3,13 +3,13 @@ ghost use Rattle.herd_pedigree.specs.Frozen.{IsFrozenFrom};
 ghost use Rattle.herd_pedigree.specs.Lawful.{IsLawful};
 ghost use Rattle.herd_pedigree.specs.declared.TheConstants.{DEPTH_LIMIT, MOST_ANIMALS};
 ghost use Rattle.herd_register.specs.Copybook.{copybook_of, set_in, taken_over};
-ghost use Rattle.herd_register.specs.Records.{records_of};
+ghost use Rattle.herd_register.specs.CopiedRecords.{records_of};
 ghost use Rattle.herd_register.specs.Register.{AreLimits};
 ghost use Rattle.herd_register.specs.Run.{IsLegal, commands_of, run_book};
 
 use crate::command::Command;
+use crate::copied_records::CopiedRecords;
 use crate::limits::Limits;
-use crate::records::Records;
 use crate::reply::Reply;
 use crate::step::Step;
 use herd_animal::AnimalNumber;
@@ -21,7 +21,7 @@ use std::marker::Model;
 #[derive(Drop)]
 pub struct Copybook<A: Allocator> {
     limits: Limits,
-    records: Records<A>,
+    records: CopiedRecords<A>,
     journal: Vec<Step, A>,
 }
 
@@ -44,7 +44,7 @@ impl<A: Allocator + Copy> Copybook<A> {
     {
         Ok(Copybook {
             limits,
-            records: Records::with_room(alloc, limits.animals)?,
+            records: CopiedRecords::with_room(alloc, limits.animals)?,
             journal: Vec::with_capacity(alloc, limits.steps as usize)?,
         })
     }
@@ -94,7 +94,7 @@ impl<A: Allocator> Copybook<A> {
 }
 
 // Sets the record of the command's animal.
-fn set<A: Allocator>(records: &mut Records<A>, command: &Command)
+fn set<A: Allocator>(records: &mut CopiedRecords<A>, command: &Command)
     ensures { records.new ≡ records_of (set_in records.old.most records.old.book command.now) records.old.most }
 {
     match *command {

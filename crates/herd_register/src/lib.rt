@@ -2,11 +2,11 @@
 #![tactic(auto)]
 
 mod command;
+mod copied_records;
 mod copybook;
 mod file_fault;
 mod filing;
 mod limits;
-mod records;
 mod register;
 mod reply;
 mod step;

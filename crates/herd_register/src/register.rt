@@ -1,7 +1,7 @@
 ghost use Rattle.std.specs.Option.{option_copied};
 ghost use Rattle.std.specs.Prelude.{◌≡◌, ◌≢◌, ◌≤◌, ◌↔◌, IsTrue, IfOk, OnErr, OnOk, length};
 ghost use Rattle.herd_register.specs.declared.reply.Refusal.{Refusal};
-ghost use Rattle.herd_register.specs.Register.{AreLimits, book_of, new_register, step_at, with_step, without_last_step};
+ghost use Rattle.herd_register.specs.Register.{AreLimits, register_book, new_register, step_at, with_step, without_last_step};
 ghost use Rattle.herd_register.specs.Run.{IsLegal, answer, next, step_of};
 
 use crate::command::Command;
@@ -50,10 +50,10 @@ impl<A: Allocator + Copy> Register<A> {
 
     /// Answers a command, and adds the answer to the journal.
     pub fn file(&mut self, desk: u16, command: Command) -> Result<Reply, FileFault>
-        ensures reply { IfOk result (λ reply. reply ≡ answer self.old.limits (book_of self.old) command) }
+        ensures reply { IfOk result (λ reply. reply ≡ answer self.old.limits (register_book self.old) command) }
         ensures stored { IfOk result (λ reply. self.new ≡ with_step self.old (step_of desk command reply)) }
-        ensures book { OnOk result (book_of self.new ≡ next self.old.limits (book_of self.old) command) }
-        ensures refused { (refusal : Refusal) → result ≡ Ok (Reply.Refused refusal) → book_of self.new ≡ book_of self.old }
+        ensures book { OnOk result (register_book self.new ≡ next self.old.limits (register_book self.old) command) }
+        ensures refused { (refusal : Refusal) → result ≡ Ok (Reply.Refused refusal) → register_book self.new ≡ register_book self.old }
 
         // The journal's end is asked first. A command that isn't answered changes nothing.
         ensures full { (result ≡ Err FileFault.JournalFull) ↔ (length self.old.journal ≡ self.old.limits.steps) }
@@ -102,7 +102,7 @@ impl<A: Allocator> Register<A> {
 
     /// The book.
     pub fn pedigree(&self) -> &Pedigree<A>
-        ensures book { result.now.book ≡ book_of self.now }
+        ensures book { result.now.book ≡ register_book self.now }
         ensures few { length result.now.book ≤ self.now.limits.animals }
     {
         &self.pedigree

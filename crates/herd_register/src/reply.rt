@@ -1,5 +1,5 @@
 ghost use Rattle.std.specs.Prelude.{◌≡◌};
-ghost use Rattle.herd_register.specs.Refusal.{number_of, refusal_of};
+ghost use Rattle.herd_register.specs.Refusal.{refusal_number, refusal_of};
 
 use herd_pedigree::ParentFault;
 use thiserror::Error;
@@ -44,7 +44,7 @@ pub enum Refusal {
 impl Refusal {
     /// The number that replies print, from 1 to 16.
     pub fn number(self) -> u8
-        ensures { result ≡ number_of self }
+        ensures { result ≡ refusal_number self }
     {
         match self {
             Refusal::AlreadyThere => 1,

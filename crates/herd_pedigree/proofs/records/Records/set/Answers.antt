@@ -2,19 +2,19 @@ use Rattle.std.proofs.Common.{◌≡◌, ◌<◌, ◌∙◌, sym, ap, subst, ℕ
 use Rattle.std.specs.Map.{keys_of}
 use Rattle.indexmap.specs.IndexMap.{set_value_at}
 use Rattle.herd_pedigree.specs.Places.{IsPlaceIn}
-use Rattle.herd_pedigree.specs.Records.{book_of, named}
+use Rattle.herd_pedigree.specs.Records.{stored_book, named}
 use Rattle.herd_pedigree.specs.declared.animal.Animal.{Animal}
-use Rattle.herd_pedigree.specs.declared.records.Entry.{Entry}
+use Rattle.herd_pedigree.specs.declared.records.StoredRecord.{StoredRecord}
 use Rattle.herd_pedigree.proofs.BookFacts.{length-keys}
-use Rattle.herd_pedigree.proofs.RecordsFacts.{book_of-set, closed-set, keys-book_of, named-is, place-within}
+use Rattle.herd_pedigree.proofs.RecordsFacts.{stored_book-set, closed-set, keys-stored_book, named-is, place-within}
 use Rattle.herd_pedigree.proofs.records.Records.set.Goals as goal
 
 pub invariant_of-self : goal.invariant_of-self
 invariant_of-self g c =
-    let es : List (List ℕ × Entry) = c.self.inside.entries.entries in
-    let entry : Entry = c.new.result in
+    let es : List (List ℕ × StoredRecord) = c.self.inside.entries.entries in
+    let entry : StoredRecord = c.new.result in
     let animal : Animal = c.args.animal in
-    let keys : keys_of c.args.self.now.book ≡ keys_of es = ap (λ r. keys_of r.book) (sym c.self.view_is) ∙ keys-book_of es in
+    let keys : keys_of c.args.self.now.book ≡ keys_of es = ap (λ r. keys_of r.book) (sym c.self.view_is) ∙ keys-stored_book es in
     let sire : IsPlaceIn (keys_of es) entry.sire animal.sire = rw (c.new.ensures.sire, ← keys) c.requires.sire in
     let dam : IsPlaceIn (keys_of es) entry.dam animal.dam = rw (c.new.ensures.dam, ← keys) c.requires.dam in
     closed-set es c.self.invariant c.args.place entry
@@ -23,13 +23,13 @@ invariant_of-self g c =
 
 pub returns : goal.returns
 returns g c =
-    let es : List (List ℕ × Entry) = c.self.inside.entries.entries in
-    let entry : Entry = c.new.result in
+    let es : List (List ℕ × StoredRecord) = c.self.inside.entries.entries in
+    let entry : StoredRecord = c.new.result in
     let animal : Animal = c.args.animal in
-    let keys : keys_of c.args.self.now.book ≡ keys_of es = ap (λ r. keys_of r.book) (sym c.self.view_is) ∙ keys-book_of es in
+    let keys : keys_of c.args.self.now.book ≡ keys_of es = ap (λ r. keys_of r.book) (sym c.self.view_is) ∙ keys-stored_book es in
     let sire : IsPlaceIn (keys_of es) entry.sire animal.sire = rw (c.new.ensures.sire, ← keys) c.requires.sire in
     let dam : IsPlaceIn (keys_of es) entry.dam animal.dam = rw (c.new.ensures.dam, ← keys) c.requires.dam in
     let kept : named (keys_of es) entry ≡ animal =
     named-is (keys_of es) entry animal sire dam c.new.ensures.birth c.new.ensures.embryo c.new.ensures.herd c.new.ensures.since c.new.ensures.left in
-    subst (λ r. book_of (set_value_at es c.args.place entry) ≡ set_value_at r.book c.args.place animal) c.self.view_is
-    (book_of-set es c.args.place entry ∙ ap (λ a. set_value_at (book_of es) c.args.place a) kept)
+    subst (λ r. stored_book (set_value_at es c.args.place entry) ≡ set_value_at r.book c.args.place animal) c.self.view_is
+    (stored_book-set es c.args.place entry ∙ ap (λ a. set_value_at (stored_book es) c.args.place a) kept)

@@ -1,6 +1,6 @@
 use Rattle.std.proofs.Common.{◌<◌, length, refl, ap, ◌∙◌, arith}
 use Rattle.herd_register.specs.Copybook.{copybook_of}
-use Rattle.herd_register.specs.Records.{Records}
+use Rattle.herd_register.specs.CopiedRecords.{CopiedRecords}
 use Rattle.herd_register.proofs.CopybookFacts.{IsCopybook-taken, set_where-accepted, set_where-refused}
 use Rattle.herd_register.proofs.copybook.Copybook.take_over.Goals as goal
 
@@ -10,8 +10,8 @@ invariant_of-self g c =
     let old = copybook_of i.limits i.records.book i.journal.items in
     let step = c.args.step.now in
     let room : length i.journal.items < i.limits.steps = omega arith in
-    let set = ap (λ (r : Records). r.book) c.set.ensures ∙ set_where-accepted i.limits i.records.most i.records.book step.command step.reply c.self.invariant.animals_room c.in-Accepted.is in
-    IsCopybook-taken old c.set.new.records.book c.push_reserved.new.self.items step c.self.invariant room set c.push_reserved.ensures.items (ap (λ (r : Records). r.most) c.set.ensures) c.push_reserved.ensures.capacity
+    let set = ap (λ (r : CopiedRecords). r.book) c.set.ensures ∙ set_where-accepted i.limits i.records.most i.records.book step.command step.reply c.self.invariant.animals_room c.in-Accepted.is in
+    IsCopybook-taken old c.set.new.records.book c.push_reserved.new.self.items step c.self.invariant room set c.push_reserved.ensures.items (ap (λ (r : CopiedRecords). r.most) c.set.ensures) c.push_reserved.ensures.capacity
 
 pub invariant_of-self-in-Refused : goal.invariant_of-self-in-Refused
 invariant_of-self-in-Refused g c =

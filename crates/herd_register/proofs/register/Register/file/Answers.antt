@@ -3,7 +3,7 @@ use Rattle.std.proofs.lemmas.Bool.{iff_false}
 use Rattle.herd_pedigree.specs.Book.{Book}
 use Rattle.herd_register.specs.declared.reply.Reply.TheVariants.{Refused}
 use Rattle.herd_register.specs.declared.step.Step.{Step}
-use Rattle.herd_register.specs.Register.{book_of, IsRegister, Register, register_of}
+use Rattle.herd_register.specs.Register.{register_book, IsRegister, Register, register_of}
 use Rattle.herd_register.specs.Run.{answer, commands_of, next, run_book, step_of}
 use Rattle.herd_register.proofs.RegisterFacts.{IsRegister-with_step}
 use Rattle.herd_register.proofs.RunLemmas.{next-answered, run_book-append}
@@ -30,7 +30,7 @@ returns-clause-book g c =
     let i = c.self.inside in
     let step = step_of c.args.desk c.args.command c.in_ok-reply.reply in
     let journal = pushed i.journal.items c.reserve.new.self.items c.push_reserved.new.self.items step c.push_reserved.ensures.items c.reserve.ensures.items in
-    subst (λ (r : Register). run_book i.limits (commands_of c.push_reserved.new.self.items) ≡ next r.limits (book_of r) c.args.command) c.self.view_is
+    subst (λ (r : Register). run_book i.limits (commands_of c.push_reserved.new.self.items) ≡ next r.limits (register_book r) c.args.command) c.self.view_is
     (ap (λ (s : List Step). run_book i.limits (commands_of s)) journal ∙ run_book-append i.limits i.journal.items step)
 
 pub returns-clause-refused : goal.returns-clause-refused
@@ -42,5 +42,5 @@ returns-clause-refused g c refusal is =
     let journal = pushed i.journal.items c.reserve.new.self.items c.push_reserved.new.self.items step c.push_reserved.ensures.items c.reserve.ensures.items in
     let refused : Refused refusal ≡ c.in_ok-reply.reply = cc (is) in
     let answered : Refused refusal ≡ answer i.limits book command = refused ∙ (c.in_ok-reply.ensures.reply ∙ ap (λ (b : Book). answer i.limits b command) c.self.invariant.book) in
-    subst (λ (r : Register). run_book i.limits (commands_of c.push_reserved.new.self.items) ≡ book_of r) c.self.view_is
+    subst (λ (r : Register). run_book i.limits (commands_of c.push_reserved.new.self.items) ≡ register_book r) c.self.view_is
     (ap (λ (s : List Step). run_book i.limits (commands_of s)) journal ∙ (run_book-append i.limits i.journal.items step ∙ next-answered i.limits book command refusal answered))

@@ -6,11 +6,11 @@ use Rattle.herd_pedigree.specs.Book.{Book, is_there}
 use Rattle.herd_register.specs.Run.{with_record}
 
 -- the records, and how many there may be
-pub record Records : Type 0 where
+pub record CopiedRecords : Type 0 where
   pub book : Book
   pub most : ℕ
 
-abbrev pub records_of : Book → ℕ → Records
+abbrev pub records_of : Book → ℕ → CopiedRecords
 records_of book most = record { book = book; most = most }
 
 -- whether a book of at most so many animals can have a record of the number

@@ -1,7 +1,7 @@
 //! The records of a book, in a fixed room.
 ghost use Rattle.std.specs.Prelude.{◌≡◌, [], IfOk};
 ghost use Rattle.herd_pedigree.specs.Book.{changed, with_left, with_owner, with_parents};
-ghost use Rattle.herd_register.specs.Records.{records_of, with_record_in};
+ghost use Rattle.herd_register.specs.CopiedRecords.{records_of, with_record_in};
 
 use herd_animal::{AnimalNumber, Day, Herd};
 use herd_pedigree::Animal;
@@ -12,31 +12,31 @@ use std::marker::Model;
 
 /// The records in the order of registration, found by their numbers. Once made, it takes no memory.
 #[derive(Drop)]
-pub(crate) struct Records<A: Allocator> {
+pub(crate) struct CopiedRecords<A: Allocator> {
     entries: Vec<(AnimalNumber, Animal), A>,
     /// The place of a number here is that of its entry.
     numbers: IndexSet<AnimalNumber, BuildHasherDefault<FoldHasher>, A>,
     most: u32,
 }
 
-impl<A: Allocator> Model for Records<A> {
+impl<A: Allocator> Model for CopiedRecords<A> {
     ghost use Rattle.std.specs.Prelude.{vec_capacity};
     ghost use Rattle.indexmap.specs.IndexSet.{spare};
-    ghost use Rattle.herd_register.specs.Records.{AreInRoom, Records, records_of};
+    ghost use Rattle.herd_register.specs.CopiedRecords.{AreInRoom, CopiedRecords, records_of};
 
-    ghost Value = { Records };
+    ghost Value = { CopiedRecords };
 
     ghost view = { λ r. records_of r.entries.items r.most };
 
     ghost invariant = { λ r. AreInRoom r.most r.entries.items (vec_capacity r.entries) r.numbers.keys (spare r.numbers) };
 }
 
-impl<A: Allocator + Copy> Records<A> {
+impl<A: Allocator + Copy> CopiedRecords<A> {
     /// No records, with room for so many.
     pub(crate) fn with_room(alloc: A, most: u32) -> Result<Self, AllocError>
         ensures { IfOk result (λ records. records ≡ records_of [] most) }
     {
-        Ok(Records {
+        Ok(CopiedRecords {
             entries: Vec::with_capacity(alloc, most as usize)?,
             numbers: IndexSet::with_capacity(alloc, most as usize)?,
             most,
@@ -44,7 +44,7 @@ impl<A: Allocator + Copy> Records<A> {
     }
 }
 
-impl<A: Allocator> Records<A> {
+impl<A: Allocator> CopiedRecords<A> {
     pub(crate) fn as_slice(&self) -> &[(AnimalNumber, Animal)]
         ensures { result.now ≡ self.now.book }
     {
