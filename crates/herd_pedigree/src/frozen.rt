@@ -1,4 +1,4 @@
-ghost use Rattle.std.specs.Prelude.{◌≡◌, ◌<◌, false, length, map, slice_get, All, Some, IfOk, IfSome, IfNone};
+ghost use Rattle.std.specs.Prelude.{◌≡◌, ◌==◌, ◌<◌, false, length, map, slice_get, All, Some, IfOk, IfSome, IfNone};
 ghost use Rattle.herd_pedigree.specs.Book.{is_there};
 ghost use Rattle.herd_pedigree.specs.Frozen.{IsFrozen, book_of, level_of, numbers_of, parents_of};
 ghost use Rattle.herd_pedigree.specs.Packed.{FitPacked, packed_of};
@@ -78,6 +78,13 @@ impl<A: Allocator> Frozen<A> {
         ensures frozen { IsFrozen DEPTH_LIMIT MOST_ANIMALS self.now }
     {
         self.rows.len() as u32
+    }
+
+    /// Whether there are no animals.
+    pub fn is_empty(&self) -> bool
+        ensures { result ≡ (length self.now == 0) }
+    {
+        self.rows.len() == 0
     }
 
     /// The row at a place.

@@ -1,4 +1,16 @@
 //! The book of a breed society: one record for each number, and what a change of it may be.
+//!
+//! `Pedigree` is the book, and always lawful. A birth and a correction of parents are checked and made by one call, which
+//! tells the first fault of the parents, if they have one; an owner and an exit are set by calls of their own. The last
+//! change can be taken back. `Pedigree::freeze` gives the book in age order as a `Frozen`, whose rows have the places of
+//! the parents, for who reads the whole of it.
+//!
+//!     let mut pedigree = Pedigree::new(alloc);
+//!     let fault = pedigree.add_if_sound(number, animal)?;
+//!     let frozen = pedigree.freeze(alloc)?;
+//!
+//! The rules stand in `specs/`: `Lawful` and `ParentFault` say what may be, `Lines` what a depth is, `Frozen` what age
+//! order is. The crate `library_example` has whole calls.
 #![tactic(auto)]
 
 mod age_order;

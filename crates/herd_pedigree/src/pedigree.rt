@@ -1,4 +1,4 @@
-ghost use Rattle.std.specs.Prelude.{◌≡◌, ◌<◌, ◌≤◌, [], ◌++◌, ◌∷◌, ℕ, List, length, Option, None, Some, IfNone, IfOk, IfSome, OnOk, OnErr, IsSome, is_some};
+ghost use Rattle.std.specs.Prelude.{◌≡◌, ◌==◌, ◌<◌, ◌≤◌, [], ◌++◌, ◌∷◌, ℕ, List, length, Option, None, Some, IfNone, IfOk, IfSome, OnOk, OnErr, IsSome, is_some};
 ghost use Rattle.std.specs.Map.{keys_of};
 ghost use Rattle.herd_pedigree.specs.Book.{IsDepthOf, changed, has_calved_after, record_of, with_left, with_owner, with_parents};
 ghost use Rattle.herd_pedigree.specs.Frozen.{IsFrozenFrom};
@@ -265,6 +265,13 @@ impl<A: Allocator> Pedigree<A> {
         ensures { result ≡ length self.now.book }
     {
         self.records.len() as u32
+    }
+
+    /// Whether no animal is in the book.
+    pub fn is_empty(&self) -> bool
+        ensures { result ≡ (length self.now.book == 0) }
+    {
+        self.records.len() == 0
     }
 
     /// The number of parent steps on an animal's longest known line. It also tells that the book is lawful, so that

@@ -1,4 +1,14 @@
 //! The register of a breed society: commands, their refusals in order, and the journal of what was answered.
+//!
+//! `Register::file` answers a command: accepted, or the first refusal that holds. Book and replies are always those of
+//! the journal's commands, filed one after the other into an empty book. `Register::withdraw` takes the last step back.
+//! A `Copybook` takes the steps over and knows the same book, in a room that is made at once.
+//!
+//!     let mut register = Register::new(alloc, limits);
+//!     let reply = register.file(desk, command)?;
+//!     let frozen = register.pedigree().freeze(alloc)?;
+//!
+//! `specs/Run` has the refusals of each kind of command, and the run of commands. The crate `library_example` files some.
 #![tactic(auto)]
 
 mod command;
