@@ -197,9 +197,6 @@ book-lawful l most book w = record {
       is;
 }
 
-there_from_true : (o : Option Animal) → IsSome o → (v : Animal) × (o ≡ Some v)
-there_from_true o s = option_there o s
-
 -- a parent that passes a test
 passing : (test : List ℕ → Bool) (o : Option (List ℕ)) → option_map_or test o false ≡ true → (p : List ℕ) × (o ≡ Some p) × (test p ≡ true)
 passing test None e = absurd (cc)

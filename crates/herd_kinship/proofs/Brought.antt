@@ -84,23 +84,9 @@ share-within shares (suc b) p low =
     (omega (arith, more, rest)))
     (cases_eq p b)
 
-cond_le : (t : Bool) (a b m : ℕ) → a ≤ m → b ≤ m → cond t a b ≤ m
-cond_le true a b m la lb = la
-cond_le false a b m la lb = lb
-
 pub option_cases : {A : Type 0} (o : Option A) → (o ≡ None) ⊎ ((p : A) × (o ≡ Some p))
 option_cases None = inl refl
 option_cases (Some p) = inr (p, refl)
-
--- a share is at most the whole
-pub share-at_most : {A : Type 0} (kin : Ancestry A) (k : ℕ) (o : Option A) (j : A) → share kin k o j ≤ 2 ^ k
-share-at_most kin k None j = rw (share-none kin k j) (omega arith)
-share-at_most kin zero (Some x) j = rw (share-start kin x j) (cond_le (kin.same x j) 1 0 1 (omega arith) (omega arith))
-share-at_most kin (suc k) (Some x) j =
-    let s = share-at_most kin k (kin.sire x) j in
-    let d = share-at_most kin k (kin.dam x) j in
-    let double = two-pow-succ k in
-    rw (share-step kin k x j) (cond_le (kin.same x j) _ _ _ (omega arith) (omega (arith, double, s, d)))
 
 halves : (s half t a b : ℕ) → 2 * half ≡ s → 2 * t ≡ a + b → s * t ≡ half * a + half * b
 halves s half t a b e f =

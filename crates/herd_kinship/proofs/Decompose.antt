@@ -1,4 +1,4 @@
--- The entry is symmetric, and is the sum of the shared ancestors' Mendelian parts.
+-- The entry is symmetric, and is the sum of the shared ancestors' Mendelian sampling variances.
 use Rattle.std.proofs.Common.{ℕ, zero, suc, ◌+◌, ◌*◌, ◌^◌, ◌<◌, ◌≤◌, ◌≡◌, ⊎_elim, false, cond, Option, Some, None, IsTrue, arith, refl, sym, Contains, ◌∙◌, ap, subst}
 use Rattle.std.proofs.lemmas.Nat.{pow-add}
 use Rattle.std.proofs.lemmas.Bool.{false_from_ne_true, cases_Bool, cases_lt}

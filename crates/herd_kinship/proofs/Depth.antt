@@ -2,7 +2,7 @@
 use Rattle.std.proofs.Common.{ℕ, zero, suc, ◌+◌, ◌*◌, ◌-◌, ◌<◌, ◌≤◌, ◌≡◌, inl, inr, ⊎_elim, Bool, true, false, cond, Option, Some, None, arith, refl, sym, Contains, subst}
 use Rattle.std.proofs.Math.Nat.{two-pow-succ}
 use Rattle.std.proofs.lemmas.Bool.{cases_lt}
-use Rattle.herd_kinship.specs.Ancestry.{Ancestry, IsParent}
+use Rattle.herd_kinship.specs.Ancestry.{Ancestry, IsParentIn}
 use Rattle.herd_kinship.specs.Table.{entry}
 use Rattle.herd_kinship.proofs.LawfulAncestry.{Line, IsDepth, IsShallow, IsLawful}
 use Rattle.herd_kinship.proofs.Table.{entry-none_left, entry-none_right, entry-start, entry-step}
@@ -10,9 +10,6 @@ use Rattle.herd_kinship.proofs.Table.{entry-none_left, entry-none_right, entry-s
 -- an animal of the herd or none, and each line from it has fewer than n steps
 abbrev pub Below : {A : Type 0} → Ancestry A → ℕ → Option A → Type 0
 Below {A} kin n o = (x : A) → o ≡ Some x → Contains kin.animals x × ((m : ℕ) → Line kin m x → m < n)
-
-pub Below-none : {A : Type 0} (kin : Ancestry A) (n : ℕ) → Below kin n None
-Below-none kin n x e = absurd (cc)
 
 pub Below-member : {A : Type 0} (kin : Ancestry A) (n : ℕ) (x : A) → Below kin n (Some x) → Contains kin.animals x
 Below-member kin n x b = (b x refl).0
@@ -29,7 +26,7 @@ pub Below-positive : {A : Type 0} (kin : Ancestry A) (n : ℕ) (x : A) → Below
 unfolding Line
 Below-positive kin n x b = (b x refl).1 0 (b x refl).0
 
-pub Below-parent : {A : Type 0} (kin : Ancestry A) → IsLawful kin → (n : ℕ) (x : A) (o : Option A) → Below kin (suc n) (Some x) → ((p : A) → o ≡ Some p → IsParent kin p x) → Below kin n o
+pub Below-parent : {A : Type 0} (kin : Ancestry A) → IsLawful kin → (n : ℕ) (x : A) (o : Option A) → Below kin (suc n) (Some x) → ((p : A) → o ≡ Some p → IsParentIn kin p x) → Below kin n o
 unfolding Line
 Below-parent kin w n x o b is p e =
     let member = (w.parents p x (b x refl).0 (is p e)).0 in (

@@ -9,28 +9,25 @@ use Rattle.std.proofs.lemmas.Nat.Bits.{bit_at-suc, bit_at-trailing_zeros, bit_at
 use Rattle.herd_kinship.specs.Pending.{IsCleared, Marks}
 use Rattle.herd_kinship.proofs.FractionFacts.{split_trailing}
 
--- one bit of one word is written
-pub marks-word : (words : List ℕ) (word k w w' v : ℕ) → word < length words → k < 64 → w ≡ get_or words word 0 → bit_at w' k ≡ v →
-    ((i : ℕ) → i < 64 → (i ≡ k → ⊥) → bit_at w' i ≡ bit_at w i) → Marks words (set words word w') (64 * word + k) v
-marks-word words word k w w' v within small is here others = record {
-  room = length-set words word w';
+-- one bit of one chunk is written
+pub marks-chunk : (chunks : List ℕ) (chunk k w w' v : ℕ) → chunk < length chunks → k < 64 → w ≡ get_or chunks chunk 0 → bit_at w' k ≡ v →
+    ((i : ℕ) → i < 64 → (i ≡ k → ⊥) → bit_at w' i ≡ bit_at w i) → Marks chunks (set chunks chunk w') (64 * chunk + k) v
+marks-chunk chunks chunk k w w' v within small is here others = record {
+  room = length-set chunks chunk w';
   here =
-      let q : (64 * word + k) / 64 ≡ word = omega arith in
-      let r : (64 * word + k) % 64 ≡ k = omega arith in
-      rw (q, r, get_or-set_same words word w' 0 within) here;
+      let q : (64 * chunk + k) / 64 ≡ chunk = omega arith in
+      let r : (64 * chunk + k) % 64 ≡ k = omega arith in
+      rw (q, r, get_or-set_same chunks chunk w' 0 within) here;
   others = λ other apart.
       let rest : other % 64 < 64 = omega arith in
       ⊎_elim
-      (λ (same : other / 64 ≡ word).
+      (λ (same : other / 64 ≡ chunk).
       let differ : other % 64 ≡ k → ⊥ = λ e. apart (omega arith) in
-      rw (same, get_or-set_same words word w' 0 within) (others (other % 64) rest differ ∙ ap (λ n. bit_at n (other % 64)) is))
-      (λ (differ : other / 64 ≡ word → ⊥).
-      ap (λ n. bit_at n (other % 64)) (get_or-set_other words word (other / 64) w' 0 differ))
-      (cases_eq (other / 64) word);
+      rw (same, get_or-set_same chunks chunk w' 0 within) (others (other % 64) rest differ ∙ ap (λ n. bit_at n (other % 64)) is))
+      (λ (differ : other / 64 ≡ chunk → ⊥).
+      ap (λ n. bit_at n (other % 64)) (get_or-set_other chunks chunk (other / 64) w' 0 differ))
+      (cases_eq (other / 64) chunk);
 }
-
-min_zero : (a : ℕ) → min 0 a ≡ 0
-min_zero a = omega arith
 
 -- a number and one less, at the bits of an odd multiple of 2^t
 module _ (m t : ℕ) where

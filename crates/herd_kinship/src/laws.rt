@@ -3,7 +3,7 @@
 ghost use Rattle.std.specs.Prelude.{◌<◌, length};
 ghost use Rattle.herd_pedigree.specs.declared.TheConstants.{DEPTH_LIMIT};
 ghost use Rattle.herd_kinship.specs.Columns.{IsColumn};
-ghost use Rattle.herd_kinship.specs.FrozenAncestry.{number_at};
+ghost use Rattle.herd_kinship.specs.FrozenAncestry.{number_of_row};
 ghost use Rattle.herd_kinship.specs.Laws.{KeepsHalves, IsBounded, IsDecomposed, IsDiagonalised};
 
 use herd_pedigree::Frozen;
@@ -13,7 +13,7 @@ use std::alloc::Allocator;
 pub fn unit<A: Allocator>(frozen: &Frozen<A>, x: u32, y: u32)
     requires first { x < length frozen.now }
     requires second { y < length frozen.now }
-    ensures { KeepsHalves frozen.now (number_at frozen.now x) (number_at frozen.now y) }
+    ensures { KeepsHalves frozen.now (number_of_row frozen.now x) (number_of_row frozen.now y) }
 {
     prove!(x < frozen.len());
 }
@@ -22,7 +22,7 @@ pub fn unit<A: Allocator>(frozen: &Frozen<A>, x: u32, y: u32)
 pub fn bound<A: Allocator>(frozen: &Frozen<A>, x: u32, y: u32)
     requires first { x < length frozen.now }
     requires second { y < length frozen.now }
-    ensures { IsBounded DEPTH_LIMIT frozen.now (number_at frozen.now x) (number_at frozen.now y) }
+    ensures { IsBounded DEPTH_LIMIT frozen.now (number_of_row frozen.now x) (number_of_row frozen.now y) }
 {
     prove!(x < frozen.len());
 }
@@ -31,7 +31,7 @@ pub fn bound<A: Allocator>(frozen: &Frozen<A>, x: u32, y: u32)
 pub fn decomposition<A: Allocator>(frozen: &Frozen<A>, x: u32, y: u32)
     requires first { x < length frozen.now }
     requires second { y < length frozen.now }
-    ensures { IsDecomposed DEPTH_LIMIT frozen.now (number_at frozen.now x) (number_at frozen.now y) }
+    ensures { IsDecomposed DEPTH_LIMIT frozen.now (number_of_row frozen.now x) (number_of_row frozen.now y) }
 {
     prove!(x < frozen.len());
 }
@@ -40,7 +40,7 @@ pub fn decomposition<A: Allocator>(frozen: &Frozen<A>, x: u32, y: u32)
 pub fn inverse_rows<A: Allocator>(frozen: &Frozen<A>, x: u32, y: u32)
     requires first { x < length frozen.now }
     requires second { y < length frozen.now }
-    ensures { IsDiagonalised DEPTH_LIMIT frozen.now (number_at frozen.now x) (number_at frozen.now y) }
+    ensures { IsDiagonalised DEPTH_LIMIT frozen.now (number_of_row frozen.now x) (number_of_row frozen.now y) }
 {
     prove!(x < frozen.len());
 }

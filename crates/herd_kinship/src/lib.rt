@@ -4,7 +4,7 @@
 mod calves;
 mod coefficients;
 mod columns;
-mod entries;
+mod contribution;
 mod fractions;
 mod inverse;
 pub mod laws;
@@ -16,7 +16,7 @@ mod relationships;
 mod tracing;
 
 pub use coefficients::{Coefficients, coefficients_plain};
-pub use entries::{Contributions, Entry};
+pub use contribution::{Contribution, Contributions};
 pub use fractions::Fraction;
 use herd_pedigree::DEPTH_LIMIT;
 pub use inverse::contributions;

@@ -3,8 +3,8 @@ ghost use Rattle.herd_animal.specs.Sex.{is_male as is_male_number};
 ghost use Rattle.herd_pedigree.specs.declared.TheConstants.{DEPTH_LIMIT};
 ghost use Rattle.herd_pedigree.specs.Frozen.{book_of};
 ghost use Rattle.herd_kinship.specs.Coefficients.{AreCoefficients};
-ghost use Rattle.herd_kinship.specs.FrozenAncestry.{ancestry_of, number_at};
-ghost use Rattle.herd_kinship.specs.Mating.{ArePair, AreRelationshipsOf, mating_fault, number_of};
+ghost use Rattle.herd_kinship.specs.FrozenAncestry.{ancestry_of, number_of_row};
+ghost use Rattle.herd_kinship.specs.Mating.{ArePair, AreRelationshipsOf, mating_fault, number_of_mating_fault};
 ghost use Rattle.herd_kinship.specs.Table.{entry};
 
 use crate::coefficients::Coefficients;
@@ -34,7 +34,7 @@ pub enum MatingFault {
 impl MatingFault {
     /// Its number in the order of the variants, from 1 on. Advice tells all but that of `Memory`.
     pub fn number(self) -> u8
-        ensures { result ≡ number_of self }
+        ensures { result ≡ number_of_mating_fault self }
     {
         match self {
             MatingFault::SireMissing => 1,

@@ -1,11 +1,11 @@
 ghost use Rattle.std.specs.Prelude.{◌≡◌, ℕ, ◌+◌, ◌*◌, ◌-◌, ◌/◌, ◌^◌, ◌<◌, ◌≤◌, ◌&&◌, is_some, length, min, slice_get, slice_index, IfOk, IfSome, IfNone, Some};
 ghost use Rattle.std.specs.Option.{ForSome};
 ghost use Rattle.herd_pedigree.specs.declared.TheConstants.{DEPTH_LIMIT};
-ghost use Rattle.herd_kinship.specs.Coefficients.{IsKnownParent, KnowsAncestors, quarter_of};
-ghost use Rattle.herd_kinship.specs.FrozenAncestry.{ancestry_of, number_at};
+ghost use Rattle.herd_kinship.specs.Coefficients.{IsKnownParent, KnowsAncestors, own_relationship, quarter_of};
+ghost use Rattle.herd_kinship.specs.FrozenAncestry.{ancestry_of, number_of_row};
 ghost use Rattle.herd_kinship.specs.Places.{AreParentsAt, placed};
 ghost use Rattle.herd_kinship.specs.Shares.{share};
-ghost use Rattle.herd_kinship.specs.Table.{entry, mendelian as mendelian_part};
+ghost use Rattle.herd_kinship.specs.Table.{mendelian as mendelian_part};
 ghost use Rattle.herd_kinship.specs.Tracing.{given, GivesMark, HasRoom, IsIdle, IsNext, IsUnderWay};
 
 use crate::ONE;
@@ -34,7 +34,7 @@ pub struct Tracing<A: Allocator> {
 impl<A: Allocator + Clone> Tracing<A> {
     /// Of no animal yet, with room for so many.
     pub fn with_room(alloc: A, animals: u32) -> Result<Tracing<A>, AllocError>
-        ensures { IfOk result (λ tracing. IsIdle animals tracing.shares.items tracing.pending.words.items) }
+        ensures { IfOk result (λ tracing. IsIdle animals tracing.shares.items tracing.pending.chunks.items) }
     {
         let shares = vec![in alloc.clone()?; 0u64; animals as usize]?;
         let pending = Pending::with_room(alloc, animals)?;
@@ -51,12 +51,12 @@ impl<A: Allocator> Tracing<A> {
     /// Starts at the animal at a place: nobody is met yet.
     pub fn start<F: Allocator>(&mut self, frozen: &Frozen<F>, place: u32)
         requires place { place < length frozen.now }
-        requires idle { IsIdle (place + 1) self.old.shares.items self.old.pending.words.items }
+        requires idle { IsIdle (place + 1) self.old.shares.items self.old.pending.chunks.items }
         ensures place { self.new.place ≡ place }
         ensures border { self.new.border ≡ place + 1 }
         ensures shares { length self.new.shares.items ≡ length self.old.shares.items }
-        ensures marks { length self.new.pending.words.items ≡ length self.old.pending.words.items }
-        ensures tracing { IsUnderWay DEPTH_LIMIT frozen.now place (place + 1) self.new.shares.items self.new.pending.words.items }
+        ensures marks { length self.new.pending.chunks.items ≡ length self.old.pending.chunks.items }
+        ensures tracing { IsUnderWay DEPTH_LIMIT frozen.now place (place + 1) self.new.shares.items self.new.pending.chunks.items }
     {
         prove!(place < frozen.len());
         self.place = place;
@@ -67,11 +67,11 @@ impl<A: Allocator> Tracing<A> {
 
     /// Meets the next ancestor, and passes its share on to its parents.
     pub fn meet_next<F: Allocator>(&mut self, frozen: &Frozen<F>) -> Option<Met>
-        requires { IsUnderWay DEPTH_LIMIT frozen.now self.old.place self.old.border self.old.shares.items self.old.pending.words.items }
+        requires { IsUnderWay DEPTH_LIMIT frozen.now self.old.place self.old.border self.old.shares.items self.old.pending.chunks.items }
         ensures same { self.new.place ≡ self.old.place }
         ensures shares { length self.new.shares.items ≡ length self.old.shares.items }
-        ensures marks { length self.new.pending.words.items ≡ length self.old.pending.words.items }
-        ensures tracing { IsUnderWay DEPTH_LIMIT frozen.now self.new.place self.new.border self.new.shares.items self.new.pending.words.items }
+        ensures marks { length self.new.pending.chunks.items ≡ length self.old.pending.chunks.items }
+        ensures tracing { IsUnderWay DEPTH_LIMIT frozen.now self.new.place self.new.border self.new.shares.items self.new.pending.chunks.items }
         ensures next { IfSome result (λ met. IsNext DEPTH_LIMIT frozen.now self.old.place self.old.border met.place met.share) }
         ensures border { IfSome result (λ met. self.new.border ≡ met.place) }
         ensures ended { IfNone result (self.new.border ≡ 0) }
@@ -103,11 +103,11 @@ impl<A: Allocator> Tracing<A> {
     )
         requires row { AreParentsAt frozen.now met.place parents }
         requires room { ForSome parent (HasRoom DEPTH_LIMIT frozen.now self.old.place self.old.shares.items met.place met.share) }
-        requires marks { self.old.place < 64 * length self.old.pending.words.items }
+        requires marks { self.old.place < 64 * length self.old.pending.chunks.items }
         ensures place { self.new.place ≡ self.old.place }
         ensures border { self.new.border ≡ self.old.border }
         ensures shares { self.new.shares.items ≡ given frozen.now self.old.place self.old.shares.items met.place met.share parent }
-        ensures marks { GivesMark self.old.place self.old.pending.words.items self.new.pending.words.items parent }
+        ensures marks { GivesMark self.old.place self.old.pending.chunks.items self.new.pending.chunks.items parent }
     {
         if let Some(place) = parent {
             let steps = parents.depth - parents_at(frozen, place).depth;
@@ -142,7 +142,7 @@ fn quarter(known: &[u128], parent: Option<u32>) -> u128
 pub fn mendelian<F: Allocator>(frozen: &Frozen<F>, known: &[u128], place: u32) -> u128
     requires place { place < length frozen.now }
     requires known { KnowsAncestors DEPTH_LIMIT frozen.now known.now place }
-    ensures { result ≡ mendelian_part (ancestry_of frozen.now) DEPTH_LIMIT (number_at frozen.now place) }
+    ensures { result ≡ mendelian_part (ancestry_of frozen.now) DEPTH_LIMIT (number_of_row frozen.now place) }
 {
     prove!(place < frozen.len());
     let parents = parents_at(frozen, place);
@@ -174,7 +174,7 @@ fn trace_ancestors<F: Allocator, A: Allocator + Clone>(
 ) -> Result<u128, AllocError>
     requires place { place < length frozen.now }
     requires known { KnowsAncestors DEPTH_LIMIT frozen.now known.now place }
-    ensures { IfOk result (λ value. value ≡ entry (ancestry_of frozen.now) (2 * DEPTH_LIMIT) (Some (number_at frozen.now place)) (Some (number_at frozen.now place))) }
+    ensures { IfOk result (λ value. value ≡ own_relationship DEPTH_LIMIT frozen.now place) }
 {
     prove!(place < frozen.len());
     let depth = parents_at(frozen, place).depth;
@@ -204,7 +204,7 @@ pub fn trace<F: Allocator, A: Allocator + Clone>(
 ) -> Result<u128, AllocError>
     requires place { place < length frozen.now }
     requires known { KnowsAncestors DEPTH_LIMIT frozen.now known.now place }
-    ensures { IfOk result (λ value. value ≡ entry (ancestry_of frozen.now) (2 * DEPTH_LIMIT) (Some (number_at frozen.now place)) (Some (number_at frozen.now place))) }
+    ensures { IfOk result (λ value. value ≡ own_relationship DEPTH_LIMIT frozen.now place) }
 {
     prove!(place < frozen.len());
     let row = frozen.row(place);

@@ -1,9 +1,7 @@
 //! What a caller may do where a block begins, and in place of tracing an animal.
 ghost use Rattle.std.specs.Prelude.{◌≡◌, ◌*◌, ◌<◌, length, IfOk, Some};
 ghost use Rattle.herd_pedigree.specs.declared.TheConstants.{DEPTH_LIMIT};
-ghost use Rattle.herd_kinship.specs.Coefficients.{KnowsAncestors};
-ghost use Rattle.herd_kinship.specs.FrozenAncestry.{ancestry_of, number_at};
-ghost use Rattle.herd_kinship.specs.Table.{entry};
+ghost use Rattle.herd_kinship.specs.Coefficients.{KnowsAncestors, own_relationship};
 
 use herd_pedigree::Frozen;
 use std::alloc::{AllocError, Allocator};
@@ -28,7 +26,7 @@ pub trait Gate: Sync {
     ) -> Result<u128, AllocError>
         requires place { place < length frozen.now }
         requires known { KnowsAncestors DEPTH_LIMIT frozen.now known.now place }
-        ensures { IfOk result (λ value. value ≡ entry (ancestry_of frozen.now) (2 * DEPTH_LIMIT) (Some (number_at frozen.now place)) (Some (number_at frozen.now place))) }
+        ensures { IfOk result (λ value. value ≡ own_relationship DEPTH_LIMIT frozen.now place) }
     {
         herd_kinship::trace(alloc, frozen, known, place)
     }

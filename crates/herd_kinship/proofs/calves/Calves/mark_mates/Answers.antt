@@ -57,12 +57,12 @@ loop-link-preserved g c =
     let rows = c.args.frozen.now in
     let z : ℕ = c.in-Some.calf in
     let last : ℕ = c.args.last in
-    let words : List ℕ = c.loop-link.marked.words.items in
-    let words' : List ℕ = c.mark_parent.new.pending.words.items in
+    let chunks : List ℕ = c.loop-link.marked.chunks.items in
+    let chunks' : List ℕ = c.mark_parent.new.pending.chunks.items in
     let dam = c.parents_at.result.dam in
-    let gives : GivesMark last words words' dam = c.mark_parent.ensures in
-    let long = gives-room last words words' dam gives in
-    let room : last < 64 * length words = c.loop-link.invariant.room in
+    let gives : GivesMark last chunks chunks' dam = c.mark_parent.ensures in
+    let long = gives-room last chunks chunks' dam gives in
+    let room : last < 64 * length chunks = c.loop-link.invariant.room in
     let is : IsLink rows c.args.sire z c.index-link-in-Some.result.now =
     next-link rows c.args.sire z c.args.self.now.latest.items c.args.self.now.earlier.items c.index-link-in-Some.result.now c.requires.calves
     (c.loop-link.invariant.walked.next z c.in-Some.is) c.index-link-in-Some.ensures in
@@ -70,11 +70,11 @@ loop-link-preserved g c =
       room = omega arith;
       near = λ e m.
           ⊎_elim
-          (λ (was : mark words e ≡ 1). c.loop-link.invariant.near e was)
+          (λ (was : mark chunks e ≡ 1). c.loop-link.invariant.near e was)
           (λ at. let far = at.2 in omega arith)
-          (gives-from last words words' dam gives e m);
-      walked = walked-next rows c.args.sire z c.index-link-in-Some.result.now (λ x. (d : ℕ) → dam_place rows x ≡ Some d → mark words (last - d) ≡ 1) _ is
-          (λ x zx marked d e. gives-kept last words words' dam gives (last - d) (marked d e))
-          (λ d e. gives-it last words words' dam gives d (sym (parents-dam rows z c.parents_at.result c.parents_at.ensures) ∙ e))
-          (subst (λ o. IsWalked rows c.args.sire o (λ x. (d : ℕ) → dam_place rows x ≡ Some d → mark words (last - d) ≡ 1)) c.in-Some.is c.loop-link.invariant.walked);
+          (gives-from last chunks chunks' dam gives e m);
+      walked = walked-next rows c.args.sire z c.index-link-in-Some.result.now (λ x. (d : ℕ) → dam_place rows x ≡ Some d → mark chunks (last - d) ≡ 1) _ is
+          (λ x zx marked d e. gives-kept last chunks chunks' dam gives (last - d) (marked d e))
+          (λ d e. gives-it last chunks chunks' dam gives d (sym (parents-dam rows z c.parents_at.result c.parents_at.ensures) ∙ e))
+          (subst (λ o. IsWalked rows c.args.sire o (λ x. (d : ℕ) → dam_place rows x ≡ Some d → mark chunks (last - d) ≡ 1)) c.in-Some.is c.loop-link.invariant.walked);
     }
