@@ -1,6 +1,6 @@
 use crate::fractions::Fraction;
 
-/// A part of one entry of the inverse of the numerator relationship matrix: what one animal adds to it.
+/// What one animal adds to one entry of the inverse of the numerator relationship matrix.
 ///
 /// Summed by row and column over all animals, and mirrored, the contributions are the inverse (Henderson 1976).
 #[derive(Clone, Copy, Debug, PartialEq, Eq)]
@@ -9,14 +9,14 @@ pub struct Contribution {
     pub row: u32,
     /// The place of the earlier animal of the two.
     pub column: u32,
-    /// What is added there, exact and in lowest terms, where 1 is the additive variance.
+    /// What is added there, exact and in lowest terms.
     pub value: Fraction,
 }
 
 /// What an animal contributes to the inverse of the numerator relationship matrix.
 #[derive(Clone, Copy, Debug, PartialEq, Eq)]
 pub struct Contributions {
-    /// What it adds at itself: 1 over its Mendelian sampling variance.
+    /// What it adds at itself: 1 over its Mendelian sampling variance, so from 1 on.
     pub alpha: Fraction,
     /// How many count: 1 with no known parent, 3 with one, 6 with two.
     pub count: u8,

@@ -5,7 +5,7 @@ ghost use Rattle.herd_kinship.specs.Coefficients.{AreCoefficients};
 ghost use Rattle.herd_kinship.specs.Contributions.{contributions_of, filled, Lists, weighted};
 ghost use Rattle.herd_kinship.specs.Fraction.{halved};
 ghost use Rattle.herd_kinship.specs.FrozenAncestry.{ancestry_of, number_of_row};
-ghost use Rattle.herd_kinship.specs.Table.{mendelian as mendelian_part};
+ghost use Rattle.herd_kinship.specs.Table.{mendelian as mendelian_variance};
 
 use crate::ONE;
 use crate::coefficients::Coefficients;
@@ -120,7 +120,7 @@ pub fn contributions<F: Allocator, C: Allocator>(
 ) -> Contributions
     requires place { place < length frozen.now }
     requires coefficients { AreCoefficients DEPTH_LIMIT frozen.now coefficients.now }
-    ensures alpha { result.alpha ≡ halved false (2 ^ (2 * DEPTH_LIMIT)) (mendelian_part (ancestry_of frozen.now) DEPTH_LIMIT (number_of_row frozen.now place)) }
+    ensures alpha { result.alpha ≡ halved false (2 ^ (2 * DEPTH_LIMIT)) (mendelian_variance (ancestry_of frozen.now) DEPTH_LIMIT (number_of_row frozen.now place)) }
     ensures count { result.count ≡ length (contributions_of DEPTH_LIMIT frozen.now place) }
     ensures list { result.list ≡ filled (contributions_of DEPTH_LIMIT frozen.now place) }
     ensures lowest { All (λ one. IsGcd one.value.numerator one.value.denominator 1) result.list }

@@ -5,7 +5,7 @@ ghost use Rattle.herd_kinship.specs.Coefficients.{IsKnownParent, KnowsAncestors,
 ghost use Rattle.herd_kinship.specs.FrozenAncestry.{ancestry_of, number_of_row};
 ghost use Rattle.herd_kinship.specs.Places.{AreParentsAt, placed};
 ghost use Rattle.herd_kinship.specs.Shares.{share};
-ghost use Rattle.herd_kinship.specs.Table.{mendelian as mendelian_part};
+ghost use Rattle.herd_kinship.specs.Table.{mendelian as mendelian_variance};
 ghost use Rattle.herd_kinship.specs.Tracing.{given, GivesMark, HasRoom, IsIdle, IsNext, IsUnderWay};
 
 use crate::ONE;
@@ -13,7 +13,7 @@ use crate::pending::Pending;
 use herd_pedigree::{Frozen, Parents, Row};
 use std::alloc::{AllocError, Allocator};
 
-/// An ancestor that is met, and the share that the traced animal has of it.
+/// An ancestor that is met, and the share that the traced animal has of it, in the unit of their depths' difference.
 #[derive(Clone, Copy)]
 pub struct Met {
     pub place: u32,
@@ -138,25 +138,29 @@ fn quarter(known: &[u128], parent: Option<u32>) -> u128
     }
 }
 
-/// The Mendelian part of the animal at a place, by the coefficients of its parents.
+/// The Mendelian sampling variance of the animal at a place, by the coefficients of its parents.
+///
+/// It is a whole number of units of 2^-120 of the additive variance: 1 less a quarter of each known parent's
+/// relationship with itself (Henderson 1976; Meuwissen and Luo 1992). So it is `ONE` of a founder, and never 0. Only
+/// the numerators of the animal's ancestors need be right in `known`.
 pub fn mendelian<F: Allocator>(frozen: &Frozen<F>, known: &[u128], place: u32) -> u128
     requires place { place < length frozen.now }
     requires known { KnowsAncestors DEPTH_LIMIT frozen.now known.now place }
-    ensures { result ≡ mendelian_part (ancestry_of frozen.now) DEPTH_LIMIT (number_of_row frozen.now place) }
+    ensures { result ≡ mendelian_variance (ancestry_of frozen.now) DEPTH_LIMIT (number_of_row frozen.now place) }
 {
     prove!(place < frozen.len());
     let parents = parents_at(frozen, place);
     ONE - quarter(known, parents.sire) - quarter(known, parents.dam)
 }
 
-/// What an ancestor adds to a relationship: its Mendelian part times the two shares, which are in units that
-/// leave so many steps to take.
-pub fn term(part: u128, steps: u8, share: u64, other: u64) -> u128
+/// What an ancestor adds to a relationship: its Mendelian sampling variance times the two shares, which are in units
+/// that leave so many steps to take.
+pub fn term(variance: u128, steps: u8, share: u64, other: u64) -> u128
     requires shift { steps < 128 }
-    requires fits { part / 2 ^ steps * (share * other) < 2 ^ 128 }
-    ensures { result ≡ part / 2 ^ steps * (share * other) }
+    requires fits { variance / 2 ^ steps * (share * other) < 2 ^ 128 }
+    ensures { result ≡ variance / 2 ^ steps * (share * other) }
 {
-    (part >> steps) * (u128::from(share) * u128::from(other))
+    (variance >> steps) * (u128::from(share) * u128::from(other))
 }
 
 fn has_both_parents(row: &Row) -> bool
@@ -165,7 +169,7 @@ fn has_both_parents(row: &Row) -> bool
     row.sire.is_some() && row.dam.is_some()
 }
 
-/// The squared shares in its ancestors times their Mendelian parts, added up.
+/// The squared shares in its ancestors times their Mendelian sampling variances, added up.
 fn trace_ancestors<F: Allocator, A: Allocator + Clone>(
     alloc: A,
     frozen: &Frozen<F>,
@@ -193,9 +197,12 @@ fn trace_ancestors<F: Allocator, A: Allocator + Clone>(
     Ok(sum)
 }
 
-/// The relationship of the animal at a place with itself, by the coefficients of its ancestors.
+/// The relationship of the animal at a place with itself, by the coefficients of its ancestors (Meuwissen and Luo
+/// 1992).
 ///
-/// No memory is taken where a parent is unknown.
+/// It is a whole number of units of 2^-120, from `ONE` on and below 2 * `ONE`; `inbred` makes the coefficient of it.
+/// Only the numerators of the animal's ancestors need be right in `known`. The only error is a growth of memory that
+/// is refused; none is taken where a parent is unknown.
 pub fn trace<F: Allocator, A: Allocator + Clone>(
     alloc: A,
     frozen: &Frozen<F>,
@@ -215,7 +222,9 @@ pub fn trace<F: Allocator, A: Allocator + Clone>(
     }
 }
 
-/// The coefficient of an animal, by its relationship with itself.
+/// The coefficient of an animal in units of 2^-120, by its relationship with itself, as `trace` gives it: less `ONE`.
+///
+/// What isn't a relationship of an animal with itself is held between 0 and `ONE` - 1.
 pub fn inbred(value: u128) -> u128
     ensures value { result ≡ min (value - 2 ^ (2 * DEPTH_LIMIT)) (2 ^ (2 * DEPTH_LIMIT) - 1) }
     ensures below_one { result < 2 ^ (2 * DEPTH_LIMIT) }

@@ -13,10 +13,11 @@ use std::alloc::{AllocError, Allocator};
 /// nor is it that several threads take blocks. Tests try it, on founders with gates that count, and with gates
 /// that wait for one another.
 pub trait Gate: Sync {
-    /// A thread has taken this block of the level, and begins with it.
+    /// A thread has taken this block of the level, both counted from 0, and begins with it.
     fn enter(&self, level: u8, block: u32);
 
-    /// Traces the animal at a place.
+    /// Traces the animal at a place: its relationship with itself in units of 2^-120, as `herd_kinship::trace`. The only
+    /// error is a growth of memory that is refused.
     fn trace<F: Allocator, A: Allocator + Clone>(
         &self,
         alloc: A,
