@@ -1,7 +1,7 @@
 use Rattle.std.proofs.Common.{◌≡◌, ◌-◌, length}
 use Rattle.herd_kinship.proofs.pending.Pending.take_nearest.Given as goal
 
--- no chunk is written before the one with a bit
+-- nothing is written on the way to the first chunk with a bit
 abbrev pub invariant-loop-self : goal.invariant-loop-self
 invariant-loop-self g l = l.self.chunks.items ≡ l.initial.self.chunks.items
 
