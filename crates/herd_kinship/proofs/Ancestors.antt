@@ -1,12 +1,10 @@
 -- Lines to ancestors: where a share isn't 0 there is one, and an ancestor is older and less deep.
 use Rattle.std.proofs.Common.{ℕ, zero, suc, ◌+◌, ◌≡◌, ◌⊎◌, inl, inr, ⊎_elim, false, Option, Some, None, IsTrue, arith, refl, sym, Contains, subst}
 use Rattle.std.proofs.lemmas.Bool.{cases_Bool}
-use Rattle.herd_kinship.specs.Ancestry.{Ancestry, LineTo, IsParentIn}
+use Rattle.herd_kinship.specs.Ancestry.{Ancestry, LineTo}
 use Rattle.herd_kinship.specs.Shares.{share}
 use Rattle.herd_kinship.proofs.LawfulAncestry.{Line, IsLawful}
-use Rattle.herd_kinship.proofs.Depth.{Below, Below-positive, Below-parent}
 use Rattle.herd_kinship.proofs.Shares.{share-none, share-start, share-step}
-use Rattle.herd_kinship.proofs.Decompose.{Below-weaker}
 
 -- a share of what no line leads to is 0
 pub share-reached : {A : Type 0} (kin : Ancestry A) → IsLawful kin → (k : ℕ) (o : Option A) (j : A) →

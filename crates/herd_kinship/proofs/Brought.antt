@@ -1,7 +1,7 @@
 -- What pending shares bring: sums over the places below a border, and a tracing's step at the youngest of them.
-use Rattle.std.proofs.Common.{ℕ, zero, suc, ◌+◌, ◌*◌, ◌/◌, ◌^◌, ◌<◌, ◌≤◌, ◌≡◌, ◌⊎◌, ◌++◌, ◌∷◌, [], inl, inr, ⊎_elim, false, cond, ltb, Bool, true, Option, Some, None, IsTrue, arith, refl, sym, Contains, ◌∙◌, ap, subst}
+use Rattle.std.proofs.Common.{ℕ, zero, suc, ◌+◌, ◌*◌, ◌/◌, ◌^◌, ◌<◌, ◌≤◌, ◌≡◌, ◌⊎◌, ◌++◌, ◌∷◌, [], inl, inr, ⊎_elim, false, ltb, Option, Some, None, IsTrue, arith, refl, sym, Contains, ◌∙◌, ap, subst}
 use Rattle.std.specs.List.{range_with_len, sum_by}
-use Rattle.std.proofs.Math.Nat.{two-pow-succ, mul-div_cancel_left}
+use Rattle.std.proofs.Math.Nat.{mul-div_cancel_left}
 use Rattle.std.proofs.Math.Pow.{pow_pos}
 use Rattle.std.proofs.lemmas.Bool.{lt-ltb, ne_eqb, cases_eq}
 use Rattle.std.proofs.lemmas.List.{map-id}
@@ -13,7 +13,7 @@ use Rattle.herd_kinship.specs.Places.{places}
 use Rattle.herd_kinship.specs.Tracing.{brought}
 use Rattle.herd_kinship.proofs.LawfulAncestry.{IsLawful, IsShallow}
 use Rattle.herd_kinship.proofs.Depth.{Below, Below-shallow, known_some}
-use Rattle.herd_kinship.proofs.Shares.{share-none, share-start, share-step, share-itself, share-halved, share-later}
+use Rattle.herd_kinship.proofs.Shares.{share-none, share-itself, share-halved, share-later}
 use Rattle.herd_kinship.proofs.Exact.{share-even}
 use Rattle.herd_kinship.proofs.Places.{ArePlaced, places-are_lawful, place-in}
 

@@ -1,7 +1,7 @@
 -- The links from calf to calf: how they are made, and what is done for each calf while they are followed.
-use Rattle.std.proofs.Common.{ℕ, ◌+◌, ◌<◌, ◌≤◌, ◌≡◌, ◌⊎◌, ⊎_elim, true, false, is_some, List, length, get_or, set, replicate, slice_get, Option, Some, None, arith, refl, sym, ◌∙◌, ap, subst}
+use Rattle.std.proofs.Common.{ℕ, ◌+◌, ◌<◌, ◌≤◌, ◌≡◌, ◌⊎◌, ⊎_elim, true, false, is_some, List, length, get_or, set, slice_get, Option, Some, None, arith, refl, sym, ◌∙◌, ap, subst}
 use Rattle.std.proofs.lemmas.Bool.{cases_lt, cases_eq}
-use Rattle.std.proofs.lemmas.List.{get_or-set_same, get_or-set_other, length-set, get_or_read, get_or-replicate, length-replicate}
+use Rattle.std.proofs.lemmas.List.{get_or-set_same, get_or-set_other, length-set, get_or_read}
 use Rattle.std.proofs.lemmas.Option.{slice_get_within}
 use Rattle.herd_pedigree.specs.declared.frozen.Parents.{Parents}
 use Rattle.herd_pedigree.specs.declared.frozen.Row.{Row}

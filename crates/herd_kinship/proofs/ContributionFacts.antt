@@ -51,7 +51,7 @@ all_six P a b c d e f pa pb pc pd pe pf =
     All-cons P a (b ∷ c ∷ d ∷ e ∷ f ∷ []) pa (All-cons P b (c ∷ d ∷ e ∷ f ∷ []) pb (All-cons P c (d ∷ e ∷ f ∷ []) pc
     (All-cons P d (e ∷ f ∷ []) pd (All-cons P e (f ∷ []) pe (All-cons P f [] pf (All-nil P))))))
 
-pub weighted-low : (a h q : Fraction) → Low a → Low h → Low q → (i : ℕ) (s d : Option ℕ) → All (λ one. Low one.value) (filled (weighted a h q i s d))
+weighted-low : (a h q : Fraction) → Low a → Low h → Low q → (i : ℕ) (s d : Option ℕ) → All (λ one. Low one.value) (filled (weighted a h q i s d))
 weighted-low a h q la lh lq i None None =
     all_six (λ one. Low one.value) _ _ _ _ _ _ la la la la la la
 weighted-low a h q la lh lq i (Some s) None =
@@ -70,17 +70,17 @@ placed_value p q value = record { row = p; column = q; value = value }
 
 -- quarters of 1 over a Mendelian sampling variance, counted 4, 2 and 1
 module _ (l : ℕ) (positive : 0 < l) (m : ℕ) where
-  pub quarters-four : quarters_of l m (pos 4) ≡ halved false (2 ^ (2 * l)) m
+  quarters-four : quarters_of l m (pos 4) ≡ halved false (2 ^ (2 * l)) m
   quarters-four =
       let e : 2 * l ≡ suc (suc (2 * l - 2)) = omega arith in
       ap (λ n. halved false n m) ((quarters (2 * l - 2)).0 ∙ ap (λ k. 2 ^ k) (sym e))
 
-  pub quarters-minus_two : quarters_of l m (negsuc 1) ≡ halved true (2 ^ (2 * l - 1)) m
+  quarters-minus_two : quarters_of l m (negsuc 1) ≡ halved true (2 ^ (2 * l - 1)) m
   quarters-minus_two =
       let e : 2 * l - 1 ≡ suc (2 * l - 2) = omega arith in
       ap (λ n. halved true n m) ((quarters (2 * l - 2)).1 ∙ ap (λ k. 2 ^ k) (sym e))
 
-  pub quarters-one : quarters_of l m (pos 1) ≡ halved false (2 ^ (2 * l - 2)) m
+  quarters-one : quarters_of l m (pos 1) ≡ halved false (2 ^ (2 * l - 2)) m
   quarters-one = ap (λ n. halved false n m) (let e : 1 * 2 ^ (2 * l - 2) ≡ 2 ^ (2 * l - 2) = omega arith in e)
 
 placed_value-by : (l m p q : ℕ) (x y a b : ℤ) (value : Fraction) → x ≡ a → y ≡ b → quarters_of l m (a *ℤ b) ≡ value →
@@ -164,7 +164,7 @@ module _ (l most : ℕ) (rows : List Row) (f : IsFrozen l most rows) (positive :
       same_cons at-itself (same_cons (with-parent s hs) (same_cons (with-parent d hd) (same_cons (of-parents s s hs hs)
       (same_cons (of-parents d d hd hd) (same_cons (of-parents (max s d) (min s d) both.0 both.1) refl)))))
 
-  pub contributions-weighted : (s d : Option ℕ) → sire_place rows i ≡ s → dam_place rows i ≡ d →
+  contributions-weighted : (s d : Option ℕ) → sire_place rows i ≡ s → dam_place rows i ≡ d →
       contributions_of l rows i
       ≡ weighted (halved false (2 ^ (2 * l)) (mendelian (ancestry_of rows) l (number_of_row rows i)))
       (halved true (2 ^ (2 * l - 1)) (mendelian (ancestry_of rows) l (number_of_row rows i)))

@@ -30,7 +30,7 @@ doubled_or true p q u v e f = e
 doubled_or false p q u v e f = f refl
 
 -- the unit of a share need only be as small as the two depths' difference asks
-pub share-unit_between : {A : Type 0} (kin : Ancestry A) → IsLawful kin → (k : ℕ) (o : Option A) (j : A) (n m : ℕ) → Below kin n o → Line kin m j → n ≤ suc k + m →
+share-unit_between : {A : Type 0} (kin : Ancestry A) → IsLawful kin → (k : ℕ) (o : Option A) (j : A) (n m : ℕ) → Below kin n o → Line kin m j → n ≤ suc k + m →
     share kin (suc k) o j ≡ 2 * share kin k o j
 share-unit_between kin w k None j n m b line le = simp share-none
 share-unit_between kin w k (Some x) j zero m b line le =
@@ -75,7 +75,7 @@ share-even {A} kin w (suc l) o j p b bj is =
     rw e (omega arith)
 
 -- an entry in a finer unit
-pub entry-finer : {A : Type 0} (kin : Ancestry A) → IsLawful kin → (d k : ℕ) (x y : Option A) (m n : ℕ) → Below kin m x → Below kin n y → m + n ≤ suc (suc k) →
+entry-finer : {A : Type 0} (kin : Ancestry A) → IsLawful kin → (d k : ℕ) (x y : Option A) (m n : ℕ) → Below kin m x → Below kin n y → m + n ≤ suc (suc k) →
     entry kin (d + k) x y ≡ 2 ^ d * entry kin k x y
 entry-finer kin w zero k x y m n bx by' le =
     let e : zero + k ≡ k = omega arith in rw e (omega arith)
@@ -91,7 +91,7 @@ multiplied c M N Q R p q e f g =
     omega arith
 
 -- a Mendelian sampling variance in the unit that its own depth asks for
-pub mendelian-finer : {A : Type 0} (kin : Ancestry A) → IsLawful kin → (l g : ℕ) (j : A) → g ≤ l → Below kin (suc g) (Some j) →
+mendelian-finer : {A : Type 0} (kin : Ancestry A) → IsLawful kin → (l g : ℕ) (j : A) → g ≤ l → Below kin (suc g) (Some j) →
     mendelian kin l j ≡ 2 ^ (2 * (l - g)) * mendelian kin g j
 mendelian-finer kin w l g j le b =
     let wide : Below kin (suc l) (Some j) = λ x e. ((b x e).0, λ m line. let s : m < suc g = (b x e).1 m line in omega arith) in
@@ -109,7 +109,7 @@ mendelian-finer kin w l g j le b =
     (ap (λ n. 2 ^ n) sum ∙ pow-add 2 d (2 * g))
 
 -- so it is a multiple of each power up to twice what its depth leaves
-pub mendelian-divides : {A : Type 0} (kin : Ancestry A) → IsLawful kin → (l g e : ℕ) (j : A) → g ≤ l → Below kin (suc g) (Some j) → e ≤ 2 * (l - g) →
+mendelian-divides : {A : Type 0} (kin : Ancestry A) → IsLawful kin → (l g e : ℕ) (j : A) → g ≤ l → Below kin (suc g) (Some j) → e ≤ 2 * (l - g) →
     2 ^ e * (mendelian kin l j / 2 ^ e) ≡ mendelian kin l j
 mendelian-divides kin w l g e j le b small =
     let r : ℕ = 2 * (l - g) - e in

@@ -54,7 +54,7 @@ number_of_row-is rows i row e =
     (slice_get-map (λ (r : Row). r.number) rows i ∙ rw e refl)
 
 -- the number at a place is the key there
-pub number_of_row-key : (rows : List Row) (i : ℕ) → number_of_row rows i ≡ get_or (keys_of (book_of rows)) i []
+number_of_row-key : (rows : List Row) (i : ℕ) → number_of_row rows i ≡ get_or (keys_of (book_of rows)) i []
 number_of_row-key rows i = ap (λ ns. get_or ns i []) (numbers_are_keys rows)
 
 -- the record under a row's number is the row's
@@ -85,7 +85,7 @@ first_before x y later apart =
     (λ e. let less : is_lt (age_cmp y x) ≡ true = rw (turned, e) refl in absurd (cc))
 
 -- an animal at a lower place is before one at a higher place
-pub frozen-ordered : (l most : ℕ) (rows : List Row) → IsFrozen l most rows → (i j : ℕ) → i < j → j < length rows →
+frozen-ordered : (l most : ℕ) (rows : List Row) → IsFrozen l most rows → (i j : ℕ) → i < j → j < length rows →
     IsTrue ((ancestry_of rows).before (number_of_row rows i) (number_of_row rows j))
 frozen-ordered l most rows f i j low lj =
     let book = book_of rows in

@@ -41,7 +41,7 @@ module _ (l most : ℕ) (rows : List Row) (f : IsFrozen l most rows) where
   frozen-coefficient_bound x lx = coefficient-bound (ancestry_of rows) (frozen-lawful l most rows f) l (number_of_row rows x) (below_limit x lx)
 
   -- a parent's numerator is its coefficient
-  pub known-parent : (known : List ℕ) (x p : ℕ) → x < length rows → KnowsAncestors l rows known x → IsParentIn (placed rows) p x →
+  known-parent : (known : List ℕ) (x p : ℕ) → x < length rows → KnowsAncestors l rows known x → IsParentIn (placed rows) p x →
       (p < length rows) × (get_or known p 0 ≡ coefficient (ancestry_of rows) l (number_of_row rows p))
   unfolding LineTo
   known-parent known x p lx k is =
@@ -50,7 +50,7 @@ module _ (l most : ℕ) (rows : List Row) (f : IsFrozen l most rows) where
       (lp, k.right p lp (0, line_to-numbers l most rows f 1 x p lx line))
 
   -- an ancestor's ancestors are known too
-  pub known-ancestor : (known : List ℕ) (x y n : ℕ) → x < length rows → KnowsAncestors l rows known x → LineTo (placed rows) n x y → KnowsAncestors l rows known y
+  known-ancestor : (known : List ℕ) (x y n : ℕ) → x < length rows → KnowsAncestors l rows known x → LineTo (placed rows) n x y → KnowsAncestors l rows known y
   known-ancestor known x y n lx k line = record {
     each = k.each;
     right = λ p lp a.
@@ -84,7 +84,7 @@ module _ (l most : ℕ) (rows : List Row) (f : IsFrozen l most rows) where
       (ap (λ v. (2 ^ (2 * l) + v) / 4) (right q refl) ∙ quarter-is (ancestry_of rows) (frozen-lawful l most rows f) l (number_of_row rows q) b')
 
   -- the Mendelian sampling variance by the numerators of the parents
-  pub mendelian-known : (known : List ℕ) (x : ℕ) → x < length rows → KnowsAncestors l rows known x →
+  mendelian-known : (known : List ℕ) (x : ℕ) → x < length rows → KnowsAncestors l rows known x →
       2 ^ (2 * l) - quarter_of l known (sire_place rows x) - quarter_of l known (dam_place rows x) ≡ mendelian (ancestry_of rows) l (number_of_row rows x)
   unfolding mendelian
   mendelian-known known x lx k =
@@ -139,7 +139,7 @@ module _ (l most : ℕ) (rows : List Row) (f : IsFrozen l most rows) where
       (known_some (placed rows) i (place-in (length rows) i li)) (known_some (placed rows) j (place-in (length rows) j lj)))
 
   -- the entry of an animal with itself, less the whole, is its coefficient
-  pub frozen-inbred : (x : ℕ) → x < length rows →
+  frozen-inbred : (x : ℕ) → x < length rows →
       own_relationship l rows x - 2 ^ (2 * l) ≡ coefficient (ancestry_of rows) l (number_of_row rows x)
   frozen-inbred x lx = inbred-is (ancestry_of rows) (frozen-lawful l most rows f) l (number_of_row rows x) (below_limit x lx)
 
@@ -163,7 +163,7 @@ module _ (l most : ℕ) (rows : List Row) (f : IsFrozen l most rows) where
       (⊎_elim (λ s. inl (no_number (sire_place rows x) _ (sire_at l most rows f x lx) s)) (λ d. inr (no_number (dam_place rows x) _ (dam_at l most rows f x lx) d)) none)
 
   -- where a parent is unknown the entry of the animal with itself is the whole
-  pub entry-unknown : (x : ℕ) → x < length rows → (sire_place rows x ≡ None) ⊎ (dam_place rows x ≡ None) →
+  entry-unknown : (x : ℕ) → x < length rows → (sire_place rows x ≡ None) ⊎ (dam_place rows x ≡ None) →
       own_relationship l rows x ≡ 2 ^ (2 * l)
   entry-unknown x lx none =
       entry-itself (ancestry_of rows) (frozen-lawful l most rows f) l (number_of_row rows x) (below_limit x lx)
@@ -182,7 +182,7 @@ module _ (l most : ℕ) (rows : List Row) (f : IsFrozen l most rows) where
       (⊎_elim (λ s. inl (sire-row x row e ∙ s)) (λ d. inr (dam-row x row e ∙ d)) (no_parent row.sire row.dam none))
 
   -- an ancestor stands below
-  pub ancestor-below : (x p : ℕ) → x < length rows → p < length rows → IsAncestor (ancestry_of rows) (number_of_row rows p) (number_of_row rows x) → p < x
+  ancestor-below : (x p : ℕ) → x < length rows → p < length rows → IsAncestor (ancestry_of rows) (number_of_row rows p) (number_of_row rows x) → p < x
   ancestor-below x p lx lp a =
       let at = line_to-places l most rows f (suc a.0) x (number_of_row rows p) lx a.1 in
       let low : at.0 < x = ltb-true at.0 x (ancestor-before (placed rows) (placed-lawful l most rows f) a.0 x at.0 (place-in (length rows) x lx) at.1) in
@@ -194,7 +194,7 @@ module _ (l most : ℕ) (rows : List Row) (f : IsFrozen l most rows) where
   known-from_below known x lx each right = record { each = each; right = λ p lp a. right p (ancestor-below x p lx lp a) }
 
   -- an ancestor is less deep
-  pub ancestor-less_deep : (x p : ℕ) → x < length rows → p < length rows → IsAncestor (ancestry_of rows) (number_of_row rows p) (number_of_row rows x) →
+  ancestor-less_deep : (x p : ℕ) → x < length rows → p < length rows → IsAncestor (ancestry_of rows) (number_of_row rows p) (number_of_row rows x) →
       depth_at rows p < depth_at rows x
   ancestor-less_deep x p lx lp a =
       let at = line_to-places l most rows f (suc a.0) x (number_of_row rows p) lx a.1 in

@@ -4,11 +4,10 @@ use Rattle.std.proofs.Math.Nat.{pow-succ', mul-div_cancel_left}
 use Rattle.std.proofs.Math.Pow.{pow_pos}
 use Rattle.std.proofs.lemmas.Nat.{pow-add}
 use Rattle.herd_kinship.specs.Ancestry.{Ancestry}
-use Rattle.herd_kinship.specs.Table.{mendelian}
 use Rattle.herd_kinship.specs.Shares.{share}
 use Rattle.herd_kinship.proofs.LawfulAncestry.{IsLawful, Line}
 use Rattle.herd_kinship.proofs.Depth.{Below}
-use Rattle.herd_kinship.proofs.Exact.{share-finer, term-exact}
+use Rattle.herd_kinship.proofs.Exact.{share-finer}
 use Rattle.herd_kinship.proofs.Brought.{cancel}
 
 -- half of y's share, brought from y's unit to that of its parent p

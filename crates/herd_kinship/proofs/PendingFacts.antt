@@ -1,5 +1,5 @@
 -- Sets of distances as bits: one bit written, and the lowest bit taken.
-use Rattle.std.proofs.Common.{ℕ, suc, ◌+◌, ◌*◌, ◌-◌, ◌/◌, ◌%◌, ◌^◌, ◌<◌, ◌≤◌, ◌≡◌, ⊎_elim, min, List, length, get_or, set, arith, sym, ◌∙◌, ap, subst}
+use Rattle.std.proofs.Common.{ℕ, suc, ◌+◌, ◌*◌, ◌-◌, ◌/◌, ◌%◌, ◌^◌, ◌<◌, ◌≤◌, ◌≡◌, ⊎_elim, List, length, get_or, set, arith, sym, ◌∙◌, ap, subst}
 use Rattle.std.specs.Int.{w64, bit_at, trailing_zeros}
 use Rattle.std.specs.Prelude.{bit_and}
 use Rattle.std.proofs.Math.Pow.{pow_pos}

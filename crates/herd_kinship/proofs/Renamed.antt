@@ -5,12 +5,11 @@ use Rattle.std.proofs.lemmas.List.Sorted.{Contains-permutation}
 use Rattle.std.proofs.lemmas.List.Elements.{All-contains, All-nil, All-cons, All-weaker, Contains-append_left, Contains-append_right}
 use Rattle.herd_kinship.specs.Ancestry.{Ancestry, IsParentIn}
 use Rattle.herd_kinship.specs.Table.{entry, coefficient, mendelian}
-use Rattle.herd_kinship.specs.Shares.{share}
 use Rattle.herd_kinship.proofs.LawfulAncestry.{Line, IsShallow, IsLawful, IsRenamed}
 use Rattle.herd_kinship.proofs.Table.{entry-none_left, entry-none_right, entry-start, entry-step}
 use Rattle.herd_kinship.proofs.Depth.{IsKnown, known-sire, known-dam}
-use Rattle.herd_kinship.proofs.Shares.{share-none, share-start, share-step}
 
+-- by induction on the unit: the same case of the tabular method holds under both names
 pub entry-renamed : {A B : Type 0} (kin : Ancestry A) (g : Ancestry B) (φ : A → B) → IsLawful kin → IsRenamed kin g φ → (k : ℕ) (x y : Option A) → IsKnown kin x → IsKnown kin y →
     entry g k (option_map φ x) (option_map φ y) ≡ entry kin k x y
 entry-renamed kin g φ w r k None y kx ky = rw (entry-none_left kin k y) (entry-none_left g k (option_map φ y))
@@ -65,7 +64,7 @@ all_mapped f (x ∷ xs) =
     (All-weaker (λ v. Contains (map f xs) (f v)) (λ v. Contains (map f (x ∷ xs)) (f v))
     (λ v c. Contains-append_right (f x ∷ []) (map f xs) (f v) c) xs (all_mapped f xs))
 
-pub Contains-map : {X Y : Type 0} (f : X → Y) (xs : List X) (x : X) → Contains xs x → Contains (map f xs) (f x)
+Contains-map : {X Y : Type 0} (f : X → Y) (xs : List X) (x : X) → Contains xs x → Contains (map f xs) (f x)
 Contains-map f xs x c = All-contains (λ v. Contains (map f xs) (f v)) xs x (all_mapped f xs) c
 
 -- lines keep their lengths

@@ -113,7 +113,9 @@ abbrev pub minus_terms : {A : Type 0} → Ancestry A → (Option A → Option A 
 minus_terms kin e i j =
     2 * (e (Some i) (kin.sire j) + e (Some i) (kin.dam j)) + 2 * (e (kin.sire i) (Some j) + e (kin.dam i) (Some j))
 
-pub row_product-terms : {A : Type 0} (kin : Ancestry A) → IsLawful kin → (l : ℕ) (i j : A) → Contains kin.animals i → Contains kin.animals j →
+-- Two rows multiplied through A are nine entries, of the two animals and their parents. What is above 0 and what is under
+-- 0 in the rows is summed apart, since entries are natural numbers.
+row_product-terms : {A : Type 0} (kin : Ancestry A) → IsLawful kin → (l : ℕ) (i j : A) → Contains kin.animals i → Contains kin.animals j →
     row_product kin l i j ≡ pos (plus_terms kin (entry kin (2 * l)) i j) -ℤ pos (minus_terms kin (entry kin (2 * l)) i j)
 unfolding row_product
 row_product-terms {A} kin w l i j ci cj =

@@ -63,7 +63,7 @@ share_doubled true p q u v e f = e
 share_doubled false p q u v e f = f
 
 -- one more halving of the unit doubles a share, once the unit is as small as the depth asks
-pub share-unit : {A : Type 0} (kin : Ancestry A) → IsLawful kin → (k : ℕ) (o : Option A) (j : A) (n : ℕ) → Below kin n o → n ≤ suc k → share kin (suc k) o j ≡ 2 * share kin k o j
+share-unit : {A : Type 0} (kin : Ancestry A) → IsLawful kin → (k : ℕ) (o : Option A) (j : A) (n : ℕ) → Below kin n o → n ≤ suc k → share kin (suc k) o j ≡ 2 * share kin k o j
 share-unit kin w k None j n b l = simp share-none
 share-unit kin w k (Some x) j zero b l =
     let room = Below-positive kin 0 x b in absurd (omega arith)

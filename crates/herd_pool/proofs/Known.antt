@@ -1,5 +1,5 @@
 -- What is known of an animal once all animals of less depth have their coefficients.
-use Rattle.std.proofs.Common.{◌≡◌, ℕ, ◌-◌, ◌*◌, ◌^◌, ◌<◌, List, length, min, Some, arith}
+use Rattle.std.proofs.Common.{◌≡◌, ℕ, ◌-◌, ◌*◌, ◌^◌, ◌<◌, List, length, min, arith}
 use Rattle.herd_pedigree.specs.declared.frozen.Row.{Row}
 use Rattle.herd_pedigree.specs.Frozen.{IsFrozen}
 use Rattle.herd_kinship.specs.Coefficients.{KnowsAncestors, own_relationship}

@@ -1,8 +1,6 @@
 use Rattle.std.proofs.Common.{◌≡◌, ℕ, lit<, arith, ◌∙◌}
 use Rattle.herd_pedigree.specs.declared.TheConstants.{DEPTH_LIMIT, MOST_ANIMALS}
 use Rattle.herd_kinship.specs.Coefficients.{KnowsAncestors}
-use Rattle.herd_kinship.specs.Places.{AreParentsAt}
-use Rattle.herd_kinship.specs.Tracing.{IsNext}
 use Rattle.herd_kinship.proofs.KnownFacts.{known-next}
 use Rattle.herd_kinship.proofs.ParentsFacts.{parents-depth, parents-shallow}
 use Rattle.herd_kinship.proofs.TermSums.{IsAdded, added, summed-start, summed-end}

@@ -1,4 +1,4 @@
-use Rattle.std.proofs.Common.{ℕ, List, ◌+◌, ◌*◌, ◌≡◌, ◌<◌, ◌≤◌, length, set, arith, subst}
+use Rattle.std.proofs.Common.{ℕ, List, ◌+◌, ◌*◌, ◌<◌, length, set, arith, subst}
 use Rattle.std.proofs.lemmas.List.{get_or_read}
 use Rattle.herd_kinship.proofs.PendingFacts.{IsNearest, nearest-cleared}
 use Rattle.herd_kinship.proofs.pending.Pending.take_nearest.Given.{Over}
