@@ -175,11 +175,13 @@ module _ (l most : ℕ) (rows : List Row) (f : IsFrozen l most rows) (positive :
       ∙ (ap (λ o. map (contribution_at l rows i) (pairs_of i s o)) ed ∙ listed s d es ed)
 
 -- what is listed are the contributions, in lowest terms
-pub record AreListed (l : ℕ) (rows : List Row) (i : ℕ) (contributions : Contributions) : Type 0 where
-  pub alpha : contributions.alpha ≡ halved false (2 ^ (2 * l)) (mendelian (ancestry_of rows) l (number_of_row rows i))
-  pub count : contributions.count ≡ length (contributions_of l rows i)
-  pub list : contributions.list ≡ filled (contributions_of l rows i)
-  pub lowest : All (λ one. Low one.value) contributions.list
+abbrev pub AreListed : ℕ → List Row → ℕ → Contributions → Type 0
+AreListed l rows i contributions = record {
+  alpha : contributions.alpha ≡ halved false (2 ^ (2 * l)) (mendelian (ancestry_of rows) l (number_of_row rows i));
+  count : contributions.count ≡ length (contributions_of l rows i);
+  list : contributions.list ≡ filled (contributions_of l rows i);
+  lowest : All (λ one. Low one.value) contributions.list;
+}
 
 low : (negative : Bool) (k part : ℕ) → k < 128 → 0 < part → part < 2 ^ 128 → Low (halved negative (2 ^ k) part)
 low negative k part small some fits = (halved-lowest negative (2 ^ k) part some (pow-lt small) fits (inl (k, refl))).lowest

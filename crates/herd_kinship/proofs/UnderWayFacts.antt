@@ -13,6 +13,7 @@ use Rattle.herd_kinship.specs.Pending.{mark, Marks}
 use Rattle.herd_kinship.specs.Places.{AreParentsAt, placed}
 use Rattle.herd_kinship.specs.Shares.{share}
 use Rattle.herd_kinship.specs.Tracing.{given, GivesMark, HasRoom, IsIdle, IsMarked, IsNext, IsPendingAt, IsTracing, IsUnderWay}
+use Rattle.herd_kinship.proofs.PendingFacts.{IsNearest}
 use Rattle.herd_kinship.proofs.TracingFacts.{IsLower, IsStep, length-given, lowered-to, share-none_kept, step-is, step-room_sire, step-room_dam, step-lower_sire, step-lower_dam, step-next, tracing-start}
 
 -- the animal itself alone is pending at first
@@ -91,9 +92,7 @@ given-marks rows x y own shares chunks chunks' (Some p) m some high long lower g
 
 -- what is taken: the nearest distance that is marked, and the share that is kept there
 pub record IsTaken (shares chunks chunks' : List ℕ) (d own : ℕ) : Type 0 where
-  pub found : mark chunks d ≡ 1
-  pub nearest : (e : ℕ) → e < d → mark chunks e ≡ 0
-  pub taken : Marks chunks chunks' d 0
+  pub distance : IsNearest chunks chunks' d
   pub own_is : own ≡ get_or shares d 0
 
 -- what is met there: the next ancestor, room for what its parents get, and the tracing once they have it
@@ -131,13 +130,13 @@ module _ (l : ℕ) (rows : List Row) (x b : ℕ) (shares chunks : List ℕ) (way
 
   module _ (chunks' : List ℕ) (d own : ℕ) (taken : IsTaken shares chunks chunks' d own) where
     taken-at : IsPendingAt x b shares d
-    taken-at = way.marks.pending d taken.found
+    taken-at = way.marks.pending d taken.distance.found
 
     between : (j : ℕ) → x - d < j → j < b → get_or shares (x - j) 0 ≡ 0
     between j low high =
         let near : d ≤ x = taken-at.near in
         let border : b ≤ x + 1 = way.tracing.border_in in
-        none-kept j high (taken.nearest (x - j) (omega arith))
+        none-kept j high (taken.distance.nearest (x - j) (omega arith))
 
     taken-step : IsStep l rows x (x - d) shares own
     taken-step =
@@ -170,19 +169,19 @@ module _ (l : ℕ) (rows : List Row) (x b : ℕ) (shares chunks : List ℕ) (way
         let near : d ≤ x = taken-at.near in
         let below : x - d < b = taken-at.below in
         record {
-          room = let r = way.marks.room in let e = taken.taken.room in omega (arith, e);
+          room = let r = way.marks.room in let e = taken.distance.taken.room in omega (arith, e);
           marked = λ p low some.
               let apart : x - p ≡ d → ⊥ = λ e. omega arith in
               let same = get_or-set_other shares d (x - p) 0 0 apart in
               let kept : 0 < get_or (set shares d 0) (x - p) 0 = some in
               let was : 0 < get_or shares (x - p) 0 = subst (λ v. 0 < v) same kept in
-              taken.taken.others (x - p) apart ∙ way.marks.marked p (omega arith) was;
+              taken.distance.taken.others (x - p) apart ∙ way.marks.marked p (omega arith) was;
           pending = λ e is.
-              let other : e ≡ d → ⊥ = λ same. (let z : mark chunks' e ≡ 0 = subst (λ v. mark chunks' v ≡ 0) (sym same) taken.taken.here in let q : 1 ≡ 0 = sym is ∙ z in omega arith) in
-              let was : mark chunks e ≡ 1 = sym (taken.taken.others e other) ∙ is in
+              let other : e ≡ d → ⊥ = λ same. (let z : mark chunks' e ≡ 0 = subst (λ v. mark chunks' v ≡ 0) (sym same) taken.distance.taken.here in let q : 1 ≡ 0 = sym is ∙ z in omega arith) in
+              let was : mark chunks e ≡ 1 = sym (taken.distance.taken.others e other) ∙ is in
               let at = way.marks.pending e was in
               let far : d < e =
-              ⊎_elim (λ (less : e < d). let z = taken.nearest e less in absurd (omega arith)) (λ (more : d ≤ e). let o = other in omega arith) (cases_lt e d) in
+              ⊎_elim (λ (less : e < d). let z = taken.distance.nearest e less in absurd (omega arith)) (λ (more : d ≤ e). let o = other in omega arith) (cases_lt e d) in
               let close : e ≤ x = at.near in
               record { near = close; below = omega arith; some = rw (get_or-set_other shares d e 0 0 other) at.some };
         }

@@ -31,9 +31,7 @@ met g c =
     let long = c.requires.tracing.long in
     taken-met DEPTH_LIMIT c.args.frozen.now c.args.self.now.place c.args.self.now.border shares chunks c.requires c.take_nearest.new.self.chunks.items d c.index.result.now
     (record {
-      found = c.in-Some.ensures.found;
-      nearest = c.in-Some.ensures.nearest;
-      taken = c.in-Some.ensures.taken;
+      distance = record { found = c.in-Some.ensures.found; nearest = c.in-Some.ensures.nearest; taken = c.in-Some.ensures.taken };
       own_is = get_or_read shares d c.index.result.now (omega (arith, near, long)) c.index.ensures 0;
     })
     c.parents_at-parents.result c.parents_at-parents.ensures
