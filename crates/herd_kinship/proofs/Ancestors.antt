@@ -1,12 +1,10 @@
 -- Lines to ancestors: where a share isn't 0 there is one, and an ancestor is older and less deep.
 use Rattle.std.proofs.Common.{ℕ, zero, suc, ◌+◌, ◌≡◌, ◌⊎◌, inl, inr, ⊎_elim, false, Option, Some, None, IsTrue, arith, refl, sym, Contains, subst}
 use Rattle.std.proofs.lemmas.Bool.{cases_Bool}
-use Rattle.herd_kinship.specs.Ancestry.{Ancestry, LineTo, IsParent}
+use Rattle.herd_kinship.specs.Ancestry.{Ancestry, LineTo}
 use Rattle.herd_kinship.specs.Shares.{share}
 use Rattle.herd_kinship.proofs.LawfulAncestry.{Line, IsLawful}
-use Rattle.herd_kinship.proofs.Depth.{Below, Below-positive, Below-parent}
 use Rattle.herd_kinship.proofs.Shares.{share-none, share-start, share-step}
-use Rattle.herd_kinship.proofs.Decompose.{Below-weaker}
 
 -- a share of what no line leads to is 0
 pub share-reached : {A : Type 0} (kin : Ancestry A) → IsLawful kin → (k : ℕ) (o : Option A) (j : A) →
@@ -25,29 +23,6 @@ share-reached {A} kin w (suc k) (Some x) j =
     (λ r. inr (x, refl, (suc r.2.0, (r.0, inl r.1, r.2.1))))
     (share-reached kin w k (kin.sire x) j))
     (cases_Bool (kin.same x j))
-
--- one step more
-LineTo-parent : {A : Type 0} (kin : Ancestry A) (n : ℕ) (x j p : A) → LineTo kin n x j → IsParent kin p j → LineTo kin (suc n) x p
-unfolding LineTo
-LineTo-parent {A} kin zero x j p e is =
-    let P : A → Type 0 = λ v. IsParent kin p v in
-    (p, subst P (sym e) is, refl)
-LineTo-parent kin (suc n) x j p line is = (line.0, line.1, LineTo-parent kin n line.0 j p line.2 is)
-
-below_next : {A : Type 0} (kin : Ancestry A) → IsLawful kin → (n : ℕ) (x q : A) → IsParent kin q x → Below kin (suc n) (Some x) → Below kin n (Some q)
-below_next {A} kin w n x q is b =
-    Below-parent kin w n x (Some q) b (λ z i. let s : q ≡ z = cc in subst (λ v. IsParent kin v x) s is)
-
--- an ancestor has room for fewer steps
-pub Below-ancestor : {A : Type 0} (kin : Ancestry A) → IsLawful kin → (m n : ℕ) (x p : A) → LineTo kin (suc m) x p → Below kin (suc n) (Some x) → Below kin n (Some p)
-unfolding LineTo
-Below-ancestor {A} kin w zero n x p line b =
-    subst (λ v. Below kin n (Some v)) line.2 (below_next kin w n x line.0 line.1 b)
-Below-ancestor kin w (suc m) zero x p line b =
-    let none = Below-positive kin 0 line.0 (below_next kin w 0 x line.0 line.1 b) in absurd (omega arith)
-Below-ancestor kin w (suc m) (suc n) x p line b =
-    Below-weaker kin n (suc n) (Some p) (omega arith)
-    (Below-ancestor kin w m n line.0 p line.2 (below_next kin w (suc n) x line.0 line.1 b))
 
 -- an ancestor comes before
 pub ancestor-before : {A : Type 0} (kin : Ancestry A) → IsLawful kin → (n : ℕ) (x p : A) → Contains kin.animals x → LineTo kin (suc n) x p → IsTrue (kin.before p x)

@@ -27,10 +27,10 @@ use Rattle.herd_kinship.specs.FrozenAncestry.{is_before, book_ancestry}
 use Rattle.herd_kinship.proofs.LawfulAncestry.{IsLawful, Line, IsDepth, IsShallow}
 
 -- equal bytes are one number
-pub same_bytes : (x y : List ℕ) → bytes_eq x y ≡ true → x ≡ y
+same_bytes : (x y : List ℕ) → bytes_eq x y ≡ true → x ≡ y
 same_bytes x y = (bytes_eq-Decides x y).0
 
-pub bytes_itself : (x : List ℕ) → bytes_eq x x ≡ true
+bytes_itself : (x : List ℕ) → bytes_eq x x ≡ true
 bytes_itself x = (bytes_eq-Decides x x).1 refl
 
 count-none : {X : Type 0} (e : X → X → Bool) (x : X) (xs : List X) → AllByRecursion (λ y. e x y ≡ false) xs → count_by (e x) xs ≡ 0
@@ -104,7 +104,7 @@ ordered_parts x y (Some a) None e = absurd (cc)
 ordered_parts x y (Some a) (Some b) e =
     record { first = a; second = b; first_is = refl; second_is = refl; ordered = lt_less (age_cmp (x, a) (y, b)) e }
 
-pub ordered_from_before : (book : Book) (x y : List ℕ) → is_before book x y ≡ true → AreOrdered x y (record_of book x) (record_of book y)
+ordered_from_before : (book : Book) (x y : List ℕ) → is_before book x y ≡ true → AreOrdered x y (record_of book x) (record_of book y)
 ordered_from_before book x y e = ordered_parts x y (record_of book x) (record_of book y) e
 
 pub before_from_ordered : (book : Book) (x y : List ℕ) (a b : Animal) → record_of book x ≡ Some a → record_of book y ≡ Some b →
@@ -117,7 +117,7 @@ pub record IsRecorded (field : Animal → Option (List ℕ)) (o : Option Animal)
   pub is : o ≡ Some animal
   pub parent : field animal ≡ Some p
 
-pub recorded : (field : Animal → Option (List ℕ)) (o : Option Animal) (p : List ℕ) → option_and_then field o ≡ Some p → IsRecorded field o p
+recorded : (field : Animal → Option (List ℕ)) (o : Option Animal) (p : List ℕ) → option_and_then field o ≡ Some p → IsRecorded field o p
 recorded field None p e = absurd (cc)
 recorded field (Some a) p e = record { animal = a; is = refl; parent = e }
 
@@ -129,7 +129,7 @@ option_there (Some v) s = (v, refl)
 pub record_there : (book : Book) (x : List ℕ) → Contains (keys_of book) x → (a : Animal) × (record_of book x ≡ Some a)
 record_there book x c = option_there (record_of book x) (IsSome-lookup_from_Contains nat_list_eq_equiv x book c)
 
-pub number_there : (book : Book) (x : List ℕ) (a : Animal) → record_of book x ≡ Some a → Contains (keys_of book) x
+number_there : (book : Book) (x : List ℕ) (a : Animal) → record_of book x ≡ Some a → Contains (keys_of book) x
 number_there book x a e = Contains-keys_from_lookup same_bytes x book (rw e refl)
 
 -- the order of two animals of the book
@@ -197,15 +197,12 @@ book-lawful l most book w = record {
       is;
 }
 
-there_from_true : (o : Option Animal) → IsSome o → (v : Animal) × (o ≡ Some v)
-there_from_true o s = option_there o s
-
 -- a parent that passes a test
 passing : (test : List ℕ → Bool) (o : Option (List ℕ)) → option_map_or test o false ≡ true → (p : List ℕ) × (o ≡ Some p) × (test p ≡ true)
 passing test None e = absurd (cc)
 passing test (Some p) e = (p, refl, e)
 
-pub line_from_has_line : (book : Book) (n : ℕ) (x : List ℕ) → has_line (parentage_of book) n x ≡ true → Line (book_ancestry book) n x
+line_from_has_line : (book : Book) (n : ℕ) (x : List ℕ) → has_line (parentage_of book) n x ≡ true → Line (book_ancestry book) n x
 unfolding has_line Line
 line_from_has_line book zero x e =
     let a = option_there (record_of book x) e in number_there book x a.0 a.1
@@ -221,7 +218,7 @@ line_from_has_line book (suc n) x e =
 passes : (test : List ℕ → Bool) (o : Option (List ℕ)) (p : List ℕ) → o ≡ Some p → test p ≡ true → option_map_or test o false ≡ true
 passes test o p e t = rw e t
 
-pub has_line_from_line : (book : Book) (n : ℕ) (x : List ℕ) → Line (book_ancestry book) n x → has_line (parentage_of book) n x ≡ true
+has_line_from_line : (book : Book) (n : ℕ) (x : List ℕ) → Line (book_ancestry book) n x → has_line (parentage_of book) n x ≡ true
 unfolding has_line Line
 has_line_from_line book zero x line = IsSome-lookup_from_Contains nat_list_eq_equiv x book line
 has_line_from_line book (suc n) x line =

@@ -1,4 +1,4 @@
--- Bounds of coefficients and Mendelian parts, and the entry of an animal with itself.
+-- Bounds of coefficients and Mendelian sampling variances, and the entry of an animal with itself.
 use Rattle.std.proofs.Common.{ℕ, zero, suc, ◌+◌, ◌*◌, ◌-◌, ◌^◌, ◌<◌, ◌≤◌, ◌≡◌, ◌/◌, ◌⊎◌, ⊎_elim, Some, None, arith, refl, sym, ◌∙◌, ap}
 use Rattle.std.proofs.Math.Nat.{two-pow-succ}
 use Rattle.herd_kinship.specs.Ancestry.{Ancestry}
@@ -28,7 +28,7 @@ coefficient-bound kin w l x b =
     let double = two-pow-succ (2 * l) in
     omega (arith, e, f, double)
 
--- a Mendelian part is above 0 and at most 1
+-- a Mendelian sampling variance is above 0 and at most 1
 pub mendelian-positive : {A : Type 0} (kin : Ancestry A) → IsLawful kin → (l : ℕ) (j : A) → Below kin (suc l) (Some j) → 1 ≤ mendelian kin l j
 mendelian-positive kin w l j b =
     let e = mendelian-whole kin w l j b in

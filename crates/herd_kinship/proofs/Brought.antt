@@ -1,7 +1,7 @@
 -- What pending shares bring: sums over the places below a border, and a tracing's step at the youngest of them.
-use Rattle.std.proofs.Common.{ℕ, zero, suc, ◌+◌, ◌*◌, ◌/◌, ◌^◌, ◌<◌, ◌≤◌, ◌≡◌, ◌⊎◌, ◌++◌, ◌∷◌, [], inl, inr, ⊎_elim, false, cond, ltb, Bool, true, Option, Some, None, IsTrue, arith, refl, sym, Contains, ◌∙◌, ap, subst}
+use Rattle.std.proofs.Common.{ℕ, zero, suc, ◌+◌, ◌*◌, ◌/◌, ◌^◌, ◌<◌, ◌≤◌, ◌≡◌, ◌⊎◌, ◌++◌, ◌∷◌, [], inl, inr, ⊎_elim, false, ltb, Option, Some, None, IsTrue, arith, refl, sym, Contains, ◌∙◌, ap, subst}
 use Rattle.std.specs.List.{range_with_len, sum_by}
-use Rattle.std.proofs.Math.Nat.{two-pow-succ, mul-div_cancel_left}
+use Rattle.std.proofs.Math.Nat.{mul-div_cancel_left}
 use Rattle.std.proofs.Math.Pow.{pow_pos}
 use Rattle.std.proofs.lemmas.Bool.{lt-ltb, ne_eqb, cases_eq}
 use Rattle.std.proofs.lemmas.List.{map-id}
@@ -13,7 +13,7 @@ use Rattle.herd_kinship.specs.Places.{places}
 use Rattle.herd_kinship.specs.Tracing.{brought}
 use Rattle.herd_kinship.proofs.LawfulAncestry.{IsLawful, IsShallow}
 use Rattle.herd_kinship.proofs.Depth.{Below, Below-shallow, known_some}
-use Rattle.herd_kinship.proofs.Shares.{share-none, share-start, share-step, share-itself, share-halved, share-later}
+use Rattle.herd_kinship.proofs.Shares.{share-none, share-itself, share-halved, share-later}
 use Rattle.herd_kinship.proofs.Exact.{share-even}
 use Rattle.herd_kinship.proofs.Places.{ArePlaced, places-are_lawful, place-in}
 
@@ -84,23 +84,9 @@ share-within shares (suc b) p low =
     (omega (arith, more, rest)))
     (cases_eq p b)
 
-cond_le : (t : Bool) (a b m : ℕ) → a ≤ m → b ≤ m → cond t a b ≤ m
-cond_le true a b m la lb = la
-cond_le false a b m la lb = lb
-
 pub option_cases : {A : Type 0} (o : Option A) → (o ≡ None) ⊎ ((p : A) × (o ≡ Some p))
 option_cases None = inl refl
 option_cases (Some p) = inr (p, refl)
-
--- a share is at most the whole
-pub share-at_most : {A : Type 0} (kin : Ancestry A) (k : ℕ) (o : Option A) (j : A) → share kin k o j ≤ 2 ^ k
-share-at_most kin k None j = rw (share-none kin k j) (omega arith)
-share-at_most kin zero (Some x) j = rw (share-start kin x j) (cond_le (kin.same x j) 1 0 1 (omega arith) (omega arith))
-share-at_most kin (suc k) (Some x) j =
-    let s = share-at_most kin k (kin.sire x) j in
-    let d = share-at_most kin k (kin.dam x) j in
-    let double = two-pow-succ k in
-    rw (share-step kin k x j) (cond_le (kin.same x j) _ _ _ (omega arith) (omega (arith, double, s, d)))
 
 halves : (s half t a b : ℕ) → 2 * half ≡ s → 2 * t ≡ a + b → s * t ≡ half * a + half * b
 halves s half t a b e f =

@@ -1,7 +1,7 @@
 -- The links from calf to calf: how they are made, and what is done for each calf while they are followed.
-use Rattle.std.proofs.Common.{ℕ, ◌+◌, ◌<◌, ◌≤◌, ◌≡◌, ◌⊎◌, ⊎_elim, true, false, is_some, List, length, get_or, set, replicate, slice_get, Option, Some, None, arith, refl, sym, ◌∙◌, ap, subst}
+use Rattle.std.proofs.Common.{ℕ, ◌+◌, ◌<◌, ◌≤◌, ◌≡◌, ◌⊎◌, ⊎_elim, true, false, is_some, List, length, get_or, set, slice_get, Option, Some, None, arith, refl, sym, ◌∙◌, ap, subst}
 use Rattle.std.proofs.lemmas.Bool.{cases_lt, cases_eq}
-use Rattle.std.proofs.lemmas.List.{get_or-set_same, get_or-set_other, length-set, get_or_read, get_or-replicate, length-replicate}
+use Rattle.std.proofs.lemmas.List.{get_or-set_same, get_or-set_other, length-set, get_or_read}
 use Rattle.std.proofs.lemmas.Option.{slice_get_within}
 use Rattle.herd_pedigree.specs.declared.frozen.Parents.{Parents}
 use Rattle.herd_pedigree.specs.declared.frozen.Row.{Row}
@@ -26,20 +26,6 @@ link-new : (rows : List Row) (s i : ℕ) → IsCalf rows s i → IsLink rows s (
 link-new rows s i c = record {
   calf = λ y e. let same : i ≡ y = cc in (omega arith, subst (λ v. IsCalf rows s v) same c);
   youngest = λ x lx _. (i, refl, omega arith);
-}
-
-link-start : (rows : List Row) (s : ℕ) → IsLink rows s 0 None
-link-start rows s = record {
-  calf = λ y e. absurd (cc);
-  youngest = λ x lx _. absurd (omega arith);
-}
-
-pub linked-start : (rows : List Row) → AreLinked rows 0 (replicate (length rows) None) (replicate (length rows) None)
-linked-start rows = record {
-  each_sire = length-replicate (length rows) None;
-  each_calf = length-replicate (length rows) None;
-  latest_is = λ s ls. subst (λ o. IsLink rows s 0 o) (sym (get_or-replicate (length rows) s None None ls)) (link-start rows s);
-  earlier_is = λ s x lx _. absurd (omega arith);
 }
 
 -- an animal that has no known sire, or no known dam
@@ -134,9 +120,6 @@ walked-next rows s z link P Q is kept here so_far = record {
       (cases_eq z x))
       (cases_lt x z);
 }
-
-pub walked-end : (rows : List Row) (s : ℕ) (P : ℕ → Type 0) → IsWalked rows s None P → (x : ℕ) → IsCalf rows s x → P x
-walked-end rows s P so_far x c = so_far.done x c (λ y e. absurd (cc))
 
 -- fewer places are left behind the next link
 pub left-smaller : (rows : List Row) (s z : ℕ) (link : Option ℕ) → IsLink rows s z link → left_from link < z + 1

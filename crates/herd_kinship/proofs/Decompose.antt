@@ -1,4 +1,4 @@
--- The entry is symmetric, and is the sum of the shared ancestors' Mendelian parts.
+-- The entry is symmetric, and is the sum of the shared ancestors' Mendelian sampling variances.
 use Rattle.std.proofs.Common.{ℕ, zero, suc, ◌+◌, ◌*◌, ◌^◌, ◌<◌, ◌≤◌, ◌≡◌, ⊎_elim, false, cond, Option, Some, None, IsTrue, arith, refl, sym, Contains, ◌∙◌, ap, subst}
 use Rattle.std.proofs.lemmas.Nat.{pow-add}
 use Rattle.std.proofs.lemmas.Bool.{false_from_ne_true, cases_Bool, cases_lt}
@@ -26,13 +26,13 @@ entry-swap kin w k (Some x) (Some y) kx ky =
     (⊎_elim (λ t. entry-swap_before kin w k x y t) (λ t. sym (entry-swap_before kin w k y x t)))
     (w.total x y (kx x refl) (ky y refl))
 
-pub shared-none_left : {A : Type 0} (kin : Ancestry A) (l : ℕ) (y : Option A) → shared kin l None y ≡ 0
+shared-none_left : {A : Type 0} (kin : Ancestry A) (l : ℕ) (y : Option A) → shared kin l None y ≡ 0
 unfolding shared
 shared-none_left kin l y =
     sum_by-none (λ j. share kin l None j * share kin l y j * mendelian kin l j) kin.animals
     (λ j. rw (share-none kin l j) (omega arith))
 
-pub shared-swap : {A : Type 0} (kin : Ancestry A) (l : ℕ) (x y : Option A) → shared kin l x y ≡ shared kin l y x
+shared-swap : {A : Type 0} (kin : Ancestry A) (l : ℕ) (x y : Option A) → shared kin l x y ≡ shared kin l y x
 unfolding shared
 shared-swap kin l x y =
     sum_by-agree (λ j. share kin l x j * share kin l y j * mendelian kin l j) (λ j. share kin l y j * share kin l x j * mendelian kin l j) kin.animals
@@ -50,7 +50,8 @@ term_quartered t a b m e =
     let left : 4 * (t * t * m) ≡ (2 * t) * (2 * t) * m = omega arith in
     rw (left, e) (omega arith)
 
-pub shared-halved : {A : Type 0} (kin : Ancestry A) → IsLawful kin → (l : ℕ) (x y : A) → Below kin (suc l) (Some x) → Below kin (suc l) (Some y) → IsTrue (kin.before x y) →
+-- what an older x shares with y, doubled, is what it shares with y's parents: x has nothing of y itself
+shared-halved : {A : Type 0} (kin : Ancestry A) → IsLawful kin → (l : ℕ) (x y : A) → Below kin (suc l) (Some x) → Below kin (suc l) (Some y) → IsTrue (kin.before x y) →
     2 * shared kin l (Some x) (Some y) ≡ shared kin l (Some x) (kin.sire y) + shared kin l (Some x) (kin.dam y)
 unfolding shared
 shared-halved {A} kin w l x y bx by' t =
@@ -73,7 +74,8 @@ shared-halved {A} kin w l x y bx by' t =
     (cases_Bool (kin.same y j))) in
     sym scale ∙ (terms ∙ add)
 
-pub shared-quartered : {A : Type 0} (kin : Ancestry A) → IsLawful kin → (l : ℕ) (x : A) → Below kin (suc l) (Some x) →
+-- what x shares with itself, four times, is its own part and what its parents share, as in (s + d)^2
+shared-quartered : {A : Type 0} (kin : Ancestry A) → IsLawful kin → (l : ℕ) (x : A) → Below kin (suc l) (Some x) →
     4 * shared kin l (Some x) (Some x) ≡ 4 * (2 ^ (2 * l) * mendelian kin l x)
     + (shared kin l (kin.sire x) (kin.sire x) + (2 * shared kin l (kin.sire x) (kin.dam x) + shared kin l (kin.dam x) (kin.dam x)))
 unfolding shared
@@ -132,10 +134,11 @@ decomposed_before : {A : Type 0} (kin : Ancestry A) → IsLawful kin → (l : �
 decomposed_before kin w l x y bx by' t s d =
     other_sums _ _ _ _ _ (rw (← s, ← d) (shared-halved kin w l x y bx by' t)) (entry-halved kin w l x y bx by' t)
 
-pub Below-weaker : {A : Type 0} (kin : Ancestry A) (m n : ℕ) (o : Option A) → m ≤ n → Below kin m o → Below kin n o
+Below-weaker : {A : Type 0} (kin : Ancestry A) (m n : ℕ) (o : Option A) → m ≤ n → Below kin m o → Below kin n o
 Below-weaker kin m n o l b x e = ((b x e).0, λ i line. let s : i < m = (b x e).1 i line in omega arith)
 
--- by induction on the sum of the two depths
+-- By induction on the sum of the two depths. What two animals share and their entry split in the same way over the
+-- parents of the younger one, and over an animal's parents where the two are one.
 decomposed : {A : Type 0} (kin : Ancestry A) → IsLawful kin → (l : ℕ) (n : ℕ) (x y : Option A) (p q : ℕ) → Below kin p x → Below kin q y → p ≤ suc l → q ≤ suc l → p + q ≤ n → IsDecomposed kin l x y
 decomposed kin w l n None y p q bx by' lp lq s = rw (shared-none_left kin l y, entry-none_left kin (2 * l) y) (omega arith)
 decomposed kin w l n (Some x) None p q bx by' lp lq s =

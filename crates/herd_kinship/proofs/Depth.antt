@@ -1,18 +1,15 @@
--- Depths of known parents, the clauses of the entry in a lawful herd, and the law of the unit.
+-- Depths of known parents, the clauses of the entry in a lawful ancestry, and the law of the unit.
 use Rattle.std.proofs.Common.{ℕ, zero, suc, ◌+◌, ◌*◌, ◌-◌, ◌<◌, ◌≤◌, ◌≡◌, inl, inr, ⊎_elim, Bool, true, false, cond, Option, Some, None, arith, refl, sym, Contains, subst}
 use Rattle.std.proofs.Math.Nat.{two-pow-succ}
 use Rattle.std.proofs.lemmas.Bool.{cases_lt}
-use Rattle.herd_kinship.specs.Ancestry.{Ancestry, IsParent}
+use Rattle.herd_kinship.specs.Ancestry.{Ancestry, IsParentIn}
 use Rattle.herd_kinship.specs.Table.{entry}
 use Rattle.herd_kinship.proofs.LawfulAncestry.{Line, IsDepth, IsShallow, IsLawful}
 use Rattle.herd_kinship.proofs.Table.{entry-none_left, entry-none_right, entry-start, entry-step}
 
--- an animal of the herd or none, and each line from it has fewer than n steps
+-- an animal of the ancestry or none, and each line from it has fewer than n steps
 abbrev pub Below : {A : Type 0} → Ancestry A → ℕ → Option A → Type 0
 Below {A} kin n o = (x : A) → o ≡ Some x → Contains kin.animals x × ((m : ℕ) → Line kin m x → m < n)
-
-pub Below-none : {A : Type 0} (kin : Ancestry A) (n : ℕ) → Below kin n None
-Below-none kin n x e = absurd (cc)
 
 pub Below-member : {A : Type 0} (kin : Ancestry A) (n : ℕ) (x : A) → Below kin n (Some x) → Contains kin.animals x
 Below-member kin n x b = (b x refl).0
@@ -29,7 +26,7 @@ pub Below-positive : {A : Type 0} (kin : Ancestry A) (n : ℕ) (x : A) → Below
 unfolding Line
 Below-positive kin n x b = (b x refl).1 0 (b x refl).0
 
-pub Below-parent : {A : Type 0} (kin : Ancestry A) → IsLawful kin → (n : ℕ) (x : A) (o : Option A) → Below kin (suc n) (Some x) → ((p : A) → o ≡ Some p → IsParent kin p x) → Below kin n o
+Below-parent : {A : Type 0} (kin : Ancestry A) → IsLawful kin → (n : ℕ) (x : A) (o : Option A) → Below kin (suc n) (Some x) → ((p : A) → o ≡ Some p → IsParentIn kin p x) → Below kin n o
 unfolding Line
 Below-parent kin w n x o b is p e =
     let member = (w.parents p x (b x refl).0 (is p e)).0 in (
@@ -56,7 +53,7 @@ lines-shorter kin w zero n x line = subst (λ i. Line kin i x) (omega arith) lin
 lines-shorter kin w (suc d) n x line =
     lines-shorter kin w d n x (line-shorter kin w (d + n) x (subst (λ i. Line kin i x) (omega arith) line))
 
--- an animal of the herd, or none
+-- an animal of the ancestry, or none
 abbrev pub IsKnown : {A : Type 0} → Ancestry A → Option A → Type 0
 IsKnown {A} kin o = (x : A) → o ≡ Some x → Contains kin.animals x
 
@@ -69,7 +66,7 @@ known-sire kin w i c p e = (w.parents p i c (inl e)).0
 pub known-dam : {A : Type 0} (kin : Ancestry A) → IsLawful kin → (i : A) → Contains kin.animals i → IsKnown kin (kin.dam i)
 known-dam kin w i c p e = (w.parents p i c (inr e)).0
 
--- in a herd with no line longer than l
+-- in an ancestry with no line longer than l
 pub Below-shallow : {A : Type 0} (kin : Ancestry A) → IsLawful kin → (l : ℕ) → IsShallow kin l → (o : Option A) → IsKnown kin o → Below kin (suc l) o
 Below-shallow kin w l f o known x e = (
   known x e,
@@ -97,7 +94,8 @@ first_step true b u v w hu hv hw = hu
 first_step false true u v w hu hv hw = hv
 first_step false false u v w hu hv hw = hw
 
--- One more halving of the unit doubles the entry, once the unit is as small as the two depths ask.
+-- One more halving of the unit doubles the entry, once the unit is as small as the two depths ask. By induction on the
+-- unit: each step goes from an animal to its parents, which have less depth, and in unit 1 there are none left.
 pub unit : {A : Type 0} (kin : Ancestry A) → IsLawful kin → (k : ℕ) (x y : Option A) (m n : ℕ) → Below kin m x → Below kin n y → m + n ≤ suc (suc k) → entry kin (suc k) x y ≡ 2 * entry kin k x y
 unit kin w k None y m n bx by' l = simp entry-none_left
 unit kin w k (Some x) None m n bx by' l = simp entry-none_right

@@ -1,10 +1,10 @@
--- Shares and Mendelian parts are whole in units of their own, which depths give.
+-- Shares and Mendelian sampling variances are whole in units of their own, which depths give.
 use Rattle.std.proofs.Common.{ℕ, zero, suc, ◌+◌, ◌*◌, ◌-◌, ◌/◌, ◌^◌, ◌<◌, ◌≤◌, ◌≡◌, inl, inr, Bool, true, false, cond, Option, Some, None, arith, refl, sym, ◌∙◌, ap, subst}
 use Rattle.std.proofs.Math.Nat.{two-pow-succ, pow-succ', mul-div_cancel_left}
 use Rattle.std.proofs.Math.Pow.{pow_pos}
 use Rattle.std.proofs.lemmas.Nat.{pow-add}
 use Rattle.std.proofs.lemmas.Bool.{false_from_ne_true}
-use Rattle.herd_kinship.specs.Ancestry.{Ancestry, IsParent}
+use Rattle.herd_kinship.specs.Ancestry.{Ancestry, IsParentIn}
 use Rattle.herd_kinship.specs.Table.{entry, mendelian}
 use Rattle.herd_kinship.specs.Shares.{share}
 use Rattle.herd_kinship.proofs.LawfulAncestry.{Line, IsLawful}
@@ -13,13 +13,13 @@ use Rattle.herd_kinship.proofs.Shares.{share-none, share-start, share-step, mend
 
 -- a parent of x is not j, where x has no room for one step more than a line from j
 not_parent : {A : Type 0} (kin : Ancestry A) → IsLawful kin → (n m : ℕ) (x j : A) (o : Option A) → Below kin n (Some x) → Line kin m j → n ≤ suc m →
-    ((p : A) → o ≡ Some p → IsParent kin p x) → share kin 0 o j ≡ 0
+    ((p : A) → o ≡ Some p → IsParentIn kin p x) → share kin 0 o j ≡ 0
 unfolding Line
 not_parent kin w n m x j None b line le is = share-none kin 0 j
 not_parent {A} kin w n m x j (Some p) b line le is =
     let apart : kin.same p j ≡ false = false_from_ne_true (kin.same p j) (λ s.
     let e : p ≡ j = (w.same p j).0 s in
-    let parent : IsParent kin p x = is p refl in
+    let parent : IsParentIn kin p x = is p refl in
     let line' : Line kin m p = subst (λ v. Line kin m v) (sym e) line in
     let longer : suc m < n = (b x refl).1 (suc m) ((b x refl).0, (p, parent, line')) in
     omega arith) in
@@ -30,7 +30,7 @@ doubled_or true p q u v e f = e
 doubled_or false p q u v e f = f refl
 
 -- the unit of a share need only be as small as the two depths' difference asks
-pub share-unit_between : {A : Type 0} (kin : Ancestry A) → IsLawful kin → (k : ℕ) (o : Option A) (j : A) (n m : ℕ) → Below kin n o → Line kin m j → n ≤ suc k + m →
+share-unit_between : {A : Type 0} (kin : Ancestry A) → IsLawful kin → (k : ℕ) (o : Option A) (j : A) (n m : ℕ) → Below kin n o → Line kin m j → n ≤ suc k + m →
     share kin (suc k) o j ≡ 2 * share kin k o j
 share-unit_between kin w k None j n m b line le = simp share-none
 share-unit_between kin w k (Some x) j zero m b line le =
@@ -60,7 +60,7 @@ share-finer kin w (suc d) k o j n m b line le =
     rw (e, step, rest, pow-succ' 2 d) (omega arith)
 
 -- the share of an animal with a known parent is even, so that it can be halved
-pub share-even : {A : Type 0} (kin : Ancestry A) → IsLawful kin → (l : ℕ) (o : Option A) (j p : A) → Below kin (suc l) o → Below kin (suc l) (Some j) → IsParent kin p j →
+pub share-even : {A : Type 0} (kin : Ancestry A) → IsLawful kin → (l : ℕ) (o : Option A) (j p : A) → Below kin (suc l) o → Below kin (suc l) (Some j) → IsParentIn kin p j →
     2 * (share kin l o j / 2) ≡ share kin l o j
 unfolding Line
 share-even {A} kin w zero o j p b bj is =
@@ -75,7 +75,7 @@ share-even {A} kin w (suc l) o j p b bj is =
     rw e (omega arith)
 
 -- an entry in a finer unit
-pub entry-finer : {A : Type 0} (kin : Ancestry A) → IsLawful kin → (d k : ℕ) (x y : Option A) (m n : ℕ) → Below kin m x → Below kin n y → m + n ≤ suc (suc k) →
+entry-finer : {A : Type 0} (kin : Ancestry A) → IsLawful kin → (d k : ℕ) (x y : Option A) (m n : ℕ) → Below kin m x → Below kin n y → m + n ≤ suc (suc k) →
     entry kin (d + k) x y ≡ 2 ^ d * entry kin k x y
 entry-finer kin w zero k x y m n bx by' le =
     let e : zero + k ≡ k = omega arith in rw e (omega arith)
@@ -90,8 +90,8 @@ multiplied c M N Q R p q e f g =
     let f' : c * (4 * N + Q + R) ≡ c * (4 * q) = ap (λ n. c * n) f in
     omega arith
 
--- a Mendelian part in the unit that its own depth asks for
-pub mendelian-finer : {A : Type 0} (kin : Ancestry A) → IsLawful kin → (l g : ℕ) (j : A) → g ≤ l → Below kin (suc g) (Some j) →
+-- a Mendelian sampling variance in the unit that its own depth asks for
+mendelian-finer : {A : Type 0} (kin : Ancestry A) → IsLawful kin → (l g : ℕ) (j : A) → g ≤ l → Below kin (suc g) (Some j) →
     mendelian kin l j ≡ 2 ^ (2 * (l - g)) * mendelian kin g j
 mendelian-finer kin w l g j le b =
     let wide : Below kin (suc l) (Some j) = λ x e. ((b x e).0, λ m line. let s : m < suc g = (b x e).1 m line in omega arith) in
@@ -109,7 +109,7 @@ mendelian-finer kin w l g j le b =
     (ap (λ n. 2 ^ n) sum ∙ pow-add 2 d (2 * g))
 
 -- so it is a multiple of each power up to twice what its depth leaves
-pub mendelian-divides : {A : Type 0} (kin : Ancestry A) → IsLawful kin → (l g e : ℕ) (j : A) → g ≤ l → Below kin (suc g) (Some j) → e ≤ 2 * (l - g) →
+mendelian-divides : {A : Type 0} (kin : Ancestry A) → IsLawful kin → (l g e : ℕ) (j : A) → g ≤ l → Below kin (suc g) (Some j) → e ≤ 2 * (l - g) →
     2 ^ e * (mendelian kin l j / 2 ^ e) ≡ mendelian kin l j
 mendelian-divides kin w l g e j le b small =
     let r : ℕ = 2 * (l - g) - e in

@@ -112,6 +112,7 @@ not_zero n d l =
     absurd (omega arith))
     (cases_lt 0 n)
 
+-- Once both are halved as often as they can be, one is odd and one is still a power of two: no factor is in both.
 pub halved-lowest : (negative : Bool) (n d : ℕ) → 0 < d → n < 2 ^ 128 → d < 2 ^ 128 → IsPowerOfTwo n ⊎ IsPowerOfTwo d → IsLowest negative n d (halved negative n d)
 halved-lowest negative n d pos fn fd power =
     let g : ℕ = halvings n d in

@@ -21,8 +21,8 @@ use Rattle.herd_pedigree.specs.declared.animal.Animal.{Animal}
 use Rattle.herd_pedigree.specs.declared.frozen.Row.{Row}
 use Rattle.herd_pedigree.specs.Book.{record_of}
 use Rattle.herd_pedigree.specs.Frozen.{IsFrozen, IsPlaceOf, age_cmp, book_of, numbers_of}
-use Rattle.herd_kinship.specs.Ancestry.{IsParent}
-use Rattle.herd_kinship.specs.FrozenAncestry.{ancestry_of, number_at}
+use Rattle.herd_kinship.specs.Ancestry.{IsParentIn}
+use Rattle.herd_kinship.specs.FrozenAncestry.{ancestry_of, number_of_row}
 use Rattle.herd_kinship.specs.Places.{sire_place, dam_place, placed}
 use Rattle.herd_kinship.proofs.LawfulAncestry.{IsLawful, IsShallow, IsRenamed}
 use Rattle.herd_kinship.proofs.BookFacts.{age_cmp-total, before_from_ordered, book-lawful, book-shallow, by_order, then_equal}
@@ -48,14 +48,14 @@ length-book_of [] = refl
 length-book_of (row ∷ rows) = ap suc (length-book_of rows)
 
 -- the number at a place is that of the row
-pub number_at-row : (rows : List Row) (i : ℕ) (row : Row) → slice_get rows i ≡ Some row → number_at rows i ≡ row.number
-number_at-row rows i row e =
+pub number_of_row-is : (rows : List Row) (i : ℕ) (row : Row) → slice_get rows i ≡ Some row → number_of_row rows i ≡ row.number
+number_of_row-is rows i row e =
     get_or_from_slice_get (numbers_of rows) i row.number []
     (slice_get-map (λ (r : Row). r.number) rows i ∙ rw e refl)
 
 -- the number at a place is the key there
-pub number_at-key : (rows : List Row) (i : ℕ) → number_at rows i ≡ get_or (keys_of (book_of rows)) i []
-number_at-key rows i = ap (λ ns. get_or ns i []) (numbers_are_keys rows)
+number_of_row-key : (rows : List Row) (i : ℕ) → number_of_row rows i ≡ get_or (keys_of (book_of rows)) i []
+number_of_row-key rows i = ap (λ ns. get_or ns i []) (numbers_are_keys rows)
 
 -- the record under a row's number is the row's
 pub record_at-row : (l most : ℕ) (rows : List Row) → IsFrozen l most rows → (i : ℕ) (row : Row) → slice_get rows i ≡ Some row →
@@ -70,9 +70,9 @@ frozen-lawful l most rows f = book-lawful l most (book_of rows) f.lawful
 pub frozen-shallow : (l most : ℕ) (rows : List Row) → IsFrozen l most rows → IsShallow (ancestry_of rows) l
 frozen-shallow l most rows f = book-shallow l most (book_of rows) f.lawful
 
-pub frozen-member : (rows : List Row) (i : ℕ) → i < length rows → Contains (ancestry_of rows).animals (number_at rows i)
+pub frozen-member : (rows : List Row) (i : ℕ) → i < length rows → Contains (ancestry_of rows).animals (number_of_row rows i)
 frozen-member rows i l =
-    subst (λ ns. Contains ns (number_at rows i)) (numbers_are_keys rows)
+    subst (λ ns. Contains ns (number_of_row rows i)) (numbers_are_keys rows)
     (Contains-get_or (numbers_of rows) i [] (rw (length-numbers_of rows) l))
 
 -- of two entries whose numbers differ, and of which the second isn't before the first, the first is before the second
@@ -85,8 +85,8 @@ first_before x y later apart =
     (λ e. let less : is_lt (age_cmp y x) ≡ true = rw (turned, e) refl in absurd (cc))
 
 -- an animal at a lower place is before one at a higher place
-pub frozen-ordered : (l most : ℕ) (rows : List Row) → IsFrozen l most rows → (i j : ℕ) → i < j → j < length rows →
-    IsTrue ((ancestry_of rows).before (number_at rows i) (number_at rows j))
+frozen-ordered : (l most : ℕ) (rows : List Row) → IsFrozen l most rows → (i j : ℕ) → i < j → j < length rows →
+    IsTrue ((ancestry_of rows).before (number_of_row rows i) (number_of_row rows j))
 frozen-ordered l most rows f i j low lj =
     let book = book_of rows in
     let a = row_at rows i (omega arith) in
@@ -100,16 +100,16 @@ frozen-ordered l most rows f i j low lj =
     let later : is_lt (age_cmp y x) ≡ false =
     subst (λ v. is_lt (age_cmp v x) ≡ false) at_j (subst (λ v. is_lt (age_cmp (get_or book j x) v) ≡ false) at_i far) in
     let keys = apart_from_distinct bytes_eq (keys_of book) i j [] f.lawful.once low (rw (length-keys_of book, length-book_of rows) lj) in
-    let first : get_or (keys_of book) i [] ≡ x.0 = sym (number_at-key rows i) ∙ number_at-row rows i a.0 a.1 in
-    let second : get_or (keys_of book) j [] ≡ y.0 = sym (number_at-key rows j) ∙ number_at-row rows j b.0 b.1 in
+    let first : get_or (keys_of book) i [] ≡ x.0 = sym (number_of_row-key rows i) ∙ number_of_row-is rows i a.0 a.1 in
+    let second : get_or (keys_of book) j [] ≡ y.0 = sym (number_of_row-key rows j) ∙ number_of_row-is rows j b.0 b.1 in
     let apart : bytes_eq x.0 y.0 ≡ false =
     subst (λ v. bytes_eq x.0 v ≡ false) second (subst (λ v. bytes_eq v (get_or (keys_of book) j []) ≡ false) first keys) in
-    rw (number_at-row rows i a.0 a.1, number_at-row rows j b.0 b.1)
+    rw (number_of_row-is rows i a.0 a.1, number_of_row-is rows j b.0 b.1)
     (before_from_ordered book x.0 y.0 x.1 y.1 (record_at-row l most rows f i a.0 a.1) (record_at-row l most rows f j b.0 b.1)
     (first_before x y later apart))
 
 -- the number of a known parent is that at its place
-place_of : (rows : List Row) (o : Option ℕ) (p : Option (List ℕ)) → IsPlaceOf rows o p → option_map (number_at rows) o ≡ p
+place_of : (rows : List Row) (o : Option ℕ) (p : Option (List ℕ)) → IsPlaceOf rows o p → option_map (number_of_row rows) o ≡ p
 place_of rows None None is = refl
 place_of rows None (Some p) is = absurd is
 place_of rows (Some i) None is = absurd is
@@ -127,16 +127,16 @@ place_in_rows rows (Some j) (Some p) is i e =
 
 -- what a row says of a parent
 pub record IsParentPlace (rows : List Row) (known : Option (List ℕ)) (place : Option ℕ) : Type 0 where
-  pub number : option_map (number_at rows) place ≡ known
+  pub number : option_map (number_of_row rows) place ≡ known
   pub within : (p : ℕ) → place ≡ Some p → p < length rows
 
 pub sire_at : (l most : ℕ) (rows : List Row) → IsFrozen l most rows → (i : ℕ) → i < length rows →
-    IsParentPlace rows ((ancestry_of rows).sire (number_at rows i)) (sire_place rows i)
+    IsParentPlace rows ((ancestry_of rows).sire (number_of_row rows i)) (sire_place rows i)
 sire_at l most rows f i li =
     let a = row_at rows i li in
     let is : sire_place rows i ≡ a.0.sire = rw a.1 refl in
-    let known : (ancestry_of rows).sire (number_at rows i) ≡ a.0.animal.sire =
-    rw (number_at-row rows i a.0 a.1, record_at-row l most rows f i a.0 a.1) refl in
+    let known : (ancestry_of rows).sire (number_of_row rows i) ≡ a.0.animal.sire =
+    rw (number_of_row-is rows i a.0 a.1, record_at-row l most rows f i a.0 a.1) refl in
     let row = f.each i a.0 a.1 in
     record {
       number = rw (is, known) (place_of rows a.0.sire a.0.animal.sire row.sire);
@@ -144,12 +144,12 @@ sire_at l most rows f i li =
     }
 
 pub dam_at : (l most : ℕ) (rows : List Row) → IsFrozen l most rows → (i : ℕ) → i < length rows →
-    IsParentPlace rows ((ancestry_of rows).dam (number_at rows i)) (dam_place rows i)
+    IsParentPlace rows ((ancestry_of rows).dam (number_of_row rows i)) (dam_place rows i)
 dam_at l most rows f i li =
     let a = row_at rows i li in
     let is : dam_place rows i ≡ a.0.dam = rw a.1 refl in
-    let known : (ancestry_of rows).dam (number_at rows i) ≡ a.0.animal.dam =
-    rw (number_at-row rows i a.0 a.1, record_at-row l most rows f i a.0 a.1) refl in
+    let known : (ancestry_of rows).dam (number_of_row rows i) ≡ a.0.animal.dam =
+    rw (number_of_row-is rows i a.0 a.1, record_at-row l most rows f i a.0 a.1) refl in
     let row = f.each i a.0 a.1 in
     record {
       number = rw (is, known) (place_of rows a.0.dam a.0.animal.dam row.dam);
@@ -158,31 +158,31 @@ dam_at l most rows f i li =
 
 -- an animal that is before another stands below it
 below_from_before : (l most : ℕ) (rows : List Row) → IsFrozen l most rows → (p i : ℕ) → p < length rows → i < length rows →
-    IsTrue ((ancestry_of rows).before (number_at rows p) (number_at rows i)) → p < i
+    IsTrue ((ancestry_of rows).before (number_of_row rows p) (number_of_row rows i)) → p < i
 below_from_before l most rows f p i lp li t =
     let w = frozen-lawful l most rows f in
     ⊎_elim
     (λ (e : p ≡ i).
-    let P : ℕ → Type 0 = λ v. IsTrue ((ancestry_of rows).before (number_at rows v) (number_at rows i)) in
+    let P : ℕ → Type 0 = λ v. IsTrue ((ancestry_of rows).before (number_of_row rows v) (number_of_row rows i)) in
     let t' : P i = subst P e t in
-    absurd (w.one_way (number_at rows i) (number_at rows i) t' t'))
+    absurd (w.one_way (number_of_row rows i) (number_of_row rows i) t' t'))
     (λ r. ⊎_elim (λ (g : p < i). g)
-    (λ (g : i < p). absurd (w.one_way (number_at rows p) (number_at rows i) t (frozen-ordered l most rows f i p g lp))) r)
+    (λ (g : i < p). absurd (w.one_way (number_of_row rows p) (number_of_row rows i) t (frozen-ordered l most rows f i p g lp))) r)
     (cases_order p i)
 
 parent_below : (l most : ℕ) (rows : List Row) → IsFrozen l most rows → (i p : ℕ) → i < length rows → p < length rows →
-    IsParent (ancestry_of rows) (number_at rows p) (number_at rows i) → p < i
+    IsParentIn (ancestry_of rows) (number_of_row rows p) (number_of_row rows i) → p < i
 parent_below l most rows f i p li lp is =
     below_from_before l most rows f p i lp li
-    ((frozen-lawful l most rows f).parents (number_at rows p) (number_at rows i) (frozen-member rows i li) is).1
+    ((frozen-lawful l most rows f).parents (number_of_row rows p) (number_of_row rows i) (frozen-member rows i li) is).1
 
 pub sire_is : (l most : ℕ) (rows : List Row) → IsFrozen l most rows → (i p : ℕ) → i < length rows → sire_place rows i ≡ Some p →
-    (ancestry_of rows).sire (number_at rows i) ≡ Some (number_at rows p)
-sire_is l most rows f i p li e = sym (sire_at l most rows f i li).number ∙ ap (option_map (number_at rows)) e
+    (ancestry_of rows).sire (number_of_row rows i) ≡ Some (number_of_row rows p)
+sire_is l most rows f i p li e = sym (sire_at l most rows f i li).number ∙ ap (option_map (number_of_row rows)) e
 
 pub dam_is : (l most : ℕ) (rows : List Row) → IsFrozen l most rows → (i p : ℕ) → i < length rows → dam_place rows i ≡ Some p →
-    (ancestry_of rows).dam (number_at rows i) ≡ Some (number_at rows p)
-dam_is l most rows f i p li e = sym (dam_at l most rows f i li).number ∙ ap (option_map (number_at rows)) e
+    (ancestry_of rows).dam (number_of_row rows i) ≡ Some (number_of_row rows p)
+dam_is l most rows f i p li e = sym (dam_at l most rows f i li).number ∙ ap (option_map (number_of_row rows)) e
 
 pub frozen-placed : (l most : ℕ) (rows : List Row) → IsFrozen l most rows → ArePlaced (length rows) (sire_place rows) (dam_place rows)
 frozen-placed l most rows f = record {
@@ -192,7 +192,7 @@ frozen-placed l most rows f = record {
       (λ e. parent_below l most rows f i p li ((dam_at l most rows f i li).within p e) (inr (dam_is l most rows f i p li e)))
       is;
   two = λ i p li s d.
-      (frozen-lawful l most rows f).two (number_at rows p) (number_at rows i) (frozen-member rows i li)
+      (frozen-lawful l most rows f).two (number_of_row rows p) (number_of_row rows i) (frozen-member rows i li)
       (sire_is l most rows f i p li s) (dam_is l most rows f i p li d);
 }
 
@@ -200,13 +200,13 @@ pub placed-lawful : (l most : ℕ) (rows : List Row) → IsFrozen l most rows �
 placed-lawful l most rows f = places-are_lawful (length rows) (sire_place rows) (dam_place rows) (frozen-placed l most rows f)
 
 same_places : (l most : ℕ) (rows : List Row) → IsFrozen l most rows → (i j : ℕ) → i < length rows → j < length rows →
-    (ancestry_of rows).same (number_at rows i) (number_at rows j) ≡ eqb i j
+    (ancestry_of rows).same (number_of_row rows i) (number_of_row rows j) ≡ eqb i j
 same_places l most rows f i j li lj =
     let w = frozen-lawful l most rows f in
-    let x = number_at rows i in
-    let y = number_at rows j in
+    let x = number_of_row rows i in
+    let y = number_of_row rows j in
     ⊎_elim
-    (λ (e : i ≡ j). (w.same x y).1 (ap (number_at rows) e) ∙ sym (eq-eqb i j e))
+    (λ (e : i ≡ j). (w.same x y).1 (ap (number_of_row rows) e) ∙ sym (eq-eqb i j e))
     (λ r. ⊎_elim
     (λ (g : i < j). apart (ancestry_of rows) w x y (frozen-ordered l most rows f i j g lj) ∙ sym (ne_eqb i j (λ e. omega arith)))
     (λ (g : j < i). apart_back (ancestry_of rows) w y x (frozen-ordered l most rows f j i g li) ∙ sym (ne_eqb i j (λ e. omega arith))) r)
@@ -214,12 +214,12 @@ same_places l most rows f i j li lj =
 
 -- a number stands at one place
 pub same_place : (l most : ℕ) (rows : List Row) → IsFrozen l most rows → (i j : ℕ) → i < length rows → j < length rows →
-    number_at rows i ≡ number_at rows j → i ≡ j
+    number_of_row rows i ≡ number_of_row rows j → i ≡ j
 same_place l most rows f i j li lj e =
-    eqb-true i j (sym (same_places l most rows f i j li lj) ∙ ((frozen-lawful l most rows f).same (number_at rows i) (number_at rows j)).1 e)
+    eqb-true i j (sym (same_places l most rows f i j li lj) ∙ ((frozen-lawful l most rows f).same (number_of_row rows i) (number_of_row rows j)).1 e)
 
 before_places : (l most : ℕ) (rows : List Row) → IsFrozen l most rows → (i j : ℕ) → i < length rows → j < length rows →
-    (ancestry_of rows).before (number_at rows i) (number_at rows j) ≡ ltb i j
+    (ancestry_of rows).before (number_of_row rows i) (number_of_row rows j) ≡ ltb i j
 before_places l most rows f i j li lj =
     ⊎_elim
     (λ (g : i < j). frozen-ordered l most rows f i j g lj ∙ sym (lt-ltb i j g))
@@ -227,15 +227,15 @@ before_places l most rows f i j li lj =
     false_from_ne_true _ (λ t. let h : i < j = below_from_before l most rows f i j li lj t in omega arith) ∙ sym (le-ltb i j g))
     (cases_lt i j)
 
-numbers_are : (rows : List Row) → keys_of (book_of rows) ≡ map (number_at rows) (range_with_len 0 (length rows))
-numbers_are rows = sym (numbers_are_keys rows) ∙ fill_by_all (number_at rows) (numbers_of rows) (length rows) [] (length-numbers_of rows) (λ k _. refl)
+numbers_are : (rows : List Row) → keys_of (book_of rows) ≡ map (number_of_row rows) (range_with_len 0 (length rows))
+numbers_are rows = sym (numbers_are_keys rows) ∙ fill_by_all (number_of_row rows) (numbers_of rows) (length rows) [] (length-numbers_of rows) (λ k _. refl)
 
 -- the two ways to name the animals are one ancestry
-pub frozen-renamed : (l most : ℕ) (rows : List Row) → IsFrozen l most rows → IsRenamed (placed rows) (ancestry_of rows) (number_at rows)
+pub frozen-renamed : (l most : ℕ) (rows : List Row) → IsFrozen l most rows → IsRenamed (placed rows) (ancestry_of rows) (number_of_row rows)
 frozen-renamed l most rows f = record {
   animals =
-      let P : List (List ℕ) → Type 0 = λ v. IsPermutation (map (number_at rows) (range_with_len 0 (length rows))) v in
-      subst P (sym (numbers_are rows)) (IsPermutation-refl (map (number_at rows) (range_with_len 0 (length rows))));
+      let P : List (List ℕ) → Type 0 = λ v. IsPermutation (map (number_of_row rows) (range_with_len 0 (length rows))) v in
+      subst P (sym (numbers_are rows)) (IsPermutation-refl (map (number_of_row rows) (range_with_len 0 (length rows))));
   same = λ i j ci cj. same_places l most rows f i j (place-below (length rows) i ci) (place-below (length rows) j cj);
   before = λ i j ci cj. before_places l most rows f i j (place-below (length rows) i ci) (place-below (length rows) j cj);
   sire = λ i c. sym (sire_at l most rows f i (place-below (length rows) i c)).number;
@@ -244,4 +244,4 @@ frozen-renamed l most rows f = record {
 
 pub placed-shallow : (l most : ℕ) (rows : List Row) → IsFrozen l most rows → IsShallow (placed rows) l
 placed-shallow l most rows f =
-    shallow-renamed (placed rows) (ancestry_of rows) (number_at rows) (placed-lawful l most rows f) (frozen-renamed l most rows f) l (frozen-shallow l most rows f)
+    shallow-renamed (placed rows) (ancestry_of rows) (number_of_row rows) (placed-lawful l most rows f) (frozen-renamed l most rows f) l (frozen-shallow l most rows f)

@@ -25,7 +25,7 @@ times_pos a b c =
     rw (e, f) (let n : pos (d * c) ≡ pos (b * c + d * c) -ℤ pos (b * c) = omega (arith, ints) in n))
     (cases_lt a b)
 
-pub times_difference : (a b c d : ℕ) → (pos a -ℤ pos b) *ℤ (pos c -ℤ pos d) ≡ pos (a * c + b * d) -ℤ pos (a * d + b * c)
+times_difference : (a b c d : ℕ) → (pos a -ℤ pos b) *ℤ (pos c -ℤ pos d) ≡ pos (a * c + b * d) -ℤ pos (a * d + b * c)
 times_difference a b c d =
     ⊎_elim
     (λ (l : c < d).

@@ -2,11 +2,11 @@
 use Rattle.std.proofs.Common.{ℕ, suc, ◌+◌, ◌*◌, ◌-◌, ◌/◌, ◌^◌, ◌<◌, ◌≤◌, ◌≡◌, ◌⊎◌, ⊎_elim, inl, inr, List, length, slice_get, get_or, set, min, Option, Some, None, is_some, ◌&&◌, false, arith, sym, ◌∙◌, ap, subst, refl}
 use Rattle.herd_pedigree.specs.declared.frozen.Row.{Row}
 use Rattle.herd_pedigree.specs.Frozen.{IsFrozen, depth_at}
-use Rattle.herd_kinship.specs.Ancestry.{IsAncestor, IsParent, LineTo}
+use Rattle.herd_kinship.specs.Ancestry.{IsAncestor, IsParentIn, LineTo}
 use Rattle.herd_kinship.specs.Table.{coefficient, entry, mendelian}
 use Rattle.herd_kinship.specs.Shares.{share}
-use Rattle.herd_kinship.specs.FrozenAncestry.{ancestry_of, number_at}
-use Rattle.herd_kinship.specs.Coefficients.{IsKnownParent, KnowsAncestors, quarter_of}
+use Rattle.herd_kinship.specs.FrozenAncestry.{ancestry_of, number_of_row}
+use Rattle.herd_kinship.specs.Coefficients.{IsKnownParent, KnowsAncestors, own_relationship, quarter_of}
 use Rattle.herd_kinship.specs.Places.{sire_place, dam_place, placed}
 use Rattle.herd_kinship.specs.Tracing.{IsNext}
 use Rattle.herd_kinship.proofs.Ancestors.{share-reached, ancestor-before, line-joined}
@@ -31,18 +31,18 @@ right-more xs f i v li e right p lp =
     (cases_eq i p)
 
 module _ (l most : ℕ) (rows : List Row) (f : IsFrozen l most rows) where
-  below_limit : (x : ℕ) → x < length rows → Below (ancestry_of rows) (suc l) (Some (number_at rows x))
+  below_limit : (x : ℕ) → x < length rows → Below (ancestry_of rows) (suc l) (Some (number_of_row rows x))
   below_limit x lx =
-      Below-shallow (ancestry_of rows) (frozen-lawful l most rows f) l (frozen-shallow l most rows f) (Some (number_at rows x))
-      (known_some (ancestry_of rows) (number_at rows x) (frozen-member rows x lx))
+      Below-shallow (ancestry_of rows) (frozen-lawful l most rows f) l (frozen-shallow l most rows f) (Some (number_of_row rows x))
+      (known_some (ancestry_of rows) (number_of_row rows x) (frozen-member rows x lx))
 
   -- a coefficient is below 1
-  pub frozen-coefficient_bound : (x : ℕ) → x < length rows → coefficient (ancestry_of rows) l (number_at rows x) < 2 ^ (2 * l)
-  frozen-coefficient_bound x lx = coefficient-bound (ancestry_of rows) (frozen-lawful l most rows f) l (number_at rows x) (below_limit x lx)
+  pub frozen-coefficient_bound : (x : ℕ) → x < length rows → coefficient (ancestry_of rows) l (number_of_row rows x) < 2 ^ (2 * l)
+  frozen-coefficient_bound x lx = coefficient-bound (ancestry_of rows) (frozen-lawful l most rows f) l (number_of_row rows x) (below_limit x lx)
 
   -- a parent's numerator is its coefficient
-  pub known-parent : (known : List ℕ) (x p : ℕ) → x < length rows → KnowsAncestors l rows known x → IsParent (placed rows) p x →
-      (p < length rows) × (get_or known p 0 ≡ coefficient (ancestry_of rows) l (number_at rows p))
+  known-parent : (known : List ℕ) (x p : ℕ) → x < length rows → KnowsAncestors l rows known x → IsParentIn (placed rows) p x →
+      (p < length rows) × (get_or known p 0 ≡ coefficient (ancestry_of rows) l (number_of_row rows p))
   unfolding LineTo
   known-parent known x p lx k is =
       let lp : p < length rows = place-below (length rows) p ((placed-lawful l most rows f).parents p x (place-in (length rows) x lx) is).0 in
@@ -50,13 +50,13 @@ module _ (l most : ℕ) (rows : List Row) (f : IsFrozen l most rows) where
       (lp, k.right p lp (0, line_to-numbers l most rows f 1 x p lx line))
 
   -- an ancestor's ancestors are known too
-  pub known-ancestor : (known : List ℕ) (x y n : ℕ) → x < length rows → KnowsAncestors l rows known x → LineTo (placed rows) n x y → KnowsAncestors l rows known y
+  known-ancestor : (known : List ℕ) (x y n : ℕ) → x < length rows → KnowsAncestors l rows known x → LineTo (placed rows) n x y → KnowsAncestors l rows known y
   known-ancestor known x y n lx k line = record {
     each = k.each;
     right = λ p lp a.
-        let whole : LineTo (ancestry_of rows) (n + suc a.0) (number_at rows x) (number_at rows p) =
-        line_to-joined (ancestry_of rows) n (suc a.0) (number_at rows x) (number_at rows y) (number_at rows p) (line_to-numbers l most rows f n x y lx line) a.1 in
-        k.right p lp (n + a.0, subst (λ i. LineTo (ancestry_of rows) i (number_at rows x) (number_at rows p)) (let e : n + suc a.0 ≡ suc (n + a.0) = omega arith in e) whole);
+        let whole : LineTo (ancestry_of rows) (n + suc a.0) (number_of_row rows x) (number_of_row rows p) =
+        line_to-joined (ancestry_of rows) n (suc a.0) (number_of_row rows x) (number_of_row rows y) (number_of_row rows p) (line_to-numbers l most rows f n x y lx line) a.1 in
+        k.right p lp (n + a.0, subst (λ i. LineTo (ancestry_of rows) i (number_of_row rows x) (number_of_row rows p)) (let e : n + suc a.0 ≡ suc (n + a.0) = omega arith in e) whole);
   }
 
   -- those of the ancestors that a tracing meets
@@ -72,28 +72,28 @@ module _ (l most : ℕ) (rows : List Row) (f : IsFrozen l most rows) where
 
   -- a parent's quarter
   quarter-parent : (known : List ℕ) (o : Option ℕ) (p : Option (List ℕ)) → IsParentPlace rows p o → Below (ancestry_of rows) l p →
-      ((q : ℕ) → o ≡ Some q → get_or known q 0 ≡ coefficient (ancestry_of rows) l (number_at rows q)) →
+      ((q : ℕ) → o ≡ Some q → get_or known q 0 ≡ coefficient (ancestry_of rows) l (number_of_row rows q)) →
       quarter_of l known o ≡ entry (ancestry_of rows) (2 * l - 2) p p
   quarter-parent known None p at b right =
       let e : None ≡ p = at.number in
       subst (λ v. 0 ≡ entry (ancestry_of rows) (2 * l - 2) v v) e (sym (entry-none_left (ancestry_of rows) (2 * l - 2) None))
   quarter-parent known (Some q) p at b right =
-      let e : Some (number_at rows q) ≡ p = at.number in
-      let b' : Below (ancestry_of rows) l (Some (number_at rows q)) = subst (λ v. Below (ancestry_of rows) l v) (sym e) b in
+      let e : Some (number_of_row rows q) ≡ p = at.number in
+      let b' : Below (ancestry_of rows) l (Some (number_of_row rows q)) = subst (λ v. Below (ancestry_of rows) l v) (sym e) b in
       subst (λ v. quarter_of l known (Some q) ≡ entry (ancestry_of rows) (2 * l - 2) v v) e
-      (ap (λ v. (2 ^ (2 * l) + v) / 4) (right q refl) ∙ quarter-is (ancestry_of rows) (frozen-lawful l most rows f) l (number_at rows q) b')
+      (ap (λ v. (2 ^ (2 * l) + v) / 4) (right q refl) ∙ quarter-is (ancestry_of rows) (frozen-lawful l most rows f) l (number_of_row rows q) b')
 
-  -- the Mendelian part by the numerators of the parents
-  pub mendelian-known : (known : List ℕ) (x : ℕ) → x < length rows → KnowsAncestors l rows known x →
-      2 ^ (2 * l) - quarter_of l known (sire_place rows x) - quarter_of l known (dam_place rows x) ≡ mendelian (ancestry_of rows) l (number_at rows x)
+  -- the Mendelian sampling variance by the numerators of the parents
+  mendelian-known : (known : List ℕ) (x : ℕ) → x < length rows → KnowsAncestors l rows known x →
+      2 ^ (2 * l) - quarter_of l known (sire_place rows x) - quarter_of l known (dam_place rows x) ≡ mendelian (ancestry_of rows) l (number_of_row rows x)
   unfolding mendelian
   mendelian-known known x lx k =
       let kin = ancestry_of rows in
       let w = frozen-lawful l most rows f in
       let b = below_limit x lx in
-      let s = quarter-parent known (sire_place rows x) (kin.sire (number_at rows x)) (sire_at l most rows f x lx) (Below-sire kin w l (number_at rows x) b)
+      let s = quarter-parent known (sire_place rows x) (kin.sire (number_of_row rows x)) (sire_at l most rows f x lx) (Below-sire kin w l (number_of_row rows x) b)
       (λ q e. (known-parent known x q lx k (inl e)).1) in
-      let d = quarter-parent known (dam_place rows x) (kin.dam (number_at rows x)) (dam_at l most rows f x lx) (Below-dam kin w l (number_at rows x) b)
+      let d = quarter-parent known (dam_place rows x) (kin.dam (number_of_row rows x)) (dam_at l most rows f x lx) (Below-dam kin w l (number_of_row rows x) b)
       (λ q e. (known-parent known x q lx k (inr e)).1) in
       rw (s, d) refl
 
@@ -104,7 +104,7 @@ module _ (l most : ℕ) (rows : List Row) (f : IsFrozen l most rows) where
   dam-row : (x : ℕ) (row : Row) → slice_get rows x ≡ Some row → dam_place rows x ≡ row.dam
   dam-row x row e = rw e refl
 
-  parent-known : (known : List ℕ) (x p : ℕ) → x < length rows → KnowsAncestors l rows known x → IsParent (placed rows) p x → IsKnownParent l known p
+  parent-known : (known : List ℕ) (x p : ℕ) → x < length rows → KnowsAncestors l rows known x → IsParentIn (placed rows) p x → IsKnownParent l known p
   parent-known known x p lx k is =
       let at = known-parent known x p lx k is in
       let lp : p < length rows = at.0 in
@@ -123,30 +123,30 @@ module _ (l most : ℕ) (rows : List Row) (f : IsFrozen l most rows) where
   dam-known known x row lx k e p is = parent-known known x p lx k (inr (dam-row x row e ∙ is))
 
   pub mendelian-row : (known : List ℕ) (x : ℕ) (row : Row) → x < length rows → KnowsAncestors l rows known x → slice_get rows x ≡ Some row →
-      2 ^ (2 * l) - quarter_of l known row.sire - quarter_of l known row.dam ≡ mendelian (ancestry_of rows) l (number_at rows x)
+      2 ^ (2 * l) - quarter_of l known row.sire - quarter_of l known row.dam ≡ mendelian (ancestry_of rows) l (number_of_row rows x)
   mendelian-row known x row lx k e = rw (← sire-row x row e, ← dam-row x row e) (mendelian-known known x lx k)
 
-  -- the Mendelian part of a place is that of its number
-  pub mendelian-place : (x : ℕ) → x < length rows → mendelian (placed rows) l x ≡ mendelian (ancestry_of rows) l (number_at rows x)
+  -- the Mendelian sampling variance of a place is that of its number
+  pub mendelian-place : (x : ℕ) → x < length rows → mendelian (placed rows) l x ≡ mendelian (ancestry_of rows) l (number_of_row rows x)
   mendelian-place x lx =
-      sym (mendelian-renamed (placed rows) (ancestry_of rows) (number_at rows) (placed-lawful l most rows f) (frozen-renamed l most rows f) l x (place-in (length rows) x lx))
+      sym (mendelian-renamed (placed rows) (ancestry_of rows) (number_of_row rows) (placed-lawful l most rows f) (frozen-renamed l most rows f) l x (place-in (length rows) x lx))
 
   -- an entry of two places is that of their numbers
   pub entry-place : (k i j : ℕ) → i < length rows → j < length rows →
-      entry (placed rows) k (Some i) (Some j) ≡ entry (ancestry_of rows) k (Some (number_at rows i)) (Some (number_at rows j))
+      entry (placed rows) k (Some i) (Some j) ≡ entry (ancestry_of rows) k (Some (number_of_row rows i)) (Some (number_of_row rows j))
   entry-place k i j li lj =
-      sym (entry-renamed (placed rows) (ancestry_of rows) (number_at rows) (placed-lawful l most rows f) (frozen-renamed l most rows f) k (Some i) (Some j)
+      sym (entry-renamed (placed rows) (ancestry_of rows) (number_of_row rows) (placed-lawful l most rows f) (frozen-renamed l most rows f) k (Some i) (Some j)
       (known_some (placed rows) i (place-in (length rows) i li)) (known_some (placed rows) j (place-in (length rows) j lj)))
 
   -- the entry of an animal with itself, less the whole, is its coefficient
-  pub frozen-inbred : (x : ℕ) → x < length rows →
-      entry (ancestry_of rows) (2 * l) (Some (number_at rows x)) (Some (number_at rows x)) - 2 ^ (2 * l) ≡ coefficient (ancestry_of rows) l (number_at rows x)
-  frozen-inbred x lx = inbred-is (ancestry_of rows) (frozen-lawful l most rows f) l (number_at rows x) (below_limit x lx)
+  frozen-inbred : (x : ℕ) → x < length rows →
+      own_relationship l rows x - 2 ^ (2 * l) ≡ coefficient (ancestry_of rows) l (number_of_row rows x)
+  frozen-inbred x lx = inbred-is (ancestry_of rows) (frozen-lawful l most rows f) l (number_of_row rows x) (below_limit x lx)
 
   -- held between 0 and 1, which it is
   pub frozen-inbred_value : (x : ℕ) → x < length rows →
-      min (entry (ancestry_of rows) (2 * l) (Some (number_at rows x)) (Some (number_at rows x)) - 2 ^ (2 * l)) (2 ^ (2 * l) - 1)
-      ≡ coefficient (ancestry_of rows) l (number_at rows x)
+      min (own_relationship l rows x - 2 ^ (2 * l)) (2 ^ (2 * l) - 1)
+      ≡ coefficient (ancestry_of rows) l (number_of_row rows x)
   frozen-inbred_value x lx =
       let is = frozen-inbred x lx in
       let below = frozen-coefficient_bound x lx in
@@ -157,16 +157,16 @@ module _ (l most : ℕ) (rows : List Row) (f : IsFrozen l most rows) where
   no_number (Some q) p at e = absurd (cc)
 
   -- where a parent is unknown the coefficient is 0
-  pub coefficient-unknown : (x : ℕ) → x < length rows → (sire_place rows x ≡ None) ⊎ (dam_place rows x ≡ None) → coefficient (ancestry_of rows) l (number_at rows x) ≡ 0
+  pub coefficient-unknown : (x : ℕ) → x < length rows → (sire_place rows x ≡ None) ⊎ (dam_place rows x ≡ None) → coefficient (ancestry_of rows) l (number_of_row rows x) ≡ 0
   coefficient-unknown x lx none =
-      coefficient-none (ancestry_of rows) l (number_at rows x)
+      coefficient-none (ancestry_of rows) l (number_of_row rows x)
       (⊎_elim (λ s. inl (no_number (sire_place rows x) _ (sire_at l most rows f x lx) s)) (λ d. inr (no_number (dam_place rows x) _ (dam_at l most rows f x lx) d)) none)
 
   -- where a parent is unknown the entry of the animal with itself is the whole
-  pub entry-unknown : (x : ℕ) → x < length rows → (sire_place rows x ≡ None) ⊎ (dam_place rows x ≡ None) →
-      entry (ancestry_of rows) (2 * l) (Some (number_at rows x)) (Some (number_at rows x)) ≡ 2 ^ (2 * l)
+  entry-unknown : (x : ℕ) → x < length rows → (sire_place rows x ≡ None) ⊎ (dam_place rows x ≡ None) →
+      own_relationship l rows x ≡ 2 ^ (2 * l)
   entry-unknown x lx none =
-      entry-itself (ancestry_of rows) (frozen-lawful l most rows f) l (number_at rows x) (below_limit x lx)
+      entry-itself (ancestry_of rows) (frozen-lawful l most rows f) l (number_of_row rows x) (below_limit x lx)
       ∙ (ap (λ v. 2 ^ (2 * l) + v) (coefficient-unknown x lx none) ∙ omega arith)
 
   no_parent : (s d : Option ℕ) → (is_some s && is_some d) ≡ false → (s ≡ None) ⊎ (d ≡ None)
@@ -176,28 +176,28 @@ module _ (l most : ℕ) (rows : List Row) (f : IsFrozen l most rows) where
 
   -- the same, by the row
   pub entry-row_unknown : (x : ℕ) (row : Row) → slice_get rows x ≡ Some row → (is_some row.sire && is_some row.dam) ≡ false →
-      entry (ancestry_of rows) (2 * l) (Some (number_at rows x)) (Some (number_at rows x)) ≡ 2 ^ (2 * l)
+      own_relationship l rows x ≡ 2 ^ (2 * l)
   entry-row_unknown x row e none =
       entry-unknown x (slice_get_within rows x row e)
       (⊎_elim (λ s. inl (sire-row x row e ∙ s)) (λ d. inr (dam-row x row e ∙ d)) (no_parent row.sire row.dam none))
 
   -- an ancestor stands below
-  pub ancestor-below : (x p : ℕ) → x < length rows → p < length rows → IsAncestor (ancestry_of rows) (number_at rows p) (number_at rows x) → p < x
+  ancestor-below : (x p : ℕ) → x < length rows → p < length rows → IsAncestor (ancestry_of rows) (number_of_row rows p) (number_of_row rows x) → p < x
   ancestor-below x p lx lp a =
-      let at = line_to-places l most rows f (suc a.0) x (number_at rows p) lx a.1 in
+      let at = line_to-places l most rows f (suc a.0) x (number_of_row rows p) lx a.1 in
       let low : at.0 < x = ltb-true at.0 x (ancestor-before (placed rows) (placed-lawful l most rows f) a.0 x at.0 (place-in (length rows) x lx) at.1) in
       subst (λ v. v < x) (same_place l most rows f at.0 p at.3 lp at.2) low
 
   -- right coefficients of all places below make the ancestors known
   pub known-from_below : (known : List ℕ) (x : ℕ) → x < length rows → length known ≡ length rows →
-      ((p : ℕ) → p < x → get_or known p 0 ≡ coefficient (ancestry_of rows) l (number_at rows p)) → KnowsAncestors l rows known x
+      ((p : ℕ) → p < x → get_or known p 0 ≡ coefficient (ancestry_of rows) l (number_of_row rows p)) → KnowsAncestors l rows known x
   known-from_below known x lx each right = record { each = each; right = λ p lp a. right p (ancestor-below x p lx lp a) }
 
   -- an ancestor is less deep
-  pub ancestor-less_deep : (x p : ℕ) → x < length rows → p < length rows → IsAncestor (ancestry_of rows) (number_at rows p) (number_at rows x) →
+  ancestor-less_deep : (x p : ℕ) → x < length rows → p < length rows → IsAncestor (ancestry_of rows) (number_of_row rows p) (number_of_row rows x) →
       depth_at rows p < depth_at rows x
   ancestor-less_deep x p lx lp a =
-      let at = line_to-places l most rows f (suc a.0) x (number_at rows p) lx a.1 in
+      let at = line_to-places l most rows f (suc a.0) x (number_of_row rows p) lx a.1 in
       let line : LineTo (placed rows) (suc a.0) x p = subst (λ v. LineTo (placed rows) (suc a.0) x v) (same_place l most rows f at.0 p at.3 lp at.2) at.1 in
       let longer : suc a.0 + depth_at rows p ≤ depth_at rows x =
       (placed-depth l most rows f x lx).1 (suc a.0 + depth_at rows p)
@@ -206,6 +206,6 @@ module _ (l most : ℕ) (rows : List Row) (f : IsFrozen l most rows) where
 
   -- right coefficients of all animals that are less deep make the ancestors known
   pub known-from_levels : (known : List ℕ) (x : ℕ) → x < length rows → length known ≡ length rows →
-      ((p : ℕ) → p < length rows → depth_at rows p < depth_at rows x → get_or known p 0 ≡ coefficient (ancestry_of rows) l (number_at rows p)) →
+      ((p : ℕ) → p < length rows → depth_at rows p < depth_at rows x → get_or known p 0 ≡ coefficient (ancestry_of rows) l (number_of_row rows p)) →
       KnowsAncestors l rows known x
   known-from_levels known x lx each right = record { each = each; right = λ p lp a. right p lp (ancestor-less_deep x p lx lp a) }

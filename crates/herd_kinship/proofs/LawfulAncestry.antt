@@ -3,7 +3,7 @@ use Rattle.std.proofs.Common.{ℕ, zero, suc, ◌+◌, ◌≤◌, ◌≡◌, ◌
 use Rattle.std.specs.List.{count_by}
 use Rattle.std.specs.List.Sorted.{IsPermutation}
 use Rattle.std.specs.Option.{option_map}
-use Rattle.herd_kinship.specs.Ancestry.{Ancestry, IsParent}
+use Rattle.herd_kinship.specs.Ancestry.{Ancestry, IsParentIn}
 
 -- the animals stand once each in an order in which parents are animals that come before
 pub record IsLawful {A : Type 0} (kin : Ancestry A) : Type 0 where
@@ -14,13 +14,13 @@ pub record IsLawful {A : Type 0} (kin : Ancestry A) : Type 0 where
   pub total : (x y : A) → Contains kin.animals x → Contains kin.animals y →
       (x ≡ y) ⊎ (IsTrue (kin.before x y) ⊎ IsTrue (kin.before y x))
   pub two : (p x : A) → Contains kin.animals x → kin.sire x ≡ Some p → ¬ (kin.dam x ≡ Some p)
-  pub parents : (p x : A) → Contains kin.animals x → IsParent kin p x →
+  pub parents : (p x : A) → Contains kin.animals x → IsParentIn kin p x →
       Contains kin.animals p × IsTrue (kin.before p x)
 
 -- from the animal x there is a line of n steps, each to a known parent
 unfoldable pub Line : {A : Type 0} → Ancestry A → ℕ → A → Type 0
 Line kin zero x = Contains kin.animals x
-Line {A} kin (suc n) x = Contains kin.animals x × ((p : A) × IsParent kin p x × Line kin n p)
+Line {A} kin (suc n) x = Contains kin.animals x × ((p : A) × IsParentIn kin p x × Line kin n p)
 
 -- the longest line from x has n steps
 abbrev pub IsDepth : {A : Type 0} → Ancestry A → A → ℕ → Type 0

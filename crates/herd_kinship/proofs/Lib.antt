@@ -1,36 +1,43 @@
+-- numbers, fractions and sets of bits
 pub mod Sums
 pub mod Ints
+pub mod FractionFacts
+pub mod PendingFacts
+-- entries, shares and depths in any lawful ancestry
 pub mod LawfulAncestry
 pub mod Table
 pub mod Depth
 pub mod Shares
-pub mod Decompose
-pub mod RowProducts
 pub mod Bounds
 pub mod Exact
-pub mod Renamed
 pub mod Ancestors
+pub mod Renamed
+-- the laws of A there: the decomposition, a column, the rows of the inverse
+pub mod Decompose
+pub mod ColumnSums
+pub mod RowProducts
+-- a frozen book as an ancestry, by numbers and by places
 pub mod BookFacts
 pub mod Places
 pub mod FrozenFacts
+pub mod FrozenDepths
+pub mod ParentsFacts
 pub mod LawFacts
+-- tracing, animal by animal
 pub mod Brought
 pub mod Done
 pub mod OwnUnits
-pub mod FrozenDepths
-pub mod TracingFacts
 pub mod KnownFacts
-pub mod TermSums
-pub mod FractionFacts
-pub mod MatingFacts
-pub mod ContributionFacts
-pub mod PendingFacts
+pub mod TracingFacts
 pub mod UnderWayFacts
-pub mod ParentsFacts
-pub mod ColumnSums
+pub mod TermSums
+-- columns of A, sire by sire
 pub mod ColumnFacts
 pub mod PassedOn
 pub mod RelationshipFacts
 pub mod Collecting
 pub mod CalfFacts
 pub mod BySires
+-- mating advice, and contributions to the inverse
+pub mod MatingFacts
+pub mod ContributionFacts

@@ -8,12 +8,12 @@ use Rattle.herd_pedigree.specs.declared.frozen.Row.{Row}
 use Rattle.herd_pedigree.specs.Book.{Book, is_there, parentage_of, record_of, IsDepthOf}
 use Rattle.herd_pedigree.specs.Frozen.{IsFrozen, book_of, depth_at, numbers_of}
 use Rattle.herd_pedigree.specs.Lines.{has_line}
-use Rattle.herd_kinship.specs.FrozenAncestry.{ancestry_of, number_at}
+use Rattle.herd_kinship.specs.FrozenAncestry.{ancestry_of, number_of_row}
 use Rattle.herd_kinship.specs.Mating.{ArePair, is_deepest, mating_fault}
 use Rattle.herd_kinship.specs.declared.mating_advice.MatingFault.TheVariants.{SireMissing, DamMissing, SireNotMale, DamNotFemale, TooDeep}
 use Rattle.herd_kinship.specs.Places.{placed}
 use Rattle.herd_kinship.specs.Table.{entry}
-use Rattle.herd_kinship.proofs.FrozenFacts.{length-numbers_of, number_at-row, placed-lawful, record_at-row, row_at}
+use Rattle.herd_kinship.proofs.FrozenFacts.{length-numbers_of, number_of_row-is, placed-lawful, record_at-row, row_at}
 use Rattle.herd_kinship.proofs.FrozenDepths.{depth_at-row, depth-at_most, placed-below_depth}
 use Rattle.herd_kinship.proofs.Depth.{unit}
 use Rattle.herd_kinship.proofs.KnownFacts.{entry-place}
@@ -51,20 +51,20 @@ module _ (l : ℕ) (rows : List Row) (f : IsFrozen l MOST_ANIMALS rows) (n : Lis
   pub place-within : i < length rows
   place-within = let a = slice_get_within (numbers_of rows) i n at in let b = length-numbers_of rows in omega arith
 
-  pub place-number : number_at rows i ≡ n
+  pub place-number : number_of_row rows i ≡ n
   place-number = get_or_from_slice_get (numbers_of rows) i n [] at
 
   pub place-there : is_there (book_of rows) n ≡ true
   place-there =
       let r = row_at rows i place-within in
-      let same : r.0.number ≡ n = sym (number_at-row rows i r.0 r.1) ∙ place-number in
+      let same : r.0.number ≡ n = sym (number_of_row-is rows i r.0 r.1) ∙ place-number in
       let found : record_of (book_of rows) n ≡ Some r.0.animal = subst (λ v. record_of (book_of rows) v ≡ Some r.0.animal) same (record_at-row l MOST_ANIMALS rows f i r.0 r.1) in
       rw found refl
 
   depth-of : IsDepthOf (book_of rows) n (depth_at rows i)
   depth-of =
       let r = row_at rows i place-within in
-      let same : r.0.number ≡ n = sym (number_at-row rows i r.0 r.1) ∙ place-number in
+      let same : r.0.number ≡ n = sym (number_of_row-is rows i r.0 r.1) ∙ place-number in
       rw (depth_at-row rows i r.0 r.1) (subst (λ v. IsDepthOf (book_of rows) v r.0.depth) same (f.each i r.0 r.1).depth)
 
   -- an animal of the greatest depth has a line of that length
@@ -80,7 +80,7 @@ module _ (l : ℕ) (rows : List Row) (f : IsFrozen l MOST_ANIMALS rows) (n : Lis
 
 -- the coefficient of a calf is half its parents' relationship, exactly
 pub mating-half : (l : ℕ) (rows : List Row) (s d : List ℕ) (i j v : ℕ) → 0 < l → ArePair l rows s d i j →
-    v ≡ entry (ancestry_of rows) (2 * l) (Some (number_at rows i)) (Some (number_at rows j)) → v / 2 ≡ entry (ancestry_of rows) (2 * l - 1) (Some s) (Some d)
+    v ≡ entry (ancestry_of rows) (2 * l) (Some (number_of_row rows i)) (Some (number_of_row rows j)) → v / 2 ≡ entry (ancestry_of rows) (2 * l - 1) (Some s) (Some d)
 mating-half l rows s d i j v pos pair is =
     let li = pair.sire_in in
     let lj = pair.dam_in in

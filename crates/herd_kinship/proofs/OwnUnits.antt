@@ -4,11 +4,10 @@ use Rattle.std.proofs.Math.Nat.{pow-succ', mul-div_cancel_left}
 use Rattle.std.proofs.Math.Pow.{pow_pos}
 use Rattle.std.proofs.lemmas.Nat.{pow-add}
 use Rattle.herd_kinship.specs.Ancestry.{Ancestry}
-use Rattle.herd_kinship.specs.Table.{mendelian}
 use Rattle.herd_kinship.specs.Shares.{share}
 use Rattle.herd_kinship.proofs.LawfulAncestry.{IsLawful, Line}
 use Rattle.herd_kinship.proofs.Depth.{Below}
-use Rattle.herd_kinship.proofs.Exact.{share-finer, term-exact}
+use Rattle.herd_kinship.proofs.Exact.{share-finer}
 use Rattle.herd_kinship.proofs.Brought.{cancel}
 
 -- half of y's share, brought from y's unit to that of its parent p
@@ -30,12 +29,3 @@ share-own kin w l gx gy s x y lx ly b line e =
     ap (λ n. share kin n (Some x) y) (let q : l ≡ d + (gx - gy) = omega arith in q)
     ∙ share-finer kin w d (gx - gy) (Some x) y (suc gx) gy b line (omega arith) in
     cancel (2 ^ d) s (share kin (gx - gy) (Some x) y) (pow_pos d) (let q : 2 ^ d * s ≡ share kin l (Some x) y = omega (arith, e) in q ∙ f)
-
--- so a term is the square of that share times the Mendelian part over 2^(2(gx - g)), which divides it
-pub term-own : {A : Type 0} (kin : Ancestry A) → IsLawful kin → (l gx g : ℕ) (x j : A) → gx ≤ l → g ≤ gx → Below kin (suc gx) (Some x) → Below kin (suc g) (Some j) → Line kin g j →
-    share kin l (Some x) j * share kin l (Some x) j * mendelian kin l j
-    ≡ 2 ^ (2 * l) * (share kin (gx - g) (Some x) j * share kin (gx - g) (Some x) j * (mendelian kin l j / 2 ^ (2 * (gx - g))))
-term-own kin w l gx g x j lx lg bx bj line =
-    let e : gx + gx - 2 * g ≡ 2 * (gx - g) = omega arith in
-    term-exact kin w l gx gx g x x j lx lx lg lg bx bx bj line
-    ∙ ap (λ n. 2 ^ (2 * l) * (share kin (gx - g) (Some x) j * share kin (gx - g) (Some x) j * (mendelian kin l j / 2 ^ n))) e

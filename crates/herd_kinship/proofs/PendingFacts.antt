@@ -1,36 +1,33 @@
 -- Sets of distances as bits: one bit written, and the lowest bit taken.
-use Rattle.std.proofs.Common.{ℕ, suc, ◌+◌, ◌*◌, ◌-◌, ◌/◌, ◌%◌, ◌^◌, ◌<◌, ◌≤◌, ◌≡◌, ⊎_elim, min, List, length, get_or, set, arith, sym, ◌∙◌, ap, subst}
+use Rattle.std.proofs.Common.{ℕ, suc, ◌+◌, ◌*◌, ◌-◌, ◌/◌, ◌%◌, ◌^◌, ◌<◌, ◌≤◌, ◌≡◌, ⊎_elim, List, length, get_or, set, arith, sym, ◌∙◌, ap, subst}
 use Rattle.std.specs.Int.{w64, bit_at, trailing_zeros}
 use Rattle.std.specs.Prelude.{bit_and}
 use Rattle.std.proofs.Math.Pow.{pow_pos}
 use Rattle.std.proofs.lemmas.Bool.{cases_eq, cases_lt}
 use Rattle.std.proofs.lemmas.List.{get_or-set_same, get_or-set_other, length-set}
 use Rattle.std.proofs.lemmas.Nat.Bits.{bit_at-suc, bit_at-trailing_zeros, bit_at-zero, bit_at_and, bit_at_cat_high, bit_at_cat_low}
-use Rattle.herd_kinship.specs.Pending.{IsCleared, Marks}
+use Rattle.herd_kinship.specs.Pending.{IsCleared, mark, Marks}
 use Rattle.herd_kinship.proofs.FractionFacts.{split_trailing}
 
--- one bit of one word is written
-pub marks-word : (words : List ℕ) (word k w w' v : ℕ) → word < length words → k < 64 → w ≡ get_or words word 0 → bit_at w' k ≡ v →
-    ((i : ℕ) → i < 64 → (i ≡ k → ⊥) → bit_at w' i ≡ bit_at w i) → Marks words (set words word w') (64 * word + k) v
-marks-word words word k w w' v within small is here others = record {
-  room = length-set words word w';
+-- one bit of one chunk is written
+pub marks-chunk : (chunks : List ℕ) (chunk k w w' v : ℕ) → chunk < length chunks → k < 64 → w ≡ get_or chunks chunk 0 → bit_at w' k ≡ v →
+    ((i : ℕ) → i < 64 → (i ≡ k → ⊥) → bit_at w' i ≡ bit_at w i) → Marks chunks (set chunks chunk w') (64 * chunk + k) v
+marks-chunk chunks chunk k w w' v within small is here others = record {
+  room = length-set chunks chunk w';
   here =
-      let q : (64 * word + k) / 64 ≡ word = omega arith in
-      let r : (64 * word + k) % 64 ≡ k = omega arith in
-      rw (q, r, get_or-set_same words word w' 0 within) here;
+      let q : (64 * chunk + k) / 64 ≡ chunk = omega arith in
+      let r : (64 * chunk + k) % 64 ≡ k = omega arith in
+      rw (q, r, get_or-set_same chunks chunk w' 0 within) here;
   others = λ other apart.
       let rest : other % 64 < 64 = omega arith in
       ⊎_elim
-      (λ (same : other / 64 ≡ word).
+      (λ (same : other / 64 ≡ chunk).
       let differ : other % 64 ≡ k → ⊥ = λ e. apart (omega arith) in
-      rw (same, get_or-set_same words word w' 0 within) (others (other % 64) rest differ ∙ ap (λ n. bit_at n (other % 64)) is))
-      (λ (differ : other / 64 ≡ word → ⊥).
-      ap (λ n. bit_at n (other % 64)) (get_or-set_other words word (other / 64) w' 0 differ))
-      (cases_eq (other / 64) word);
+      rw (same, get_or-set_same chunks chunk w' 0 within) (others (other % 64) rest differ ∙ ap (λ n. bit_at n (other % 64)) is))
+      (λ (differ : other / 64 ≡ chunk → ⊥).
+      ap (λ n. bit_at n (other % 64)) (get_or-set_other chunks chunk (other / 64) w' 0 differ))
+      (cases_eq (other / 64) chunk);
 }
-
-min_zero : (a : ℕ) → min 0 a ≡ 0
-min_zero a = omega arith
 
 -- a number and one less, at the bits of an odd multiple of 2^t
 module _ (m t : ℕ) where
@@ -75,6 +72,7 @@ module _ (m t : ℕ) where
       (λ (high : t ≤ i). let z = above_low i (omega arith) in omega arith)
       (cases_lt i t)
 
+-- of a chunk that isn't empty the lowest bit is cleared
 pub lowest-cleared : (w : ℕ) → 0 < w → w < 2 ^ 64 → IsCleared w (bit_and w (w - 1)) (trailing_zeros w64 w)
 lowest-cleared w pos fits =
     let t : ℕ = trailing_zeros w64 w in
@@ -91,4 +89,33 @@ lowest-cleared w pos fits =
       lower = low.2;
       here = subst (λ v. bit_at (bit_and v (v - 1)) t ≡ 0) is (cleared_here m t);
       others = λ i _ apart. subst (λ v. bit_at (bit_and v (v - 1)) i ≡ bit_at v i) is (cleared_others m t i apart);
+    }
+
+-- the nearest distance of a set, and the set without it
+pub record IsNearest (old new : List ℕ) (distance : ℕ) : Type 0 where
+  pub found : mark old distance ≡ 1
+  pub nearest : (nearer : ℕ) → nearer < distance → mark old nearer ≡ 0
+  pub taken : Marks old new distance 0
+
+-- The lowest bit of the first chunk that isn't empty is the nearest distance: what is nearer has a lower bit of this
+-- chunk, or stands in an empty one.
+pub nearest-cleared : (chunks : List ℕ) (first w w' k : ℕ) → first < length chunks → w ≡ get_or chunks first 0 → IsCleared w w' k →
+    ((distance : ℕ) → distance < 64 * first → mark chunks distance ≡ 0) → IsNearest chunks (set chunks first w') (64 * first + k)
+nearest-cleared chunks first w w' k within is cleared none_before =
+    let small : k < 64 = cleared.small in
+    record {
+      found =
+          let q : (64 * first + k) / 64 ≡ first = omega arith in
+          let r : (64 * first + k) % 64 ≡ k = omega arith in
+          rw (q, r) (subst (λ v. bit_at v k ≡ 1) is cleared.was);
+      nearest = λ nearer near.
+          ⊎_elim
+          (λ (before : nearer < 64 * first). none_before nearer before)
+          (λ (here : 64 * first ≤ nearer).
+          let q : nearer / 64 ≡ first = omega arith in
+          let lower : nearer % 64 < k = omega arith in
+          let z : bit_at (get_or chunks first 0) (nearer % 64) ≡ 0 = subst (λ v. bit_at v (nearer % 64) ≡ 0) is (cleared.lower (nearer % 64) lower) in
+          rw q z)
+          (cases_lt nearer (64 * first));
+      taken = marks-chunk chunks first k w w' 0 within small is cleared.here cleared.others;
     }

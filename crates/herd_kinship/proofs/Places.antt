@@ -3,14 +3,14 @@ use Rattle.std.proofs.Common.{ℕ, zero, suc, ◌+◌, ◌<◌, ◌≡◌, inl, 
 use Rattle.std.specs.List.{range_with_len, count_by, IsDistinct, AllByRecursion}
 use Rattle.std.proofs.lemmas.Bool.{eqb-true, eq-eqb, ne_eqb, ltb-true, lt-ltb, cases_order}
 use Rattle.std.proofs.lemmas.List.FromFn.{length-range_with_len, get_or-range_with_len}
-use Rattle.herd_kinship.specs.Ancestry.{IsParent}
+use Rattle.herd_kinship.specs.Ancestry.{IsParentIn}
 use Rattle.herd_kinship.specs.Places.{places}
 use Rattle.herd_kinship.proofs.LawfulAncestry.{IsLawful}
 use Rattle.herd_kinship.proofs.BookFacts.{count-one}
 
 -- parents stand at two different places below their offspring's
 pub record ArePlaced (n : ℕ) (sire dam : ℕ → Option ℕ) : Type 0 where
-  pub below : (i p : ℕ) → i < n → IsParent (places n sire dam) p i → p < i
+  pub below : (i p : ℕ) → i < n → IsParentIn (places n sire dam) p i → p < i
   pub two : (i p : ℕ) → i < n → sire i ≡ Some p → ¬ (dam i ≡ Some p)
 
 -- the places are the numbers below n

@@ -7,7 +7,7 @@ use Rattle.herd_pedigree.specs.declared.frozen.Row.{Row}
 use Rattle.herd_pedigree.specs.Book.{is_there}
 use Rattle.herd_pedigree.specs.Frozen.{IsFrozen, book_of, numbers_of}
 use Rattle.herd_kinship.specs.Columns.{related, AreRelationships}
-use Rattle.herd_kinship.specs.FrozenAncestry.{ancestry_of, number_at}
+use Rattle.herd_kinship.specs.FrozenAncestry.{ancestry_of, number_of_row}
 use Rattle.herd_kinship.specs.Mating.{ArePair, AreRelationshipsOf}
 use Rattle.herd_kinship.specs.Table.{entry}
 use Rattle.herd_kinship.proofs.Decompose.{entry-swap}
@@ -16,7 +16,7 @@ use Rattle.herd_kinship.proofs.FrozenFacts.{frozen-lawful, frozen-member, length
 use Rattle.herd_kinship.proofs.KnownFacts.{entry-place}
 use Rattle.herd_kinship.proofs.MatingFacts.{mating-half, place-number, place-there, place-within}
 
-numbers-at : (rows : List Row) (p : ℕ) (number : List ℕ) → p < length rows → number_at rows p ≡ number → slice_get (numbers_of rows) p ≡ Some number
+numbers-at : (rows : List Row) (p : ℕ) (number : List ℕ) → p < length rows → number_of_row rows p ≡ number → slice_get (numbers_of rows) p ≡ Some number
 numbers-at rows p number lp e = slice_get-get_or (numbers_of rows) p [] (let all = length-numbers_of rows in omega arith) ∙ ap Some e
 
 -- a list whose slice is written as a whole
@@ -55,5 +55,5 @@ mating-by l rows s d column i j v pos pair are is =
     let f = pair.book in
     mating-half l rows s d i j v pos pair
     (is ∙ (are.right i pair.sire_in
-    ∙ entry-swap kin (frozen-lawful l MOST_ANIMALS rows f) (2 * l) (Some (number_at rows j)) (Some (number_at rows i))
-    (known_some kin (number_at rows j) (frozen-member rows j pair.dam_in)) (known_some kin (number_at rows i) (frozen-member rows i pair.sire_in))))
+    ∙ entry-swap kin (frozen-lawful l MOST_ANIMALS rows f) (2 * l) (Some (number_of_row rows j)) (Some (number_of_row rows i))
+    (known_some kin (number_of_row rows j) (frozen-member rows j pair.dam_in)) (known_some kin (number_of_row rows i) (frozen-member rows i pair.sire_in))))

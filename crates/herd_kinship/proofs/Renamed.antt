@@ -1,16 +1,15 @@
--- Entries, shares, coefficients and Mendelian parts don't depend on how the animals are named.
+-- Entries, shares, coefficients and Mendelian sampling variances don't depend on how the animals are named.
 use Rattle.std.proofs.Common.{map, [], ◌∷◌, lit<, All, ⊎_elim, ℕ, zero, suc, ◌+◌, ◌*◌, ◌-◌, ◌≡◌, inl, inr, List, Option, Some, None, refl, Contains, ◌∙◌, ap}
 use Rattle.std.specs.Option.{option_map}
 use Rattle.std.proofs.lemmas.List.Sorted.{Contains-permutation}
 use Rattle.std.proofs.lemmas.List.Elements.{All-contains, All-nil, All-cons, All-weaker, Contains-append_left, Contains-append_right}
-use Rattle.herd_kinship.specs.Ancestry.{Ancestry, IsParent}
+use Rattle.herd_kinship.specs.Ancestry.{Ancestry, IsParentIn}
 use Rattle.herd_kinship.specs.Table.{entry, coefficient, mendelian}
-use Rattle.herd_kinship.specs.Shares.{share}
 use Rattle.herd_kinship.proofs.LawfulAncestry.{Line, IsShallow, IsLawful, IsRenamed}
 use Rattle.herd_kinship.proofs.Table.{entry-none_left, entry-none_right, entry-start, entry-step}
 use Rattle.herd_kinship.proofs.Depth.{IsKnown, known-sire, known-dam}
-use Rattle.herd_kinship.proofs.Shares.{share-none, share-start, share-step}
 
+-- by induction on the unit: the same case of the tabular method holds under both names
 pub entry-renamed : {A B : Type 0} (kin : Ancestry A) (g : Ancestry B) (φ : A → B) → IsLawful kin → IsRenamed kin g φ → (k : ℕ) (x y : Option A) → IsKnown kin x → IsKnown kin y →
     entry g k (option_map φ x) (option_map φ y) ≡ entry kin k x y
 entry-renamed kin g φ w r k None y kx ky = rw (entry-none_left kin k y) (entry-none_left g k (option_map φ y))
@@ -41,17 +40,6 @@ entry-renamed kin g φ w r (suc k) (Some x) (Some y) kx ky =
       yd,
     ) refl
 
-pub share-renamed : {A B : Type 0} (kin : Ancestry A) (g : Ancestry B) (φ : A → B) → IsLawful kin → IsRenamed kin g φ → (k : ℕ) (x : Option A) (j : A) → IsKnown kin x → Contains kin.animals j →
-    share g k (option_map φ x) (φ j) ≡ share kin k x j
-share-renamed kin g φ w r k None j kx cj = rw (share-none kin k j) (share-none g k (φ j))
-share-renamed kin g φ w r zero (Some x) j kx cj =
-    rw (share-start kin x j, share-start g (φ x) (φ j), r.same x j (kx x refl) cj) refl
-share-renamed kin g φ w r (suc k) (Some x) j kx cj =
-    let cx = kx x refl in
-    let s = share-renamed kin g φ w r k (kin.sire x) j (known-sire kin w x cx) cj in
-    let d = share-renamed kin g φ w r k (kin.dam x) j (known-dam kin w x cx) cj in
-    rw (share-step kin k x j, share-step g k (φ x) (φ j), r.same x j cx cj, r.sire x cx, r.dam x cx, s, d) refl
-
 pub coefficient-renamed : {A B : Type 0} (kin : Ancestry A) (g : Ancestry B) (φ : A → B) → IsLawful kin → IsRenamed kin g φ → (l : ℕ) (x : A) → Contains kin.animals x →
     coefficient g l (φ x) ≡ coefficient kin l x
 unfolding coefficient
@@ -76,7 +64,7 @@ all_mapped f (x ∷ xs) =
     (All-weaker (λ v. Contains (map f xs) (f v)) (λ v. Contains (map f (x ∷ xs)) (f v))
     (λ v c. Contains-append_right (f x ∷ []) (map f xs) (f v) c) xs (all_mapped f xs))
 
-pub Contains-map : {X Y : Type 0} (f : X → Y) (xs : List X) (x : X) → Contains xs x → Contains (map f xs) (f x)
+Contains-map : {X Y : Type 0} (f : X → Y) (xs : List X) (x : X) → Contains xs x → Contains (map f xs) (f x)
 Contains-map f xs x c = All-contains (λ v. Contains (map f xs) (f v)) xs x (all_mapped f xs) c
 
 -- lines keep their lengths
@@ -87,7 +75,7 @@ line-renamed kin g φ w r zero x line =
 line-renamed {A} {B} kin g φ w r (suc n) x line =
     let p : A = line.1.0 in
     let here = Contains-permutation (map φ kin.animals) g.animals (φ x) r.animals (Contains-map φ kin.animals x line.0) in
-    let is : IsParent g (φ p) (φ x) =
+    let is : IsParentIn g (φ p) (φ x) =
     ⊎_elim (λ e. inl (r.sire x line.0 ∙ ap (option_map φ) e)) (λ e. inr (r.dam x line.0 ∙ ap (option_map φ) e)) line.1.1 in
     (here, (φ p, is, line-renamed kin g φ w r n p line.1.2))
 

@@ -1,10 +1,10 @@
--- Two rows of the inverse's factor through the table.
+-- Two rows of the inverse's factor through the numerator relationship matrix.
 use Rattle.std.proofs.Common.{ℕ, ◌+◌, ◌*◌, ◌≡◌, inl, inr, ⊎_elim, Bool, true, false, cond, ◌||◌, Option, Some, None, IsTrue, arith, refl, sym, Contains, ◌∙◌, ap, subst}
 use Rattle.std.specs.List.{sum_by}
 use Rattle.std.proofs.lemmas.Int.{ints}
 use Rattle.std.proofs.lemmas.Bool.{false_from_ne_true}
 use Rattle.std.proofs.Math.IntN.{pos, negsuc, ◌-ℤ◌, ◌*ℤ◌}
-use Rattle.herd_kinship.specs.Ancestry.{Ancestry, IsParent}
+use Rattle.herd_kinship.specs.Ancestry.{Ancestry, IsParentIn}
 use Rattle.herd_kinship.specs.Table.{entry, mendelian}
 use Rattle.herd_kinship.specs.InverseRows.{is_it, half_row, row_product, sum_ints}
 use Rattle.herd_kinship.proofs.LawfulAncestry.{IsShallow, IsLawful}
@@ -27,7 +27,7 @@ is_it-some kin w None p t = absurd (cc)
 is_it-some kin w (Some q) p t = ap Some ((w.same q p).0 t)
 
 -- no parent of itself
-not_itself : {A : Type 0} (kin : Ancestry A) → IsLawful kin → (i : A) → Contains kin.animals i → IsParent kin i i → ⊥
+not_itself : {A : Type 0} (kin : Ancestry A) → IsLawful kin → (i : A) → Contains kin.animals i → IsParentIn kin i i → ⊥
 not_itself kin w i c is =
     let b = (w.parents i i c is).1 in w.one_way i i b b
 
@@ -113,7 +113,9 @@ abbrev pub minus_terms : {A : Type 0} → Ancestry A → (Option A → Option A 
 minus_terms kin e i j =
     2 * (e (Some i) (kin.sire j) + e (Some i) (kin.dam j)) + 2 * (e (kin.sire i) (Some j) + e (kin.dam i) (Some j))
 
-pub row_product-terms : {A : Type 0} (kin : Ancestry A) → IsLawful kin → (l : ℕ) (i j : A) → Contains kin.animals i → Contains kin.animals j →
+-- Two rows multiplied through A are nine entries, of the two animals and their parents. What is above 0 and what is under
+-- 0 in the rows is summed apart, since entries are natural numbers.
+row_product-terms : {A : Type 0} (kin : Ancestry A) → IsLawful kin → (l : ℕ) (i j : A) → Contains kin.animals i → Contains kin.animals j →
     row_product kin l i j ≡ pos (plus_terms kin (entry kin (2 * l)) i j) -ℤ pos (minus_terms kin (entry kin (2 * l)) i j)
 unfolding row_product
 row_product-terms {A} kin w l i j ci cj =

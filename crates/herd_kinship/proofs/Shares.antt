@@ -1,4 +1,4 @@
--- The clauses of the share, its unit, and the halved forms of shares, entries and Mendelian parts.
+-- The clauses of the share, its unit, and the halved forms of shares, entries and Mendelian sampling variances.
 use Rattle.std.proofs.Common.{ℕ, zero, suc, ◌+◌, ◌*◌, ◌-◌, ◌^◌, ◌≤◌, ◌≡◌, inl, inr, Bool, true, false, cond, Option, Some, None, IsTrue, arith, refl, sym, Contains, subst}
 use Rattle.std.proofs.Math.Nat.{two-pow-succ}
 use Rattle.std.proofs.lemmas.Bool.{false_from_ne_true}
@@ -63,7 +63,7 @@ share_doubled true p q u v e f = e
 share_doubled false p q u v e f = f
 
 -- one more halving of the unit doubles a share, once the unit is as small as the depth asks
-pub share-unit : {A : Type 0} (kin : Ancestry A) → IsLawful kin → (k : ℕ) (o : Option A) (j : A) (n : ℕ) → Below kin n o → n ≤ suc k → share kin (suc k) o j ≡ 2 * share kin k o j
+share-unit : {A : Type 0} (kin : Ancestry A) → IsLawful kin → (k : ℕ) (o : Option A) (j : A) (n : ℕ) → Below kin n o → n ≤ suc k → share kin (suc k) o j ≡ 2 * share kin k o j
 share-unit kin w k None j n b l = simp share-none
 share-unit kin w k (Some x) j zero b l =
     let room = Below-positive kin 0 x b in absurd (omega arith)
@@ -116,7 +116,7 @@ entry-halved kin w (suc l) x y bx by' t =
     let d = unit kin w u (Some x) (kin.dam y) (suc (suc l)) (suc l) bx (Below-dam kin w (suc l) y by') (omega arith) in
     rw (e, entry-step kin u x y, apart kin w x y t, t) (omega (arith, s, d))
 
--- four times a Mendelian part
+-- four times a Mendelian sampling variance
 pub mendelian-whole : {A : Type 0} (kin : Ancestry A) → IsLawful kin → (l : ℕ) (j : A) → Below kin (suc l) (Some j) →
     4 * mendelian kin l j + entry kin (2 * l) (kin.sire j) (kin.sire j) + entry kin (2 * l) (kin.dam j) (kin.dam j) ≡ 4 * 2 ^ (2 * l)
 unfolding mendelian

@@ -28,12 +28,12 @@ unfolding entry
 entry-step kin k x y = refl
 
 -- one of three values is below what all three are below
-pub pick_below : (s b : Bool) (u v w m : ℕ) → u < m → v < m → w < m → cond s u (cond b v w) < m
+pick_below : (s b : Bool) (u v w m : ℕ) → u < m → v < m → w < m → cond s u (cond b v w) < m
 pick_below true b u v w m hu hv hw = hu
 pick_below false true u v w m hu hv hw = hv
 pick_below false false u v w m hu hv hw = hw
 
--- every entry is below 2^(k+1), whatever the herd
+-- every entry is below 2^(k+1), whatever the ancestry
 pub entry-bound : {A : Type 0} (kin : Ancestry A) (k : ℕ) (x y : Option A) → entry kin k x y < 2 ^ suc k
 entry-bound kin k None y = rw entry-none_left (pow_pos (suc k))
 entry-bound kin k (Some x) None = rw entry-none_right (pow_pos (suc k))

@@ -1,4 +1,4 @@
--- The squared shares of x in its ancestors times the Mendelian parts, added up from the youngest to the oldest.
+-- The squared shares of x in its ancestors times the Mendelian sampling variances, added up from the youngest to the oldest.
 use Rattle.std.proofs.Common.{ℕ, suc, ◌+◌, ◌*◌, ◌-◌, ◌/◌, ◌^◌, ◌<◌, ◌≤◌, ◌≡◌, ⊎_elim, List, length, Some, cond, ltb, arith, sym, ◌∙◌, ap}
 use Rattle.std.specs.List.{sum_by, range_with_len}
 use Rattle.std.proofs.Math.Nat.{mul-le-mul_left}
@@ -8,9 +8,10 @@ use Rattle.std.proofs.lemmas.List.Sums.{sum_by-le-sum_by}
 use Rattle.herd_pedigree.specs.declared.frozen.Parents.{Parents}
 use Rattle.herd_pedigree.specs.declared.frozen.Row.{Row}
 use Rattle.herd_pedigree.specs.Frozen.{IsFrozen, depth_at}
+use Rattle.herd_kinship.specs.Coefficients.{own_relationship}
 use Rattle.herd_kinship.specs.Table.{entry, mendelian}
 use Rattle.herd_kinship.specs.Shares.{share, shared}
-use Rattle.herd_kinship.specs.FrozenAncestry.{ancestry_of, number_at}
+use Rattle.herd_kinship.specs.FrozenAncestry.{ancestry_of, number_of_row}
 use Rattle.herd_kinship.specs.Places.{AreParentsAt, sire_place, dam_place, placed}
 use Rattle.herd_kinship.specs.Tracing.{IsNext}
 use Rattle.herd_kinship.proofs.Brought.{cancel, later_none}
@@ -33,7 +34,7 @@ term_of l rows x j = share (placed rows) l (Some x) j * share (placed rows) l (S
 abbrev pub IsSummed : ℕ → List Row → ℕ → ℕ → ℕ → Type 0
 IsSummed l rows x border sum = 2 ^ (2 * l) * sum ≡ done (length rows) (term_of l rows x) border
 
--- what is added for an ancestor j of x, by its Mendelian part, its share and the two depths
+-- what is added for an ancestor j of x, by its Mendelian sampling variance, its share and the two depths
 pub record IsAdded (l : ℕ) (rows : List Row) (x j part own sum deep depth : ℕ) : Type 0 where
   pub shift : 2 * deep - 2 * depth < 128
   pub fits : part / 2 ^ (2 * deep - 2 * depth) * (own * own) < 2 ^ 128
@@ -87,7 +88,7 @@ module _ (l most : ℕ) (rows : List Row) (f : IsFrozen l most rows) (x : ℕ) (
 
   -- the term of the next ancestor is added
   pub added : (b j part own sum : ℕ) (deep ancestor : Parents) → 2 * l < 128 → 2 ^ suc (2 * l) < 2 ^ 128 → AreParentsAt rows x deep → AreParentsAt rows j ancestor →
-      IsNext l rows x b j own → part ≡ mendelian (ancestry_of rows) l (number_at rows j) → IsSummed l rows x b sum →
+      IsNext l rows x b j own → part ≡ mendelian (ancestry_of rows) l (number_of_row rows j) → IsSummed l rows x b sum →
       IsAdded l rows x j part own sum deep.depth ancestor.depth
   added b j part own sum deep ancestor small room at there next part_is so_far =
       let dx = parents-depth rows x deep at in
@@ -110,7 +111,7 @@ module _ (l most : ℕ) (rows : List Row) (f : IsFrozen l most rows) (x : ℕ) (
 
   -- where nothing is left below the border the sum is the entry
   pub summed-end : (border sum : ℕ) → ((j : ℕ) → j < border → share (placed rows) l (Some x) j ≡ 0) → IsSummed l rows x border sum →
-      sum ≡ entry (ancestry_of rows) (2 * l) (Some (number_at rows x)) (Some (number_at rows x))
+      sum ≡ own_relationship l rows x
   summed-end border sum none so_far =
       cancel (2 ^ (2 * l)) sum (entry (placed rows) (2 * l) (Some x) (Some x)) (pow_pos (2 * l))
       (so_far ∙ (done-end (length rows) (term_of l rows x) border (λ j a. let z = none j a in rw z (omega arith)) ∙ all_terms))

@@ -76,7 +76,7 @@ module _ (l : ℕ) (rows : List Row) (x : ℕ) (limit : depth_at rows x ≤ l) w
       ap (λ v. v * 2 ^ (l - depth_at rows x + depth_at rows q))
       (get_or-set_other shares (x - p) (x - q) _ 0 (λ e. other (omega arith)))
 
-  pub brought-given : (shares : List ℕ) (y own : ℕ) (o : Option ℕ) (has : ℕ → ℕ) → y ≤ x → x < length shares → IsLower rows y o →
+  brought-given : (shares : List ℕ) (y own : ℕ) (o : Option ℕ) (has : ℕ → ℕ) → y ≤ x → x < length shares → IsLower rows y o →
       brought (kept_share l rows x (given rows x shares y own o)) y has
       ≡ brought (kept_share l rows x shares) y has + own * 2 ^ (l - depth_at rows x + depth_at rows y) / 2 * of_known has o
   brought-given shares y own None has ly long lower = omega arith
@@ -117,18 +117,18 @@ le_halves s a b la lb =
     omega arith
 
 module _ (l : ℕ) (rows : List Row) (f : IsFrozen l MOST_ANIMALS rows) where
-  pub lower-sire : (y : ℕ) → y < length rows → IsLower rows y (sire_place rows y)
+  lower-sire : (y : ℕ) → y < length rows → IsLower rows y (sire_place rows y)
   lower-sire y ly p e =
       let low : p < y = (frozen-placed l MOST_ANIMALS rows f).below y p ly (inl e) in
       (low, parent-less_deep l MOST_ANIMALS rows f y p ly (omega arith) (inl e))
 
-  pub lower-dam : (y : ℕ) → y < length rows → IsLower rows y (dam_place rows y)
+  lower-dam : (y : ℕ) → y < length rows → IsLower rows y (dam_place rows y)
   lower-dam y ly p e =
       let low : p < y = (frozen-placed l MOST_ANIMALS rows f).below y p ly (inr e) in
       (low, parent-less_deep l MOST_ANIMALS rows f y p ly (omega arith) (inr e))
 
   -- the share that is kept for the youngest pending place is all that x has of it
-  pub kept-is : (x y : ℕ) (shares : List ℕ) → IsTracing l rows x (y + 1) shares →
+  kept-is : (x y : ℕ) (shares : List ℕ) → IsTracing l rows x (y + 1) shares →
       kept_share l rows x shares y ≡ share (placed rows) l (Some x) y
   kept-is x y shares t =
       let lx : x < length rows = t.place in
@@ -137,7 +137,7 @@ module _ (l : ℕ) (rows : List Row) (f : IsFrozen l MOST_ANIMALS rows) where
       (kept_share l rows x shares) (omega arith) t.pending
 
   -- where nothing is kept for it the border goes down
-  pub tracing-lower : (x y : ℕ) (shares : List ℕ) → IsTracing l rows x (y + 1) shares → get_or shares (x - y) 0 ≡ 0 → IsTracing l rows x y shares
+  tracing-lower : (x y : ℕ) (shares : List ℕ) → IsTracing l rows x (y + 1) shares → get_or shares (x - y) 0 ≡ 0 → IsTracing l rows x y shares
   tracing-lower x y shares t none =
       let kept : ℕ → ℕ = kept_share l rows x shares in
       let b : y + 1 ≤ x + 1 = t.border_in in
@@ -188,7 +188,7 @@ module _ (l : ℕ) (rows : List Row) (f : IsFrozen l MOST_ANIMALS rows) where
       omega (arith, same, a, c)
 
   -- and else its share is passed on to its parents
-  pub tracing-next : (x y : ℕ) (shares : List ℕ) → IsTracing l rows x (y + 1) shares → IsTracing l rows x y (passed x y shares)
+  tracing-next : (x y : ℕ) (shares : List ℕ) → IsTracing l rows x (y + 1) shares → IsTracing l rows x y (passed x y shares)
   tracing-next x y shares t =
       let own : ℕ = get_or shares (x - y) 0 in
       let kept : ℕ → ℕ = kept_share l rows x shares in
@@ -263,7 +263,7 @@ module _ (l : ℕ) (rows : List Row) (f : IsFrozen l MOST_ANIMALS rows) where
       }
 
   -- there is room for what the sire gets
-  pub room-sire : (x y : ℕ) (shares : List ℕ) → IsTracing l rows x (y + 1) shares → (p : ℕ) → sire_place rows y ≡ Some p →
+  room-sire : (x y : ℕ) (shares : List ℕ) → IsTracing l rows x (y + 1) shares → (p : ℕ) → sire_place rows y ≡ Some p →
       HasRoom l rows x (emptied x y shares) y (get_or shares (x - y) 0) p
   room-sire x y shares t p e =
       let lx : x < length rows = t.place in
@@ -277,7 +277,7 @@ module _ (l : ℕ) (rows : List Row) (f : IsFrozen l MOST_ANIMALS rows) where
       (omega (arith, same, more, all)) (omega arith) p e
 
   -- and for what the dam gets then
-  pub room-dam : (x y : ℕ) (shares : List ℕ) → IsTracing l rows x (y + 1) shares → (p : ℕ) → dam_place rows y ≡ Some p →
+  room-dam : (x y : ℕ) (shares : List ℕ) → IsTracing l rows x (y + 1) shares → (p : ℕ) → dam_place rows y ≡ Some p →
       HasRoom l rows x (given rows x (emptied x y shares) y (get_or shares (x - y) 0) (sire_place rows y)) y (get_or shares (x - y) 0) p
   room-dam x y shares t p e =
       let lx : x < length rows = t.place in
@@ -330,7 +330,7 @@ module _ (l : ℕ) (rows : List Row) (f : IsFrozen l MOST_ANIMALS rows) where
       }
 
   -- a kept share that isn't 0 is that of an ancestor which isn't deeper
-  pub kept-share_of : (x j own : ℕ) → x < length rows → j < length rows → own * 2 ^ (l - depth_at rows x + depth_at rows j) ≡ share (placed rows) l (Some x) j →
+  kept-share_of : (x j own : ℕ) → x < length rows → j < length rows → own * 2 ^ (l - depth_at rows x + depth_at rows j) ≡ share (placed rows) l (Some x) j →
       0 < own → IsShareOf rows x j own
   kept-share_of x j own lx lj is pos =
       let kin = placed rows in
@@ -360,7 +360,7 @@ module _ (l : ℕ) (rows : List Row) (f : IsFrozen l MOST_ANIMALS rows) where
       }
 
   -- of a place with a share that isn't 0, below which the border goes next
-  pub next-is : (x y b : ℕ) (shares : List ℕ) → IsTracing l rows x (y + 1) shares →
+  next-is : (x y b : ℕ) (shares : List ℕ) → IsTracing l rows x (y + 1) shares →
       y < b → b ≤ x + 1 → ((j : ℕ) → y < j → j < b → share (placed rows) l (Some x) j ≡ 0) → 0 < get_or shares (x - y) 0 →
       IsNext l rows x b y (get_or shares (x - y) 0)
   next-is x y b shares t lb bx between pos =

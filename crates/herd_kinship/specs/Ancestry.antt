@@ -10,13 +10,13 @@ pub record Ancestry (A : Type 0) : Type 0 where
   pub dam : A → Option A
 
 -- p is a known parent of x
-abbrev pub IsParent : {A : Type 0} → Ancestry A → A → A → Type 0
-IsParent kin p x = (kin.sire x ≡ Some p) ⊎ (kin.dam x ≡ Some p)
+abbrev pub IsParentIn : {A : Type 0} → Ancestry A → A → A → Type 0
+IsParentIn kin p x = (kin.sire x ≡ Some p) ⊎ (kin.dam x ≡ Some p)
 
 -- from x to p there is a line of n steps, each to a known parent
 unfoldable pub LineTo : {A : Type 0} → Ancestry A → ℕ → A → A → Type 0
 LineTo kin zero x p = x ≡ p
-LineTo {A} kin (suc n) x p = (q : A) × IsParent kin q x × LineTo kin n q p
+LineTo {A} kin (suc n) x p = (q : A) × IsParentIn kin q x × LineTo kin n q p
 
 -- p is an ancestor of x
 abbrev pub IsAncestor : {A : Type 0} → Ancestry A → A → A → Type 0

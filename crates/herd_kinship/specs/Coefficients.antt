@@ -2,20 +2,24 @@
 use Rattle.std.specs.Prelude.{◌≡◌, ℕ, ◌+◌, ◌*◌, ◌/◌, ◌^◌, ◌<◌, List, length, slice_index, Option, None, Some}
 use Rattle.herd_pedigree.specs.declared.frozen.Row.{Row}
 use Rattle.herd_kinship.specs.Ancestry.{IsAncestor}
-use Rattle.herd_kinship.specs.Table.{coefficient}
-use Rattle.herd_kinship.specs.FrozenAncestry.{ancestry_of, number_at}
+use Rattle.herd_kinship.specs.Table.{coefficient, entry}
+use Rattle.herd_kinship.specs.FrozenAncestry.{ancestry_of, number_of_row}
 use Rattle.herd_kinship.specs.Places.{sire_place, dam_place}
 
 -- there is a numerator for each animal, and it is its coefficient
 pub record AreCoefficients (l : ℕ) (rows : List Row) (numerators : List ℕ) : Type 0 where
   pub each : length numerators ≡ length rows
-  pub right : (place : ℕ) → place < length rows → slice_index numerators place ≡ coefficient (ancestry_of rows) l (number_at rows place)
+  pub right : (place : ℕ) → place < length rows → slice_index numerators place ≡ coefficient (ancestry_of rows) l (number_of_row rows place)
 
 -- there is a numerator for each animal, and at the ancestors of the animal at a place it is their coefficient
 pub record KnowsAncestors (l : ℕ) (rows : List Row) (known : List ℕ) (place : ℕ) : Type 0 where
   pub each : length known ≡ length rows
-  pub right : (p : ℕ) → p < length rows → IsAncestor (ancestry_of rows) (number_at rows p) (number_at rows place) →
-      slice_index known p ≡ coefficient (ancestry_of rows) l (number_at rows p)
+  pub right : (p : ℕ) → p < length rows → IsAncestor (ancestry_of rows) (number_of_row rows p) (number_of_row rows place) →
+      slice_index known p ≡ coefficient (ancestry_of rows) l (number_of_row rows p)
+
+-- the relationship of the animal at a place with itself, which is the whole and its coefficient
+abbrev pub own_relationship : ℕ → List Row → ℕ → ℕ
+own_relationship l rows place = entry (ancestry_of rows) (2 * l) (Some (number_of_row rows place)) (Some (number_of_row rows place))
 
 -- a quarter of a parent's relationship with itself, which is the whole and its coefficient; 0 of an unknown one
 abbrev pub quarter_of : ℕ → List ℕ → Option ℕ → ℕ
@@ -34,4 +38,4 @@ IsReached rows border x = (s d : ℕ) → sire_place rows x ≡ Some s → dam_p
 -- there is a numerator for each animal, and at those that are reached it is their coefficient
 pub record KnowsReached (l : ℕ) (rows : List Row) (border : ℕ) (known : List ℕ) : Type 0 where
   pub each : length known ≡ length rows
-  pub right : (x : ℕ) → x < length rows → IsReached rows border x → slice_index known x ≡ coefficient (ancestry_of rows) l (number_at rows x)
+  pub right : (x : ℕ) → x < length rows → IsReached rows border x → slice_index known x ≡ coefficient (ancestry_of rows) l (number_of_row rows x)

@@ -1,16 +1,17 @@
--- What an animal contributes to the inverse of the table (Henderson 1976). l is the limit of depths.
+-- What an animal contributes to the inverse of the numerator relationship matrix (Henderson 1976). l is the limit of
+-- depths.
 use Rattle.std.specs.Prelude.{◌≡◌, ℕ, ◌*◌, ◌-◌, ◌^◌, ◌++◌, max, min, length, map, replicate, take, List, [], ◌∷◌, Option, None, Some, ℤ, pos, ◌*ℤ◌, int_lt, unsigned_abs}
 use Rattle.herd_pedigree.specs.declared.frozen.Row.{Row}
-use Rattle.herd_kinship.specs.declared.entries.Contributions.{Contributions}
-use Rattle.herd_kinship.specs.declared.entries.Entry.{Entry}
+use Rattle.herd_kinship.specs.declared.contribution.Contributions.{Contributions}
+use Rattle.herd_kinship.specs.declared.contribution.Contribution.{Contribution}
 use Rattle.herd_kinship.specs.declared.fractions.Fraction.{Fraction}
 use Rattle.herd_kinship.specs.Fraction.{halved}
-use Rattle.herd_kinship.specs.FrozenAncestry.{ancestry_of, number_at}
+use Rattle.herd_kinship.specs.FrozenAncestry.{ancestry_of, number_of_row}
 use Rattle.herd_kinship.specs.InverseRows.{half_row}
 use Rattle.herd_kinship.specs.Places.{sire_place, dam_place}
 use Rattle.herd_kinship.specs.Table.{mendelian}
 
--- quarters of 1 over a Mendelian part of numerator m
+-- quarters of 1 over a Mendelian sampling variance of numerator m
 abbrev pub quarters_of : ℕ → ℕ → ℤ → Fraction
 quarters_of l m z = halved (int_lt z (pos 0)) (unsigned_abs z * 2 ^ (2 * l - 2)) m
 
@@ -21,27 +22,27 @@ pairs_of i (Some s) None = (i, i) ∷ (i, s) ∷ (s, s) ∷ []
 pairs_of i None (Some d) = (i, i) ∷ (i, d) ∷ (d, d) ∷ []
 pairs_of i (Some s) (Some d) = (i, i) ∷ (i, s) ∷ (i, d) ∷ (s, s) ∷ (d, d) ∷ (max s d, min s d) ∷ []
 
--- the contribution of i at p and q: both their halves in its row, times 1 over its Mendelian part
-abbrev pub contribution_at : ℕ → List Row → ℕ → ℕ × ℕ → Entry
+-- the contribution of i at p and q: both their halves in its row, times 1 over its Mendelian sampling variance
+abbrev pub contribution_at : ℕ → List Row → ℕ → ℕ × ℕ → Contribution
 contribution_at l rows i pair = record {
   row = pair.0;
   column = pair.1;
   value =
-      quarters_of l (mendelian (ancestry_of rows) l (number_at rows i))
-      (half_row (ancestry_of rows) (number_at rows i) (number_at rows pair.0) *ℤ half_row (ancestry_of rows) (number_at rows i) (number_at rows pair.1));
+      quarters_of l (mendelian (ancestry_of rows) l (number_of_row rows i))
+      (half_row (ancestry_of rows) (number_of_row rows i) (number_of_row rows pair.0) *ℤ half_row (ancestry_of rows) (number_of_row rows i) (number_of_row rows pair.1));
 }
 
 -- the contributions of i in their order
-unfoldable pub contributions_of : ℕ → List Row → ℕ → List Entry
+unfoldable pub contributions_of : ℕ → List Row → ℕ → List Contribution
 contributions_of l rows i = map (contribution_at l rows i) (pairs_of i (sire_place rows i) (dam_place rows i))
 
--- six entries: those of the list, and then its first one again
-abbrev pub filled : List Entry → List Entry
+-- six contributions: those of the list, and then its first one again
+abbrev pub filled : List Contribution → List Contribution
 filled [] = []
-filled (entry ∷ entries) = take 6 (entry ∷ entries ++ replicate 5 entry)
+filled (first ∷ rest) = take 6 (first ∷ rest ++ replicate 5 first)
 
 -- the contributions of i by their values: at itself, with a parent, and at a pair of parents
-abbrev pub weighted : Fraction → Fraction → Fraction → ℕ → Option ℕ → Option ℕ → List Entry
+abbrev pub weighted : Fraction → Fraction → Fraction → ℕ → Option ℕ → Option ℕ → List Contribution
 weighted own half quarter i None None = record { row = i; column = i; value = own } ∷ []
 weighted own half quarter i (Some s) None =
     record { row = i; column = i; value = own }
@@ -62,8 +63,8 @@ weighted own half quarter i (Some s) (Some d) =
     ∷ record { row = max s d; column = min s d; value = quarter }
     ∷ []
 
--- the contributions list these entries
-pub record Lists (contributions : Contributions) (alpha : Fraction) (entries : List Entry) : Type 0 where
+-- what is contributed: 1 over the Mendelian sampling variance, and these contributions
+pub record Lists (contributions : Contributions) (alpha : Fraction) (list : List Contribution) : Type 0 where
   pub alpha_is : contributions.alpha ≡ alpha
-  pub count_is : contributions.count ≡ length entries
-  pub entries_are : contributions.entries ≡ filled entries
+  pub count_is : contributions.count ≡ length list
+  pub list_is : contributions.list ≡ filled list

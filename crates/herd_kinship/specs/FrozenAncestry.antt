@@ -29,5 +29,5 @@ abbrev pub ancestry_of : List Row → Ancestry (List ℕ)
 ancestry_of rows = book_ancestry (book_of rows)
 
 -- the number of the animal at a place
-abbrev pub number_at : List Row → ℕ → List ℕ
-number_at rows place = slice_index_or (numbers_of rows) place []
+abbrev pub number_of_row : List Row → ℕ → List ℕ
+number_of_row rows place = slice_index_or (numbers_of rows) place []

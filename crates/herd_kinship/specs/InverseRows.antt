@@ -1,4 +1,4 @@
--- The rows by which the inverse of the table is made (Henderson 1976).
+-- The rows by which the inverse of the numerator relationship matrix A is made (Henderson 1976).
 use Rattle.std.specs.Prelude.{ℕ, ◌*◌, ◌||◌, Bool, false, if◌then◌else◌, List, [], ◌∷◌, Option, None, Some, ℤ, pos, negsuc, ◌+ℤ◌, ◌*ℤ◌}
 use Rattle.herd_kinship.specs.Ancestry.{Ancestry}
 use Rattle.herd_kinship.specs.Table.{entry}
@@ -18,7 +18,7 @@ abbrev pub sum_ints : {A : Type 0} → (A → ℤ) → List A → ℤ
 sum_ints f [] = pos 0
 sum_ints f (x ∷ xs) = f x +ℤ sum_ints f xs
 
--- the rows of i and j, multiplied through the table
+-- the rows of i and j, multiplied through A
 unfoldable pub row_product : {A : Type 0} → Ancestry A → ℕ → A → A → ℤ
 row_product kin l i j =
     sum_ints (λ p. sum_ints (λ q. half_row kin i p *ℤ half_row kin j q *ℤ pos (entry kin (2 * l) (Some p) (Some q))) kin.animals) kin.animals

@@ -1,4 +1,4 @@
--- The laws of the table, for two animals of a frozen book; l is the limit of depths.
+-- The laws of the numerator relationship matrix A, for two animals of a frozen book; l is the limit of depths.
 use Rattle.std.specs.Prelude.{ℕ, ◌+◌, ◌*◌, ◌^◌, ◌≡◌, ◌<◌, ◌≤◌, if◌then◌else◌, List, Some, pos}
 use Rattle.herd_pedigree.specs.declared.frozen.Row.{Row}
 use Rattle.herd_pedigree.specs.Book.{IsDepthOf}
@@ -14,19 +14,19 @@ KeepsHalves rows x y =
     (g e k : ℕ) → IsDepthOf (book_of rows) x g → IsDepthOf (book_of rows) y e → g + e ≤ k →
     entry (ancestry_of rows) (k + 1) (Some x) (Some y) ≡ 2 * entry (ancestry_of rows) k (Some x) (Some y)
 
--- an entry is below 2 in every unit, a coefficient below 1, and a Mendelian part above 0 and at most 1
+-- an entry is below 2 in every unit, a coefficient below 1, and a Mendelian sampling variance above 0 and at most 1
 pub record IsBounded (l : ℕ) (rows : List Row) (x y : List ℕ) : Type 0 where
   pub entries : (k : ℕ) → entry (ancestry_of rows) k (Some x) (Some y) < 2 ^ (k + 1)
   pub below_one : coefficient (ancestry_of rows) l x < 2 ^ (2 * l)
   pub positive : 1 ≤ mendelian (ancestry_of rows) l x
   pub at_most : mendelian (ancestry_of rows) l x ≤ 2 ^ (2 * l)
 
--- the table is the shares and the Mendelian parts multiplied: A = T D T'
+-- A is the shares and the Mendelian sampling variances multiplied: A = T D T'
 abbrev pub IsDecomposed : ℕ → List Row → List ℕ → List ℕ → Type 0
 IsDecomposed l rows x y =
     shared (ancestry_of rows) l (Some x) (Some y) ≡ 2 ^ (2 * l) * entry (ancestry_of rows) (2 * l) (Some x) (Some y)
 
--- the rows diagonalise the table, so the contributions that they give add up to its inverse
+-- the rows diagonalise A, so the contributions that they give add up to its inverse
 abbrev pub IsDiagonalised : ℕ → List Row → List ℕ → List ℕ → Type 0
 IsDiagonalised l rows i j =
     row_product (ancestry_of rows) l i j ≡ pos (if (ancestry_of rows).same i j then 4 * mendelian (ancestry_of rows) l i else 0)

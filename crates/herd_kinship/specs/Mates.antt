@@ -6,7 +6,7 @@ use Rattle.herd_kinship.specs.Tracing.{IsIdle}
 
 -- there is room for so many animals, nobody is marked, and nobody is traced
 pub record IsReady {A : Type 0} (animals : ℕ) (mates : Mates A) : Type 0 where
-  pub room : animals ≤ 64 * length mates.marked.words.items
-  pub unmarked : (distance : ℕ) → mark mates.marked.words.items distance ≡ 0
-  pub idle : IsIdle animals mates.tracing.shares.items mates.tracing.pending.words.items
+  pub room : animals ≤ 64 * length mates.marked.chunks.items
+  pub unmarked : (distance : ℕ) → mark mates.marked.chunks.items distance ≡ 0
+  pub idle : IsIdle animals mates.tracing.shares.items mates.tracing.pending.chunks.items
   pub each : length mates.column.items ≡ animals

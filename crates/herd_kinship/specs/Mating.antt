@@ -8,7 +8,7 @@ use Rattle.herd_pedigree.specs.Frozen.{IsFrozen, book_of, depth_at}
 use Rattle.herd_pedigree.specs.Lines.{has_line}
 use Rattle.herd_pedigree.specs.ParentFault.{first_that_holds}
 use Rattle.herd_kinship.specs.Columns.{AreRelationships}
-use Rattle.herd_kinship.specs.FrozenAncestry.{number_at}
+use Rattle.herd_kinship.specs.FrozenAncestry.{number_of_row}
 use Rattle.herd_kinship.specs.declared.mating_advice.MatingFault.{MatingFault}
 use Rattle.herd_kinship.specs.declared.mating_advice.MatingFault.TheVariants.{SireMissing, DamMissing, SireNotMale, DamNotFemale, TooDeep, Memory}
 
@@ -31,26 +31,26 @@ unfoldable pub mating_fault : ℕ → Book → List ℕ → List ℕ → Option 
 mating_fault l book sire dam = first_that_holds (mating_faults l book sire dam)
 
 -- the number of a fault; that of Memory is never told
-abbrev pub number_of : MatingFault → ℕ
-number_of SireMissing = 1
-number_of DamMissing = 2
-number_of SireNotMale = 3
-number_of DamNotFemale = 4
-number_of TooDeep = 5
-number_of Memory = 6
+abbrev pub number_of_mating_fault : MatingFault → ℕ
+number_of_mating_fault SireMissing = 1
+number_of_mating_fault DamMissing = 2
+number_of_mating_fault SireNotMale = 3
+number_of_mating_fault DamNotFemale = 4
+number_of_mating_fault TooDeep = 5
+number_of_mating_fault Memory = 6
 
 -- the animals at the two places can be mated, and a calf of them may be in the book
 pub record ArePair (l : ℕ) (rows : List Row) (sire dam : List ℕ) (sire_place dam_place : ℕ) : Type 0 where
   pub book : IsFrozen l MOST_ANIMALS rows
   pub allowed : mating_fault l (book_of rows) sire dam ≡ None
   pub sire_in : sire_place < length rows
-  pub sire_is : number_at rows sire_place ≡ sire
+  pub sire_is : number_of_row rows sire_place ≡ sire
   pub sire_less_deep : depth_at rows sire_place < l
   pub dam_in : dam_place < length rows
-  pub dam_is : number_at rows dam_place ≡ dam
+  pub dam_is : number_of_row rows dam_place ≡ dam
   pub dam_less_deep : depth_at rows dam_place < l
 
 -- they are the relationships of the animal of this number, if it is in the book
 abbrev pub AreRelationshipsOf : ℕ → List Row → List ℕ → List ℕ → Type 0
 AreRelationshipsOf l rows number relationships =
-    (place : ℕ) → place < length rows → number_at rows place ≡ number → AreRelationships l rows place relationships
+    (place : ℕ) → place < length rows → number_of_row rows place ≡ number → AreRelationships l rows place relationships

@@ -10,6 +10,6 @@ share kin zero (Some x) j = if kin.same x j then 1 else 0
 share kin (suc k) (Some x) j =
     if kin.same x j then 2 ^ suc k else share kin k (kin.sire x) j + share kin k (kin.dam x) j
 
--- the shares that x and y have of each animal times its Mendelian part, added up
+-- the shares that x and y have of each animal times its Mendelian sampling variance, added up
 unfoldable pub shared : {A : Type 0} → Ancestry A → ℕ → Option A → Option A → ℕ
 shared kin l x y = sum_by (λ j. share kin l x j * share kin l y j * mendelian kin l j) kin.animals

@@ -1,9 +1,9 @@
--- The table of numerator relationships by the tabular method, and what is read from it: Wright's coefficient
--- of inbreeding (1922) and the Mendelian sampling part (Henderson 1976). l is the limit of depths.
+-- The numerator relationship matrix A by the tabular method, and what is read from it: Wright's coefficient of
+-- inbreeding (1922) and the Mendelian sampling variance (Henderson 1976). l is the limit of depths.
 use Rattle.std.specs.Prelude.{ℕ, zero, suc, ◌+◌, ◌*◌, ◌-◌, ◌^◌, if◌then◌else◌, Option, None, Some}
 use Rattle.herd_kinship.specs.Ancestry.{Ancestry}
 
--- The tabular entry of two animals in unit 2^-k: 0 where one is unknown; of an animal with itself the whole and
+-- The entry of two animals in A, in unit 2^-k: 0 where one is unknown; of an animal with itself the whole and
 -- its parents' entry; else the older one's entries with the parents of the younger one. A step halves the unit
 -- and not the value, so nothing is rounded.
 unfoldable pub entry : {A : Type 0} → Ancestry A → ℕ → Option A → Option A → ℕ
@@ -19,7 +19,8 @@ entry kin (suc k) (Some x) (Some y) =
 unfoldable pub coefficient : {A : Type 0} → Ancestry A → ℕ → A → ℕ
 coefficient kin l x = entry kin (2 * l - 1) (kin.sire x) (kin.dam x)
 
--- the Mendelian part of j in unit 2^-2l: the whole less a quarter of each known parent's entry with itself
+-- the Mendelian sampling variance of j as a part of the additive variance, in unit 2^-2l: the whole less a quarter of
+-- each known parent's entry with itself
 unfoldable pub mendelian : {A : Type 0} → Ancestry A → ℕ → A → ℕ
 mendelian kin l j =
     2 ^ (2 * l) - entry kin (2 * l - 2) (kin.sire j) (kin.sire j) - entry kin (2 * l - 2) (kin.dam j) (kin.dam j)

@@ -64,10 +64,10 @@ pub record IsPendingAt (x border : ℕ) (shares : List ℕ) (distance : ℕ) : T
   pub some : 0 < slice_index shares distance
 
 -- what is pending is marked, and nothing else
-pub record IsMarked (x border : ℕ) (shares words : List ℕ) : Type 0 where
-  pub room : x < 64 * length words
-  pub marked : (p : ℕ) → p < border → 0 < slice_index shares (x - p) → mark words (x - p) ≡ 1
-  pub pending : (distance : ℕ) → mark words distance ≡ 1 → IsPendingAt x border shares distance
+pub record IsMarked (x border : ℕ) (shares chunks : List ℕ) : Type 0 where
+  pub room : x < 64 * length chunks
+  pub marked : (p : ℕ) → p < border → 0 < slice_index shares (x - p) → mark chunks (x - p) ≡ 1
+  pub pending : (distance : ℕ) → mark chunks distance ≡ 1 → IsPendingAt x border shares distance
 
 -- the marks once a parent is given a share
 abbrev pub GivesMark : ℕ → List ℕ → List ℕ → Option ℕ → Type 0
@@ -75,13 +75,13 @@ GivesMark x old new None = new ≡ old
 GivesMark x old new (Some p) = Marks old new (x - p) 1
 
 -- a tracing whose pending ancestors are marked
-pub record IsUnderWay (l : ℕ) (rows : List Row) (x border : ℕ) (shares words : List ℕ) : Type 0 where
+pub record IsUnderWay (l : ℕ) (rows : List Row) (x border : ℕ) (shares chunks : List ℕ) : Type 0 where
   pub tracing : IsTracing l rows x border shares
-  pub marks : IsMarked x border shares words
+  pub marks : IsMarked x border shares chunks
 
 -- there is room to trace so many animals, no share is kept, and nobody is marked
-pub record IsIdle (animals : ℕ) (shares words : List ℕ) : Type 0 where
+pub record IsIdle (animals : ℕ) (shares chunks : List ℕ) : Type 0 where
   pub room : animals ≤ length shares
-  pub marks : animals ≤ 64 * length words
+  pub marks : animals ≤ 64 * length chunks
   pub nothing : (distance : ℕ) → slice_index shares distance ≡ 0
-  pub unmarked : (distance : ℕ) → mark words distance ≡ 0
+  pub unmarked : (distance : ℕ) → mark chunks distance ≡ 0

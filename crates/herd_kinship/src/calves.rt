@@ -60,11 +60,11 @@ impl<A: Allocator> Calves<A> {
         requires calves { AreLinked frozen.now (length frozen.now) self.now.latest.items self.now.earlier.items }
         requires sire { sire < length frozen.now }
         requires last { last + 1 ≡ length frozen.now }
-        requires room { last < 64 * length marked.old.words.items }
-        requires empty { (distance : ℕ) → mark marked.old.words.items distance ≡ 0 }
-        ensures room { last < 64 * length marked.new.words.items }
-        ensures near { (distance : ℕ) → mark marked.new.words.items distance ≡ 1 → distance ≤ last }
-        ensures mates { (calf dam : ℕ) → sire_place frozen.now calf ≡ Some sire → dam_place frozen.now calf ≡ Some dam → mark marked.new.words.items (last - dam) ≡ 1 }
+        requires room { last < 64 * length marked.old.chunks.items }
+        requires empty { (distance : ℕ) → mark marked.old.chunks.items distance ≡ 0 }
+        ensures room { last < 64 * length marked.new.chunks.items }
+        ensures near { (distance : ℕ) → mark marked.new.chunks.items distance ≡ 1 → distance ≤ last }
+        ensures mates { (calf dam : ℕ) → sire_place frozen.now calf ≡ Some sire → dam_place frozen.now calf ≡ Some dam → mark marked.new.chunks.items (last - dam) ≡ 1 }
     {
         prove!(sire < frozen.len());
         let mut link = self.latest[sire as usize];

@@ -10,7 +10,7 @@ use herd_pedigree::Frozen;
 use std::alloc::{AllocError, Allocator};
 use std::marker::Model;
 
-/// The coefficients of inbreeding of a frozen book's animals, by their places.
+/// The coefficients of inbreeding of a frozen book's animals, by their places, each from 0 on and below 1.
 #[derive(Drop)]
 pub struct Coefficients<A: Allocator> {
     numerators: Vec<u128, A>,
@@ -28,7 +28,8 @@ impl<A: Allocator> Model for Coefficients<A> {
 }
 
 impl<A: Allocator> Coefficients<A> {
-    /// Takes over a list of numerators.
+    /// Takes over a list of numerators in units of 2^-120, each below `ONE`. That they are a book's coefficients is for
+    /// the caller to show.
     pub fn from_list(numerators: Vec<u128, A>) -> Coefficients<A>
         requires { All (λ n. n < 2 ^ (2 * DEPTH_LIMIT)) numerators.items }
         ensures { result ≡ numerators.items }
@@ -36,14 +37,14 @@ impl<A: Allocator> Coefficients<A> {
         Coefficients { numerators }
     }
 
-    /// How many there are.
+    /// How many there are: one for each animal.
     pub fn len(&self) -> usize
         ensures { result ≡ length self.now }
     {
         self.numerators.len()
     }
 
-    /// The numerator at a place.
+    /// The coefficient of the animal at a place, in units of 2^-120: from 0 to `ONE` - 1.
     pub fn numerator(&self, place: u32) -> u128
         requires { place < length self.now }
         ensures value { result ≡ slice_index self.now place }
@@ -52,7 +53,7 @@ impl<A: Allocator> Coefficients<A> {
         self.numerators[place as usize]
     }
 
-    /// All numerators.
+    /// All coefficients in age order, in units of 2^-120.
     pub fn list(&self) -> &[u128]
         ensures value { result.now ≡ self.now }
         ensures below_one { All (λ n. n < 2 ^ (2 * DEPTH_LIMIT)) result.now }
@@ -84,10 +85,11 @@ fn write_calves<F: Allocator, C: Allocator, A: Allocator>(
     Ok(())
 }
 
-/// The coefficients of all animals.
+/// The coefficients of inbreeding of all animals, on the calling thread.
 ///
 /// The sires are gone through in age order, each once: half its relationship with a mate is the coefficient of
-/// their calf (Colleau 2002; Sargolzaei, Iwaisaki and Colleau 2005).
+/// their calf (Colleau 2002; Sargolzaei, Iwaisaki and Colleau 2005). An animal with an unknown parent has 0. The only
+/// error is a growth of memory that is refused.
 pub fn coefficients_plain<F: Allocator, A: Allocator + Clone>(
     alloc: A,
     frozen: &Frozen<F>,

@@ -2,11 +2,14 @@ ghost use Rattle.std.specs.Prelude.{◌≡◌, ◌<◌, ◌⊎◌};
 ghost use Rattle.std.specs.Int.{IsPowerOfTwo};
 ghost use Rattle.herd_kinship.specs.Fraction.{halved, IsLowest};
 
-/// A number, as `lowest` gives it: in lowest terms, zero not negative and with the denominator 1.
+/// A number in lowest terms; zero isn't negative and has the denominator 1. Of the two terms one is a power of two.
 #[derive(Clone, Copy, Debug, PartialEq, Eq)]
 pub struct Fraction {
+    /// Whether the number is below 0.
     pub negative: bool,
+    /// What stands above the line, without the sign.
     pub numerator: u128,
+    /// What stands below the line, never 0; 1 for a whole number.
     pub denominator: u128,
 }
 

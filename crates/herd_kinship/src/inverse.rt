@@ -4,18 +4,18 @@ ghost use Rattle.herd_pedigree.specs.declared.TheConstants.{DEPTH_LIMIT};
 ghost use Rattle.herd_kinship.specs.Coefficients.{AreCoefficients};
 ghost use Rattle.herd_kinship.specs.Contributions.{contributions_of, filled, Lists, weighted};
 ghost use Rattle.herd_kinship.specs.Fraction.{halved};
-ghost use Rattle.herd_kinship.specs.FrozenAncestry.{ancestry_of, number_at};
-ghost use Rattle.herd_kinship.specs.Table.{mendelian as mendelian_part};
+ghost use Rattle.herd_kinship.specs.FrozenAncestry.{ancestry_of, number_of_row};
+ghost use Rattle.herd_kinship.specs.Table.{mendelian as mendelian_variance};
 
 use crate::ONE;
 use crate::coefficients::Coefficients;
-use crate::entries::{Contributions, Entry};
+use crate::contribution::{Contribution, Contributions};
 use crate::fractions::{Fraction, lowest};
 use crate::tracing::mendelian;
 use herd_pedigree::Frozen;
 use std::alloc::Allocator;
 
-/// The values that an animal contributes, by its Mendelian part.
+/// The values that an animal contributes, by its Mendelian sampling variance.
 #[derive(Clone, Copy)]
 struct Weights {
     alpha: Fraction,
@@ -24,43 +24,43 @@ struct Weights {
 }
 
 impl Weights {
-    fn of(part: u128) -> Weights
-        requires { 0 < part }
-        ensures alpha { result.alpha ≡ halved false (2 ^ (2 * DEPTH_LIMIT)) part }
-        ensures minus_half { result.minus_half ≡ halved true (2 ^ (2 * DEPTH_LIMIT - 1)) part }
-        ensures quarter { result.quarter ≡ halved false (2 ^ (2 * DEPTH_LIMIT - 2)) part }
+    fn of(variance: u128) -> Weights
+        requires { 0 < variance }
+        ensures alpha { result.alpha ≡ halved false (2 ^ (2 * DEPTH_LIMIT)) variance }
+        ensures minus_half { result.minus_half ≡ halved true (2 ^ (2 * DEPTH_LIMIT - 1)) variance }
+        ensures quarter { result.quarter ≡ halved false (2 ^ (2 * DEPTH_LIMIT - 2)) variance }
     {
         Weights {
-            alpha: lowest(false, ONE, part),
-            minus_half: lowest(true, ONE / 2, part),
-            quarter: lowest(false, ONE / 4, part),
+            alpha: lowest(false, ONE, variance),
+            minus_half: lowest(true, ONE / 2, variance),
+            quarter: lowest(false, ONE / 4, variance),
         }
     }
 
-    fn own(self, place: u32) -> Entry
+    fn own(self, place: u32) -> Contribution
         ensures { result ≡ record { row = place; column = place; value = self.alpha } }
     {
-        Entry {
+        Contribution {
             row: place,
             column: place,
             value: self.alpha,
         }
     }
 
-    fn with_parent(self, place: u32, parent: u32) -> Entry
+    fn with_parent(self, place: u32, parent: u32) -> Contribution
         ensures { result ≡ record { row = place; column = parent; value = self.minus_half } }
     {
-        Entry {
+        Contribution {
             row: place,
             column: parent,
             value: self.minus_half,
         }
     }
 
-    fn of_parents(self, first: u32, second: u32) -> Entry
+    fn of_parents(self, first: u32, second: u32) -> Contribution
         ensures { result ≡ record { row = max first second; column = min first second; value = self.quarter } }
     {
-        Entry {
+        Contribution {
             row: first.max(second),
             column: first.min(second),
             value: self.quarter,
@@ -73,7 +73,7 @@ impl Weights {
         Contributions {
             alpha: self.alpha,
             count: 1,
-            entries: [self.own(place); 6],
+            list: [self.own(place); 6],
         }
     }
 
@@ -86,7 +86,7 @@ impl Weights {
         Contributions {
             alpha: self.alpha,
             count: 3,
-            entries: [own, between, within, own, own, own],
+            list: [own, between, within, own, own, own],
         }
     }
 
@@ -96,7 +96,7 @@ impl Weights {
         Contributions {
             alpha: self.alpha,
             count: 6,
-            entries: [
+            list: [
                 self.own(place),
                 self.with_parent(place, sire),
                 self.with_parent(place, dam),
@@ -108,7 +108,11 @@ impl Weights {
     }
 }
 
-/// What the animal at a place contributes to the inverse of the table.
+/// What the animal at a place contributes to the inverse of the numerator relationship matrix, by Henderson's rules
+/// with inbreeding (Henderson 1976): with the Mendelian sampling variance d, 1/d at itself, -1/(2d) with each known
+/// parent, and 1/(4d) at each known parent and between the two.
+///
+/// It takes no memory and traces nobody.
 pub fn contributions<F: Allocator, C: Allocator>(
     frozen: &Frozen<F>,
     coefficients: &Coefficients<C>,
@@ -116,10 +120,10 @@ pub fn contributions<F: Allocator, C: Allocator>(
 ) -> Contributions
     requires place { place < length frozen.now }
     requires coefficients { AreCoefficients DEPTH_LIMIT frozen.now coefficients.now }
-    ensures alpha { result.alpha ≡ halved false (2 ^ (2 * DEPTH_LIMIT)) (mendelian_part (ancestry_of frozen.now) DEPTH_LIMIT (number_at frozen.now place)) }
+    ensures alpha { result.alpha ≡ halved false (2 ^ (2 * DEPTH_LIMIT)) (mendelian_variance (ancestry_of frozen.now) DEPTH_LIMIT (number_of_row frozen.now place)) }
     ensures count { result.count ≡ length (contributions_of DEPTH_LIMIT frozen.now place) }
-    ensures entries { result.entries ≡ filled (contributions_of DEPTH_LIMIT frozen.now place) }
-    ensures lowest { All (λ entry. IsGcd entry.value.numerator entry.value.denominator 1) result.entries }
+    ensures list { result.list ≡ filled (contributions_of DEPTH_LIMIT frozen.now place) }
+    ensures lowest { All (λ one. IsGcd one.value.numerator one.value.denominator 1) result.list }
 {
     frozen.len();
     let row = frozen.row(place);

@@ -1,51 +1,54 @@
-//! The laws of the table of relationships, each promised for two animals of a frozen book. The calls do nothing.
+//! The laws of the numerator relationship matrix A, each promised for the animals at two places of a frozen book. The
+//! calls do nothing: who calls one has its `ensures` as a fact.
 
 ghost use Rattle.std.specs.Prelude.{◌<◌, length};
 ghost use Rattle.herd_pedigree.specs.declared.TheConstants.{DEPTH_LIMIT};
 ghost use Rattle.herd_kinship.specs.Columns.{IsColumn};
-ghost use Rattle.herd_kinship.specs.FrozenAncestry.{number_at};
+ghost use Rattle.herd_kinship.specs.FrozenAncestry.{number_of_row};
 ghost use Rattle.herd_kinship.specs.Laws.{KeepsHalves, IsBounded, IsDecomposed, IsDiagonalised};
 
 use herd_pedigree::Frozen;
 use std::alloc::Allocator;
 
-/// Nothing is lost in halves: once the unit is as small as two depths ask, halving it doubles an entry.
+/// Nothing is lost in halves: from unit 2^-k on, where k is the sum of the two depths, half the unit doubles the entry.
 pub fn unit<A: Allocator>(frozen: &Frozen<A>, x: u32, y: u32)
     requires first { x < length frozen.now }
     requires second { y < length frozen.now }
-    ensures { KeepsHalves frozen.now (number_at frozen.now x) (number_at frozen.now y) }
+    ensures { KeepsHalves frozen.now (number_of_row frozen.now x) (number_of_row frozen.now y) }
 {
     prove!(x < frozen.len());
 }
 
-/// Entries are below 2, coefficients below 1, and Mendelian parts above 0 and at most 1.
+/// Entries are below 2, coefficients below 1, and Mendelian sampling variances above 0 and at most 1.
 pub fn bound<A: Allocator>(frozen: &Frozen<A>, x: u32, y: u32)
     requires first { x < length frozen.now }
     requires second { y < length frozen.now }
-    ensures { IsBounded DEPTH_LIMIT frozen.now (number_at frozen.now x) (number_at frozen.now y) }
+    ensures { IsBounded DEPTH_LIMIT frozen.now (number_of_row frozen.now x) (number_of_row frozen.now y) }
 {
     prove!(x < frozen.len());
 }
 
-/// The table is the shares and the Mendelian parts multiplied.
+/// A = T D T': the matrix is the shares and the Mendelian sampling variances multiplied (Henderson 1976).
 pub fn decomposition<A: Allocator>(frozen: &Frozen<A>, x: u32, y: u32)
     requires first { x < length frozen.now }
     requires second { y < length frozen.now }
-    ensures { IsDecomposed DEPTH_LIMIT frozen.now (number_at frozen.now x) (number_at frozen.now y) }
+    ensures { IsDecomposed DEPTH_LIMIT frozen.now (number_of_row frozen.now x) (number_of_row frozen.now y) }
 {
     prove!(x < frozen.len());
 }
 
-/// The rows by which the inverse is made diagonalise the table.
+/// The rows by which the inverse is made diagonalise A, so that the contributions add up to its inverse (Henderson
+/// 1976).
 pub fn inverse_rows<A: Allocator>(frozen: &Frozen<A>, x: u32, y: u32)
     requires first { x < length frozen.now }
     requires second { y < length frozen.now }
-    ensures { IsDiagonalised DEPTH_LIMIT frozen.now (number_at frozen.now x) (number_at frozen.now y) }
+    ensures { IsDiagonalised DEPTH_LIMIT frozen.now (number_of_row frozen.now x) (number_of_row frozen.now y) }
 {
     prove!(x < frozen.len());
 }
 
-/// The relationships of an animal with all others are passed on from parents to offspring.
+/// The relationships of an animal s with all others are passed on from parents to offspring: with j by half of those
+/// with j's parents, and what s has of j's Mendelian sampling variance (Colleau 2002).
 pub fn column<A: Allocator>(frozen: &Frozen<A>, s: u32, j: u32)
     requires first { s < length frozen.now }
     requires second { j < length frozen.now }

@@ -1,10 +1,36 @@
-//! Relationships of a frozen book's animals: the laws of their table, tracing, mating and contributions.
+//! Relationships and coefficients of inbreeding of a frozen book's animals, exact.
+//!
+//! The relationship of two animals is their entry in the numerator relationship matrix A, by the tabular method; the
+//! coefficient of inbreeding of an animal is half the relationship of its parents (Wright 1922). All are whole numbers
+//! of units of 2^-120, so that `ONE` is 1: a line of parents has at most 60 steps, the entry of two animals goes back
+//! over at most 120, and each halves. So nothing is rounded, which `laws::unit` proves.
+//!
+//! Two ways lead to the coefficients, and give the same numbers:
+//!
+//! - **Sire by sire** (`coefficients_plain`; Colleau 2002; Sargolzaei, Iwaisaki and Colleau 2005). For each sire, in
+//!   age order, its mates and their ancestors are collected, what it has of their Mendelian sampling variances is
+//!   traced, and its relationships are passed on from parents to offspring. Half of that with a mate is the
+//!   coefficient of their calf. It is the faster way on one thread.
+//! - **Animal by animal** (`trace`, then `inbred`; Meuwissen and Luo 1992). An animal's ancestors are met from the
+//!   youngest to the oldest; its relationship with itself is the sum of its squared shares in them times their
+//!   Mendelian sampling variances. This needs no more than its ancestors' coefficients, so threads can share it.
+//!
+//! | | definition (`specs/`) | code (`src/`) | proof (`proofs/`) |
+//! |---|---|---|---|
+//! | A, coefficients, Mendelian sampling variances | `Table` | | `Table`, `Depth`, `Bounds` |
+//! | shares, A = T D T', the laws | `Shares`, `Laws` | `laws` | `Shares`, `Exact`, `Decompose`, `LawFacts` |
+//! | a frozen book as an ancestry, by numbers and places | `FrozenAncestry`, `Places` | | `BookFacts`, `FrozenFacts`, `Renamed` |
+//! | sire by sire | `Columns`, `CalfLinks`, `Mates` | `coefficients`, `mates`, `columns`, `calves` | `BySires`, `PassedOn`, `Collecting`, `CalfFacts` |
+//! | animal by animal | `Tracing`, `Pending` | `tracing`, `pending` | `TermSums`, `TracingFacts`, `UnderWayFacts` |
+//! | one animal's relationships, mating advice | `Columns`, `Mating` | `relationships`, `mating_advice` | `RelationshipFacts`, `MatingFacts` |
+//! | the inverse of A | `InverseRows`, `Contributions` | `inverse`, `contribution` | `RowProducts`, `ContributionFacts` |
+//! | fractions and percentages | `Fraction` | `numerators`, `fractions` | `FractionFacts` |
 #![tactic(auto)]
 
 mod calves;
 mod coefficients;
 mod columns;
-mod entries;
+mod contribution;
 mod fractions;
 mod inverse;
 pub mod laws;
@@ -16,7 +42,7 @@ mod relationships;
 mod tracing;
 
 pub use coefficients::{Coefficients, coefficients_plain};
-pub use entries::{Contributions, Entry};
+pub use contribution::{Contribution, Contributions};
 pub use fractions::Fraction;
 use herd_pedigree::DEPTH_LIMIT;
 pub use inverse::contributions;
@@ -25,5 +51,5 @@ pub use numerators::{fraction, hundredths};
 pub use relationships::Relationships;
 pub use tracing::{inbred, mendelian, trace};
 
-/// The whole, in the unit of all numerators.
+/// The number 1 in the unit of all numerators, which is 2^-120.
 pub const ONE: u128 = 1 << (2 * DEPTH_LIMIT);

@@ -3,8 +3,8 @@ ghost use Rattle.herd_animal.specs.Sex.{is_male as is_male_number};
 ghost use Rattle.herd_pedigree.specs.declared.TheConstants.{DEPTH_LIMIT};
 ghost use Rattle.herd_pedigree.specs.Frozen.{book_of};
 ghost use Rattle.herd_kinship.specs.Coefficients.{AreCoefficients};
-ghost use Rattle.herd_kinship.specs.FrozenAncestry.{ancestry_of, number_at};
-ghost use Rattle.herd_kinship.specs.Mating.{ArePair, AreRelationshipsOf, mating_fault, number_of};
+ghost use Rattle.herd_kinship.specs.FrozenAncestry.{ancestry_of, number_of_row};
+ghost use Rattle.herd_kinship.specs.Mating.{ArePair, AreRelationshipsOf, mating_fault, number_of_mating_fault};
 ghost use Rattle.herd_kinship.specs.Table.{entry};
 
 use crate::coefficients::Coefficients;
@@ -14,7 +14,8 @@ use herd_pedigree::{DEPTH_LIMIT, Frozen};
 use std::alloc::{AllocError, Allocator};
 use thiserror::Error;
 
-/// Why a mating gets no coefficient. The first that holds, in the order of the variants, is told.
+/// Why a mating gets no coefficient. The first that holds, in the order of the variants, is told: so `Memory` only of
+/// a mating that is allowed.
 #[derive(Clone, Copy, Debug, PartialEq, Eq, Error)]
 pub enum MatingFault {
     #[error("the sire isn't in the book")]
@@ -32,9 +33,9 @@ pub enum MatingFault {
 }
 
 impl MatingFault {
-    /// Its number in the order of the variants, from 1 on. Advice tells all but that of `Memory`.
+    /// Its number in the order of the variants, from 1 on. Advice prints all but that of `Memory`.
     pub fn number(self) -> u8
-        ensures { result ≡ number_of self }
+        ensures { result ≡ number_of_mating_fault self }
     {
         match self {
             MatingFault::SireMissing => 1,
@@ -98,9 +99,10 @@ fn pair_of<F: Allocator>(
     })
 }
 
-/// The coefficient that a calf of the two would have.
+/// The coefficient that a calf of the two would have, in units of 2^-120: half their relationship, below `ONE`.
 ///
-/// Ages and exits aren't asked.
+/// It traces the dam's ancestors once. Ages and exits aren't asked; a calf is too deep where one of the two has a line
+/// of 60 steps. `Memory` is told where a growth of memory is refused.
 pub fn mating<F: Allocator, C: Allocator, A: Allocator + Clone>(
     alloc: A,
     frozen: &Frozen<F>,
@@ -120,9 +122,10 @@ pub fn mating<F: Allocator, C: Allocator, A: Allocator + Clone>(
     }
 }
 
-/// The coefficient that a calf of the two would have, by the relationships of the dam.
+/// The coefficient that a calf of the two would have, in units of 2^-120, by the dam's relationships
+/// (`Relationships::of_number`).
 ///
-/// It is `mating` for many sires of one dam: it traces nobody and takes no memory.
+/// It is `mating` for many sires of one dam: it traces nobody and takes no memory, so that `Memory` isn't told.
 pub fn mating_by<F: Allocator, A: Allocator>(
     frozen: &Frozen<F>,
     relationships: &Relationships<A>,

@@ -5,7 +5,7 @@ ghost use Rattle.herd_kinship.specs.Fraction.{halved, hundredths_of, IsLowest};
 use crate::ONE;
 use crate::fractions::{Fraction, lowest};
 
-/// A coefficient as a fraction.
+/// A coefficient in units of 2^-120 as a fraction in lowest terms.
 pub fn fraction(numerator: u128) -> Fraction
     requires { numerator < 2 ^ (2 * DEPTH_LIMIT) }
     ensures value { result ≡ halved false numerator (2 ^ (2 * DEPTH_LIMIT)) }
@@ -14,7 +14,7 @@ pub fn fraction(numerator: u128) -> Fraction
     lowest(false, numerator, ONE)
 }
 
-/// A coefficient in hundredths of a percent, rounded.
+/// A coefficient in units of 2^-120 as hundredths of a percent, from 0 to 10000: rounded to the nearest, halves up.
 pub fn hundredths(numerator: u128) -> u32
     requires { numerator < 2 ^ (2 * DEPTH_LIMIT) }
     ensures value { result ≡ hundredths_of DEPTH_LIMIT numerator }

@@ -13,7 +13,8 @@ use herd_pedigree::Frozen;
 use std::alloc::{AllocError, Allocator};
 use std::marker::Model;
 
-/// The relationships of one animal with all animals of a frozen book, by their places.
+/// The relationships of one animal with all animals of a frozen book, by their places: a column of the numerator
+/// relationship matrix.
 #[derive(Drop)]
 pub struct Relationships<A: Allocator> {
     column: Vec<u128, A>,
@@ -28,7 +29,8 @@ impl<A: Allocator> Model for Relationships<A> {
 }
 
 impl<A: Allocator + Clone> Relationships<A> {
-    /// The relationships of the animal at a place, by one tracing and one pass over the book.
+    /// The relationships of the animal at a place, by one tracing and one pass over the book from the oldest on
+    /// (Colleau 2002). The only error is a growth of memory that is refused.
     pub fn of<F: Allocator, C: Allocator>(
         alloc: A,
         frozen: &Frozen<F>,
@@ -51,7 +53,7 @@ impl<A: Allocator + Clone> Relationships<A> {
         Ok(Relationships { column })
     }
 
-    /// The relationships of an animal, and none where it isn't in the book.
+    /// The relationships of an animal, as by `of`, and an empty column where it isn't in the book.
     pub fn of_number<F: Allocator, C: Allocator>(
         alloc: A,
         frozen: &Frozen<F>,
@@ -73,7 +75,8 @@ impl<A: Allocator + Clone> Relationships<A> {
 }
 
 impl<A: Allocator> Relationships<A> {
-    /// The relationship with the animal at a place.
+    /// The relationship with the animal at a place, in units of 2^-120: 0 of unrelated animals, `ONE` and its
+    /// coefficient with itself, always below 2 * `ONE`. It is twice the coefficient that a calf of the two would have.
     pub fn with(&self, place: u32) -> u128
         requires { place < length self.now }
         ensures { result ≡ slice_index self.now place }
@@ -92,7 +95,7 @@ fn relate_all<F: Allocator, A: Allocator>(
 )
     requires place { place < length frozen.now }
     requires known { AreCoefficients DEPTH_LIMIT frozen.now known.now }
-    requires idle { IsIdle (length frozen.now) tracing.old.shares.items tracing.old.pending.words.items }
+    requires idle { IsIdle (length frozen.now) tracing.old.shares.items tracing.old.pending.chunks.items }
     requires long { length column.old ≡ length frozen.now }
     requires zero { (j : ℕ) → j < length frozen.now → slice_index column.old j ≡ 0 }
     ensures long { length column.new ≡ length column.old }
@@ -102,7 +105,7 @@ fn relate_all<F: Allocator, A: Allocator>(
     pass_on(frozen, place, column);
 }
 
-/// Makes the relationships of the animal at a place with all, from what it has of their Mendelian parts.
+/// Makes the relationships of the animal at a place with all, from what it has of their Mendelian sampling variances.
 fn pass_on<F: Allocator>(frozen: &Frozen<F>, place: u32, column: &mut [u128])
     requires place { place < length frozen.now }
     requires long { length column.old ≡ length frozen.now }

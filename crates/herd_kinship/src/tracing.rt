@@ -1,11 +1,11 @@
 ghost use Rattle.std.specs.Prelude.{◌≡◌, ℕ, ◌+◌, ◌*◌, ◌-◌, ◌/◌, ◌^◌, ◌<◌, ◌≤◌, ◌&&◌, is_some, length, min, slice_get, slice_index, IfOk, IfSome, IfNone, Some};
 ghost use Rattle.std.specs.Option.{ForSome};
 ghost use Rattle.herd_pedigree.specs.declared.TheConstants.{DEPTH_LIMIT};
-ghost use Rattle.herd_kinship.specs.Coefficients.{IsKnownParent, KnowsAncestors, quarter_of};
-ghost use Rattle.herd_kinship.specs.FrozenAncestry.{ancestry_of, number_at};
+ghost use Rattle.herd_kinship.specs.Coefficients.{IsKnownParent, KnowsAncestors, own_relationship, quarter_of};
+ghost use Rattle.herd_kinship.specs.FrozenAncestry.{ancestry_of, number_of_row};
 ghost use Rattle.herd_kinship.specs.Places.{AreParentsAt, placed};
 ghost use Rattle.herd_kinship.specs.Shares.{share};
-ghost use Rattle.herd_kinship.specs.Table.{entry, mendelian as mendelian_part};
+ghost use Rattle.herd_kinship.specs.Table.{mendelian as mendelian_variance};
 ghost use Rattle.herd_kinship.specs.Tracing.{given, GivesMark, HasRoom, IsIdle, IsNext, IsUnderWay};
 
 use crate::ONE;
@@ -13,7 +13,7 @@ use crate::pending::Pending;
 use herd_pedigree::{Frozen, Parents, Row};
 use std::alloc::{AllocError, Allocator};
 
-/// An ancestor that is met, and the share that the traced animal has of it.
+/// An ancestor that is met, and the share that the traced animal has of it, in the unit of their depths' difference.
 #[derive(Clone, Copy)]
 pub struct Met {
     pub place: u32,
@@ -34,7 +34,7 @@ pub struct Tracing<A: Allocator> {
 impl<A: Allocator + Clone> Tracing<A> {
     /// Of no animal yet, with room for so many.
     pub fn with_room(alloc: A, animals: u32) -> Result<Tracing<A>, AllocError>
-        ensures { IfOk result (λ tracing. IsIdle animals tracing.shares.items tracing.pending.words.items) }
+        ensures { IfOk result (λ tracing. IsIdle animals tracing.shares.items tracing.pending.chunks.items) }
     {
         let shares = vec![in alloc.clone()?; 0u64; animals as usize]?;
         let pending = Pending::with_room(alloc, animals)?;
@@ -51,12 +51,12 @@ impl<A: Allocator> Tracing<A> {
     /// Starts at the animal at a place: nobody is met yet.
     pub fn start<F: Allocator>(&mut self, frozen: &Frozen<F>, place: u32)
         requires place { place < length frozen.now }
-        requires idle { IsIdle (place + 1) self.old.shares.items self.old.pending.words.items }
+        requires idle { IsIdle (place + 1) self.old.shares.items self.old.pending.chunks.items }
         ensures place { self.new.place ≡ place }
         ensures border { self.new.border ≡ place + 1 }
         ensures shares { length self.new.shares.items ≡ length self.old.shares.items }
-        ensures marks { length self.new.pending.words.items ≡ length self.old.pending.words.items }
-        ensures tracing { IsUnderWay DEPTH_LIMIT frozen.now place (place + 1) self.new.shares.items self.new.pending.words.items }
+        ensures marks { length self.new.pending.chunks.items ≡ length self.old.pending.chunks.items }
+        ensures tracing { IsUnderWay DEPTH_LIMIT frozen.now place (place + 1) self.new.shares.items self.new.pending.chunks.items }
     {
         prove!(place < frozen.len());
         self.place = place;
@@ -67,11 +67,11 @@ impl<A: Allocator> Tracing<A> {
 
     /// Meets the next ancestor, and passes its share on to its parents.
     pub fn meet_next<F: Allocator>(&mut self, frozen: &Frozen<F>) -> Option<Met>
-        requires { IsUnderWay DEPTH_LIMIT frozen.now self.old.place self.old.border self.old.shares.items self.old.pending.words.items }
+        requires { IsUnderWay DEPTH_LIMIT frozen.now self.old.place self.old.border self.old.shares.items self.old.pending.chunks.items }
         ensures same { self.new.place ≡ self.old.place }
         ensures shares { length self.new.shares.items ≡ length self.old.shares.items }
-        ensures marks { length self.new.pending.words.items ≡ length self.old.pending.words.items }
-        ensures tracing { IsUnderWay DEPTH_LIMIT frozen.now self.new.place self.new.border self.new.shares.items self.new.pending.words.items }
+        ensures marks { length self.new.pending.chunks.items ≡ length self.old.pending.chunks.items }
+        ensures tracing { IsUnderWay DEPTH_LIMIT frozen.now self.new.place self.new.border self.new.shares.items self.new.pending.chunks.items }
         ensures next { IfSome result (λ met. IsNext DEPTH_LIMIT frozen.now self.old.place self.old.border met.place met.share) }
         ensures border { IfSome result (λ met. self.new.border ≡ met.place) }
         ensures ended { IfNone result (self.new.border ≡ 0) }
@@ -103,11 +103,11 @@ impl<A: Allocator> Tracing<A> {
     )
         requires row { AreParentsAt frozen.now met.place parents }
         requires room { ForSome parent (HasRoom DEPTH_LIMIT frozen.now self.old.place self.old.shares.items met.place met.share) }
-        requires marks { self.old.place < 64 * length self.old.pending.words.items }
+        requires marks { self.old.place < 64 * length self.old.pending.chunks.items }
         ensures place { self.new.place ≡ self.old.place }
         ensures border { self.new.border ≡ self.old.border }
         ensures shares { self.new.shares.items ≡ given frozen.now self.old.place self.old.shares.items met.place met.share parent }
-        ensures marks { GivesMark self.old.place self.old.pending.words.items self.new.pending.words.items parent }
+        ensures marks { GivesMark self.old.place self.old.pending.chunks.items self.new.pending.chunks.items parent }
     {
         if let Some(place) = parent {
             let steps = parents.depth - parents_at(frozen, place).depth;
@@ -138,25 +138,29 @@ fn quarter(known: &[u128], parent: Option<u32>) -> u128
     }
 }
 
-/// The Mendelian part of the animal at a place, by the coefficients of its parents.
+/// The Mendelian sampling variance of the animal at a place, by the coefficients of its parents.
+///
+/// It is a whole number of units of 2^-120 of the additive variance: 1 less a quarter of each known parent's
+/// relationship with itself (Henderson 1976; Meuwissen and Luo 1992). So it is `ONE` of a founder, and never 0. Only
+/// the numerators of the animal's ancestors need be right in `known`.
 pub fn mendelian<F: Allocator>(frozen: &Frozen<F>, known: &[u128], place: u32) -> u128
     requires place { place < length frozen.now }
     requires known { KnowsAncestors DEPTH_LIMIT frozen.now known.now place }
-    ensures { result ≡ mendelian_part (ancestry_of frozen.now) DEPTH_LIMIT (number_at frozen.now place) }
+    ensures { result ≡ mendelian_variance (ancestry_of frozen.now) DEPTH_LIMIT (number_of_row frozen.now place) }
 {
     prove!(place < frozen.len());
     let parents = parents_at(frozen, place);
     ONE - quarter(known, parents.sire) - quarter(known, parents.dam)
 }
 
-/// What an ancestor adds to a relationship: its Mendelian part times the two shares, which are in units that
-/// leave so many steps to take.
-pub fn term(part: u128, steps: u8, share: u64, other: u64) -> u128
+/// What an ancestor adds to a relationship: its Mendelian sampling variance times the two shares, which are in units
+/// that leave so many steps to take.
+pub fn term(variance: u128, steps: u8, share: u64, other: u64) -> u128
     requires shift { steps < 128 }
-    requires fits { part / 2 ^ steps * (share * other) < 2 ^ 128 }
-    ensures { result ≡ part / 2 ^ steps * (share * other) }
+    requires fits { variance / 2 ^ steps * (share * other) < 2 ^ 128 }
+    ensures { result ≡ variance / 2 ^ steps * (share * other) }
 {
-    (part >> steps) * (u128::from(share) * u128::from(other))
+    (variance >> steps) * (u128::from(share) * u128::from(other))
 }
 
 fn has_both_parents(row: &Row) -> bool
@@ -165,7 +169,7 @@ fn has_both_parents(row: &Row) -> bool
     row.sire.is_some() && row.dam.is_some()
 }
 
-/// The squared shares in its ancestors times their Mendelian parts, added up.
+/// The squared shares in its ancestors times their Mendelian sampling variances, added up.
 fn trace_ancestors<F: Allocator, A: Allocator + Clone>(
     alloc: A,
     frozen: &Frozen<F>,
@@ -174,7 +178,7 @@ fn trace_ancestors<F: Allocator, A: Allocator + Clone>(
 ) -> Result<u128, AllocError>
     requires place { place < length frozen.now }
     requires known { KnowsAncestors DEPTH_LIMIT frozen.now known.now place }
-    ensures { IfOk result (λ value. value ≡ entry (ancestry_of frozen.now) (2 * DEPTH_LIMIT) (Some (number_at frozen.now place)) (Some (number_at frozen.now place))) }
+    ensures { IfOk result (λ value. value ≡ own_relationship DEPTH_LIMIT frozen.now place) }
 {
     prove!(place < frozen.len());
     let depth = parents_at(frozen, place).depth;
@@ -193,9 +197,12 @@ fn trace_ancestors<F: Allocator, A: Allocator + Clone>(
     Ok(sum)
 }
 
-/// The relationship of the animal at a place with itself, by the coefficients of its ancestors.
+/// The relationship of the animal at a place with itself, by the coefficients of its ancestors (Meuwissen and Luo
+/// 1992).
 ///
-/// No memory is taken where a parent is unknown.
+/// It is a whole number of units of 2^-120, from `ONE` on and below 2 * `ONE`; `inbred` makes the coefficient of it.
+/// Only the numerators of the animal's ancestors need be right in `known`. The only error is a growth of memory that
+/// is refused; none is taken where a parent is unknown.
 pub fn trace<F: Allocator, A: Allocator + Clone>(
     alloc: A,
     frozen: &Frozen<F>,
@@ -204,7 +211,7 @@ pub fn trace<F: Allocator, A: Allocator + Clone>(
 ) -> Result<u128, AllocError>
     requires place { place < length frozen.now }
     requires known { KnowsAncestors DEPTH_LIMIT frozen.now known.now place }
-    ensures { IfOk result (λ value. value ≡ entry (ancestry_of frozen.now) (2 * DEPTH_LIMIT) (Some (number_at frozen.now place)) (Some (number_at frozen.now place))) }
+    ensures { IfOk result (λ value. value ≡ own_relationship DEPTH_LIMIT frozen.now place) }
 {
     prove!(place < frozen.len());
     let row = frozen.row(place);
@@ -215,7 +222,9 @@ pub fn trace<F: Allocator, A: Allocator + Clone>(
     }
 }
 
-/// The coefficient of an animal, by its relationship with itself.
+/// The coefficient of an animal in units of 2^-120, by its relationship with itself, as `trace` gives it: less `ONE`.
+///
+/// What isn't a relationship of an animal with itself is held between 0 and `ONE` - 1.
 pub fn inbred(value: u128) -> u128
     ensures value { result ≡ min (value - 2 ^ (2 * DEPTH_LIMIT)) (2 ^ (2 * DEPTH_LIMIT) - 1) }
     ensures below_one { result < 2 ^ (2 * DEPTH_LIMIT) }

@@ -15,7 +15,7 @@ pub record IsPlaceOf (rows : List Row) (depth place : ℕ) : Type 0 where
   pub deep : depth_at rows place ≡ depth
 
 -- a level has places of its depth
-pub level_of-places : (depth : ℕ) (rows : List Row) → All (IsPlaceOf rows depth) (level_of depth rows)
+level_of-places : (depth : ℕ) (rows : List Row) → All (IsPlaceOf rows depth) (level_of depth rows)
 unfolding level_of
 level_of-places depth rows =
     let test = λ (place : ℕ). depth_at rows place == depth in

@@ -1,4 +1,6 @@
-pub mod Known
+-- the places of a level, and what is known of them
 pub mod LevelFacts
+pub mod Known
+-- the rule of the queue, and the list that the blocks are written into
 pub mod Passes
 pub mod Writes

@@ -42,6 +42,7 @@ total-at f [] port v at = absurd (some-ne-none v (sym at))
 total-at f (u ∷ us) zero v at = let e : f u ≡ f v = ap f (same_some u v at) in omega arith
 total-at f (u ∷ us) (suc port) v at = let e = total-at f us port v at in omega arith
 
+-- a spent view has taken nothing
 abbrev SpentIsEmpty : List PassView → Type 0
 SpentIsEmpty views = (port : ℕ) (v : PassView) → get_elem? views port ≡ some v → v.out ≡ 0 → v.taken ≡ []
 
@@ -50,20 +51,19 @@ spent_set views port w mine all j u at none =
     ⊎_elim (λ (x : (j ≡ port) × (w ≡ u)). ap (λ (y : PassView). y.taken) (sym x.1) ∙ mine (ap (λ (y : PassView). y.out) x.1 ∙ none))
     (λ (x : (j ≢ port) × (get_elem? views j ≡ some u)). all j u x.1 none) (at_set views port j w u at)
 
+-- the view that the starter has is the first
+starter_first : (v s : PassView) (items : List ℕ) (others : List PassView) → some s ≡ some v → EachOnce items (s ∷ others) → EachOnce items (v ∷ others)
+starter_first v s items others at rule = subst (λ u. EachOnce items (u ∷ others)) (same_some s v at) rule
+
 pushes_first : (v : PassView) (block : ℕ) → block ≡ v.pushed → Pushes EachOnce 0 v (block ∷ []) (λ w. w ≡ pass_view v.out (v.pushed + 1) v.taken)
 pushes_first v block next items [] rule at = absurd rule
-pushes_first v block next items (s ∷ others) rule at =
-    let e : s ≡ v = same_some s v at in
-    let out : s.out ≡ v.out = ap (λ (y : PassView). y.out) e in
-    let pushed : s.pushed ≡ v.pushed = ap (λ (y : PassView). y.pushed) e in
-    let taken : s.taken ≡ v.taken = ap (λ (y : PassView). y.taken) e in (
+pushes_first v block next items (s ∷ others) before at =
+    let rule = starter_first v s items others at before in (
       pass_view v.out (v.pushed + 1) v.taken,
       (
-        rule.0 ∙ out,
+        rule.0,
         (λ x.
             let b = rule.1 x in
-            let t : times x s.taken ≡ times x v.taken = ap (times x) taken in
-            let p : once_below x s.pushed ≡ once_below x v.pushed = ap (once_below x) pushed in
             let n : times x (block ∷ []) ≡ times x (v.pushed ∷ []) = ap (λ y. times x (y ∷ [])) next in
             omega (arith, times-append x items (block ∷ []), once_below-more x v.pushed)),
         rule.2,
@@ -78,18 +78,13 @@ pushes port v block first next = subst (λ p. Pushes EachOnce p v (block ∷ [])
 -- the starter, or a worker whose pass is out, takes a block
 pub takes : (port : ℕ) (v : PassView) → (port ≡ 0) ⊎ (0 < v.out) → Takes EachOnce port v 1 (λ xs w. w ≡ pass_view v.out v.pushed (v.taken ++ xs))
 takes port v may xs items [] some_task one rule at = absurd rule
-takes zero v may xs items (s ∷ others) some_task one rule at =
-    let e : s ≡ v = same_some s v at in
-    let out : s.out ≡ v.out = ap (λ (y : PassView). y.out) e in
-    let pushed : s.pushed ≡ v.pushed = ap (λ (y : PassView). y.pushed) e in
-    let taken : s.taken ≡ v.taken = ap (λ (y : PassView). y.taken) e in (
+takes zero v may xs items (s ∷ others) some_task one before at =
+    let rule = starter_first v s (xs ++ items) others at before in (
       pass_view v.out v.pushed (v.taken ++ xs),
       (
-        rule.0 ∙ out,
+        rule.0,
         (λ x.
             let b = rule.1 x in
-            let t : times x s.taken ≡ times x v.taken = ap (times x) taken in
-            let p : once_below x s.pushed ≡ once_below x v.pushed = ap (once_below x) pushed in
             omega (arith, times-append x xs items, times-append x v.taken xs)),
         rule.2,
       ),
@@ -112,11 +107,8 @@ takes (suc port) v may xs items (s ∷ others) some_task one rule at =
 
 finds_first : (v : PassView) → Finds EachOnce 0 v (v.out ≡ 0 → (x : ℕ) → times x v.taken ≡ once_below x v.pushed)
 finds_first v [] rule at = absurd rule
-finds_first v (s ∷ others) rule at = λ all_back x.
-    let e : s ≡ v = same_some s v at in
-    let out : s.out ≡ v.out = ap (λ (y : PassView). y.out) e in
-    let t : times x s.taken ≡ times x v.taken = ap (λ (y : PassView). times x y.taken) e in
-    let p : once_below x s.pushed ≡ once_below x v.pushed = ap (λ (y : PassView). once_below x y.pushed) e in
+finds_first v (s ∷ others) before at = λ all_back x.
+    let rule = starter_first v s [] others at before in
     let b = rule.1 x in
     let none = total-none (λ u. times x u.taken) others (λ port u there.
     let o = total-at (λ y. y.out) others port u there in
@@ -131,15 +123,12 @@ finds port v first = subst (λ p. Finds EachOnce p v (v.out ≡ 0 → (x : ℕ) 
 
 forks_first : (v : PassView) → Forks EachOnce 0 v (pass_view (v.out + 1) v.pushed v.taken) (pass_view 1 0 [])
 forks_first v items [] rule at = absurd rule
-forks_first v items (s ∷ others) rule at =
-    let e : s ≡ v = same_some s v at in
-    let out : s.out ≡ v.out = ap (λ (y : PassView). y.out) e in
+forks_first v items (s ∷ others) before at =
+    let rule = starter_first v s items others at before in
     let right = pass_view 1 0 [] in (
       (let r = rule.0 in omega (arith, total-append (λ u. u.out) others (right ∷ []))),
       (λ x.
           let b = rule.1 x in
-          let t : times x s.taken ≡ times x v.taken = ap (λ (y : PassView). times x y.taken) e in
-          let p : once_below x s.pushed ≡ once_below x v.pushed = ap (λ (y : PassView). once_below x y.pushed) e in
           omega (arith, total-append (λ u. times x u.taken) others (right ∷ []))),
       (λ j u there none. ⊎_elim (λ (old : get_elem? others j ≡ some u). rule.2 j u old none)
           (λ (is : right ≡ u). ap (λ (y : PassView). y.taken) (sym is)) (at_snoc others right u j there)),
@@ -152,15 +141,12 @@ forks port v first = subst (λ p. Forks EachOnce p v (pass_view (v.out + 1) v.pu
 merges_first : (v : PassView) (other : ℕ) (w : PassView) → w.out ≡ 1 → Merges EachOnce 0 v other w (pass_view (v.out - 1) v.pushed (v.taken ++ w.taken)) (pass_view 0 0 [])
 merges_first v other w one items [] rule at two there = absurd rule
 merges_first v zero w one items (s ∷ others) rule at two there = absurd (two refl)
-merges_first v (suc other) w one items (s ∷ others) rule at two there =
-    let e : s ≡ v = same_some s v at in
-    let out : s.out ≡ v.out = ap (λ (y : PassView). y.out) e in
+merges_first v (suc other) w one items (s ∷ others) before at two there =
+    let rule = starter_first v s items others at before in
     let spent = pass_view 0 0 [] in (
       (let r = rule.0 in let t = total_set (λ u. u.out) others other w spent there in omega arith),
       (λ x.
           let b = rule.1 x in
-          let t : times x s.taken ≡ times x v.taken = ap (λ (y : PassView). times x y.taken) e in
-          let p : once_below x s.pushed ≡ once_below x v.pushed = ap (λ (y : PassView). once_below x y.pushed) e in
           let m = total_set (λ u. times x u.taken) others other w spent there in
           omega (arith, times-append x v.taken w.taken)),
       spent_set others other spent (λ none. refl) rule.2,

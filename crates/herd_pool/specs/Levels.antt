@@ -4,14 +4,14 @@ use Rattle.std.specs.List.{All}
 use Rattle.std.specs.Int.{div_ceil}
 use Rattle.herd_pedigree.specs.declared.frozen.Row.{Row}
 use Rattle.herd_pedigree.specs.Frozen.{IsFrozen, depth_at, level_of}
-use Rattle.herd_kinship.specs.FrozenAncestry.{ancestry_of, number_at}
+use Rattle.herd_kinship.specs.FrozenAncestry.{ancestry_of, number_of_row}
 use Rattle.herd_kinship.specs.Table.{coefficient}
 use Rattle.herd_pool.specs.Blocks.{once_below, times}
 use Rattle.herd_pool.specs.declared.level.ComputedBlock.{ComputedBlock}
 
 -- the coefficient of the animal at a place
 abbrev pub coefficient_at : ℕ → List Row → ℕ → ℕ
-coefficient_at l rows place = coefficient (ancestry_of rows) l (number_at rows place)
+coefficient_at l rows place = coefficient (ancestry_of rows) l (number_of_row rows place)
 
 -- the places of a block of this length
 abbrev pub block_of : ℕ → ℕ → List ℕ → List ℕ

@@ -1,9 +1,7 @@
 //! What a caller may do where a block begins, and in place of tracing an animal.
 ghost use Rattle.std.specs.Prelude.{◌≡◌, ◌*◌, ◌<◌, length, IfOk, Some};
 ghost use Rattle.herd_pedigree.specs.declared.TheConstants.{DEPTH_LIMIT};
-ghost use Rattle.herd_kinship.specs.Coefficients.{KnowsAncestors};
-ghost use Rattle.herd_kinship.specs.FrozenAncestry.{ancestry_of, number_at};
-ghost use Rattle.herd_kinship.specs.Table.{entry};
+ghost use Rattle.herd_kinship.specs.Coefficients.{KnowsAncestors, own_relationship};
 
 use herd_pedigree::Frozen;
 use std::alloc::{AllocError, Allocator};
@@ -15,10 +13,11 @@ use std::alloc::{AllocError, Allocator};
 /// nor is it that several threads take blocks. Tests try it, on founders with gates that count, and with gates
 /// that wait for one another.
 pub trait Gate: Sync {
-    /// A thread has taken this block of the level, and begins with it.
+    /// A thread has taken this block of the level, both counted from 0, and begins with it.
     fn enter(&self, level: u8, block: u32);
 
-    /// Traces the animal at a place.
+    /// Traces the animal at a place: its relationship with itself in units of 2^-120, as `herd_kinship::trace`. The only
+    /// error is a growth of memory that is refused.
     fn trace<F: Allocator, A: Allocator + Clone>(
         &self,
         alloc: A,
@@ -28,7 +27,7 @@ pub trait Gate: Sync {
     ) -> Result<u128, AllocError>
         requires place { place < length frozen.now }
         requires known { KnowsAncestors DEPTH_LIMIT frozen.now known.now place }
-        ensures { IfOk result (λ value. value ≡ entry (ancestry_of frozen.now) (2 * DEPTH_LIMIT) (Some (number_at frozen.now place)) (Some (number_at frozen.now place))) }
+        ensures { IfOk result (λ value. value ≡ own_relationship DEPTH_LIMIT frozen.now place) }
     {
         herd_kinship::trace(alloc, frozen, known, place)
     }

@@ -10,10 +10,12 @@ use herd_kinship::inbred;
 use herd_pedigree::Frozen;
 use std::alloc::{AllocError, Allocator};
 
-/// The numerators of a block's animals.
+/// The coefficients of a block's animals.
 #[derive(Drop)]
 pub struct ComputedBlock<A: Allocator> {
+    /// The number of the block in its level, counted from 0.
     pub number: u32,
+    /// In units of 2^-120, in the order of the places.
     pub numerators: Vec<u128, A>,
 }
 
@@ -21,8 +23,9 @@ pub struct ComputedBlock<A: Allocator> {
 #[derive_where(Clone, Copy)]
 pub struct Level<'a, F: Allocator> {
     pub frozen: &'a Frozen<F>,
+    /// The steps of the longest line of parents of each of its animals.
     pub depth: u8,
-    /// How many animals a block has. The last may have fewer.
+    /// How many animals a block has, at least 1. The last may have fewer.
     pub block: u32,
 }
 
@@ -37,7 +40,7 @@ impl<'a, F: Allocator> Level<'a, F> {
         places.div_ceil(self.block as usize) as u32
     }
 
-    /// The places of a block.
+    /// The places of a block, ascending; none past the last block.
     pub fn places(&self, number: u32) -> &'a [u32]
         ensures { result.now ≡ block_of self.now.block number (level_of self.now.depth self.now.frozen.now) }
     {
@@ -47,7 +50,7 @@ impl<'a, F: Allocator> Level<'a, F> {
         &rest[..rest.len().min(block)]
     }
 
-    /// Computes a block.
+    /// Computes a block by the numerators of all animals of less depth.
     pub fn compute<A: Allocator + Copy, G: Gate>(
         &self,
         alloc: A,

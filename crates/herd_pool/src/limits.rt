@@ -1,4 +1,4 @@
-/// The most workers that share a book's levels.
+/// The most workers that may be asked for.
 pub const MOST_WORKERS: u32 = 16;
 
 /// How many animals a block has where a caller doesn't say.

@@ -16,8 +16,12 @@ use std::alloc::Allocator;
 use std::sync::Wait;
 use std::thread::Threads;
 
-/// The coefficients of a book, by this many workers, who take the blocks of each level from a queue. One worker is
-/// the calling thread itself, and so it is for a level of one block. When the call returns all threads have ended.
+/// The coefficients of a book, by this many workers, who take the blocks of each level from a queue.
+///
+/// They are the same as those of `herd_kinship::coefficients_plain`, whatever the number of workers and the length of a
+/// block; a block has `block` animals. One worker is the calling thread itself, and so it is for a level of one block.
+/// The threads of a level end with it, and all have ended when the call returns, also with an error: a growth of memory
+/// that is refused, or with more than one worker a thread that can't be started.
 pub fn coefficients<
     R: Threads + Wait + Sync,
     F: Allocator + Sync,

@@ -1,7 +1,7 @@
 use std::alloc::AllocError;
 use thiserror::Error;
 
-/// Why there are no coefficients.
+/// Why there are no coefficients: a thread couldn't be started, or a growth of memory was refused.
 #[derive(Clone, Copy, Debug, PartialEq, Eq, Error)]
 pub enum PoolFault {
     #[error("a thread couldn't be started")]

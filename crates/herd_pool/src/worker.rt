@@ -17,6 +17,7 @@ use std::sync::Wait;
 #[derive_where(Clone, Copy)]
 pub struct Task<'a, F: Allocator, A: Allocator> {
     pub level: Level<'a, F>,
+    /// A numerator for each animal, right at all of less depth.
     pub known: &'a [u128],
     pub stealer: &'a BlockStealer<A>,
 }

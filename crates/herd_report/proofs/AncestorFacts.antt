@@ -4,8 +4,8 @@ use Rattle.std.proofs.lemmas.Option.{slice_get_within, get_or_from_slice_get}
 use Rattle.std.specs.Option.{option_and_then}
 use Rattle.herd_pedigree.specs.declared.frozen.Row.{Row}
 use Rattle.herd_pedigree.specs.Frozen.{IsFrozen, IsPlaceOf, book_of, numbers_of}
-use Rattle.herd_kinship.specs.FrozenAncestry.{number_at}
-use Rattle.herd_kinship.proofs.FrozenFacts.{length-numbers_of, number_at-row, record_at-row}
+use Rattle.herd_kinship.specs.FrozenAncestry.{number_of_row}
+use Rattle.herd_kinship.proofs.FrozenFacts.{length-numbers_of, number_of_row-is, record_at-row}
 use Rattle.herd_report.specs.declared.ancestors.Parent.{Parent}
 use Rattle.herd_report.specs.declared.ancestors.Parent.TheVariants.{Sire, Dam}
 use Rattle.herd_report.specs.Ancestors.{ancestor_of, parent_of, parent_place}
@@ -13,7 +13,7 @@ use Rattle.herd_report.specs.Ancestors.{ancestor_of, parent_of, parent_place}
 -- the line leads from the start where its rest leads from a place of the book
 pub record LeadsFrom (rows : List Row) (start : ℕ) (line : List Parent) (place : ℕ) (rest : List Parent) : Type 0 where
   pub within : place < length rows
-  pub same : ancestor_of (book_of rows) (number_at rows start) line ≡ ancestor_of (book_of rows) (number_at rows place) rest
+  pub same : ancestor_of (book_of rows) (number_of_row rows start) line ≡ ancestor_of (book_of rows) (number_of_row rows place) rest
 
 -- a row tells the place of its animal's parent
 pub parent_at : (l most : ℕ) (rows : List Row) → IsFrozen l most rows → (place : ℕ) (row : Row) → slice_get rows place ≡ Some row
@@ -23,7 +23,7 @@ parent_at l most rows frozen place row there Dam = rw (record_at-row l most rows
 
 -- the parent whose place is told is known, and stands there
 place_known : (rows : List Row) (next : ℕ) (place : Option ℕ) (known : Option (List ℕ)) → IsPlaceOf rows place known → place ≡ Some next
-    → (next < length rows) × (known ≡ Some (number_at rows next))
+    → (next < length rows) × (known ≡ Some (number_of_row rows next))
 place_known rows next None known is at = absurd (cc)
 place_known rows next (Some p) None is at = absurd is
 place_known rows next (Some p) (Some number) is at =
@@ -46,17 +46,17 @@ leads_on {l} {most} {rows} {start} {place} {line} parent rest row next frozen le
     let book = book_of rows in
     let is = parent_at l most rows frozen place row there parent in
     let known = place_known rows next (parent_place parent row) (parent_of book parent row.number) is at in
-    let step : ancestor_of book (number_at rows place) (parent ∷ rest) ≡ ancestor_of book (number_at rows next) rest =
-    rw (number_at-row rows place row there) (ap (option_and_then (λ n. ancestor_of book n rest)) known.1) in
+    let step : ancestor_of book (number_of_row rows place) (parent ∷ rest) ≡ ancestor_of book (number_of_row rows next) rest =
+    rw (number_of_row-is rows place row there) (ap (option_and_then (λ n. ancestor_of book n rest)) known.1) in
     record { within = known.0; same = leads.same ∙ step }
 
 -- the first parent of the line is unknown
 pub leads_nowhere : {l most : ℕ} {rows : List Row} {start place : ℕ} {line : List Parent} (parent : Parent) (rest : List Parent) (row : Row)
     → IsFrozen l most rows → LeadsFrom rows start line place (parent ∷ rest) → slice_get rows place ≡ Some row → parent_place parent row ≡ None
-    → ancestor_of (book_of rows) (number_at rows start) line ≡ None
+    → ancestor_of (book_of rows) (number_of_row rows start) line ≡ None
 leads_nowhere {l} {most} {rows} {start} {place} {line} parent rest row frozen leads there at =
     let book = book_of rows in
     let unknown = place_unknown rows (parent_place parent row) (parent_of book parent row.number) (parent_at l most rows frozen place row there parent) at in
-    let step : ancestor_of book (number_at rows place) (parent ∷ rest) ≡ None =
-    rw (number_at-row rows place row there) (ap (option_and_then (λ n. ancestor_of book n rest)) unknown) in
+    let step : ancestor_of book (number_of_row rows place) (parent ∷ rest) ≡ None =
+    rw (number_of_row-is rows place row there) (ap (option_and_then (λ n. ancestor_of book n rest)) unknown) in
     leads.same ∙ step

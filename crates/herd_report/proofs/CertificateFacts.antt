@@ -10,17 +10,17 @@ use Rattle.herd_pedigree.specs.declared.frozen.Row.{Row}
 use Rattle.herd_pedigree.specs.Book.{Book, is_there, record_of}
 use Rattle.herd_pedigree.specs.Frozen.{IsFrozen, book_of, numbers_of}
 use Rattle.herd_kinship.specs.Coefficients.{AreCoefficients}
-use Rattle.herd_kinship.specs.FrozenAncestry.{ancestry_of, number_at}
+use Rattle.herd_kinship.specs.FrozenAncestry.{ancestry_of, number_of_row}
 use Rattle.herd_kinship.specs.Table.{coefficient}
 use Rattle.herd_kinship.proofs.BookFacts.{record_there}
-use Rattle.herd_kinship.proofs.FrozenFacts.{length-numbers_of, number_at-row, numbers_are_keys, record_at-row}
+use Rattle.herd_kinship.proofs.FrozenFacts.{length-numbers_of, number_of_row-is, numbers_are_keys, record_at-row}
 use Rattle.herd_report.specs.Certificate.{ancestors_text, animal_text, certificate_text, entry_line}
 
 -- the lines on the animal of the row there, and then those of its ancestors, are the certificate
 pub certificate_made : (l most : ℕ) (rows : List Row) → IsFrozen l most rows → (place : ℕ) (row : Row) → slice_get rows place ≡ Some row
     → (numerator : ℕ) (none first whole : List ℕ) → none ≡ [] → first ≡ none ++ animal_text row.number row.animal numerator
-    → whole ≡ first ++ ancestors_text (book_of rows) (number_at rows place)
-    → whole ≡ certificate_text (book_of rows) numerator (number_at rows place)
+    → whole ≡ first ++ ancestors_text (book_of rows) (number_of_row rows place)
+    → whole ≡ certificate_text (book_of rows) numerator (number_of_row rows place)
 certificate_made l most rows frozen place row there numerator none first whole empty begun ended =
     let book = book_of rows in
     let text : certificate_text book numerator row.number ≡ animal_text row.number row.animal numerator ++ ancestors_text book row.number =
@@ -28,8 +28,8 @@ certificate_made l most rows frozen place row there numerator none first whole e
     (record_at-row l most rows frozen place row there) in
     let start : first ≡ animal_text row.number row.animal numerator = begun ∙ ap (λ l. l ++ animal_text row.number row.animal numerator) empty in
     let end : whole ≡ animal_text row.number row.animal numerator ++ ancestors_text book row.number =
-    (rw (number_at-row rows place row there) at ended) ∙ ap (λ l. l ++ ancestors_text book row.number) start in
-    rw (number_at-row rows place row there) (end ∙ sym text)
+    (rw (number_of_row-is rows place row there) at ended) ∙ ap (λ l. l ++ ancestors_text book row.number) start in
+    rw (number_of_row-is rows place row there) (end ∙ sym text)
 
 -- the number that stands at a place is there
 pub number_is_there : (rows : List Row) (place : ℕ) (number : List ℕ) → slice_get (numbers_of rows) place ≡ Some number
@@ -43,10 +43,10 @@ number_is_there rows place number there =
 -- the certificate with the numerator at the place is that of the number with its coefficient
 pub certificate_text-number : (l : ℕ) (rows : List Row) (numerators : List ℕ) → AreCoefficients l rows numerators
     → (place : ℕ) (number : List ℕ) (numerator : ℕ) → slice_get (numbers_of rows) place ≡ Some number → numerator ≡ slice_index numerators place
-    → certificate_text (book_of rows) numerator (number_at rows place)
+    → certificate_text (book_of rows) numerator (number_of_row rows place)
     ≡ certificate_text (book_of rows) (coefficient (ancestry_of rows) l number) number
 certificate_text-number l rows numerators are place number numerator there read =
-    let found : number_at rows place ≡ number = get_or_from_slice_get (numbers_of rows) place number [] there in
+    let found : number_of_row rows place ≡ number = get_or_from_slice_get (numbers_of rows) place number [] there in
     let within : place < length rows = rw (← length-numbers_of rows) (slice_get_within (numbers_of rows) place number there) in
     let known : numerator ≡ coefficient (ancestry_of rows) l number = read ∙ are.right place within ∙ ap (coefficient (ancestry_of rows) l) found in
     rw (found, known) refl
@@ -64,7 +64,7 @@ some_certificate_text book numerator number there = some_text book numerator num
 
 -- nor is that of the animal at a place
 pub some_certificate_at : (l most : ℕ) (rows : List Row) → IsFrozen l most rows → (place : ℕ) (row : Row) → slice_get rows place ≡ Some row
-    → (numerator : ℕ) → 0 < length (certificate_text (book_of rows) numerator (number_at rows place))
+    → (numerator : ℕ) → 0 < length (certificate_text (book_of rows) numerator (number_of_row rows place))
 some_certificate_at l most rows frozen place row there numerator =
-    rw (number_at-row rows place row there)
+    rw (number_of_row-is rows place row there)
     (some_certificate_text (book_of rows) numerator row.number (ap is_some (record_at-row l most rows frozen place row there)))

@@ -6,7 +6,7 @@ use Rattle.herd_pedigree.specs.declared.frozen.Row.{Row}
 use Rattle.herd_kinship.specs.Coefficients.{AreCoefficients}
 use Rattle.herd_kinship.specs.FrozenAncestry.{ancestry_of}
 use Rattle.herd_kinship.specs.Table.{coefficient}
-use Rattle.herd_kinship.proofs.FrozenFacts.{number_at-row}
+use Rattle.herd_kinship.proofs.FrozenFacts.{number_of_row-is}
 use Rattle.herd_report.proofs.OutputFacts.{some_after}
 use Rattle.herd_report.specs.CoefficientText.{coefficient_line, coefficient_text}
 
@@ -16,7 +16,7 @@ pub numerator_is : (l : ℕ) (rows : List Row) (numerators : List ℕ) → AreCo
     → slice_index numerators place ≡ coefficient (ancestry_of rows) l row.number
 numerator_is l rows numerators are place row there =
     are.right place (slice_get_within rows place row there)
-    ∙ ap (coefficient (ancestry_of rows) l) (number_at-row rows place row there)
+    ∙ ap (coefficient (ancestry_of rows) l) (number_of_row-is rows place row there)
 
 -- a line isn't empty
 pub some_coefficient_line : (number : List ℕ) (numerator : ℕ) → 0 < length (coefficient_line number numerator)

@@ -6,17 +6,17 @@ use Rattle.std.proofs.lemmas.List.Elements.{All-cons, All-nil}
 use Rattle.herd_pedigree.specs.declared.TheConstants.{DEPTH_LIMIT, MOST_ANIMALS}
 use Rattle.herd_pedigree.specs.declared.frozen.Row.{Row}
 use Rattle.herd_pedigree.specs.Frozen.{IsFrozen}
-use Rattle.herd_kinship.specs.declared.entries.Entry.{Entry}
+use Rattle.herd_kinship.specs.declared.contribution.Contribution.{Contribution}
 use Rattle.herd_kinship.specs.Contributions.{contribution_at, contributions_of, filled, pairs_of}
 use Rattle.herd_kinship.specs.Places.{sire_place, dam_place}
 use Rattle.herd_kinship.proofs.FrozenFacts.{sire_at, dam_at}
-use Rattle.herd_kinship.specs.FrozenAncestry.{number_at}
+use Rattle.herd_kinship.specs.FrozenAncestry.{number_of_row}
 use Rattle.herd_report.specs.CoefficientText.{fraction_text}
 use Rattle.herd_report.proofs.OutputFacts.{some_after, some_before}
 use Rattle.herd_report.specs.InverseList.{IsWithin, contribution_line, contributions_text}
 
 -- of the six entries the first ones are those that count
-take-filled : (f : ℕ × ℕ → Entry) (i : ℕ) (s d : Option ℕ)
+take-filled : (f : ℕ × ℕ → Contribution) (i : ℕ) (s d : Option ℕ)
     → take (length (map f (pairs_of i s d))) (filled (map f (pairs_of i s d))) ≡ map f (pairs_of i s d)
 take-filled f i None None = refl
 take-filled f i (Some s) None = refl
@@ -29,7 +29,7 @@ unfolding contributions_of
 take-filled-contributions rows place = take-filled (contribution_at DEPTH_LIMIT rows place) place (sire_place rows place) (dam_place rows place)
 
 -- there are at most six
-at_most_six : (f : ℕ × ℕ → Entry) (i : ℕ) (s d : Option ℕ) → length (map f (pairs_of i s d)) ≤ 6
+at_most_six : (f : ℕ × ℕ → Contribution) (i : ℕ) (s d : Option ℕ) → length (map f (pairs_of i s d)) ≤ 6
 at_most_six f i None None = omega arith
 at_most_six f i (Some s) None = omega arith
 at_most_six f i None (Some d) = omega arith
@@ -45,10 +45,10 @@ within_at rows i p q first second = record { row = first; column = second }
 
 -- the entries of an animal and of known parents of the book are within it
 module _ (rows : List Row) (i : ℕ) (own : i < length rows) where
-  abbrev value : ℕ × ℕ → Entry
+  abbrev value : ℕ × ℕ → Contribution
   value = contribution_at DEPTH_LIMIT rows i
 
-  one_within : (entry : Entry) (rest : List Entry) → IsWithin rows entry → All (IsWithin rows) rest → All (IsWithin rows) (entry ∷ rest)
+  one_within : (entry : Contribution) (rest : List Contribution) → IsWithin rows entry → All (IsWithin rows) rest → All (IsWithin rows) (entry ∷ rest)
   one_within entry rest first later = All-cons (IsWithin rows) entry rest first later
 
   all_within : (s d : Option ℕ) → ((p : ℕ) → s ≡ Some p → p < length rows) → ((p : ℕ) → d ≡ Some p → p < length rows)
@@ -85,13 +85,13 @@ contributions_within rows frozen place within =
     (sire_at DEPTH_LIMIT MOST_ANIMALS rows frozen place within).within
     (dam_at DEPTH_LIMIT MOST_ANIMALS rows frozen place within).within
 
-some_line : (rows : List Row) (place : ℕ) (entry : Entry) → 0 < length (contribution_line rows place entry)
+some_line : (rows : List Row) (place : ℕ) (entry : Contribution) → 0 < length (contribution_line rows place entry)
 some_line rows place entry =
     some_after
-    (number_at rows place ++ codes "," ++ number_at rows entry.row ++ codes "," ++ number_at rows entry.column ++ codes "," ++ fraction_text entry.value)
+    (number_of_row rows place ++ codes "," ++ number_of_row rows entry.row ++ codes "," ++ number_of_row rows entry.column ++ codes "," ++ fraction_text entry.value)
     (codes "\n") (omega arith)
 
-some_lines : (rows : List Row) (place : ℕ) (f : ℕ × ℕ → Entry) (s d : Option ℕ)
+some_lines : (rows : List Row) (place : ℕ) (f : ℕ × ℕ → Contribution) (s d : Option ℕ)
     → 0 < length (flat_map (contribution_line rows place) (map f (pairs_of place s d)))
 some_lines rows place f None None = some_before (contribution_line rows place (f (place, place))) _ (some_line rows place (f (place, place)))
 some_lines rows place f (Some s) None = some_before (contribution_line rows place (f (place, place))) _ (some_line rows place (f (place, place)))

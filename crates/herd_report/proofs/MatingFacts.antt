@@ -6,7 +6,7 @@ use Rattle.herd_pedigree.specs.declared.TheConstants.{DEPTH_LIMIT}
 use Rattle.herd_pedigree.specs.Book.{Book}
 use Rattle.herd_kinship.specs.declared.mating_advice.MatingFault.{MatingFault}
 use Rattle.herd_kinship.specs.FrozenAncestry.{book_ancestry}
-use Rattle.herd_kinship.specs.Mating.{mating_fault, number_of}
+use Rattle.herd_kinship.specs.Mating.{mating_fault, number_of_mating_fault}
 use Rattle.herd_kinship.specs.Table.{entry}
 use Rattle.herd_report.proofs.CoefficientFacts.{some_coefficient_line}
 use Rattle.herd_report.proofs.OutputFacts.{some_after}
@@ -15,7 +15,7 @@ use Rattle.herd_report.specs.MatingList.{mating_line, refused_line}
 
 some_line : (sire advised : List ℕ) (fault : Option MatingFault) → 0 < length advised → 0 < length (option_map_or (refused_line sire) fault advised)
 some_line sire advised None some = some
-some_line sire advised (Some fault) some = some_after (sire ++ codes ",refused," ++ decimal (number_of fault)) (codes "\n") (omega arith)
+some_line sire advised (Some fault) some = some_after (sire ++ codes ",refused," ++ decimal (number_of_mating_fault fault)) (codes "\n") (omega arith)
 
 -- a line isn't empty
 pub some_mating_line : (book : Book) (dam sire : List ℕ) → 0 < length (mating_line book dam sire)

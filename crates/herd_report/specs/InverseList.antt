@@ -3,15 +3,15 @@ use Rattle.std.specs.Prelude.{ℕ, ◌<◌, List, ◌++◌, length, codes}
 use Rattle.std.specs.List.{flat_map, range_with_len}
 use Rattle.herd_pedigree.specs.declared.TheConstants.{DEPTH_LIMIT}
 use Rattle.herd_pedigree.specs.declared.frozen.Row.{Row}
-use Rattle.herd_kinship.specs.declared.entries.Entry.{Entry}
+use Rattle.herd_kinship.specs.declared.contribution.Contribution.{Contribution}
 use Rattle.herd_kinship.specs.Contributions.{contributions_of}
-use Rattle.herd_kinship.specs.FrozenAncestry.{number_at}
+use Rattle.herd_kinship.specs.FrozenAncestry.{number_of_row}
 use Rattle.herd_report.specs.CoefficientText.{fraction_text}
 
 -- the line of one entry: the animal at the place, those of the row and of the column, and the value
-abbrev pub contribution_line : List Row → ℕ → Entry → List ℕ
+abbrev pub contribution_line : List Row → ℕ → Contribution → List ℕ
 contribution_line rows place entry =
-    number_at rows place ++ codes "," ++ number_at rows entry.row ++ codes "," ++ number_at rows entry.column ++ codes ","
+    number_of_row rows place ++ codes "," ++ number_of_row rows entry.row ++ codes "," ++ number_of_row rows entry.column ++ codes ","
     ++ fraction_text entry.value ++ codes "\n"
 
 -- the lines of what the animal at a place contributes
@@ -23,6 +23,6 @@ abbrev pub inverse_text : List Row → List ℕ
 inverse_text rows = flat_map (contributions_text rows) (range_with_len 0 (length rows))
 
 -- the row and the column of an entry are places of the book
-pub record IsWithin (rows : List Row) (entry : Entry) : Type 0 where
+pub record IsWithin (rows : List Row) (entry : Contribution) : Type 0 where
   pub row : entry.row < length rows
   pub column : entry.column < length rows

@@ -6,13 +6,13 @@ use Rattle.herd_pedigree.specs.declared.TheConstants.{DEPTH_LIMIT}
 use Rattle.herd_pedigree.specs.Book.{Book}
 use Rattle.herd_kinship.specs.declared.mating_advice.MatingFault.{MatingFault}
 use Rattle.herd_kinship.specs.FrozenAncestry.{book_ancestry}
-use Rattle.herd_kinship.specs.Mating.{mating_fault, number_of}
+use Rattle.herd_kinship.specs.Mating.{mating_fault, number_of_mating_fault}
 use Rattle.herd_kinship.specs.Table.{entry}
 use Rattle.herd_report.specs.CoefficientText.{coefficient_line}
 
 -- the line of a sire with which the mating is refused
 abbrev pub refused_line : List ℕ → MatingFault → List ℕ
-refused_line sire fault = sire ++ codes ",refused," ++ decimal (number_of fault) ++ codes "\n"
+refused_line sire fault = sire ++ codes ",refused," ++ decimal (number_of_mating_fault fault) ++ codes "\n"
 
 -- the line of a sire: the coefficient of a calf, half the entry of the two, or why there is none
 abbrev pub mating_line : Book → List ℕ → List ℕ → List ℕ

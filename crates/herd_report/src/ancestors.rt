@@ -2,7 +2,7 @@ ghost use Rattle.std.specs.Prelude.{◌≡◌, ◌<◌, ◌++◌, length, map, O
 ghost use Rattle.std.specs.List.{flat_map};
 ghost use Rattle.herd_pedigree.specs.Frozen.{IsFrozen, book_of};
 ghost use Rattle.herd_pedigree.specs.declared.TheConstants.{DEPTH_LIMIT, MOST_ANIMALS};
-ghost use Rattle.herd_kinship.specs.FrozenAncestry.{number_at};
+ghost use Rattle.herd_kinship.specs.FrozenAncestry.{number_of_row};
 ghost use Rattle.herd_report.specs.Ancestors.{ancestor_of, letter_of, parent_place};
 ghost use Rattle.herd_report.specs.Certificate.{ancestor_line, ancestors_text};
 
@@ -68,7 +68,7 @@ pub(crate) fn push_ancestors<A: Allocator, F: Allocator>(
 ) -> Result<(), AllocError>
     requires frozen { IsFrozen DEPTH_LIMIT MOST_ANIMALS frozen.now }
     requires place { place < length frozen.now }
-    ensures { OnOk result (output.new ≡ output.old ++ ancestors_text (book_of frozen.now) (number_at frozen.now place)) }
+    ensures { OnOk result (output.new ≡ output.old ++ ancestors_text (book_of frozen.now) (number_of_row frozen.now place)) }
 {
     push_lines(output, frozen, place, &LINES)
 }
@@ -83,7 +83,7 @@ fn push_lines<A: Allocator, F: Allocator>(
     requires frozen { IsFrozen DEPTH_LIMIT MOST_ANIMALS frozen.now }
     requires place { place < length frozen.now }
     ensures { OnOk result (output.new ≡ output.old
-        ++ flat_map (λ line. ancestor_line (book_of frozen.now) (number_at frozen.now place) line.now) lines.now) }
+        ++ flat_map (λ line. ancestor_line (book_of frozen.now) (number_of_row frozen.now place) line.now) lines.now) }
 {
     for line in lines {
         push_ancestor(output, frozen, place, line)?;
@@ -100,7 +100,7 @@ fn push_ancestor<A: Allocator, F: Allocator>(
 ) -> Result<(), AllocError>
     requires frozen { IsFrozen DEPTH_LIMIT MOST_ANIMALS frozen.now }
     requires place { place < length frozen.now }
-    ensures { OnOk result (output.new ≡ output.old ++ ancestor_line (book_of frozen.now) (number_at frozen.now place) line.now) }
+    ensures { OnOk result (output.new ≡ output.old ++ ancestor_line (book_of frozen.now) (number_of_row frozen.now place) line.now) }
 {
     push_letters(output, line)?;
     output.push(b" ")?;
@@ -124,7 +124,7 @@ fn push_letters<A: Allocator>(output: &mut Output<A>, line: &[Parent]) -> Result
 fn ancestor<F: Allocator>(frozen: &Frozen<F>, start: u32, line: &[Parent]) -> Option<AnimalNumber>
     requires frozen { IsFrozen DEPTH_LIMIT MOST_ANIMALS frozen.now }
     requires place { start < length frozen.now }
-    ensures { result ≡ ancestor_of (book_of frozen.now) (number_at frozen.now start) line.now }
+    ensures { result ≡ ancestor_of (book_of frozen.now) (number_of_row frozen.now start) line.now }
 {
     let mut place = start;
     for parent in line {

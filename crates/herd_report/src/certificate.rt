@@ -4,7 +4,7 @@ ghost use Rattle.herd_pedigree.specs.Book.{is_there};
 ghost use Rattle.herd_pedigree.specs.Frozen.{book_of};
 ghost use Rattle.herd_pedigree.specs.declared.TheConstants.{DEPTH_LIMIT};
 ghost use Rattle.herd_kinship.specs.Coefficients.{AreCoefficients};
-ghost use Rattle.herd_kinship.specs.FrozenAncestry.{ancestry_of, number_at};
+ghost use Rattle.herd_kinship.specs.FrozenAncestry.{ancestry_of, number_of_row};
 ghost use Rattle.herd_kinship.specs.Table.{coefficient};
 ghost use Rattle.herd_report.specs.Certificate.{animal_text, certificate_text, entry_line, left_text, sex_text};
 ghost use Rattle.herd_report.specs.CoefficientText.{coefficient_text};
@@ -54,9 +54,9 @@ fn write_at<W: Write, A: Allocator, F: Allocator>(
     requires place { place < length frozen.now }
     requires numerator { numerator < 2 ^ (2 * DEPTH_LIMIT) }
     ensures ok { OnOk result (Appends (W.contents writer.old) (W.contents writer.new)
-        (certificate_text (book_of frozen.now) numerator (number_at frozen.now place))) }
+        (certificate_text (book_of frozen.now) numerator (number_of_row frozen.now place))) }
     ensures err { OnErr result (AppendsFront (W.contents writer.old) (W.contents writer.new)
-        (certificate_text (book_of frozen.now) numerator (number_at frozen.now place))) }
+        (certificate_text (book_of frozen.now) numerator (number_of_row frozen.now place))) }
     ensures fault { IfErr result (λ fault. fault ≢ ReportFault.NotRegistered) }
 {
     prove!(place < frozen.len());

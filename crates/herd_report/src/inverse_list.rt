@@ -4,7 +4,7 @@ ghost use Rattle.std.specs.List.{flat_map};
 ghost use Rattle.herd_pedigree.specs.declared.TheConstants.{DEPTH_LIMIT, MOST_ANIMALS};
 ghost use Rattle.herd_pedigree.specs.Frozen.{IsFrozen};
 ghost use Rattle.herd_kinship.specs.Coefficients.{AreCoefficients};
-ghost use Rattle.herd_kinship.specs.FrozenAncestry.{number_at};
+ghost use Rattle.herd_kinship.specs.FrozenAncestry.{number_of_row};
 ghost use Rattle.herd_report.specs.CoefficientText.{fraction_text};
 ghost use Rattle.herd_report.specs.InverseList.{contribution_line, contributions_text, inverse_text, IsWithin};
 ghost use Rattle.herd_report.specs.Output.{AppendsFront};
@@ -12,7 +12,7 @@ ghost use Rattle.herd_report.specs.Output.{AppendsFront};
 use crate::coefficient_text::push_fraction;
 use crate::output::Output;
 use crate::report_fault::ReportFault;
-use herd_kinship::{Coefficients, Entry, Fraction, contributions};
+use herd_kinship::{Coefficients, Contribution, Fraction, contributions};
 use herd_pedigree::Frozen;
 use std::alloc::{AllocError, Allocator};
 use std::io::Write;
@@ -52,7 +52,7 @@ fn push_contributions<A: Allocator, F: Allocator, C: Allocator>(
     ensures { OnOk result (output.new ≡ output.old ++ contributions_text frozen.now place) }
 {
     let listed = contributions(frozen, coefficients, place);
-    let entries = &listed.entries[..listed.count as usize];
+    let entries = &listed.list[..listed.count as usize];
     push_entries(output, value, frozen, place, entries)
 }
 
@@ -63,7 +63,7 @@ fn push_entries<A: Allocator, F: Allocator>(
     value: &mut Output<A>,
     frozen: &Frozen<F>,
     place: u32,
-    entries: &[Entry],
+    entries: &[Contribution],
 ) -> Result<(), AllocError>
     requires place { place < length frozen.now }
     requires entries { All (IsWithin frozen.now) entries.now }
@@ -98,7 +98,7 @@ fn push_entry<A: Allocator, F: Allocator>(
     output: &mut Output<A>,
     frozen: &Frozen<F>,
     place: u32,
-    entry: Entry,
+    entry: Contribution,
     value: &[u8],
 ) -> Result<(), AllocError>
     requires place { place < length frozen.now }
@@ -120,7 +120,7 @@ fn push_number_at<A: Allocator, F: Allocator>(
     place: u32,
 ) -> Result<(), AllocError>
     requires { place < length frozen.now }
-    ensures { OnOk result (output.new ≡ output.old ++ number_at frozen.now place ++ codes ",") }
+    ensures { OnOk result (output.new ≡ output.old ++ number_of_row frozen.now place ++ codes ",") }
 {
     output.push(&frozen.row(place).number.bytes())?;
     output.push(b",")

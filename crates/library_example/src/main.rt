@@ -9,7 +9,7 @@ ghost use Rattle.std.specs.Prelude.{◌≡◌, ◌+◌, ◌*◌, ◌^◌, ◌<�
 ghost use Rattle.herd_pedigree.specs.declared.TheConstants.{DEPTH_LIMIT};
 ghost use Rattle.herd_kinship.specs.Coefficients.{AreCoefficients};
 ghost use Rattle.herd_kinship.specs.Fraction.{halved};
-ghost use Rattle.herd_kinship.specs.FrozenAncestry.{ancestry_of, number_at};
+ghost use Rattle.herd_kinship.specs.FrozenAncestry.{ancestry_of, number_of_row};
 ghost use Rattle.herd_kinship.specs.Table.{coefficient};
 
 use anyhow::Result;
@@ -116,7 +116,7 @@ fn inbreeding_at(
     // A caller has to show that these are the coefficients of this book, as `coefficients_plain` promises.
     requires coefficients { AreCoefficients DEPTH_LIMIT frozen.now coefficients.now }
     requires place { place < length frozen.now }
-    ensures number { result.0 ≡ number_at frozen.now place }
+    ensures number { result.0 ≡ number_of_row frozen.now place }
     ensures value { result.1 ≡ halved false (coefficient (ancestry_of frozen.now) DEPTH_LIMIT result.0) (2 ^ (2 * DEPTH_LIMIT)) }
 {
     // `row` gives what is known of an animal, `numerator` its coefficient in units of 2^-120, and `fraction` the

@@ -11,8 +11,8 @@ use std::process::Abort;
 use std::test::Fail;
 
 // An entry of the inverse: its places, and the sign, numerator and denominator of its value.
-fn at(row: u32, column: u32, negative: bool, numerator: u128, denominator: u128) -> Entry {
-    Entry {
+fn at(row: u32, column: u32, negative: bool, numerator: u128, denominator: u128) -> Contribution {
+    Contribution {
         row,
         column,
         value: Fraction {
@@ -29,12 +29,12 @@ fn contributes(
     alloc: Global,
     frozen: &Frozen<Global>,
     animal: AnimalNumber,
-    expected: &[Entry],
+    expected: &[Contribution],
 ) -> Result<(), Fail> {
     let coefficients = coefficients_plain(alloc, frozen)?;
     let place = frozen.place(&animal).ok_or("absent")?;
     let told = contributions(frozen, &coefficients, place);
-    let entries = told.entries;
+    let entries = told.list;
     let first = entries[0];
     assert_eq!(rt; told.count as usize, expected.len());
     assert_eq!(rt; told.alpha, first.value);

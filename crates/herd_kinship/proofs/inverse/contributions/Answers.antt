@@ -1,6 +1,6 @@
 use Rattle.std.proofs.Common.{◌≡◌, ℕ, Option, Some, None, lit<, arith}
 use Rattle.herd_pedigree.specs.declared.TheConstants.{DEPTH_LIMIT, MOST_ANIMALS}
-use Rattle.herd_kinship.specs.declared.entries.Contributions.{Contributions}
+use Rattle.herd_kinship.specs.declared.contribution.Contributions.{Contributions}
 use Rattle.herd_kinship.specs.Contributions.{Lists, weighted}
 use Rattle.herd_kinship.proofs.ContributionFacts.{AreListed, listed-are}
 use Rattle.herd_kinship.proofs.LawFacts.{frozen-bound}
@@ -25,23 +25,19 @@ listed g c s d =
 
 pub returns-in-None-None : goal.returns-in-None-None
 returns-in-None-None g c =
-    let are = listed g (goal.at.returns-in-None-None g c).After-of-weights None None c.in-None-None.is-0 c.in-None-None.is-1 c.without_parents.result c.without_parents.ensures in
-    record { alpha = are.alpha; count = are.count; entries = are.entries; lowest = are.lowest }
+    listed g (goal.at.returns-in-None-None g c).After-of-weights None None c.in-None-None.is-0 c.in-None-None.is-1 c.without_parents.result c.without_parents.ensures
 
 pub returns-in-None-Some : goal.returns-in-None-Some
 returns-in-None-Some g c =
-    let are = listed g (goal.at.returns-in-None-Some g c).After-of-weights None (Some c.in-None-Some.parent) c.in-None-Some.is-0 c.in-None-Some.is-1
-    c.with_one_parent.result c.with_one_parent.ensures in
-    record { alpha = are.alpha; count = are.count; entries = are.entries; lowest = are.lowest }
+    listed g (goal.at.returns-in-None-Some g c).After-of-weights None (Some c.in-None-Some.parent) c.in-None-Some.is-0 c.in-None-Some.is-1
+    c.with_one_parent.result c.with_one_parent.ensures
 
 pub returns-in-Some-None : goal.returns-in-Some-None
 returns-in-Some-None g c =
-    let are = listed g (goal.at.returns-in-Some-None g c).After-of-weights (Some c.in-Some-None.parent) None c.in-Some-None.is-0 c.in-Some-None.is-1
-    c.with_one_parent-in-Some-None.result c.with_one_parent-in-Some-None.ensures in
-    record { alpha = are.alpha; count = are.count; entries = are.entries; lowest = are.lowest }
+    listed g (goal.at.returns-in-Some-None g c).After-of-weights (Some c.in-Some-None.parent) None c.in-Some-None.is-0 c.in-Some-None.is-1
+    c.with_one_parent-in-Some-None.result c.with_one_parent-in-Some-None.ensures
 
 pub returns-in-Some-Some : goal.returns-in-Some-Some
 returns-in-Some-Some g c =
-    let are = listed g (goal.at.returns-in-Some-Some g c).After-of-weights (Some c.in-Some-Some.sire) (Some c.in-Some-Some.dam) c.in-Some-Some.is-0 c.in-Some-Some.is-1
-    c.with_both_parents.result c.with_both_parents.ensures in
-    record { alpha = are.alpha; count = are.count; entries = are.entries; lowest = are.lowest }
+    listed g (goal.at.returns-in-Some-Some g c).After-of-weights (Some c.in-Some-Some.sire) (Some c.in-Some-Some.dam) c.in-Some-Some.is-0 c.in-Some-Some.is-1
+    c.with_both_parents.result c.with_both_parents.ensures

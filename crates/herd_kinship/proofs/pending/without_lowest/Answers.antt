@@ -2,4 +2,4 @@ use Rattle.herd_kinship.proofs.PendingFacts.{lowest-cleared}
 use Rattle.herd_kinship.proofs.pending.without_lowest.Goals as goal
 
 pub returns : goal.returns
-returns c = lowest-cleared c.args.word c.requires c.ranges.word.fits
+returns c = lowest-cleared c.args.chunk c.requires c.ranges.chunk.fits

@@ -1,8 +1,6 @@
 use Rattle.std.proofs.Common.{◌≡◌, ℕ, lit<, arith, ◌∙◌}
 use Rattle.herd_pedigree.specs.declared.TheConstants.{DEPTH_LIMIT, MOST_ANIMALS}
 use Rattle.herd_kinship.specs.Coefficients.{KnowsAncestors}
-use Rattle.herd_kinship.specs.Places.{AreParentsAt}
-use Rattle.herd_kinship.specs.Tracing.{IsNext}
 use Rattle.herd_kinship.proofs.KnownFacts.{known-next}
 use Rattle.herd_kinship.proofs.ParentsFacts.{parents-depth, parents-shallow}
 use Rattle.herd_kinship.proofs.TermSums.{IsAdded, added, summed-start, summed-end}
@@ -32,11 +30,9 @@ overflow_mul-steps-in-Some g c =
 pub overflow_sub-steps : goal.overflow_sub-steps
 overflow_sub-steps g c =
     let rows = c.args.frozen.now in
-    let own_row : AreParentsAt rows c.loop-met.tracing.place c.parents_at-depth.result = rw c.loop-met.invariant.same c.parents_at-depth.ensures in
-    let dx = parents-depth rows c.loop-met.tracing.place c.parents_at-depth.result own_row in
+    let dx = parents-depth rows c.loop-met.tracing.place c.parents_at-depth.result (rw c.loop-met.invariant.same c.parents_at-depth.ensures) in
     let dy = parents-depth rows c.in-Some.met.place c.parents_at.result c.parents_at.ensures in
-    let next : IsNext DEPTH_LIMIT rows c.loop-met.tracing.place c.loop-met.tracing.border c.in-Some.met.place c.in-Some.met.share = c.in-Some.ensures.next in
-    let less = next.share_is.less_deep in
+    let less = c.in-Some.ensures.next.share_is.less_deep in
     omega (arith, dx, dy, less)
 
 pub mendelian-requires-clause-known : goal.mendelian-requires-clause-known
@@ -53,9 +49,8 @@ met : (g : Over) (c : After-mendelian g) →
 met g c =
     let rows = c.args.frozen.now in
     let x : ℕ = c.loop-met.tracing.place in
-    let own_row : AreParentsAt rows x c.parents_at-depth.result = rw c.loop-met.invariant.same c.parents_at-depth.ensures in
     added DEPTH_LIMIT MOST_ANIMALS rows c.len.ensures.frozen x c.loop-met.invariant.tracing.tracing.place c.loop-met.tracing.border c.in-Some.met.place c.mendelian.result c.in-Some.met.share c.loop-met.sum
-    c.parents_at-depth.result c.parents_at.result (lit< tt) (lit< tt) own_row c.parents_at.ensures c.in-Some.ensures.next c.mendelian.ensures c.loop-met.invariant.summed
+    c.parents_at-depth.result c.parents_at.result (lit< tt) (lit< tt) (rw c.loop-met.invariant.same c.parents_at-depth.ensures) c.parents_at.ensures c.in-Some.ensures.next c.mendelian.ensures c.loop-met.invariant.summed
 
 pub term-sum-requires-clause-shift : goal.term-sum-requires-clause-shift
 term-sum-requires-clause-shift g c = (met g (goal.at.term-sum-requires-clause-shift g c).After-mendelian).shift

@@ -8,7 +8,7 @@ use Rattle.herd_kinship.proofs.tracing.trace_ancestors.Given as goal
 abbrev pub invariant-loop-met : goal.invariant-loop-met
 invariant-loop-met g l = record {
   same : l.tracing.place ≡ l.fn.place;
-  tracing : IsUnderWay DEPTH_LIMIT l.frozen l.tracing.place l.tracing.border l.tracing.shares.items l.tracing.pending.words.items;
+  tracing : IsUnderWay DEPTH_LIMIT l.frozen l.tracing.place l.tracing.border l.tracing.shares.items l.tracing.pending.chunks.items;
   summed : IsSummed DEPTH_LIMIT l.frozen l.tracing.place l.tracing.border l.sum;
 }
 

@@ -1,6 +1,6 @@
 use Rattle.std.proofs.Common.{◌∙◌, ◌+◌, ap, drop, get_or, subst, sym, Some}
 use Rattle.std.proofs.lemmas.List.{drop_more, drop_all}
-use Rattle.herd_kinship.proofs.FrozenFacts.{number_at-row}
+use Rattle.herd_kinship.proofs.FrozenFacts.{number_of_row-is}
 use Rattle.herd_report.proofs.AncestorFacts.{LeadsFrom, leads_on, leads_nowhere}
 use Rattle.herd_report.specs.declared.ancestors.Parent.TheVariants.{Sire}
 use Rattle.herd_report.proofs.ancestors.ancestor.Goals as goal
@@ -24,4 +24,4 @@ pub returns : goal.returns
 returns g c =
     let rows = c.args.frozen.now in
     let leads = subst (LeadsFrom rows c.args.start c.args.line.now c.loop-parent.place) (drop_all c.loop-parent.parent-index c.args.line.now c.loop-parent-test.false) c.loop-parent.invariant in
-    ap Some (sym (number_at-row rows c.loop-parent.place c.row-2.result.now c.row-2.ensures)) ∙ sym leads.same
+    ap Some (sym (number_of_row-is rows c.loop-parent.place c.row-2.result.now c.row-2.ensures)) ∙ sym leads.same

@@ -14,9 +14,9 @@ shared_ref_as_front-entries g c = rw c.contributions-listed.ensures.count (lengt
 pub push_entries-requires-clause-entries : goal.push_entries-requires-clause-entries
 push_entries-requires-clause-entries g c =
     let listed = c.contributions-listed in
-    let part : take listed.result.count listed.result.entries ≡ contributions_of DEPTH_LIMIT c.args.frozen.now c.args.place =
-    ap (λ n. take n listed.result.entries) listed.ensures.count
-    ∙ ap (λ entries. take (length (contributions_of DEPTH_LIMIT c.args.frozen.now c.args.place)) entries) listed.ensures.entries
+    let part : take listed.result.count listed.result.list ≡ contributions_of DEPTH_LIMIT c.args.frozen.now c.args.place =
+    ap (λ n. take n listed.result.list) listed.ensures.count
+    ∙ ap (λ entries. take (length (contributions_of DEPTH_LIMIT c.args.frozen.now c.args.place)) entries) listed.ensures.list
     ∙ take-filled-contributions c.args.frozen.now c.args.place in
     subst (λ entries. All (IsWithin c.args.frozen.now) entries) (sym part)
     (contributions_within c.args.frozen.now c.requires.frozen c.args.place c.requires.place)
@@ -24,9 +24,9 @@ push_entries-requires-clause-entries g c =
 pub returns : goal.returns
 returns g c =
     let listed = c.contributions-listed in
-    let part : take listed.result.count listed.result.entries ≡ contributions_of DEPTH_LIMIT c.args.frozen.now c.args.place =
-    ap (λ n. take n listed.result.entries) listed.ensures.count
-    ∙ ap (λ entries. take (length (contributions_of DEPTH_LIMIT c.args.frozen.now c.args.place)) entries) listed.ensures.entries
+    let part : take listed.result.count listed.result.list ≡ contributions_of DEPTH_LIMIT c.args.frozen.now c.args.place =
+    ap (λ n. take n listed.result.list) listed.ensures.count
+    ∙ ap (λ entries. take (length (contributions_of DEPTH_LIMIT c.args.frozen.now c.args.place)) entries) listed.ensures.list
     ∙ take-filled-contributions c.args.frozen.now c.args.place in
     on_ok_weaker c.push_entries.result
     (λ made. made ∙ ap (λ entries. c.args.output.now ++ flat_map (contribution_line c.args.frozen.now c.args.place) entries) part) c.push_entries.ensures

@@ -7,9 +7,9 @@ use Rattle.herd_kinship.proofs.calves.Calves.mark_mates.Given as goal
 -- the dams of the calves so far are marked
 abbrev pub invariant-loop-link : goal.invariant-loop-link
 invariant-loop-link g l = record {
-  room : l.last < 64 * length l.marked.words.items;
-  near : (e : ℕ) → mark l.marked.words.items e ≡ 1 → e ≤ l.last;
-  walked : IsWalked l.frozen l.sire l.link (λ x. (d : ℕ) → dam_place l.frozen x ≡ Some d → mark l.marked.words.items (l.last - d) ≡ 1);
+  room : l.last < 64 * length l.marked.chunks.items;
+  near : (e : ℕ) → mark l.marked.chunks.items e ≡ 1 → e ≤ l.last;
+  walked : IsWalked l.frozen l.sire l.link (λ x. (d : ℕ) → dam_place l.frozen x ≡ Some d → mark l.marked.chunks.items (l.last - d) ≡ 1);
 }
 
 abbrev pub decreases-loop-link : goal.decreases-loop-link

@@ -1,4 +1,4 @@
-use Rattle.std.proofs.Common.{◌≡◌, ℕ, ◌/◌, ◌<◌, inr, List, length, get_or, arith, refl, sym, ◌∙◌, ap, subst}
+use Rattle.std.proofs.Common.{◌≡◌, ℕ, ◌/◌, ◌<◌, inr, List, length, get_or, Some, arith, refl, sym, ◌∙◌, ap, subst}
 use Rattle.std.proofs.lemmas.List.{get_or-set_same, get_or-set_other, length-set}
 use Rattle.herd_pedigree.specs.declared.TheConstants.{DEPTH_LIMIT, MOST_ANIMALS}
 use Rattle.herd_kinship.specs.CalfLinks.{IsCalf, IsLink}
@@ -7,7 +7,27 @@ use Rattle.herd_kinship.specs.Places.{dam_place}
 use Rattle.herd_kinship.proofs.CalfFacts.{calf-within, latest-link, left_from, left-smaller, next-link, IsWalked, walked-start, walked-next}
 use Rattle.herd_kinship.proofs.FrozenFacts.{frozen-placed}
 use Rattle.herd_kinship.proofs.ParentsFacts.{parents-dam}
+use Rattle.herd_kinship.proofs.calves.Calves.write_coefficients.Given.{Over}
+use Rattle.herd_kinship.proofs.calves.Calves.write_coefficients.Goals.{After-index-link-in-Some, After-parents_at, In-Some}
 use Rattle.herd_kinship.proofs.calves.Calves.write_coefficients.Goals as goal
+
+-- the calf that the link leads to is one of the book
+within : (g : Over) (c : In-Some g) → c.in-Some.calf < length c.args.frozen.now
+within g c = calf-within c.args.frozen.now c.args.sire c.in-Some.calf (c.loop-link.invariant.walked.next c.in-Some.calf c.in-Some.is)
+
+-- its known dam stands before it
+dam-older : (g : Over) (c : After-parents_at g) → (d : ℕ) → c.parents_at.result.dam ≡ Some d → d < c.in-Some.calf
+dam-older g c d e =
+    let rows = c.args.frozen.now in
+    (frozen-placed DEPTH_LIMIT MOST_ANIMALS rows c.len.ensures.frozen).below c.in-Some.calf d
+    (calf-within rows c.args.sire c.in-Some.calf (c.loop-link.invariant.walked.next c.in-Some.calf c.in-Some.is))
+    (inr (parents-dam rows c.in-Some.calf c.parents_at.result c.parents_at.ensures ∙ e))
+
+-- the next link leads to the next older calf
+older : (g : Over) (c : After-index-link-in-Some g) → IsLink c.args.frozen.now c.args.sire c.in-Some.calf c.index-link-in-Some.result.now
+older g c =
+    next-link c.args.frozen.now c.args.sire c.in-Some.calf c.args.self.now.latest.items c.args.self.now.earlier.items c.index-link-in-Some.result.now c.requires.calves
+    (c.loop-link.invariant.walked.next c.in-Some.calf c.in-Some.is) c.index-link-in-Some.ensures
 
 pub loop-link-init : goal.loop-link-init
 loop-link-init g c =
@@ -21,43 +41,33 @@ loop-link-init g c =
     }
 
 pub parents_at-requires : goal.parents_at-requires
-parents_at-requires g c = calf-within c.args.frozen.now c.args.sire c.in-Some.calf (c.loop-link.invariant.walked.next c.in-Some.calf c.in-Some.is)
+parents_at-requires g c = within g (goal.at.parents_at-requires g c).In-Some
 
 pub with_parent-requires : goal.with_parent-requires
-with_parent-requires g c =
-    let rows = c.args.frozen.now in
-    let z : ℕ = c.in-Some.calf in
-    let lz : z < length rows = calf-within rows c.args.sire z (c.loop-link.invariant.walked.next z c.in-Some.is) in
-    let column : length c.args.column.now ≡ length rows = c.requires.column in
-    λ d e.
-    let lower : d < z = (frozen-placed DEPTH_LIMIT MOST_ANIMALS rows c.len.ensures.frozen).below z d lz (inr (parents-dam rows z c.parents_at.result c.parents_at.ensures ∙ e)) in
+with_parent-requires g c = λ d e.
+    let lower = dam-older g (goal.at.with_parent-requires g c).After-parents_at d e in
+    let here = within g (goal.at.with_parent-requires g c).In-Some in
+    let column = c.requires.column in
     omega arith
 
 pub bounds-known-calf : goal.bounds-known-calf
 bounds-known-calf g c =
-    let rows = c.args.frozen.now in
-    let z : ℕ = c.in-Some.calf in
-    let lz : z < length rows = calf-within rows c.args.sire z (c.loop-link.invariant.walked.next z c.in-Some.is) in
-    let each : length c.loop-link.known ≡ length rows = c.loop-link.invariant.each in
+    let here = within g (goal.at.bounds-known-calf g c).In-Some in
+    let each = c.loop-link.invariant.each in
     omega arith
 
 pub index-link-requires-in-Some : goal.index-link-requires-in-Some
 index-link-requires-in-Some g c =
-    let rows = c.args.frozen.now in
-    let z : ℕ = c.in-Some.calf in
-    let lz : z < length rows = calf-within rows c.args.sire z (c.loop-link.invariant.walked.next z c.in-Some.is) in
-    let each : length c.args.self.now.earlier.items ≡ length rows = c.requires.calves.each_calf in
+    let here = within g (goal.at.index-link-requires-in-Some g c).In-Some in
+    let each = c.requires.calves.each_calf in
     let ok = c.args.self.now.earlier.ok in
     omega arith
 
 pub loop-link-smaller : goal.loop-link-smaller
 loop-link-smaller g c =
-    let rows = c.args.frozen.now in
-    let z : ℕ = c.in-Some.calf in
-    let is : IsLink rows c.args.sire z c.index-link-in-Some.result.now =
-    next-link rows c.args.sire z c.args.self.now.latest.items c.args.self.now.earlier.items c.index-link-in-Some.result.now c.requires.calves
-    (c.loop-link.invariant.walked.next z c.in-Some.is) c.index-link-in-Some.ensures in
-    subst (λ o. left_from c.index-link-in-Some.result.now < left_from o) (sym c.in-Some.is) (left-smaller rows c.args.sire z c.index-link-in-Some.result.now is)
+    let is = older g (goal.at.loop-link-smaller g c).After-index-link-in-Some in
+    subst (λ o. left_from c.index-link-in-Some.result.now < left_from o) (sym c.in-Some.is)
+    (left-smaller c.args.frozen.now c.args.sire c.in-Some.calf c.index-link-in-Some.result.now is)
 
 pub loop-link-preserved : goal.loop-link-preserved
 loop-link-preserved g c =
@@ -66,10 +76,9 @@ loop-link-preserved g c =
     let known : List ℕ = c.loop-link.known in
     let value : ℕ = c.with_parent.result / 2 in
     let calf : IsCalf rows c.args.sire z = c.loop-link.invariant.walked.next z c.in-Some.is in
-    let lz : z < length rows = calf-within rows c.args.sire z calf in
+    let here = within g (goal.at.loop-link-preserved g c).In-Some in
     let each : length known ≡ length rows = c.loop-link.invariant.each in
-    let is : IsLink rows c.args.sire z c.index-link-in-Some.result.now =
-    next-link rows c.args.sire z c.args.self.now.latest.items c.args.self.now.earlier.items c.index-link-in-Some.result.now c.requires.calves calf c.index-link-in-Some.ensures in
+    let is = older g (goal.at.loop-link-preserved g c).After-index-link-in-Some in
     let right : value ≡ at_parent c.args.column.now (dam_place rows z) / 2 =
     ap (λ v. v / 2) c.with_parent.ensures ∙ ap (λ o. at_parent c.args.column.now o / 2) (sym (parents-dam rows z c.parents_at.result c.parents_at.ensures)) in
     record {

@@ -1,81 +1,38 @@
-use Rattle.std.proofs.Common.{ℕ, ◌+◌, ◌*◌, ◌/◌, ◌%◌, ◌≡◌, ◌<◌, ◌≤◌, length, get_or, set, arith, subst, ⊎_elim}
-use Rattle.std.specs.Int.{bit_at}
-use Rattle.std.proofs.lemmas.Bool.{cases_lt}
+use Rattle.std.proofs.Common.{ℕ, List, ◌+◌, ◌*◌, ◌<◌, length, set, arith, subst}
 use Rattle.std.proofs.lemmas.List.{get_or_read}
-use Rattle.herd_kinship.specs.Pending.{mark, Marks}
-use Rattle.herd_kinship.proofs.PendingFacts.{marks-word}
+use Rattle.herd_kinship.proofs.PendingFacts.{IsNearest, nearest-cleared}
+use Rattle.herd_kinship.proofs.pending.Pending.take_nearest.Given.{Over}
+use Rattle.herd_kinship.proofs.pending.Pending.take_nearest.Goals.{After-without_lowest-lowest}
 use Rattle.herd_kinship.proofs.pending.Pending.take_nearest.Goals as goal
 
+-- there are few chunks, so that a distance is a number of the machine
 pub overflow_mul-result : goal.overflow_mul-result
-overflow_mul-result g c =
-    let words = c.args.self.now.words.items in
-    let same : c.loop-self.self.words.items ≡ words = c.loop-self.invariant in
-    let first : ℕ = c.loop-self.self.first in
-    let within : first < length c.loop-self.self.words.items = (let t = c.loop-self-test.true in let e = c.len.ensures in omega arith) in
-    let w : ℕ = c.index-word.result.now in
-    let read : w ≡ get_or c.loop-self.self.words.items first 0 = get_or_read c.loop-self.self.words.items first w within c.index-word.ensures 0 in
-    let cleared = c.without_lowest-lowest.ensures in
-    let few = c.loop-self.self.few_words in omega arith
+overflow_mul-result g c = let few = c.loop-self.self.few_chunks in let test = c.loop-self-test.true in let len = c.len.ensures in omega arith
 
 pub overflow_add-result : goal.overflow_add-result
 overflow_add-result g c =
-    let words = c.args.self.now.words.items in
-    let same : c.loop-self.self.words.items ≡ words = c.loop-self.invariant in
-    let first : ℕ = c.loop-self.self.first in
-    let within : first < length c.loop-self.self.words.items = (let t = c.loop-self-test.true in let e = c.len.ensures in omega arith) in
-    let w : ℕ = c.index-word.result.now in
-    let read : w ≡ get_or c.loop-self.self.words.items first 0 = get_or_read c.loop-self.self.words.items first w within c.index-word.ensures 0 in
-    let cleared = c.without_lowest-lowest.ensures in
-    let few = c.loop-self.self.few_words in let small = cleared.small in omega arith
+    let few = c.loop-self.self.few_chunks in let test = c.loop-self-test.true in let len = c.len.ensures in
+    let small = c.without_lowest-lowest.ensures.small in omega arith
 
-pub returns-then-word-gt0-clause-found : goal.returns-then-word-gt0-clause-found
-returns-then-word-gt0-clause-found g c =
-    let words = c.args.self.now.words.items in
-    let same : c.loop-self.self.words.items ≡ words = c.loop-self.invariant in
+-- what is found is the nearest distance of the set as it was, which the search has left as it is
+nearest : (g : Over) (c : After-without_lowest-lowest g) →
+    IsNearest c.args.self.now.chunks.items (set c.loop-self.self.chunks.items c.loop-self.self.first c.without_lowest-lowest.result.1)
+    (64 * c.loop-self.self.first + c.without_lowest-lowest.result.0)
+nearest g c =
+    let chunks : List ℕ = c.loop-self.self.chunks.items in
     let first : ℕ = c.loop-self.self.first in
-    let within : first < length c.loop-self.self.words.items = (let t = c.loop-self-test.true in let e = c.len.ensures in omega arith) in
-    let w : ℕ = c.index-word.result.now in
-    let read : w ≡ get_or c.loop-self.self.words.items first 0 = get_or_read c.loop-self.self.words.items first w within c.index-word.ensures 0 in
-    let cleared = c.without_lowest-lowest.ensures in
+    let rest : ℕ = c.without_lowest-lowest.result.1 in
     let k : ℕ = c.without_lowest-lowest.result.0 in
-    let small : k < 64 = cleared.small in
-    let q : (64 * first + k) / 64 ≡ first = omega arith in
-    let r : (64 * first + k) % 64 ≡ k = omega arith in
-    let was : bit_at (get_or c.loop-self.self.words.items first 0) k ≡ 1 = subst (λ v. bit_at v k ≡ 1) read cleared.was in
-    rw (q, r) (subst (λ items. bit_at (get_or items first 0) k ≡ 1) same was)
+    let within : first < length chunks = (let test = c.loop-self-test.true in let len = c.len.ensures in omega arith) in
+    subst (λ old. IsNearest old (set chunks first rest) (64 * first + k)) c.loop-self.invariant
+    (nearest-cleared chunks first c.index-chunk.result.now rest k within (get_or_read chunks first c.index-chunk.result.now within c.index-chunk.ensures 0)
+    c.without_lowest-lowest.ensures c.loop-self.self.none_before)
 
-pub returns-then-word-gt0-clause-nearest : goal.returns-then-word-gt0-clause-nearest
-returns-then-word-gt0-clause-nearest g c =
-    let words = c.args.self.now.words.items in
-    let same : c.loop-self.self.words.items ≡ words = c.loop-self.invariant in
-    let first : ℕ = c.loop-self.self.first in
-    let within : first < length c.loop-self.self.words.items = (let t = c.loop-self-test.true in let e = c.len.ensures in omega arith) in
-    let w : ℕ = c.index-word.result.now in
-    let read : w ≡ get_or c.loop-self.self.words.items first 0 = get_or_read c.loop-self.self.words.items first w within c.index-word.ensures 0 in
-    let cleared = c.without_lowest-lowest.ensures in
-    λ nearer near.
-    let k : ℕ = c.without_lowest-lowest.result.0 in
-    let small : k < 64 = cleared.small in
-    subst (λ items. mark items nearer ≡ 0) same
-    (⊎_elim
-    (λ (before : nearer < 64 * first). c.loop-self.self.none_before nearer before)
-    (λ (here : 64 * first ≤ nearer).
-    let q : nearer / 64 ≡ first = omega arith in
-    let lower : nearer % 64 < k = omega arith in
-    let z : bit_at (get_or c.loop-self.self.words.items first 0) (nearer % 64) ≡ 0 = subst (λ v. bit_at v (nearer % 64) ≡ 0) read (cleared.lower (nearer % 64) lower) in
-    rw q z)
-    (cases_lt nearer (64 * first)))
+pub returns-then-chunk-gt0-clause-found : goal.returns-then-chunk-gt0-clause-found
+returns-then-chunk-gt0-clause-found g c = (nearest g (goal.at.returns-then-chunk-gt0-clause-found g c).After-without_lowest-lowest).found
 
-pub returns-then-word-gt0-clause-taken : goal.returns-then-word-gt0-clause-taken
-returns-then-word-gt0-clause-taken g c =
-    let words = c.args.self.now.words.items in
-    let same : c.loop-self.self.words.items ≡ words = c.loop-self.invariant in
-    let first : ℕ = c.loop-self.self.first in
-    let within : first < length c.loop-self.self.words.items = (let t = c.loop-self-test.true in let e = c.len.ensures in omega arith) in
-    let w : ℕ = c.index-word.result.now in
-    let read : w ≡ get_or c.loop-self.self.words.items first 0 = get_or_read c.loop-self.self.words.items first w within c.index-word.ensures 0 in
-    let cleared = c.without_lowest-lowest.ensures in
-    let k : ℕ = c.without_lowest-lowest.result.0 in
-    let taken : Marks c.loop-self.self.words.items (set c.loop-self.self.words.items first c.without_lowest-lowest.result.1) (64 * first + k) 0 =
-    marks-word c.loop-self.self.words.items first k w c.without_lowest-lowest.result.1 0 within cleared.small read cleared.here cleared.others in
-    subst (λ items. Marks items (set c.loop-self.self.words.items first c.without_lowest-lowest.result.1) (64 * first + k) 0) same taken
+pub returns-then-chunk-gt0-clause-nearest : goal.returns-then-chunk-gt0-clause-nearest
+returns-then-chunk-gt0-clause-nearest g c = (nearest g (goal.at.returns-then-chunk-gt0-clause-nearest g c).After-without_lowest-lowest).nearest
+
+pub returns-then-chunk-gt0-clause-taken : goal.returns-then-chunk-gt0-clause-taken
+returns-then-chunk-gt0-clause-taken g c = (nearest g (goal.at.returns-then-chunk-gt0-clause-taken g c).After-without_lowest-lowest).taken

@@ -1,9 +1,9 @@
 use Rattle.std.proofs.Common.{◌≡◌, ◌-◌, length}
 use Rattle.herd_kinship.proofs.pending.Pending.take_nearest.Given as goal
 
--- no word is written before the one with a bit
+-- nothing is written on the way to the first chunk with a bit
 abbrev pub invariant-loop-self : goal.invariant-loop-self
-invariant-loop-self g l = l.self.words.items ≡ l.initial.self.words.items
+invariant-loop-self g l = l.self.chunks.items ≡ l.initial.self.chunks.items
 
 abbrev pub decreases-loop-self : goal.decreases-loop-self
-decreases-loop-self g l = length l.self.words.items - l.self.first
+decreases-loop-self g l = length l.self.chunks.items - l.self.first

@@ -11,29 +11,27 @@ use Rattle.herd_kinship.proofs.tracing.Tracing.meet_next.Goals as goal
 pub returns-in_default-clause-tracing : goal.returns-in_default-clause-tracing
 returns-in_default-clause-tracing g c =
     rw c.in_default.ensures.same
-    (under_way-end DEPTH_LIMIT c.args.frozen.now c.args.self.now.place c.args.self.now.border c.args.self.now.shares.items c.args.self.now.pending.words.items
+    (under_way-end DEPTH_LIMIT c.args.frozen.now c.args.self.now.place c.args.self.now.border c.args.self.now.shares.items c.args.self.now.pending.chunks.items
     c.requires c.in_default.ensures.empty)
 
 pub returns-in_default-clause-all : goal.returns-in_default-clause-all
 returns-in_default-clause-all g c =
-    none-left DEPTH_LIMIT c.args.frozen.now c.args.self.now.place c.args.self.now.border c.args.self.now.shares.items c.args.self.now.pending.words.items
+    none-left DEPTH_LIMIT c.args.frozen.now c.args.self.now.place c.args.self.now.border c.args.self.now.shares.items c.args.self.now.pending.chunks.items
     c.requires c.in_default.ensures.empty
 
 -- what is met at the distance that is taken
 met : (g : Over) (c : After-parents_at-parents g) →
-    IsMet DEPTH_LIMIT c.args.frozen.now c.args.self.now.place c.args.self.now.border c.args.self.now.shares.items c.take_nearest.new.self.words.items c.in-Some.distance
+    IsMet DEPTH_LIMIT c.args.frozen.now c.args.self.now.place c.args.self.now.border c.args.self.now.shares.items c.take_nearest.new.self.chunks.items c.in-Some.distance
     c.index.result.now c.parents_at-parents.result
 met g c =
     let d : ℕ = c.in-Some.distance in
     let shares = c.args.self.now.shares.items in
-    let words = c.args.self.now.pending.words.items in
+    let chunks = c.args.self.now.pending.chunks.items in
     let near = (c.requires.marks.pending d c.in-Some.ensures.found).near in
     let long = c.requires.tracing.long in
-    taken-met DEPTH_LIMIT c.args.frozen.now c.args.self.now.place c.args.self.now.border shares words c.requires c.take_nearest.new.self.words.items d c.index.result.now
+    taken-met DEPTH_LIMIT c.args.frozen.now c.args.self.now.place c.args.self.now.border shares chunks c.requires c.take_nearest.new.self.chunks.items d c.index.result.now
     (record {
-      found = c.in-Some.ensures.found;
-      nearest = c.in-Some.ensures.nearest;
-      taken = c.in-Some.ensures.taken;
+      distance = record { found = c.in-Some.ensures.found; nearest = c.in-Some.ensures.nearest; taken = c.in-Some.ensures.taken };
       own_is = get_or_read shares d c.index.result.now (omega (arith, near, long)) c.index.ensures 0;
     })
     c.parents_at-parents.result c.parents_at-parents.ensures
@@ -65,8 +63,8 @@ returns-clause-tracing g c =
     let d : ℕ = c.in-Some.distance in
     let own : ℕ = c.index.result.now in
     let parents = c.parents_at-parents.result in
-    let first = c.give.new.self.pending.words.items in
-    let last = c.give-2.new.self.pending.words.items in
+    let first = c.give.new.self.pending.chunks.items in
+    let last = c.give-2.new.self.pending.chunks.items in
     let place : c.give-2.new.self.place ≡ x = c.give-2.ensures.place ∙ c.give.ensures.place in
     let border : c.give-2.new.self.border ≡ x - d = c.give-2.ensures.border ∙ c.give.ensures.border in
     let second : GivesMark x first last parents.dam = subst (λ v. GivesMark v first last parents.dam) c.give.ensures.place c.give-2.ensures.marks in

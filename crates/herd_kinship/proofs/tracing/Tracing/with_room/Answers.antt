@@ -5,7 +5,7 @@ use Rattle.herd_kinship.proofs.tracing.Tracing.with_room.Goals as goal
 
 pub returns : goal.returns
 returns g c =
-    let words = c.in_ok-pending.pending.words.items in
-    let P : List ℕ → Type 0 = λ items. IsIdle c.args.animals items words in
+    let chunks = c.in_ok-pending.pending.chunks.items in
+    let P : List ℕ → Type 0 = λ items. IsIdle c.args.animals items chunks in
     subst P (sym (c.in_ok-shares.ensures.items_if_clones_equal (λ y e. e)))
-    (idle-start c.args.animals words c.in_ok-pending.ensures.room c.in_ok-pending.ensures.empty)
+    (idle-start c.args.animals chunks c.in_ok-pending.ensures.room c.in_ok-pending.ensures.empty)

@@ -1,0 +1,25 @@
+use crate::fractions::Fraction;
+
+/// What one animal adds to one entry of the inverse of the numerator relationship matrix.
+///
+/// Summed by row and column over all animals, and mirrored, the contributions are the inverse (Henderson 1976).
+#[derive(Clone, Copy, Debug, PartialEq, Eq)]
+pub struct Contribution {
+    /// The place of the later animal of the two in age order, or of the one animal on the diagonal.
+    pub row: u32,
+    /// The place of the earlier animal of the two.
+    pub column: u32,
+    /// What is added there, exact and in lowest terms.
+    pub value: Fraction,
+}
+
+/// What an animal contributes to the inverse of the numerator relationship matrix.
+#[derive(Clone, Copy, Debug, PartialEq, Eq)]
+pub struct Contributions {
+    /// What it adds at itself: 1 over its Mendelian sampling variance, so from 1 on.
+    pub alpha: Fraction,
+    /// How many count: 1 with no known parent, 3 with one, 6 with two.
+    pub count: u8,
+    /// At itself, with each known parent, and those of the parents; what comes after `count` repeats the first.
+    pub list: [Contribution; 6],
+}
