@@ -1,4 +1,4 @@
-ghost use Rattle.std.specs.Prelude.{◌≡◌, ◌+◌, ◌*◌, ◌^◌, ◌<◌, All, length, slice_index, IfOk};
+ghost use Rattle.std.specs.Prelude.{◌≡◌, ◌==◌, ◌+◌, ◌*◌, ◌^◌, ◌<◌, All, length, slice_index, IfOk};
 ghost use Rattle.herd_pedigree.specs.declared.TheConstants.{DEPTH_LIMIT};
 ghost use Rattle.herd_kinship.specs.CalfLinks.{AreLinked};
 ghost use Rattle.herd_kinship.specs.Coefficients.{AreCoefficients, KnowsReached};
@@ -42,6 +42,13 @@ impl<A: Allocator> Coefficients<A> {
         ensures { result ≡ length self.now }
     {
         self.numerators.len()
+    }
+
+    /// Whether there are none, as for a book with no animals.
+    pub fn is_empty(&self) -> bool
+        ensures { result ≡ (length self.now == 0) }
+    {
+        self.numerators.len() == 0
     }
 
     /// The coefficient of the animal at a place, in units of 2^-120: from 0 to `ONE` - 1.

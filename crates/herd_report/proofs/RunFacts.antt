@@ -9,7 +9,7 @@ use Rattle.herd_pedigree.specs.declared.TheConstants.{DEPTH_LIMIT, MOST_ANIMALS}
 use Rattle.herd_pedigree.specs.declared.frozen.Row.{Row}
 use Rattle.herd_pedigree.proofs.PermutedFacts.{record_of-permuted}
 use Rattle.herd_register.specs.Register.{Register, with_step}
-use Rattle.herd_register.specs.Register.{book_of as book_of_register}
+use Rattle.herd_register.specs.Register.{register_book}
 use Rattle.herd_register.specs.Run.{answer, next, step_of, book_after, commands_of, run_book}
 use Rattle.herd_register.specs.declared.command.Command.{Command}
 use Rattle.herd_register.specs.declared.limits.Limits.{Limits}
@@ -60,21 +60,21 @@ commands_of-filed limits commands register filed = ap commands_of filed.journal_
 
 -- and its book is theirs
 pub book_of-filed : (limits : Limits) (commands : List Command) (register : Register) → HasFiled limits commands register →
-    book_of_register register ≡ run_book limits commands
+    register_book register ≡ run_book limits commands
 book_of-filed limits commands register filed =
     ap (λ l. run_book l (commands_of register.journal)) filed.limits_are ∙ ap (run_book limits) (commands_of-filed limits commands register filed)
 
 -- a register that has answered one command more
 pub filed-more : (limits : Limits) (commands : List Command) (command : Command) (old new : Register) → HasFiled limits commands old →
-    new ≡ with_step old (step_of 0 command (answer old.limits (book_of_register old) command)) → HasFiled limits (commands ++ command ∷ []) new
+    new ≡ with_step old (step_of 0 command (answer old.limits (register_book old) command)) → HasFiled limits (commands ++ command ∷ []) new
 filed-more limits commands command old new filed e =
-    let book : book_of_register old ≡ book_after limits [] commands = book_of-filed limits commands old filed in
-    let reply : answer old.limits (book_of_register old) command ≡ answer limits (book_after limits [] commands) command =
-    ap (λ l. answer l (book_of_register old) command) filed.limits_are ∙ ap (λ b. answer limits b command) book in
+    let book : register_book old ≡ book_after limits [] commands = book_of-filed limits commands old filed in
+    let reply : answer old.limits (register_book old) command ≡ answer limits (book_after limits [] commands) command =
+    ap (λ l. answer l (register_book old) command) filed.limits_are ∙ ap (λ b. answer limits b command) book in
     record {
       limits_are = ap (λ r. r.limits) e ∙ filed.limits_are;
       journal_is = ap (λ r. r.journal) e
-          ∙ ap (λ steps. steps ++ step_of 0 command (answer old.limits (book_of_register old) command) ∷ []) filed.journal_is
+          ∙ ap (λ steps. steps ++ step_of 0 command (answer old.limits (register_book old) command) ∷ []) filed.journal_is
           ∙ ap (λ r. filed_from limits [] commands ++ step_of 0 command r ∷ []) reply
           ∙ sym (filed_from-append limits [] commands (command ∷ []));
     }
@@ -113,7 +113,7 @@ first_commands most file list (Some fault) read =
 
 -- the frozen rows of a register in which the commands of a file without a fault are filed
 pub frozen_file : (limits : Limits) (file : CommandFile) (register : Register) (rows : List Row) → IsFiledFile limits file register →
-    IsFrozenFrom DEPTH_LIMIT MOST_ANIMALS (book_of_register register) rows → IsFrozenFile limits file rows
+    IsFrozenFrom DEPTH_LIMIT MOST_ANIMALS (register_book register) rows → IsFrozenFile limits file rows
 frozen_file limits file register rows whole frozen = record {
   faultless = whole.faultless;
   frozen = subst (λ book. IsFrozenFrom DEPTH_LIMIT MOST_ANIMALS book rows) (book_of-filed limits file.commands register whole.filed) frozen;

@@ -6,7 +6,7 @@ use Rattle.std.specs.List.{list_all}
 use Rattle.std.specs.Str.{bytes_eq}
 use Rattle.std.specs.Str.Parse.{digits_value}
 use Rattle.jiff_core.specs.Calendar.{days_in_month}
-use Rattle.herd_animal.specs.Day.{day_of_month, month_of, number_of, year_of}
+use Rattle.herd_animal.specs.Day.{day_of_month, month_of, day_number, year_of}
 
 -- each character may stand at its place, the first at this one
 abbrev pub each_right : (ℕ → ℕ → Bool) → ℕ → List ℕ → Bool
@@ -41,7 +41,7 @@ is_day text =
 
 -- the number of the day
 unfoldable pub day_in : List ℕ → ℤ
-day_in text = number_of text
+day_in text = day_number text
 
 -- the text is a herd
 unfoldable pub is_herd : List ℕ → Bool

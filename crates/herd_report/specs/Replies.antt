@@ -3,11 +3,11 @@ use Rattle.std.specs.Prelude.{ℕ, ◌+◌, List, [], ◌∷◌, ◌++◌, codes
 use Rattle.herd_register.specs.declared.reply.Reply.{Reply}
 use Rattle.herd_register.specs.declared.reply.Reply.TheVariants.{Accepted, Refused}
 use Rattle.herd_register.specs.declared.step.Step.{Step}
-use Rattle.herd_register.specs.Refusal.{number_of}
+use Rattle.herd_register.specs.Refusal.{refusal_number}
 
 abbrev pub reply_text : Reply → List ℕ
 reply_text Accepted = codes "accepted"
-reply_text (Refused refusal) = codes "refused," ++ decimal (number_of refusal)
+reply_text (Refused refusal) = codes "refused," ++ decimal (refusal_number refusal)
 
 -- the line of the step with this serial
 abbrev pub reply_line : ℕ → Reply → List ℕ

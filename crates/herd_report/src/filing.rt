@@ -1,7 +1,7 @@
 // Filing commands in a register, one after the other at desk 0.
 ghost use Rattle.std.specs.Prelude.{◌≡◌, ◌<◌, ◌+◌, List, [], IfErr, IfOk, IfSome, OnErr, OnOk, length};
 ghost use Rattle.csv.specs.Reading.{has_failed};
-ghost use Rattle.herd_register.specs.Register.{AreLimits, book_of, with_step};
+ghost use Rattle.herd_register.specs.Register.{AreLimits, register_book, with_step};
 ghost use Rattle.herd_register.specs.Run.{answer, commands_of, step_of};
 ghost use Rattle.herd_register.specs.declared.command.Command.{Command};
 ghost use Rattle.herd_report.specs.CommandFile.{CommandFile, IsRead, IsReadUpTo, commands};
@@ -141,7 +141,7 @@ fn fault_of_rest<R: Read>(commands: &mut CommandReader<R>) -> Option<LineFault>
 fn file_next(register: &mut Register<Global>, command: Command) -> Result<(), AllocError>
     requires { length register.old.journal < register.old.limits.steps }
     ensures { OnOk result (register.new
-        ≡ with_step register.old (step_of 0 command (answer register.old.limits (book_of register.old) command))) }
+        ≡ with_step register.old (step_of 0 command (answer register.old.limits (register_book register.old) command))) }
 {
     match register.file(0, command) {
         Ok(_) => Ok(()),

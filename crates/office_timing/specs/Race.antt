@@ -7,7 +7,7 @@ use Rattle.herd_register.specs.declared.reply.Refusal.TheVariants.{AlreadyThere,
 use Rattle.herd_register.specs.declared.reply.Reply.{Reply}
 use Rattle.herd_register.specs.declared.reply.Reply.TheVariants.{Accepted, Refused}
 use Rattle.herd_register.specs.declared.step.Step.{Step}
-use Rattle.herd_register.specs.Register.{Register, book_of}
+use Rattle.herd_register.specs.Register.{Register, register_book}
 use Rattle.herd_register.specs.Run.{newborn}
 use Rattle.office_timing.specs.declared.cast.Cast.{Cast}
 use Rattle.office_timing.specs.declared.duel.Duel.{Duel}
@@ -51,7 +51,7 @@ pub record IsEndOf (register : Register) (animal : List ℕ) (end : End) : Type 
   pub journal : register.journal ≡ before ++ earlier ∷ later ∷ []
   pub first : (end.first ≡ earlier.desk) × (end.earlier ≡ earlier.reply)
   pub second : (end.second ≡ later.desk) × (end.later ≡ later.reply)
-  pub animal_is : end.animal ≡ record_of (book_of register) animal
+  pub animal_is : end.animal ≡ record_of (register_book register) animal
 
 -- of sixteen births of one animal the first was accepted, and each other refused, since the animal is there
 pub record IsBornOnce (journal : List Step) : Type 0 where

@@ -1,7 +1,7 @@
 //! The births that are filed.
 
 ghost use Rattle.std.specs.Prelude.{◌≡◌, ◌+◌, ◌%◌, IfOk, codes};
-ghost use Rattle.herd_animal.specs.Day.{number_of as day_number};
+ghost use Rattle.herd_animal.specs.Day.{day_number as day_number};
 ghost use Rattle.office_timing.specs.Founders.{birth_at, number_at};
 
 use crate::herds::herd_of;

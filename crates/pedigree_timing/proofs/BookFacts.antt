@@ -11,7 +11,7 @@ use Rattle.herd_pedigree.specs.Book.{Book, changed, with_parents}
 use Rattle.herd_pedigree.specs.Frozen.{IsFrozenFrom, book_of}
 use Rattle.herd_pedigree.specs.declared.frozen.Row.{Row}
 use Rattle.pedigree_timing.specs.declared.filling.TheConstants.{LINE}
-use Rattle.pedigree_timing.specs.Animals.{number_at}
+use Rattle.pedigree_timing.specs.Animals.{nth_number}
 use Rattle.pedigree_timing.specs.Books.{first_of, lines_in, corrected}
 
 pub first_of-more : (entry : ℕ → List ℕ × Animal) (n : ℕ) → first_of entry (n + 1) ≡ first_of entry n ++ entry n ∷ []
@@ -36,7 +36,7 @@ pub corrected-none : (book : Book) → corrected book 0 ≡ book
 unfolding corrected
 corrected-none book = refl
 
-pub corrected-more : (book : Book) (turn : ℕ) → corrected book (turn + 1) ≡ changed (corrected book turn) (number_at Male (turn % lines_in book * LINE + 1)) (with_parents (if turn / lines_in book % 2 == 0 then Some (number_at Male 0) else None) None)
+pub corrected-more : (book : Book) (turn : ℕ) → corrected book (turn + 1) ≡ changed (corrected book turn) (nth_number Male (turn % lines_in book * LINE + 1)) (with_parents (if turn / lines_in book % 2 == 0 then Some (nth_number Male 0) else None) None)
 unfolding corrected
 corrected-more book turn = rw (add-one turn) refl
 
@@ -46,7 +46,7 @@ first_of-next entry n was now number animal old new same_number same_animal =
     rw first_of-more (rw (new, old, same_number, same_animal) refl)
 
 -- a book in which one correction more is made
-pub corrected-next : (book was now : Book) (turn lines : ℕ) (head : List ℕ) (sire : Option (List ℕ)) → was ≡ corrected book turn → lines ≡ lines_in book → head ≡ number_at Male (turn % lines * LINE + 1) → sire ≡ (if turn / lines % 2 == 0 then Some (number_at Male 0) else None) → now ≡ changed was head (with_parents sire None) → now ≡ corrected book (turn + 1)
+pub corrected-next : (book was now : Book) (turn lines : ℕ) (head : List ℕ) (sire : Option (List ℕ)) → was ≡ corrected book turn → lines ≡ lines_in book → head ≡ nth_number Male (turn % lines * LINE + 1) → sire ≡ (if turn / lines % 2 == 0 then Some (nth_number Male 0) else None) → now ≡ changed was head (with_parents sire None) → now ≡ corrected book (turn + 1)
 corrected-next book was now turn lines head sire old many first given new =
     new ∙ rw (corrected-more book turn, old, first, given, many) refl
 

@@ -4,7 +4,7 @@ use Rattle.std.specs.Char.{IsAsciiDigit}
 use Rattle.herd_animal.specs.AnimalNumber.{IsSexLetter, IsRightAt, IsAnimalNumber}
 use Rattle.herd_animal.specs.declared.number.Sex.{Sex}
 use Rattle.herd_animal.specs.declared.number.Sex.TheVariants.{Male, Female}
-use Rattle.pedigree_timing.specs.Animals.{letter_of, number_at}
+use Rattle.pedigree_timing.specs.Animals.{letter_of, nth_number}
 use Rattle.pedigree_timing.proofs.DigitFacts.{length-digits, digit-digits}
 
 letter_right : (place letter : ℕ) → place < 6 → 65 ≤ letter → letter ≤ 90 → IsRightAt place letter
@@ -20,7 +20,7 @@ sex_letter : (sex : Sex) → IsSexLetter (letter_of sex)
 sex_letter Male = inl refl
 sex_letter Female = inr refl
 
-right_at : (sex : Sex) (number place : ℕ) → place < 19 → IsRightAt place (slice_index (number_at sex number) place)
+right_at : (sex : Sex) (number place : ℕ) → place < 19 → IsRightAt place (slice_index (nth_number sex number) place)
 right_at sex number zero h = letter_right 0 _ (omega arith) (omega arith) (omega arith)
 right_at sex number (suc zero) h = letter_right 1 _ (omega arith) (omega arith) (omega arith)
 right_at sex number (suc (suc zero)) h = letter_right 2 _ (omega arith) (omega arith) (omega arith)
@@ -30,10 +30,10 @@ right_at sex number (suc (suc (suc (suc (suc zero))))) h = letter_right 5 _ (ome
 right_at sex number (suc (suc (suc (suc (suc (suc zero)))))) h = sex_right _ (sex_letter sex)
 right_at sex number (suc (suc (suc (suc (suc (suc (suc k))))))) h = digit_right _ _ (omega arith) (digit-digits 12 number k (omega arith))
 
-pub length-number_at : (sex : Sex) (number : ℕ) → length (number_at sex number) ≡ 19
+pub length-number_at : (sex : Sex) (number : ℕ) → length (nth_number sex number) ≡ 19
 length-number_at sex number = omega (arith, length-digits 12 number)
 
-pub IsAnimalNumber-number_at : (sex : Sex) (number : ℕ) → IsAnimalNumber (number_at sex number)
+pub IsAnimalNumber-number_at : (sex : Sex) (number : ℕ) → IsAnimalNumber (nth_number sex number)
 IsAnimalNumber-number_at sex number = record {
   long = length-number_at sex number;
   right = λ place within. right_at sex number place (omega (arith, length-number_at sex number));

@@ -1,6 +1,6 @@
 -- The numbers and records of made animals.
 use Rattle.std.specs.Prelude.{ℕ, zero, suc, ◌+◌, ◌*◌, ◌/◌, ◌%◌, false, List, [], ◌∷◌, ◌++◌, codes, Option, None, ℤ}
-use Rattle.herd_animal.specs.Day.{number_of, text_of}
+use Rattle.herd_animal.specs.Day.{day_number, text_of}
 use Rattle.herd_animal.specs.declared.number.Sex.{Sex}
 use Rattle.herd_animal.specs.declared.number.Sex.TheVariants.{Male, Female}
 use Rattle.herd_pedigree.specs.declared.animal.Animal.{Animal}
@@ -16,12 +16,12 @@ letter_of Male = 77
 letter_of Female = 70
 
 -- the number of an animal, by its place in the order of registration
-abbrev pub number_at : Sex → ℕ → List ℕ
-number_at sex place = codes "HOLGBR" ++ letter_of sex ∷ digits 12 place
+abbrev pub nth_number : Sex → ℕ → List ℕ
+nth_number sex place = codes "HOLGBR" ++ letter_of sex ∷ digits 12 place
 
 -- the day of a year, a month and a day of the month
 abbrev pub day_of : ℕ → ℕ → ℕ → ℤ
-day_of year month day = number_of (text_of year month day)
+day_of year month day = day_number (text_of year month day)
 
 -- an animal at its birth, in herd 1
 abbrev pub newborn : ℤ → Option (List ℕ) → Option (List ℕ) → Animal

@@ -6,7 +6,7 @@ use Rattle.herd_animal.specs.declared.number.Sex.TheVariants.{Male, Female}
 use Rattle.herd_pedigree.specs.declared.animal.Animal.{Animal}
 use Rattle.herd_pedigree.specs.Book.{Book, changed, with_parents}
 use Rattle.pedigree_timing.specs.declared.filling.TheConstants.{LINE, PAIRS}
-use Rattle.pedigree_timing.specs.Animals.{number_at, day_of, newborn, calf_birth}
+use Rattle.pedigree_timing.specs.Animals.{nth_number, day_of, newborn, calf_birth}
 
 -- the first so many animals
 abbrev pub first_of : (ℕ → List ℕ × Animal) → ℕ → Book
@@ -20,19 +20,19 @@ paired_sex place = if nat_le PAIRS place && nat_lt place (2 * PAIRS) then Female
 abbrev pub paired_animal : ℕ → Animal
 paired_animal place =
     if nat_lt place (2 * PAIRS) then newborn (day_of 1900 1 1) None None
-    else newborn (calf_birth place) (Some (number_at Male (place % PAIRS))) (Some (number_at Female (PAIRS + place % PAIRS)))
+    else newborn (calf_birth place) (Some (nth_number Male (place % PAIRS))) (Some (nth_number Female (PAIRS + place % PAIRS)))
 
 abbrev pub paired_entry : ℕ → List ℕ × Animal
-paired_entry place = (number_at (paired_sex place) place, paired_animal place)
+paired_entry place = (nth_number (paired_sex place) place, paired_animal place)
 
 -- a founder, and then lines in which each animal is the sire of the next
 abbrev pub lined_animal : ℕ → Animal
 lined_animal zero = newborn (day_of 1900 1 1) None None
 lined_animal (suc before) =
-    newborn (day_of (1910 + before % LINE) 1 1) (if before % LINE == 0 then None else Some (number_at Male before)) None
+    newborn (day_of (1910 + before % LINE) 1 1) (if before % LINE == 0 then None else Some (nth_number Male before)) None
 
 abbrev pub lined_entry : ℕ → List ℕ × Animal
-lined_entry place = (number_at Male place, lined_animal place)
+lined_entry place = (nth_number Male place, lined_animal place)
 
 -- how many lines the book has, and 1 for a book of none
 abbrev pub lines_in : Book → ℕ
@@ -43,5 +43,5 @@ unfoldable pub corrected : Book → ℕ → Book
 corrected book zero = book
 corrected book (suc turn) =
     let lines = lines_in book in
-    changed (corrected book turn) (number_at Male (turn % lines * LINE + 1))
-    (with_parents (if turn / lines % 2 == 0 then Some (number_at Male 0) else None) None)
+    changed (corrected book turn) (nth_number Male (turn % lines * LINE + 1))
+    (with_parents (if turn / lines % 2 == 0 then Some (nth_number Male 0) else None) None)

@@ -4,7 +4,7 @@ ghost use Rattle.std.specs.Prelude.{◌≡◌, ◌<◌, ◌≤◌, None, Some, l
 ghost use Rattle.herd_animal.specs.Day.{two_digits_of};
 ghost use Rattle.herd_animal.specs.Sex.{sex_of};
 ghost use Rattle.herd_animal.specs.declared.number.Sex.TheVariants.{Male, Female};
-ghost use Rattle.pedigree_timing.specs.Animals.{calf_birth, day_of, digits, letter_of, newborn, number_at};
+ghost use Rattle.pedigree_timing.specs.Animals.{calf_birth, day_of, digits, letter_of, newborn, nth_number};
 
 use herd_animal::{AnimalNumber, Day, Herd, Sex};
 use herd_pedigree::Animal;
@@ -33,7 +33,7 @@ fn letter(sex: Sex) -> u8
 }
 
 fn number(sex: Sex, place: u32) -> AnimalNumber
-    ensures { result ≡ number_at sex place }
+    ensures { result ≡ nth_number sex place }
 {
     let mut text = *b"HOLGBR?000000000000";
     text[6] = letter(sex);
@@ -46,7 +46,7 @@ fn number(sex: Sex, place: u32) -> AnimalNumber
 
 /// The number of a male, by its place in the order of registration.
 pub fn male(place: u32) -> AnimalNumber
-    ensures number { result ≡ number_at Male place }
+    ensures number { result ≡ nth_number Male place }
     ensures sex { sex_of result ≡ Male }
 {
     number(Sex::Male, place)
@@ -54,7 +54,7 @@ pub fn male(place: u32) -> AnimalNumber
 
 /// The number of a female, by its place in the order of registration.
 pub fn female(place: u32) -> AnimalNumber
-    ensures number { result ≡ number_at Female place }
+    ensures number { result ≡ nth_number Female place }
     ensures sex { sex_of result ≡ Female }
 {
     number(Sex::Female, place)

@@ -4,7 +4,7 @@ ghost use Rattle.std.specs.Prelude.{◌≡◌, ◌++◌, [], ◌∷◌, length, 
 ghost use Rattle.std.specs.Map.{keys_of};
 ghost use Rattle.herd_animal.specs.declared.number.Sex.TheVariants.{Male};
 ghost use Rattle.herd_pedigree.specs.Book.{changed, with_parents};
-ghost use Rattle.pedigree_timing.specs.Animals.{number_at};
+ghost use Rattle.pedigree_timing.specs.Animals.{nth_number};
 ghost use Rattle.pedigree_timing.specs.Books.{corrected, first_of, lined_animal, lined_entry, paired_animal, paired_entry, paired_sex};
 
 use crate::animals::{born_in, calf, female, male};
@@ -32,7 +32,7 @@ pub fn calves(alloc: Global, animals: u32) -> Result<Pedigree<Global>>
 }
 
 fn paired_number(place: u32) -> AnimalNumber
-    ensures { result ≡ number_at (paired_sex place) place }
+    ensures { result ≡ nth_number (paired_sex place) place }
 {
     if PAIRS <= place && place < 2 * PAIRS {
         female(place)

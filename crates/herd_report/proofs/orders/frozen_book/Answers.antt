@@ -3,7 +3,7 @@ use Rattle.std.proofs.Common.{subst}
 use Rattle.std.proofs.lemmas.Option.{IfSome_then}
 use Rattle.herd_pedigree.specs.Frozen.{IsFrozenFrom}
 use Rattle.herd_pedigree.specs.declared.TheConstants.{DEPTH_LIMIT, MOST_ANIMALS}
-use Rattle.herd_register.specs.Register.{book_of}
+use Rattle.herd_register.specs.Register.{register_book}
 use Rattle.herd_report.specs.CommandFile.{commands}
 use Rattle.herd_report.proofs.RunFacts.{frozen_file}
 use Rattle.herd_report.proofs.orders.frozen_book.Goals as goal
@@ -13,7 +13,7 @@ returns-clause-ok g c =
     let limits = c.args.limits in
     let register = c.in_ok-register.register in
     let rows = c.in_ok-freeze.field-0 in
-    let frozen : IsFrozenFrom DEPTH_LIMIT MOST_ANIMALS (book_of register) rows =
+    let frozen : IsFrozenFrom DEPTH_LIMIT MOST_ANIMALS (register_book register) rows =
     subst (λ book. IsFrozenFrom DEPTH_LIMIT MOST_ANIMALS book rows) c.pedigree.ensures.book c.in_ok-freeze.ensures in
     IfSome_then (g.R.Read.remaining c.args.reader) c.in_ok-register.ensures.ok
     (λ bytes whole. frozen_file limits (commands bytes limits.steps) register rows whole frozen)

@@ -3,7 +3,7 @@ use Rattle.std.proofs.Common.{◌≡◌, ◌/◌, ◌%◌, ◌==◌, if◌then�
 use Rattle.std.proofs.lemmas.Grind.{common_steps}
 use Rattle.std.specs.Map.{keys_of}
 use Rattle.herd_animal.specs.declared.number.Sex.TheVariants.{Male}
-use Rattle.pedigree_timing.specs.Animals.{number_at}
+use Rattle.pedigree_timing.specs.Animals.{nth_number}
 use Rattle.pedigree_timing.proofs.BookFacts.{corrected-none, corrected-next, keys_of-changed}
 use Rattle.pedigree_timing.proofs.filling.correct_heads.Goals.{then-is_multiple_of, else-is_multiple_of}
 use Rattle.pedigree_timing.proofs.filling.correct_heads.Goals as goal
@@ -13,7 +13,7 @@ loop-turn-init c = (sym (corrected-none _), refl)
 
 pub loop-turn-preserved : goal.loop-turn-preserved
 loop-turn-preserved c =
-    let sire : c.if-is_multiple_of.sire ≡ (if c.loop-turn.turn / c.max-lines.result % 2 == 0 then Some (number_at Male 0) else None) =
+    let sire : c.if-is_multiple_of.sire ≡ (if c.loop-turn.turn / c.max-lines.result % 2 == 0 then Some (nth_number Male 0) else None) =
     elim c.if-is_multiple_of.branch [
       | then-is_multiple_of w ↦ grind (arith, common_steps, w.if-is_multiple_of.true, w.sire-is)
       | else-is_multiple_of w ↦ grind (arith, common_steps, w.if-is_multiple_of.false, w.sire-is)
