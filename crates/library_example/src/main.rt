@@ -47,8 +47,8 @@ fn main(rt: HostRuntime) -> Result<()> {
     let coefficients = coefficients_plain(rt.alloc(), &frozen)?;
     print_coefficients(&rt, &frozen, &coefficients)?;
 
-    let sire = AnimalNumber::parse(SON.as_bytes())?;
-    let dam = AnimalNumber::parse(CALF.as_bytes())?;
+    let sire: AnimalNumber = SON.parse()?;
+    let dam: AnimalNumber = CALF.parse()?;
     print_mating(&rt, rt.alloc(), &frozen, &coefficients, sire, dam)?;
     Ok(())
 }
@@ -77,8 +77,8 @@ fn file_birth(
 {
     // `parse` gives a number, a day or a herd, or tells what is wrong with the text.
     let command = Command::Birth {
-        animal: AnimalNumber::parse(animal.as_bytes())?,
-        day: Day::parse(day.as_bytes())?,
+        animal: animal.parse()?,
+        day: day.parse()?,
         sire: parent(sire)?,
         dam: parent(dam)?,
         herd: Herd::parse(b"1")?,
@@ -91,7 +91,7 @@ fn file_birth(
 
 fn parent(number: Option<&str>) -> Result<Option<AnimalNumber>> {
     match number {
-        Some(number) => Ok(Some(AnimalNumber::parse(number.as_bytes())?)),
+        Some(number) => Ok(Some(number.parse()?)),
         None => Ok(None),
     }
 }
