@@ -3,11 +3,12 @@ ghost use Rattle.std.specs.Prelude.{◌≡◌, ◌+◌, ◌<◌, ◌≤◌, [], 
 ghost use Rattle.left_right.specs.Sides.{view};
 ghost use Rattle.herd_register.specs.Copybook.{copybook_of};
 ghost use Rattle.herd_office.specs.Copies.{IsTold, office_of};
-ghost use Rattle.herd_office.specs.Shelves.{state_of, after, entry_of};
+ghost use Rattle.herd_office.specs.Shelves.{state_of, after, update_of};
 
+use crate::copy_update::CopyUpdate;
 use crate::faults::OpenFault;
 use crate::history::Past;
-use crate::shown::{Entry, Notes, Ours, Publishes, Shown, View};
+use crate::shown::{Notes, Ours, Publishes, Shown, View};
 use core::mem;
 use herd_register::Step;
 use left_right::reader::Reader;
@@ -16,7 +17,7 @@ use std::alloc::{AllocError, Global};
 use std::sync::Wait;
 
 /// Who changes the copies and shows them: it lies under the office's lock, since there is one for all desks.
-pub type Copies = Writer<Shown, Entry, View, Ours>;
+pub type Copies = Writer<Shown, CopyUpdate, View, Ours>;
 
 /// A seat at the copies, from which an inspector reads: each inspector has one.
 pub type Place = Reader<Shown, View, Ours>;
@@ -94,7 +95,7 @@ pub fn publish<R: Wait>(copies: Copies, rt: &R) -> (Copies, Result<(), AllocErro
 
 /// Publishes the step that is pending, with the history that has it.
 pub fn show<R: Wait>(rt: &R, copies: &mut Copies, step: &Step, past: Past)
-    requires pending { drop copies.old.behind copies.old.log.items ≡ entry_of step.now ∷ [] }
+    requires pending { drop copies.old.behind copies.old.log.items ≡ update_of step.now ∷ [] }
     requires room { length copies.old.desk.shown.value.copybook.journal < copies.old.desk.shown.value.copybook.limits.steps }
     requires book { past.seen.book ≡ copies.old.desk.shown.value.past.seen.book }
     requires limits { past.limits ≡ copies.old.desk.shown.value.copybook.limits }
@@ -109,7 +110,7 @@ pub fn show<R: Wait>(rt: &R, copies: &mut Copies, step: &Step, past: Past)
     ensures pending { drop copies.new.behind copies.new.log.items ≡ [] }
 {
     // Where there is no memory for it, readers get no reading until a later history is told.
-    let _ = copies.append(Entry::of_past(past));
+    let _ = copies.append(CopyUpdate::of_past(past));
     let _ = mem::replace_with(copies, rt, publish::<R>);
 }
 

@@ -6,14 +6,14 @@ ghost use Rattle.herd_register.specs.Run.{IsLegal, step_of};
 ghost use Rattle.herd_office.specs.Closing.{BeginsWithAll};
 ghost use Rattle.herd_office.specs.Filing.{EndsWith, answer_after, with_step_of};
 ghost use Rattle.herd_office.specs.Histories.{Apart, of_desk, times};
-ghost use Rattle.herd_office.specs.Shelves.{entry_of, state_of};
+ghost use Rattle.herd_office.specs.Shelves.{state_of, update_of};
 
 use crate::copies::{Copies, show};
+use crate::copy_update::CopyUpdate;
 use crate::faults::OpenFault;
 use crate::history::History;
 use crate::name::OfficeName;
 use crate::office::{Inside, Office};
-use crate::shown::Entry;
 use herd_register::{Command, FileFault, MOST_STEPS, Register, Reply, Step};
 use std::alloc::Allocator;
 use std::sync::ledger::{Book, Share};
@@ -155,7 +155,7 @@ fn file_in<A: Allocator + Copy>(
     ensures step { IfOk result (λ step. step ≡ step_of desk command.now step.reply) }
     ensures reply { IfOk result (λ step. step.reply ≡ answer_after register.old.limits register.old.journal command.now) }
     ensures stored { IfOk result (λ step. register.new.journal ≡ register.old.journal ++ step ∷ []) }
-    ensures pending { IfOk result (λ step. drop copies.new.behind copies.new.log.items ≡ entry_of step ∷ []) }
+    ensures pending { IfOk result (λ step. drop copies.new.behind copies.new.log.items ≡ update_of step ∷ []) }
     ensures legal { IfOk result (λ _. IsLegal register.new.limits register.new.journal) }
     ensures limits { register.new.limits ≡ register.old.limits }
     ensures shown { copies.new.desk ≡ copies.old.desk }
@@ -170,7 +170,7 @@ fn file_in<A: Allocator + Copy>(
         desk,
         reply,
     };
-    if copies.append(Entry::of_step(&step)).is_err() {
+    if copies.append(CopyUpdate::of_step(&step)).is_err() {
         register.withdraw();
         return Err(FileFault::Memory);
     }

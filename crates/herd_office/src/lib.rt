@@ -37,6 +37,7 @@
 #![tactic(auto)]
 
 mod copies;
+mod copy_update;
 mod desk;
 mod faults;
 mod history;

@@ -1,40 +1,39 @@
--- Animals that `==` finds the same are equal.
-use Rattle.std.proofs.Common.{◌≡◌, int_eq, ℕ, ℤ, Bool, true, List, Option, Some, None, ap, refl}
-use Rattle.std.specs.Str.{bytes_eq}
+-- Animals that `==` finds the same are equal, and only those.
+use Rattle.std.proofs.Common.{◌≡◌, int_eq, Bool, Option, Some, None, ap, refl, sym}
+use Rattle.std.specs.Bool.{Decides}
 use Rattle.std.specs.Cmp.{booleans_Decides, unsigned_Decides}
-use Rattle.std.proofs.lemmas.Bool.Decides.{Decides-int_eq}
-use Rattle.std.proofs.lemmas.Slice.Eq.{bytes_eq-Decides}
 use Rattle.std.specs.Option.{option_eq}
-use Rattle.std.proofs.lemmas.Bool.{and_parts, false≢true}
+use Rattle.std.proofs.lemmas.Bool.{false≢true}
+use Rattle.std.proofs.lemmas.Bool.Decides.{Decides-and, Decides-int_eq, Decides-like}
+use Rattle.std.proofs.lemmas.Option.{none-some, same_Some}
+use Rattle.std.proofs.lemmas.Slice.Eq.{bytes_eq-Decides}
 use Rattle.herd_pedigree.specs.declared.animal.Animal.{Animal}
 use Rattle.herd_pedigree.specs.contracts.animal.AnimalPartialEq.TheImpl as animal
 
-module _ {A : Type 0} (E : A → A → Bool) (same : (a b : A) → E a b ≡ true → a ≡ b) where
-  pub options_same : (x y : Option A) → option_eq E x y ≡ true → x ≡ y
-  options_same None None e = refl
-  options_same None (Some b) e = absurd (false≢true e)
-  options_same (Some a) None e = absurd (false≢true e)
-  options_same (Some a) (Some b) e = ap Some (same a b e)
+module _ {A : Type 0} (E : A → A → Bool) (each : (a b : A) → Decides (E a b) (a ≡ b)) where
+  pub options_decided : (x y : Option A) → Decides (option_eq E x y) (x ≡ y)
+  options_decided None None = (λ _. refl, λ _. refl)
+  options_decided None (Some b) = (λ e. absurd (false≢true e), λ e. absurd (none-some b e))
+  options_decided (Some a) None = (λ e. absurd (false≢true e), λ e. absurd (none-some a (sym e)))
+  options_decided (Some a) (Some b) = (λ e. ap Some ((each a b).0 e), λ e. (each a b).1 (same_Some a b e))
 
-days_same : (x y : ℤ) → int_eq x y ≡ true → x ≡ y
-days_same x y = (Decides-int_eq x y).0
-
-numbers_same : (x y : List ℕ) → bytes_eq x y ≡ true → x ≡ y
-numbers_same x y = (bytes_eq-Decides x y).0
-
-pub animals_same : (a b : Animal) → animal.eq-value.it a b ≡ true → a ≡ b
-animals_same a b e =
-    let birth = and_parts _ _ e in
-    let sire = and_parts _ _ birth.1 in
-    let dam = and_parts _ _ sire.1 in
-    let embryo = and_parts _ _ dam.1 in
-    let herd = and_parts _ _ embryo.1 in
-    let since = and_parts _ _ herd.1 in
-    let born = days_same _ _ birth.0 in
-    let by = options_same _ numbers_same _ _ sire.0 in
-    let of = options_same _ numbers_same _ _ dam.0 in
-    let stored = (booleans_Decides a.embryo b.embryo).0 embryo.0 in
-    let held = (unsigned_Decides a.herd b.herd).0 herd.0 in
-    let from = days_same _ _ since.0 in
-    let gone = options_same _ days_same _ _ since.1 in
-    λ i. record { birth = born i; sire = by i; dam = of i; embryo = stored i; herd = held i; since = from i; left = gone i }
+pub animals_decided : (a b : Animal) → Decides (animal.eq-value.it a b) (a ≡ b)
+animals_decided a b =
+    let left = options_decided int_eq Decides-int_eq a.left b.left in
+    let since = Decides-and _ _ (Decides-int_eq a.since b.since) left in
+    let herd = Decides-and _ _ (unsigned_Decides a.herd b.herd) since in
+    let embryo = Decides-and _ _ (booleans_Decides a.embryo b.embryo) herd in
+    let dam = Decides-and _ _ (options_decided _ bytes_eq-Decides a.dam b.dam) embryo in
+    let sire = Decides-and _ _ (options_decided _ bytes_eq-Decides a.sire b.sire) dam in
+    let birth = Decides-and _ _ (Decides-int_eq a.birth b.birth) sire in
+    Decides-like _ (λ h i. record {
+      birth = h.0 i;
+      sire = h.1.0 i;
+      dam = h.1.1.0 i;
+      embryo = h.1.1.1.0 i;
+      herd = h.1.1.1.1.0 i;
+      since = h.1.1.1.1.1.0 i;
+      left = h.1.1.1.1.1.1 i;
+    })
+    (λ e. (ap (λ x. x.birth) e, (ap (λ x. x.sire) e, (ap (λ x. x.dam) e, (ap (λ x. x.embryo) e, (ap (λ x. x.herd) e, (ap (λ x. x.since) e, ap (λ x. x.left) e)))))))
+    birth

@@ -1,6 +1,7 @@
 -- How races of desks may end.
 use Rattle.std.specs.Prelude.{◌≡◌, ℕ, ℤ, List, [], ◌∷◌, ◌++◌, length, Some, None, false}
 use Rattle.std.specs.List.{All}
+use Rattle.herd_office.specs.declared.limits.TheConstants.{MOST_DESKS}
 use Rattle.herd_pedigree.specs.Book.{record_of, with_left, with_owner, with_parents}
 use Rattle.herd_pedigree.specs.declared.animal.Animal.{Animal}
 use Rattle.herd_register.specs.declared.reply.Refusal.TheVariants.{AlreadyThere, DamGone, CalvedLater, NotOwner}
@@ -53,14 +54,14 @@ pub record IsEndOf (register : Register) (animal : List ℕ) (end : End) : Type 
   pub second : (end.second ≡ later.desk) × (end.later ≡ later.reply)
   pub animal_is : end.animal ≡ record_of (register_book register) animal
 
--- of sixteen births of one animal the first was accepted, and each other refused, since the animal is there
+-- of the births of one animal at as many desks as there may be the first was accepted, and each other refused, since the animal is there
 pub record IsBornOnce (journal : List Step) : Type 0 where
   pub first : Step
   pub others : List Step
   pub journal_is : journal ≡ first ∷ others
   pub accepted : first.reply ≡ Accepted
   pub there : All (λ s. s.reply ≡ Refused AlreadyThere) others
-  pub sixteen : length journal ≡ 16
+  pub one_each : length journal ≡ MOST_DESKS
 
 -- the three steps that fit were accepted, and the other three calls found the journal full
 pub record IsFilled (journal : List Step) (full : ℕ) : Type 0 where

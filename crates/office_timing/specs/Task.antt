@@ -1,8 +1,10 @@
 -- What the words of the command line ask for, the program's own name first.
 use Rattle.std.specs.Prelude.{◌≡◌, ℕ, ◌<◌, ◌≤◌, ◌^◌, List, slice_get, codes, Some}
 use Rattle.std.specs.Str.Parse.{IsNumeral, digits_value, without_leading_plus}
+use Rattle.herd_office.specs.declared.limits.TheConstants.{MOST_DESKS}
 use Rattle.office_timing.specs.declared.task.Task.{Task}
 use Rattle.office_timing.specs.declared.task.Task.TheVariants.{Births, Beside, Races}
+use Rattle.office_timing.specs.declared.task.TheConstants.{MOST_FREEZING}
 
 -- the word is a number below 2 ^ 32 in decimal
 pub record Writes (word : List ℕ) (number : ℕ) : Type 0 where
@@ -25,6 +27,6 @@ AsksFor words (Races times) = (slice_get words 1 ≡ Some (codes "races")) × Ha
 
 -- as many desks and inspectors as the program takes
 abbrev pub IsWithin : Task → Type 0
-IsWithin (Births births desks inspectors) = (1 ≤ desks) × (desks ≤ 16) × (inspectors ≤ 15)
+IsWithin (Births births desks inspectors) = (1 ≤ desks) × (desks ≤ MOST_DESKS) × (inspectors ≤ MOST_FREEZING)
 IsWithin (Beside before births inspectors) = inspectors ≤ 1
 IsWithin (Races times) = Unit {0}

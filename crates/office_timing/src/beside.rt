@@ -4,7 +4,7 @@ ghost use Rattle.std.specs.Prelude.{◌≡◌, ◌+◌, ◌≤◌, max, IfOk};
 ghost use Rattle.herd_office.specs.Parts.{AreNamed};
 ghost use mathlib.Core.List.{IsPrefix};
 
-use crate::filing::{Told, file_births, steps_at_close, told_of};
+use crate::desk_births::{Told, file_births, steps_at_close, told_of};
 use crate::founders::Founders;
 use crate::freezing::freeze_until;
 use anyhow::{Context, Result};
@@ -47,14 +47,15 @@ pub fn file_beside<N: OfficeName + Send + Sync, R: Threads + Wait + Clock + Sync
     let (desk, early) = file_births(rt, shared, desk, founders, (0, from))?;
     let done = AtomicBool::new(!freezing);
     let flag = &done;
-    let (filed, frozen) = join(
+    // Where no thread can be made, the second closure runs before the first.
+    let (frozen, filed) = join(
         rt,
+        move || freeze_beside(alloc, inspector, flag),
         move || {
             let filed = file_timed(rt, shared, desk, founders, from, births);
             flag.store(true, Ordering::SeqCst);
             filed
         },
-        move || freeze_beside(alloc, inspector, flag),
     );
     let (desk, late, times) = filed?;
     desks.push(desk)?;

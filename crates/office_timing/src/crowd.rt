@@ -3,7 +3,7 @@
 ghost use Rattle.std.specs.Prelude.{◌≡◌, ◌≤◌, IfOk};
 ghost use Rattle.herd_office.specs.Parts.{AreNamed};
 
-use crate::filing::{Told, file_births, part, steps_at_close, told_of};
+use crate::desk_births::{Told, file_births, part, steps_at_close, told_of};
 use crate::founders::Founders;
 use crate::freezing::freeze_until;
 use anyhow::Result;
@@ -41,8 +41,14 @@ pub fn file_crowded<N: OfficeName + Send + Sync, R: Threads + Wait + Sync>(
     let shared = &office;
     let done = AtomicBool::new(false);
     let flag = &done;
-    let (filed, frozen) = join(
+    // Where no thread can be made, the second closure runs before the first.
+    let (frozen, filed) = join(
         rt,
+        move || map_vec(
+            rt,
+            inspectors,
+            &|inspector| freeze_until(alloc, inspector, flag),
+        ),
         move || {
             let filed = map_vec(
                 rt,
@@ -52,11 +58,6 @@ pub fn file_crowded<N: OfficeName + Send + Sync, R: Threads + Wait + Sync>(
             flag.store(true, Ordering::SeqCst);
             filed
         },
-        move || map_vec(
-            rt,
-            inspectors,
-            &|inspector| freeze_until(alloc, inspector, flag),
-        ),
     );
     let (desks, accepted) = gathered(alloc, filed?)?;
     let inspectors = handed_back(idle, frozen?)?;

@@ -1,8 +1,9 @@
 //! Races of two desks that file one command each, and how they may end.
 
-ghost use Rattle.std.specs.Prelude.{◌≡◌, IfSome, true};
+ghost use Rattle.std.specs.Prelude.{◌≡◌, ◌≢◌, ◌↔◌, ◌<◌, IsNone, IsTrue, IfSome, length};
 ghost use Rattle.office_timing.specs.Plan.{left_of, right_of};
 ghost use Rattle.office_timing.specs.Race.{IsEndOf, animal_of, end_of, one_first, two_first};
+ghost use Rattle.office_timing.specs.declared.duel.First.TheVariants.{One, Two};
 
 use crate::cast::Cast;
 use herd_animal::AnimalNumber;
@@ -98,7 +99,8 @@ impl Duel {
 
     /// The desk whose command came first, where the race ended as it may.
     pub fn first(self, cast: &Cast, end: &End) -> Option<First>
-        ensures { IfSome result (λ first. end.now ≡ end_of cast.now self first) }
+        ensures first { IfSome result (λ first. end.now ≡ end_of cast.now self first) }
+        ensures neither { IsNone result → (end.now ≢ end_of cast.now self One) × (end.now ≢ end_of cast.now self Two) }
     {
         if end.is(&self.end(cast, First::One)) {
             Some(First::One)
@@ -150,7 +152,7 @@ impl Duel {
 impl End {
     // Whether the two are the same.
     fn is(&self, other: &End) -> bool
-        ensures { result ≡ true → self.now ≡ other.now }
+        ensures { IsTrue result ↔ (self.now ≡ other.now) }
     {
         self.first == other.first
             && same_reply(self.earlier, other.earlier)
@@ -187,7 +189,8 @@ impl End {
 
     /// The last two steps of a register, and the record of the animal.
     pub fn of(register: &Register<Global>, animal: &AnimalNumber) -> Option<End>
-        ensures { IfSome result (IsEndOf register.now animal.now) }
+        ensures end { IfSome result (IsEndOf register.now animal.now) }
+        ensures none { IsNone result → length register.now.journal < 2 }
     {
         let [.., earlier, later] = register.journal() else {
             return None;
@@ -204,14 +207,14 @@ impl End {
 
 // Whether the two replies are the same.
 fn same_reply(one: Reply, other: Reply) -> bool
-    ensures { result ≡ true → one ≡ other }
+    ensures { IsTrue result ↔ (one ≡ other) }
 {
     one == other
 }
 
 // Whether the records are the same, or neither is there.
 fn same_animal(one: &Option<Animal>, other: &Option<Animal>) -> bool
-    ensures { result ≡ true → one.now ≡ other.now }
+    ensures { IsTrue result ↔ (one.now ≡ other.now) }
 {
     one == other
 }

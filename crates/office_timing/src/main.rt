@@ -4,12 +4,14 @@
 #![tactic(auto)]
 
 ghost use Rattle.std.specs.Prelude.{◌≡◌, ◌≤◌};
+ghost use Rattle.herd_office.specs.declared.limits.TheConstants.{MOST_DESKS};
+ghost use Rattle.office_timing.specs.declared.task.TheConstants.{MOST_FREEZING};
 
 mod beside;
 mod cast;
 mod crowd;
+mod desk_births;
 mod duel;
-mod filing;
 mod founders;
 mod freezing;
 mod herds;
@@ -22,8 +24,8 @@ mod task;
 use anyhow::Result;
 use beside::{Times, file_beside};
 use crowd::file_crowded;
+use desk_births::Told;
 use duel::Duel;
-use filing::Told;
 use herd_office::OfficeParts;
 use herd_pedigree::MOST_ANIMALS;
 use herd_register::{Limits, MOST_STEPS};
@@ -122,8 +124,8 @@ fn crowded<R: Threads + Wait + Sync>(
     desks: u16,
     inspectors: u16,
 ) -> Result<Told>
-    requires desks { (1 ≤ desks) × (desks ≤ 16) }
-    requires inspectors { inspectors ≤ 15 }
+    requires desks { (1 ≤ desks) × (desks ≤ MOST_DESKS) }
+    requires inspectors { inspectors ≤ MOST_FREEZING }
 {
     let parts = OfficeParts::new(rt, alloc, LIMITS, desks, inspectors.max(1))?;
     file_crowded::<Brand, _>(rt, alloc, parts, births, inspectors > 0)

@@ -1,11 +1,13 @@
 //! What the desks of a race file.
 
 ghost use Rattle.std.specs.Prelude.{◌≡◌, ◌≤◌, IfOk, None, [], ◌∷◌, map, replicate, vec_len};
+ghost use Rattle.herd_office.specs.declared.limits.TheConstants.{MOST_DESKS};
 ghost use Rattle.herd_register.specs.Register.{AreLimits};
 ghost use Rattle.office_timing.specs.Plan.{birth_of, founder_births, left_of, limits_for, other_births, planned, right_of, turn_at};
 
 use crate::cast::Cast;
 use crate::duel::Duel;
+use herd_office::MOST_DESKS;
 use herd_register::{Command, Limits};
 use std::alloc::{AllocError, Global};
 
@@ -19,7 +21,7 @@ pub struct Plan {
     pub turns: Vec<Vec<Command>>,
     pub ghost range: { AreLimits limits },
     pub ghost some: { 1 ≤ vec_len turns },
-    pub ghost most: { vec_len turns ≤ 16 },
+    pub ghost most: { vec_len turns ≤ MOST_DESKS },
     pub ghost counted: { commands ≡ planned before.items (map (λ turn. turn.items) turns.items) },
 }
 
@@ -33,23 +35,23 @@ impl Plan {
         let founders = cast.founders();
         Ok(Plan {
             limits: small(20),
-            commands: 5,
+            commands: founders.len() as u64 + 2,
             before: Vec::from_slice(alloc, &founders)?,
             turns: two(alloc, &[duel.left(cast)], &[duel.right(cast)])?,
         })
     }
 
-    /// Sixteen desks that file one birth.
+    /// As many desks as an office may have, which all file one birth.
     pub fn of_birth(alloc: Global, cast: &Cast) -> Result<Plan, AllocError>
         ensures limits { IfOk result (λ plan. plan.limits ≡ limits_for 20) }
         ensures before { IfOk result (λ plan. plan.before.items ≡ []) }
-        ensures turns { IfOk result (λ plan. map (λ turn. turn.items) plan.turns.items ≡ replicate 16 (birth_of cast.now cast.now.bull cast.now.old None ∷ [])) }
+        ensures turns { IfOk result (λ plan. map (λ turn. turn.items) plan.turns.items ≡ replicate MOST_DESKS (birth_of cast.now cast.now.bull cast.now.old None ∷ [])) }
     {
         Ok(Plan {
             limits: small(20),
-            commands: 16,
+            commands: u64::from(MOST_DESKS),
             before: Vec::new(alloc),
-            turns: sixteen(alloc, cast.birth(cast.bull, cast.old, None))?,
+            turns: one_each(alloc, cast.birth(cast.bull, cast.old, None))?,
         })
     }
 
@@ -67,7 +69,7 @@ impl Plan {
         ];
         Ok(Plan {
             limits: small(3),
-            commands: 6,
+            commands: (births.len() + others.len()) as u64,
             before: Vec::new(alloc),
             turns: two(alloc, &births, &others)?,
         })
@@ -105,11 +107,12 @@ fn two(alloc: Global, left: &[Command], right: &[Command]) -> Result<Vec<Vec<Com
     Ok(turns)
 }
 
-fn sixteen(alloc: Global, command: Command) -> Result<Vec<Vec<Command>>, AllocError>
-    ensures { IfOk result (λ turns. map (λ turn. turn.items) turns.items ≡ replicate 16 (command ∷ [])) }
+// The same command for each of as many desks as an office may have.
+fn one_each(alloc: Global, command: Command) -> Result<Vec<Vec<Command>>, AllocError>
+    ensures { IfOk result (λ turns. map (λ turn. turn.items) turns.items ≡ replicate MOST_DESKS (command ∷ [])) }
 {
     let mut turns = Vec::new(alloc);
-    for _desk in 0..16_u8 {
+    for _desk in 0..MOST_DESKS {
         turns.push(Vec::from_slice(alloc, &[command])?)?;
     }
     Ok(turns)

@@ -13,6 +13,7 @@ use crate::duel::{Duel, End, First};
 use crate::plan::Plan;
 use crate::race::{Raced, run_race};
 use anyhow::{Result, bail};
+use herd_office::MOST_DESKS;
 use herd_register::{Refusal, Reply, Step};
 use std::alloc::Global;
 use std::sync::Wait;
@@ -96,13 +97,15 @@ fn born_once(raced: &Raced) -> Result<()>
     Ok(())
 }
 
-// Whether the journal is of sixteen steps, the first accepted, and each other refused since the animal is there.
+// Whether the journal is of one step for each desk, the first accepted, and each other refused since the animal is there.
 fn is_born_once(journal: &[Step]) -> bool
     ensures { result ≡ true → IsBornOnce journal.now }
 {
     match journal {
         [first, rest @ ..] => {
-            first.reply == Reply::Accepted && rest.len() == 15 && all_there(rest)
+            first.reply == Reply::Accepted
+                && journal.len() == usize::from(MOST_DESKS)
+                && all_there(rest)
         }
         [] => false,
     }

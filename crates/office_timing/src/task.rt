@@ -4,6 +4,10 @@ ghost use Rattle.std.specs.Prelude.{◌≤◌, IfOk, map, string_bytes};
 ghost use Rattle.office_timing.specs.Task.{AsksFor, HasNumber, IsWithin};
 
 use anyhow::{Context, Result, bail};
+use herd_office::MOST_DESKS;
+
+/// The most inspectors that freeze beside births at many desks.
+pub const MOST_FREEZING: u16 = 15;
 
 /// What is done, with how many births.
 #[derive(Clone, Copy, Debug, PartialEq, Eq)]
@@ -36,8 +40,8 @@ impl Task {
         match task.as_str() {
             "births" => Ok(Task::Births {
                 births: number(words, 2)?,
-                desks: within(words, 3, 1, 16)?,
-                inspectors: within(words, 4, 0, 15)?,
+                desks: within(words, 3, 1, MOST_DESKS)?,
+                inspectors: within(words, 4, 0, MOST_FREEZING)?,
             }),
             "beside" => Ok(Task::Beside {
                 before: number(words, 2)?,
@@ -58,7 +62,9 @@ fn within(words: &[String], place: usize, least: u16, most: u16) -> Result<u16>
 {
     let number = number(words, place)?;
     if number < u32::from(least) || u32::from(most) < number {
-        bail!("1 to 16 desks, 0 to 15 inspectors, and 0 or 1 beside timed births")
+        bail!(
+            "1 to {MOST_DESKS} desks, 0 to {MOST_FREEZING} inspectors, and 0 or 1 beside timed births"
+        )
     }
     Ok(number as u16)
 }
