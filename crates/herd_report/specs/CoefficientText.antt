@@ -23,3 +23,7 @@ coefficient_text separator numerator =
 -- the line of an animal in a list: its number, and the coefficient as a fraction and as a percentage
 abbrev pub coefficient_line : List ℕ → ℕ → List ℕ
 coefficient_line number numerator = number ++ codes "," ++ coefficient_text (codes ",") numerator ++ codes "\n"
+
+-- what stands in it after the number
+abbrev pub coefficient_line_end : ℕ → List ℕ
+coefficient_line_end numerator = codes "," ++ coefficient_text (codes ",") numerator ++ codes "\n"

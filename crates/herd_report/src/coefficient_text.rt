@@ -1,6 +1,6 @@
 ghost use Rattle.std.specs.Prelude.{◌≡◌, ◌<◌, ◌*◌, ◌^◌, ◌++◌, codes, OnOk};
 ghost use Rattle.herd_pedigree.specs.declared.TheConstants.{DEPTH_LIMIT};
-ghost use Rattle.herd_report.specs.CoefficientText.{coefficient_line, coefficient_text, fraction_text, percentage_text};
+ghost use Rattle.herd_report.specs.CoefficientText.{coefficient_line, coefficient_line_end, coefficient_text, fraction_text, percentage_text};
 
 use crate::output::Output;
 use herd_animal::AnimalNumber;
@@ -17,6 +17,17 @@ pub(crate) fn push_coefficient_line<A: Allocator>(
     ensures { OnOk result (output.new ≡ output.old ++ coefficient_line number numerator) }
 {
     output.push(&number.bytes())?;
+    push_line_end(output, numerator)
+}
+
+/// Adds what follows the number in the line of an animal.
+pub(crate) fn push_line_end<A: Allocator>(
+    output: &mut Output<A>,
+    numerator: u128,
+) -> Result<(), AllocError>
+    requires { numerator < 2 ^ (2 * DEPTH_LIMIT) }
+    ensures { OnOk result (output.new ≡ output.old ++ coefficient_line_end numerator) }
+{
     output.push(b",")?;
     push_coefficient(output, numerator, b",")?;
     output.push(b"\n")

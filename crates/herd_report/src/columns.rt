@@ -142,6 +142,7 @@ impl<'a> Columns<'a> {
     }
 
     /// The command, or the first fault.
+    #[inline(always)]
     pub fn command(&self) -> Result<Command, LineCause>
         ensures { result ≡ command_in_columns (texts_of self.now) }
     {
@@ -169,6 +170,7 @@ impl<'a> Columns<'a> {
 }
 
 /// The command of a record, or its fault. No such fault is an interruption.
+#[inline(always)]
 #[tactic(auto, unfolding(crate::specs::Grammar::command_of))]
 pub fn parse_command(version: Version, row: &ByteRecord) -> Result<Command, LineCause>
     ensures command { result ≡ command_of version (fields_of row.now) }

@@ -85,6 +85,7 @@ impl<R: Read> CommandReader<R> {
     }
 
     // The command of the next record, if there is one.
+    #[inline(always)]
     fn read_command(&mut self) -> Result<Option<Command>, LineCause>
         requires { IsReady self.old.most self.old.given self.old }
         ensures version { self.new.version ≡ self.old.version }

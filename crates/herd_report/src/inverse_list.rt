@@ -12,6 +12,7 @@ ghost use Rattle.herd_report.specs.Output.{AppendsFront};
 use crate::coefficient_text::push_fraction;
 use crate::output::Output;
 use crate::report_fault::ReportFault;
+use herd_animal::AnimalNumber;
 use herd_kinship::{Coefficients, Contribution, Fraction, contributions};
 use herd_pedigree::Frozen;
 use std::alloc::{AllocError, Allocator};
@@ -30,10 +31,10 @@ pub fn write_inverse<W: Write, A: Allocator, F: Allocator, C: Allocator>(
     ensures fault { IfErr result (λ fault. fault ≢ ReportFault.NotRegistered) }
 {
     let mut output = Output::new(&alloc);
-    let mut value = Output::new(&alloc);
+    let mut end = Output::new(&alloc);
     for place in 0..frozen.len() {
         output.pass_on(writer)?;
-        push_contributions(&mut output, &mut value, frozen, coefficients, place)?;
+        push_contributions(&mut output, &mut end, frozen, coefficients, place)?;
     }
     output.finish(writer)
 }
@@ -41,7 +42,7 @@ pub fn write_inverse<W: Write, A: Allocator, F: Allocator, C: Allocator>(
 // Adds the lines of what the animal at a place contributes.
 fn push_contributions<A: Allocator, F: Allocator, C: Allocator>(
     output: &mut Output<A>,
-    value: &mut Output<A>,
+    end: &mut Output<A>,
     frozen: &Frozen<F>,
     coefficients: &Coefficients<C>,
     place: u32,
@@ -53,14 +54,14 @@ fn push_contributions<A: Allocator, F: Allocator, C: Allocator>(
 {
     let listed = contributions(frozen, coefficients, place);
     let entries = &listed.list[..listed.count as usize];
-    push_entries(output, value, frozen, place, entries)
+    push_entries(output, end, frozen, place, entries)
 }
 
-// Adds the lines of some entries of the animal at a place. Of equal values that follow one another the text is made
-// once.
+// Adds the lines of some entries of the animal at a place. Of equal values that follow one another the end of the line
+// is made once.
 fn push_entries<A: Allocator, F: Allocator>(
     output: &mut Output<A>,
-    value: &mut Output<A>,
+    end: &mut Output<A>,
     frozen: &Frozen<F>,
     place: u32,
     entries: &[Contribution],
@@ -71,27 +72,28 @@ fn push_entries<A: Allocator, F: Allocator>(
 {
     let mut made = None;
     for entry in entries {
-        make_text(value, made, entry.value)?;
+        make_end(end, made, entry.value)?;
         made = Some(entry.value);
-        push_entry(output, frozen, place, *entry, value.bytes())?;
+        push_entry(output, frozen, place, *entry, end.bytes())?;
     }
     Ok(())
 }
 
-// Makes the text of a value, where the text that is there isn't of an equal one.
-fn make_text<A: Allocator>(
-    text: &mut Output<A>,
+// Makes the end of the line of an entry, where the end that is there isn't of an equal value.
+fn make_end<A: Allocator>(
+    end: &mut Output<A>,
     made: Option<Fraction>,
     value: Fraction,
 ) -> Result<(), AllocError>
-    requires { IfSome made (λ last. text.old ≡ fraction_text last) }
-    ensures { OnOk result (text.new ≡ fraction_text value) }
+    requires { IfSome made (λ last. end.old ≡ fraction_text last ++ codes "\n") }
+    ensures { OnOk result (end.new ≡ fraction_text value ++ codes "\n") }
 {
     if made == Some(value) {
         return Ok(());
     }
-    text.clear();
-    push_fraction(text, value)
+    end.clear();
+    push_fraction(end, value)?;
+    end.push(b"\n")
 }
 
 fn push_entry<A: Allocator, F: Allocator>(
@@ -99,18 +101,17 @@ fn push_entry<A: Allocator, F: Allocator>(
     frozen: &Frozen<F>,
     place: u32,
     entry: Contribution,
-    value: &[u8],
+    end: &[u8],
 ) -> Result<(), AllocError>
     requires place { place < length frozen.now }
     requires entry { IsWithin frozen.now entry }
-    requires value { value.now ≡ fraction_text entry.value }
+    requires end { end.now ≡ fraction_text entry.value ++ codes "\n" }
     ensures { OnOk result (output.new ≡ output.old ++ contribution_line frozen.now place entry) }
 {
     push_number_at(output, frozen, place)?;
     push_number_at(output, frozen, entry.row)?;
     push_number_at(output, frozen, entry.column)?;
-    output.push(value)?;
-    output.push(b"\n")
+    output.push(end)
 }
 
 // Adds the number of the animal at a place, and a comma.
@@ -122,6 +123,14 @@ fn push_number_at<A: Allocator, F: Allocator>(
     requires { place < length frozen.now }
     ensures { OnOk result (output.new ≡ output.old ++ number_of_row frozen.now place ++ codes ",") }
 {
-    output.push(&frozen.row(place).number.bytes())?;
-    output.push(b",")
+    output.push(&with_comma(frozen.row(place).number))
+}
+
+// A number and a comma.
+fn with_comma(number: AnimalNumber) -> [u8; 20]
+    ensures { result ≡ number ++ codes "," }
+{
+    let mut text = [b','; 20];
+    text[..19].copy_from_slice(&number.bytes());
+    text
 }

@@ -1,13 +1,17 @@
-use Rattle.std.proofs.Common.{drop}
+use Rattle.std.proofs.Common.{◌≡◌, IfSome, drop}
 use Rattle.herd_pedigree.specs.declared.TheConstants.{DEPTH_LIMIT}
 use Rattle.herd_kinship.specs.FrozenAncestry.{ancestry_of}
 use Rattle.herd_kinship.specs.Table.{coefficient}
 use Rattle.herd_report.proofs.OutputFacts.{Holds}
+use Rattle.herd_report.specs.CoefficientText.{coefficient_line_end}
 use Rattle.herd_report.specs.InbreedingList.{inbreeding_text}
 use Rattle.herd_report.proofs.inbreeding_list.write_inbreeding.Given as goal
 
 abbrev pub invariant-loop-place : goal.invariant-loop-place
 invariant-loop-place g l =
     let numerator_of = coefficient (ancestry_of l.frozen) DEPTH_LIMIT in
-    Holds (g.W.Write.contents l.fn.writer) (g.W.Write.contents l.writer) (inbreeding_text numerator_of l.frozen) l.output
-    (inbreeding_text numerator_of (drop l.place l.frozen))
+    record {
+      text : Holds (g.W.Write.contents l.fn.writer) (g.W.Write.contents l.writer) (inbreeding_text numerator_of l.frozen) l.output
+          (inbreeding_text numerator_of (drop l.place l.frozen));
+      made : IfSome l.made (λ last. l.end ≡ coefficient_line_end last);
+    }

@@ -1,5 +1,6 @@
 use Rattle.std.proofs.Common.{◌≡◌, ◌++◌, IfSome, take}
 use Rattle.std.specs.List.{flat_map}
+use Rattle.std.specs.Prelude.{codes}
 use Rattle.herd_report.specs.CoefficientText.{fraction_text}
 use Rattle.herd_report.specs.InverseList.{contribution_line}
 use Rattle.herd_report.proofs.inverse_list.push_entries.Given as goal
@@ -8,5 +9,5 @@ abbrev pub invariant-loop-entry : goal.invariant-loop-entry
 invariant-loop-entry g l =
     record {
       text : l.output ≡ l.fn.output ++ flat_map (contribution_line l.frozen l.place) (take l.entry-index l.entries);
-      made : IfSome l.made (λ last. l.value ≡ fraction_text last);
+      made : IfSome l.made (λ last. l.end ≡ fraction_text last ++ codes "\n");
     }
