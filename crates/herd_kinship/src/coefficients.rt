@@ -48,7 +48,7 @@ impl<A: Allocator> Coefficients<A> {
     pub fn is_empty(&self) -> bool
         ensures { result ≡ (length self.now == 0) }
     {
-        self.numerators.len() == 0
+        self.numerators.as_slice().is_empty()
     }
 
     /// The coefficient of the animal at a place, in units of 2^-120: from 0 to `ONE` - 1.
