@@ -48,7 +48,7 @@ impl<A: Allocator> Coefficients<A> {
     pub fn is_empty(&self) -> bool
         ensures { result ≡ (length self.now == 0) }
     {
-        self.numerators.as_slice().is_empty()
+        self.list().is_empty()
     }
 
     /// The coefficient of the animal at a place, in units of 2^-120: from 0 to `ONE` - 1.
