@@ -2,13 +2,12 @@
 
 mod changes;
 mod corrections;
+mod days;
 mod deep_books;
 mod family;
 mod filing;
 mod freezing;
 mod memory;
-mod names;
 mod refusals;
-mod rows;
 mod seen;
 mod taking_back;

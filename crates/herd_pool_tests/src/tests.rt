@@ -1,13 +1,12 @@
 //! What no clause says: that the threads work at the same time, that each block is entered and each animal traced
 //! once, and that memory suffices.
-mod books;
 mod gates;
 
 ghost use Rattle.std.specs.Prelude.{◌≤◌, ◌*◌};
 ghost use Rattle.herd_pool.specs.declared.limits.TheConstants.{MOST_WORKERS};
 
-use books::{founders, generations};
 use gates::{AtAnimals, AtBlocks, Counts, Meeting, OneRefused, ThirdFirst};
+use herd_fixtures::{founders, generations};
 use herd_kinship::{ONE, coefficients_plain};
 use herd_pedigree::Frozen;
 use herd_pool::*;
@@ -72,7 +71,7 @@ fn expect_in_blocks<R: Threads + Wait + Abort + Sync>(
 
 #[test]
 fn five_generations(rt: HostRuntime) -> Result<(), Fail> {
-    let frozen = generations(&rt, rt.alloc(), 5)?;
+    let frozen = generations(rt.alloc(), 5)?;
     let plain = coefficients_plain(rt.alloc(), &frozen)?;
     assert_eq!(rt; plain.list(), FIVE_GENERATIONS.as_slice());
     expect_plain(&rt, rt.alloc(), &frozen)?;
@@ -81,7 +80,7 @@ fn five_generations(rt: HostRuntime) -> Result<(), Fail> {
 
 #[test]
 fn the_deepest_book(rt: HostRuntime) -> Result<(), Fail> {
-    let frozen = generations(&rt, rt.alloc(), 61)?;
+    let frozen = generations(rt.alloc(), 61)?;
     let plain = coefficients_plain(rt.alloc(), &frozen)?;
     assert_eq!(rt; plain.len(), 122);
     assert_eq!(rt; plain.list().last(), Some(&LAST));
@@ -91,7 +90,7 @@ fn the_deepest_book(rt: HostRuntime) -> Result<(), Fail> {
 
 #[test]
 fn three_workers_enter_before_any_leaves(rt: HostRuntime) -> Result<(), Fail> {
-    let frozen = founders(&rt, rt.alloc(), 3)?;
+    let frozen = founders(rt.alloc(), 3)?;
     let gate = AtBlocks(Meeting::of(3, LONG));
     let found = coefficients(&rt, rt.alloc(), &frozen, 3, 1, &gate)?;
     assert_eq!(rt; found.list(), [0, 0, 0].as_slice());
@@ -101,7 +100,7 @@ fn three_workers_enter_before_any_leaves(rt: HostRuntime) -> Result<(), Fail> {
 
 #[test]
 fn two_workers_trace_at_once(rt: HostRuntime) -> Result<(), Fail> {
-    let frozen = generations(&rt, rt.alloc(), 5)?;
+    let frozen = generations(rt.alloc(), 5)?;
     let gate = AtAnimals(Meeting::of(2, LONG));
     let found = coefficients(&rt, rt.alloc(), &frozen, 2, 1, &gate)?;
     assert_eq!(rt; found.list(), FIVE_GENERATIONS.as_slice());
@@ -112,7 +111,7 @@ fn two_workers_trace_at_once(rt: HostRuntime) -> Result<(), Fail> {
 // The meeting tells workers that run one after another.
 #[test]
 fn one_worker_waits_in_vain(rt: HostRuntime) -> Result<(), Fail> {
-    let frozen = generations(&rt, rt.alloc(), 5)?;
+    let frozen = generations(rt.alloc(), 5)?;
     let gate = AtAnimals(Meeting::of(2, 1000));
     let found = coefficients(&rt, rt.alloc(), &frozen, 1, 1, &gate)?;
     assert_eq!(rt; found.list(), FIVE_GENERATIONS.as_slice());
@@ -123,7 +122,7 @@ fn one_worker_waits_in_vain(rt: HostRuntime) -> Result<(), Fail> {
 // Two workers and three blocks: whoever is free takes the third.
 #[test]
 fn a_free_worker_takes_the_next_block(rt: HostRuntime) -> Result<(), Fail> {
-    let frozen = founders(&rt, rt.alloc(), 3)?;
+    let frozen = founders(rt.alloc(), 3)?;
     let gate = ThirdFirst(Meeting::of(1, LONG));
     let found = coefficients(&rt, rt.alloc(), &frozen, 2, 1, &gate)?;
     assert_eq!(rt; found.list(), [0, 0, 0].as_slice());
@@ -133,7 +132,7 @@ fn a_free_worker_takes_the_next_block(rt: HostRuntime) -> Result<(), Fail> {
 
 #[test]
 fn each_block_and_each_animal_once(rt: HostRuntime) -> Result<(), Fail> {
-    let frozen = founders(&rt, rt.alloc(), 1000)?;
+    let frozen = founders(rt.alloc(), 1000)?;
     let gate = Counts::of(rt.alloc(), 143, 1000)?;
     let found = coefficients(&rt, rt.alloc(), &frozen, 16, 7, &gate)?;
     assert_eq!(rt; found.len(), 1000);
@@ -145,7 +144,7 @@ fn each_block_and_each_animal_once(rt: HostRuntime) -> Result<(), Fail> {
 // One tracing after another is refused memory. The second call meets no refusal.
 #[test]
 fn memory_refused_to_a_tracing(rt: HostRuntime) -> Result<(), Fail> {
-    let frozen = generations(&rt, rt.alloc(), 5)?;
+    let frozen = generations(rt.alloc(), 5)?;
     for place in 0..10 {
         let gate = OneRefused::of(place);
         let refused = coefficients(&rt, rt.alloc(), &frozen, 2, 1, &gate);
@@ -162,7 +161,7 @@ fn memory_refused_to_a_tracing(rt: HostRuntime) -> Result<(), Fail> {
 // Where memory was refused, a second call gives the list.
 #[test]
 fn once_more_with_memory(rt: HostRuntime) -> Result<(), Fail> {
-    let Ok(frozen) = generations(&rt, rt.alloc(), 5) else {
+    let Ok(frozen) = generations(rt.alloc(), 5) else {
         return Ok(());
     };
     let found = match coefficients(&rt, rt.alloc(), &frozen, 2, 1, &NoGate) {

@@ -1,8 +1,9 @@
 //! Changes of a pedigree, as tables write them.
 
+use super::days::day;
 use super::filing::{file_birth, file_correction, file_exit, file_transfer};
-use super::names::{DayText, Name, Pair, day, number_of};
 use herd_animal::Herd;
+use herd_fixtures::{DayText, Name, Pair};
 use herd_pedigree::{Animal, ParentFault, Pedigree};
 use std::alloc::{AllocError, Allocator};
 use std::process::Abort;
@@ -26,8 +27,8 @@ fn born(rt: &impl Abort, text: DayText, parents: Pair, embryo: bool) -> Animal {
     let birth = day(rt, text);
     Animal {
         birth,
-        sire: number_of(rt, parents.sire),
-        dam: number_of(rt, parents.dam),
+        sire: parents.sire_number(),
+        dam: parents.dam_number(),
         embryo,
         herd: Herd::parse(b"1").expect(rt, "a herd"),
         since: birth,
@@ -43,23 +44,23 @@ pub(super) fn file<A: Allocator + Copy>(
 ) -> Result<Option<ParentFault>, AllocError> {
     match change {
         Change::Birth(name, day, parents) => {
-            file_birth(pedigree, name.number(rt), born(rt, day, parents, false))
+            file_birth(pedigree, name.number(), born(rt, day, parents, false))
         }
         Change::EmbryoBirth(name, day, parents) => {
-            file_birth(pedigree, name.number(rt), born(rt, day, parents, true))
+            file_birth(pedigree, name.number(), born(rt, day, parents, true))
         }
         Change::Parents(name, parents) => {
-            let sire = number_of(rt, parents.sire);
-            let dam = number_of(rt, parents.dam);
-            file_correction(pedigree, name.number(rt), sire, dam)
+            let sire = parents.sire_number();
+            let dam = parents.dam_number();
+            file_correction(pedigree, name.number(), sire, dam)
         }
         Change::Transfer(name, text) => {
             let herd = Herd::parse(b"2").expect(rt, "a herd");
-            file_transfer(pedigree, name.number(rt), herd, day(rt, text));
+            file_transfer(pedigree, name.number(), herd, day(rt, text));
             Ok(None)
         }
         Change::Exit(name, text) => {
-            file_exit(pedigree, name.number(rt), day(rt, text));
+            file_exit(pedigree, name.number(), day(rt, text));
             Ok(None)
         }
     }

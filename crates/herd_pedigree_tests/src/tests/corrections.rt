@@ -2,10 +2,10 @@
 
 use super::changes::{Change, expect_faults, expect_filed, pedigree_of};
 use super::family::family;
-use super::names::Name::{Bull, Cow};
-use super::names::{Pair, UNKNOWN, number_of};
 use super::seen::{depth_of, has_calved_after, seen_of};
 use herd_animal::AnimalNumber;
+use herd_fixtures::Name::{Bull, Cow};
+use herd_fixtures::{Pair, UNKNOWN};
 use herd_pedigree::{Frozen, ParentFault, Parents, Pedigree};
 use std::alloc::Global;
 use std::process::Abort;
@@ -31,7 +31,7 @@ fn corrected(rt: &impl Abort, alloc: Global) -> Result<Pedigree<Global>, Fail> {
 #[test]
 fn a_calf_gets_its_dam(rt: HostRuntime) -> Result<(), Fail> {
     let pedigree = corrected(&rt, rt.alloc())?;
-    assert_eq!(rt; depth_of(&rt, &pedigree, Bull(3)), Some(1));
+    assert_eq!(rt; depth_of(&pedigree, Bull(3)), Some(1));
     assert!(rt; has_calved_after(&rt, &pedigree, Cow(2), *b"2001-12-31"));
     assert!(rt; !has_calved_after(&rt, &pedigree, Cow(2), *b"2002-01-01"));
     Ok(())
@@ -42,18 +42,18 @@ fn freeze_corrected(rt: &impl Abort, alloc: Global) -> Result<Frozen<Global>, Fa
     Ok(pedigree.freeze(alloc)?)
 }
 
-fn places(rt: &impl Abort, frozen: &Frozen<Global>) -> [Option<u32>; 3] {
+fn places(frozen: &Frozen<Global>) -> [Option<u32>; 3] {
     [
-        frozen.place(&Cow(2).number(rt)),
-        frozen.place(&Bull(1).number(rt)),
-        frozen.place(&Bull(3).number(rt)),
+        frozen.place(&Cow(2).number()),
+        frozen.place(&Bull(1).number()),
+        frozen.place(&Bull(3).number()),
     ]
 }
 
 #[test]
 fn a_corrected_book_is_frozen(rt: HostRuntime) -> Result<(), Fail> {
     let frozen = freeze_corrected(&rt, rt.alloc())?;
-    assert_eq!(rt; places(&rt, &frozen), [Some(0), Some(1), Some(2)]);
+    assert_eq!(rt; places(&frozen), [Some(0), Some(1), Some(2)]);
     assert_eq!(rt; frozen.len(), 3);
     let parents = Parents {
         sire: Some(1),
@@ -86,8 +86,8 @@ fn expect_corrected(
     depth: u8,
 ) -> Result<(), Fail> {
     expect_filed(rt, pedigree, Change::Parents(Bull(3), parents), None)?;
-    assert_eq!(rt; depth_of(rt, pedigree, Bull(3)), Some(depth));
-    assert_eq!(rt; dam_in(rt, pedigree), number_of(rt, parents.dam));
+    assert_eq!(rt; depth_of(pedigree, Bull(3)), Some(depth));
+    assert_eq!(rt; dam_in(rt, pedigree), parents.dam_number());
     Ok(())
 }
 

@@ -1,10 +1,10 @@
 //! A book as deep as the limit allows.
 
 use super::changes::{Change, expect_filed, file_all};
-use super::names::Name::{Bull, Cow};
-use super::names::{DayText, Pair, UNKNOWN};
 use super::seen::{depth_of, seen_of};
 use super::taking_back::take_back;
+use herd_fixtures::Name::{Bull, Cow};
+use herd_fixtures::{DayText, Pair, UNKNOWN};
 use herd_pedigree::{DEPTH_LIMIT, ParentFault, Pedigree};
 use std::alloc::Global;
 use std::process::Abort;
@@ -59,13 +59,13 @@ fn deep_book(rt: &impl Abort, alloc: Global) -> Result<Pedigree<Global>, Fail> {
 
 // The bull of the first generation has this depth, his mate none, and each further pair is a step deeper than he.
 fn expect_depths(rt: &impl Abort, pedigree: &Pedigree<Global>, first: u8) {
-    assert_eq!(rt; depth_of(rt, pedigree, Bull(0)), Some(first));
-    assert_eq!(rt; depth_of(rt, pedigree, Cow(0)), Some(0));
+    assert_eq!(rt; depth_of(pedigree, Bull(0)), Some(first));
+    assert_eq!(rt; depth_of(pedigree, Cow(0)), Some(0));
     for generation in 1..DEPTH_LIMIT {
         let wanted = generation.checked_add(first);
         let serial = u32::from(generation);
-        assert_eq!(rt; depth_of(rt, pedigree, Bull(serial)), wanted);
-        assert_eq!(rt; depth_of(rt, pedigree, Cow(serial)), wanted);
+        assert_eq!(rt; depth_of(pedigree, Bull(serial)), wanted);
+        assert_eq!(rt; depth_of(pedigree, Cow(serial)), wanted);
     }
 }
 

@@ -1,8 +1,8 @@
 //! The births of a small book, and a change of each kind.
 
 use super::changes::Change;
-use super::names::Name::{Bull, Cow};
-use super::names::{Pair, UNKNOWN};
+use herd_fixtures::Name::{Bull, Cow};
+use herd_fixtures::{Pair, UNKNOWN};
 
 /// A bull without offspring, a younger bull and a cow, the younger bull's daughter, and her calf.
 pub(super) fn family() -> [Change; 5] {

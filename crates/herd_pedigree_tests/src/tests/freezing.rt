@@ -1,13 +1,13 @@
-ghost use Rattle.std.specs.Prelude.{◌≡◌, false, length, None, IfOk};
+ghost use Rattle.std.specs.Prelude.{IfOk};
 ghost use Rattle.herd_pedigree.specs.Lawful.{IsLawful};
 ghost use Rattle.herd_pedigree.specs.declared.TheConstants.{DEPTH_LIMIT, MOST_ANIMALS};
 
-use super::rows::row_at;
-use herd_animal::{AnimalNumber, Day, Herd};
+use herd_animal::AnimalNumber;
+use herd_fixtures::Name::{Bull, Cow};
+use herd_fixtures::{Birth, Pair, UNKNOWN, pedigree_of, row_at};
 use herd_pedigree::{Animal, Frozen, Parents, Row, freeze_list};
 use linked_list_allocator::LocalHeap;
-use std::alloc::Allocator;
-use std::process::Abort;
+use std::alloc::{Allocator, Global};
 use std::test::Fail;
 
 const FOUNDER: Parents = Parents {
@@ -22,36 +22,19 @@ const OFFSPRING: Parents = Parents {
     depth: 1,
 };
 
-// A bull, a cow and their calf, in order of registration.
-fn family(rt: &impl Abort) -> Result<[(AnimalNumber, Animal); 3], Fail>
+// A bull, a cow and their calf, in order of registration. They are the records of a book, so they are lawful.
+fn family(alloc: Global) -> Result<[(AnimalNumber, Animal); 3], Fail>
     ensures { IfOk result (IsLawful DEPTH_LIMIT MOST_ANIMALS) }
 {
-    let bull = AnimalNumber::parse(b"HOLGBRM000000000001")?;
-    let cow = AnimalNumber::parse(b"HOLGBRF000000000002")?;
-    let calf = AnimalNumber::parse(b"HOLGBRM000000000003")?;
-    let born = Day::parse(b"2000-01-01")?;
-    let calved = Day::parse(b"2002-01-01")?;
-    let herd = Herd::parse(b"1")?;
-    assert!(rt; born < calved);
-    Ok([
-        (bull, animal(born, herd, None, None)),
-        (cow, animal(born, herd, None, None)),
-        (calf, animal(calved, herd, Some(bull), Some(cow))),
-    ])
-}
-
-fn animal(birth: Day, herd: Herd, sire: Option<AnimalNumber>, dam: Option<AnimalNumber>) -> Animal
-    ensures { result ≡ record { birth = birth; sire = sire; dam = dam; embryo = false; herd = herd; since = birth; left = None } }
-{
-    Animal {
-        birth,
-        sire,
-        dam,
-        embryo: false,
-        herd,
-        since: birth,
-        left: None,
-    }
+    let bull = Birth(Bull(1), *b"2000-01-01", UNKNOWN);
+    let cow = Birth(Cow(2), *b"2000-01-01", UNKNOWN);
+    let calf = Birth(Bull(3), *b"2002-01-01", Pair::of(Bull(1), Cow(2)));
+    let pedigree = pedigree_of(alloc, &[bull, cow, calf])?;
+    pedigree.depth(&calf.0.number());
+    let kept_bull = bull.entry()?;
+    let kept_cow = cow.entry()?;
+    let kept_calf = calf.entry()?;
+    Ok([kept_bull, kept_cow, kept_calf])
 }
 
 // The rows of the family in age order: of one day, the cow's number is the smaller.
@@ -84,7 +67,7 @@ fn rows_in<A: Allocator>(frozen: &Frozen<A>) -> Option<[Row; 3]> {
 
 #[test]
 fn freezes_a_family(rt: HostRuntime) -> Result<(), Fail> {
-    let records = family(&rt)?;
+    let records = family(rt.alloc())?;
     let frozen = freeze_list(rt.alloc(), &records)?;
     assert_eq!(rt; rows_in(&frozen), Some(family_rows(&records)));
     assert_eq!(rt; frozen.len(), 3);
@@ -100,18 +83,10 @@ fn freezes_a_family(rt: HostRuntime) -> Result<(), Fail> {
 
 #[test]
 fn finds_places(rt: HostRuntime) -> Result<(), Fail> {
-    let frozen = freeze_list(rt.alloc(), &family(&rt)?)?;
-    let places: [(&[u8], Option<u32>); 3] = [
-        (b"HOLGBRF000000000002", Some(0)),
-        (b"HOLGBRM000000000003", Some(2)),
-        (b"HOLGBRM000000000004", None),
-    ];
-    for (number, place) in places {
-        assert_eq!(rt;
-            frozen.place(&AnimalNumber::parse(number)?),
-            place,
-            "{number:?}"
-        );
+    let frozen = freeze_list(rt.alloc(), &family(rt.alloc())?)?;
+    let places = [(Cow(2), Some(0)), (Bull(3), Some(2)), (Bull(4), None)];
+    for (name, place) in places {
+        assert_eq!(rt; frozen.place(&name.number()), place, "{name:?}");
     }
     Ok(())
 }
@@ -119,7 +94,7 @@ fn finds_places(rt: HostRuntime) -> Result<(), Fail> {
 // Every growth is refused in turn: the heap is a little larger each time.
 #[test]
 fn answers_memory_or_the_family(rt: HostRuntime) -> Result<(), Fail> {
-    let records = family(&rt)?;
+    let records = family(rt.alloc())?;
     let mut refused = 0u32;
     for size in 1..200 {
         let heap = LocalHeap::new(rt.alloc(), 64 * size)?;

@@ -2,8 +2,8 @@
 
 use super::changes::{Change, expect_filed, file, file_all, pedigree_of};
 use super::family::{birth, cows, family, no_parents, older_sire, sire};
-use super::rows::row_at;
 use super::seen::{Seen, family_seen};
+use herd_fixtures::row_at;
 use herd_pedigree::{Frozen, Pedigree, Row};
 use linked_list_allocator::LocalHeap;
 use std::alloc::{AllocError, Allocator, Global};

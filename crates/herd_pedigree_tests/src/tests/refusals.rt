@@ -1,8 +1,9 @@
 //! The faults of parents, in their order.
 
 use super::changes::{Change, expect_faults, expect_filed, pedigree_of};
-use super::names::Name::{Bull, Cow};
-use super::names::{Pair, UNKNOWN, day};
+use super::days::day;
+use herd_fixtures::Name::{Bull, Cow};
+use herd_fixtures::{Pair, UNKNOWN};
 use herd_pedigree::{ParentFault, Pedigree};
 use std::test::Fail;
 
@@ -122,6 +123,6 @@ fn a_dam_that_has_left_has_calves_from_stored_embryos_alone(rt: HostRuntime) -> 
     let calf = Change::EmbryoBirth(Bull(3), birth, parents);
     expect_filed(&rt, &mut pedigree, calf, None)?;
     let left = day(&rt, *b"2003-01-01");
-    assert!(rt; !pedigree.calved_after(&Cow(1).number(&rt), left));
+    assert!(rt; !pedigree.calved_after(&Cow(1).number(), left));
     Ok(())
 }

@@ -1,7 +1,8 @@
 //! What a pedigree tells of its animals.
 
-use super::names::Name::{Bull, Cow};
-use super::names::{DayText, Name, day};
+use super::days::day;
+use herd_fixtures::Name::{Bull, Cow};
+use herd_fixtures::{DayText, Name};
 use herd_pedigree::{Animal, Pedigree};
 use std::alloc::Allocator;
 use std::process::Abort;
@@ -15,7 +16,7 @@ pub struct Seen {
 
 /// What the pedigree tells of an animal.
 pub(super) fn seen_of<A: Allocator>(rt: &impl Abort, pedigree: &Pedigree<A>, name: Name) -> Seen {
-    let number = name.number(rt);
+    let number = name.number();
     Seen {
         animal: pedigree.get(&number),
         depth: pedigree.depth(&number),
@@ -35,12 +36,8 @@ pub(super) fn family_seen<A: Allocator>(rt: &impl Abort, pedigree: &Pedigree<A>)
     ]
 }
 
-pub(super) fn depth_of<A: Allocator>(
-    rt: &impl Abort,
-    pedigree: &Pedigree<A>,
-    name: Name,
-) -> Option<u8> {
-    pedigree.depth(&name.number(rt))
+pub(super) fn depth_of<A: Allocator>(pedigree: &Pedigree<A>, name: Name) -> Option<u8> {
+    pedigree.depth(&name.number())
 }
 
 pub(super) fn has_calved_after<A: Allocator>(
@@ -49,5 +46,5 @@ pub(super) fn has_calved_after<A: Allocator>(
     name: Name,
     text: DayText,
 ) -> bool {
-    pedigree.calved_after(&name.number(rt), day(rt, text))
+    pedigree.calved_after(&name.number(), day(rt, text))
 }

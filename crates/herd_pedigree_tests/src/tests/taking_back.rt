@@ -2,8 +2,8 @@
 
 use super::changes::{Change, expect_filed, pedigree_of};
 use super::family::{birth, exit, family, no_parents, older_sire, sire, transfer};
-use super::names::Name::{Bull, Cow};
 use super::seen::{Seen, depth_of, family_seen};
+use herd_fixtures::Name::{Bull, Cow};
 use herd_pedigree::Pedigree;
 use std::alloc::Global;
 use std::process::Abort;
@@ -59,11 +59,11 @@ fn a_transfer_and_an_exit_are_taken_back(rt: HostRuntime) -> Result<(), Fail> {
 }
 
 // The depths of the bull, his daughter and her calf.
-fn depths(rt: &impl Abort, pedigree: &Pedigree<Global>) -> [Option<u8>; 3] {
+fn depths(pedigree: &Pedigree<Global>) -> [Option<u8>; 3] {
     [
-        depth_of(rt, pedigree, Bull(1)),
-        depth_of(rt, pedigree, Cow(3)),
-        depth_of(rt, pedigree, Bull(4)),
+        depth_of(pedigree, Bull(1)),
+        depth_of(pedigree, Cow(3)),
+        depth_of(pedigree, Bull(4)),
     ]
 }
 
@@ -75,9 +75,9 @@ fn expect_depths(
     wanted: [Option<u8>; 3],
 ) -> Result<(), Fail> {
     expect_filed(rt, pedigree, correction, None)?;
-    assert_eq!(rt; depths(rt, pedigree), wanted);
+    assert_eq!(rt; depths(pedigree), wanted);
     take_back(rt, pedigree);
-    assert_eq!(rt; depths(rt, pedigree), [Some(0), Some(1), Some(2)]);
+    assert_eq!(rt; depths(pedigree), [Some(0), Some(1), Some(2)]);
     Ok(())
 }
 

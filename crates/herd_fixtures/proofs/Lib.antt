@@ -1,0 +1,3 @@
+mod DigitFacts
+mod HerdFacts
+mod NumberFacts

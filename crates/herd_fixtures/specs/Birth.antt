@@ -1,0 +1,20 @@
+-- What a book keeps of an animal when it is born.
+use Rattle.std.specs.Prelude.{ℕ, false, List, Option, Some, None}
+use Rattle.herd_animal.specs.Day.{number_of}
+use Rattle.herd_pedigree.specs.declared.animal.Animal.{Animal}
+use Rattle.herd_fixtures.specs.declared.birth.Birth.{Birth}
+use Rattle.herd_fixtures.specs.declared.name.Name.{Name}
+use Rattle.herd_fixtures.specs.Name.{number_named}
+
+-- the number of a parent that is known
+abbrev pub named : Option Name → Option (List ℕ)
+named None = None
+named (Some name) = Some (number_named name)
+
+-- born in herd 1
+abbrev pub newborn : Birth → Animal
+newborn birth = record { birth = number_of birth.1; sire = named birth.2.sire; dam = named birth.2.dam; embryo = false; herd = 1; since = number_of birth.1; left = None }
+
+-- the animal in a book
+abbrev pub entry : Birth → List ℕ × Animal
+entry birth = (number_named birth.0, newborn birth)

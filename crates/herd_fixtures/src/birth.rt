@@ -1,0 +1,124 @@
+//! Births, written short.
+
+ghost use Rattle.std.specs.Prelude.{◌≡◌, ◌↔◌, None, Some, IfOk, IsOk};
+ghost use Rattle.herd_animal.specs.Day.{IsDay};
+ghost use Rattle.herd_fixtures.specs.Birth.{entry, named, newborn};
+
+use crate::name::Name;
+use herd_animal::{AnimalNumber, Day, DayFault, Herd};
+use herd_pedigree::Animal;
+
+/// The text of a day, `dddd-dd-dd`.
+pub type DayText = [u8; 10];
+
+/// Parents that are named, or not known.
+#[derive(Clone, Copy, Debug, PartialEq, Eq)]
+pub struct Pair {
+    pub sire: Option<Name>,
+    pub dam: Option<Name>,
+}
+
+/// Neither parent is known.
+pub const UNKNOWN: Pair = Pair {
+    sire: None,
+    dam: None,
+};
+
+impl Pair {
+    /// Both parents are known.
+    pub fn of(sire: Name, dam: Name) -> Pair
+        ensures sire { result.sire ≡ Some sire }
+        ensures dam { result.dam ≡ Some dam }
+    {
+        Pair {
+            sire: Some(sire),
+            dam: Some(dam),
+        }
+    }
+
+    /// The sire alone is known.
+    pub fn of_sire(sire: Name) -> Pair
+        ensures sire { result.sire ≡ Some sire }
+        ensures dam { result.dam ≡ None }
+    {
+        Pair {
+            sire: Some(sire),
+            dam: None,
+        }
+    }
+
+    /// The dam alone is known.
+    pub fn of_dam(dam: Name) -> Pair
+        ensures sire { result.sire ≡ None }
+        ensures dam { result.dam ≡ Some dam }
+    {
+        Pair {
+            sire: None,
+            dam: Some(dam),
+        }
+    }
+
+    /// The sire's number, where he is known.
+    pub fn sire_number(self) -> Option<AnimalNumber>
+        ensures { result ≡ named self.sire }
+    {
+        number_of(self.sire)
+    }
+
+    /// The dam's number, where she is known.
+    pub fn dam_number(self) -> Option<AnimalNumber>
+        ensures { result ≡ named self.dam }
+    {
+        number_of(self.dam)
+    }
+}
+
+fn number_of(parent: Option<Name>) -> Option<AnimalNumber>
+    ensures { result ≡ named parent }
+{
+    match parent {
+        Some(name) => Some(name.number()),
+        None => None,
+    }
+}
+
+/// A birth in herd 1: who is born, the day, and the parents.
+#[derive(Clone, Copy, Debug, PartialEq, Eq)]
+pub struct Birth(pub Name, pub DayText, pub Pair);
+
+impl Birth {
+    /// The animal's number, and what a book keeps of it.
+    pub fn entry(self) -> Result<(AnimalNumber, Animal), DayFault>
+        ensures accepted { IsOk result ↔ IsDay self.1 }
+        ensures kept { IfOk result (λ kept. kept ≡ entry self) }
+    {
+        Ok((self.0.number(), self.newborn()?))
+    }
+
+    /// What a book keeps of the animal when it is born.
+    pub fn newborn(self) -> Result<Animal, DayFault>
+        ensures accepted { IsOk result ↔ IsDay self.1 }
+        ensures animal { IfOk result (λ animal. animal ≡ newborn self) }
+    {
+        let Birth(_, text, parents) = self;
+        let birth = Day::parse(&text)?;
+        Ok(Animal {
+            birth,
+            sire: parents.sire_number(),
+            dam: parents.dam_number(),
+            embryo: false,
+            herd: herd(),
+            since: birth,
+            left: None,
+        })
+    }
+}
+
+fn herd() -> Herd
+    ensures { result ≡ 1 }
+{
+    let Ok(herd) = Herd::parse(b"1") else {
+        unreachable!();
+    };
+    herd
+}
