@@ -3,5 +3,6 @@ mod commands;
 mod crowds;
 mod filing;
 mod memory;
+mod outlived;
 mod races;
 mod readings;

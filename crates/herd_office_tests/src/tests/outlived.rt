@@ -1,0 +1,57 @@
+//! An inspector that outlives its office.
+ghost use Rattle.std.specs.Prelude.{◌≡◌};
+ghost use Rattle.herd_office.specs.Parts.{AreNamed};
+
+use super::commands::founder;
+use super::filing::limits;
+use herd_office::*;
+use std::alloc::Global;
+use std::marker::Brand;
+use std::process::Abort;
+use std::sync::Wait;
+use std::test::*;
+
+#[test]
+fn nothing_is_read_of_an_office_that_is_gone(rt: HostRuntime) -> Result<(), Fail> {
+    let parts = OfficeParts::new(&rt, rt.alloc(), limits(10), 1, 1)?;
+    outlive::<Brand, _>(&rt, rt.alloc(), parts)
+}
+
+// The inspector has frozen the first birth, and learns of the second once the office is gone.
+fn outlive<N: OfficeName, R: Wait + Abort>(
+    rt: &R,
+    alloc: Global,
+    parts: OfficeParts<&R>,
+) -> Result<(), Fail>
+    requires { AreNamed N.name N.parts N.all N.book N.limits parts }
+{
+    let (office, mut desks, mut inspectors) = Office::<N, &R>::open(alloc, parts)?;
+    let mut desk = desks.pop().expect(rt, "a desk");
+    let mut inspector = inspectors.pop().expect(rt, "an inspector");
+    desk.file(rt, &office, founder(rt, b'M', 1))
+        .expect(rt, "filed");
+    let length = inspector.freeze(alloc).map(|frozen| frozen.len());
+    assert_eq!(rt; length, Ok(1));
+    let second = desk
+        .file(rt, &office, founder(rt, b'M', 2))
+        .expect(rt, "filed");
+    drop(office);
+    expect_no_reading(rt, alloc, &mut inspector, 1);
+    inspector.learn(&second.slip);
+    expect_no_reading(rt, alloc, &mut inspector, 2);
+    Ok(())
+}
+
+// It holds so many steps, as before.
+fn expect_no_reading<N: OfficeName>(
+    rt: &impl Abort,
+    alloc: Global,
+    inspector: &mut Inspector<N>,
+    steps: u64,
+) {
+    let length = inspector.freeze(alloc).map(|frozen| frozen.len());
+    assert_eq!(rt;
+        (length, inspector.steps_seen()),
+        (Err(FreezeFault::NoReading), steps)
+    );
+}
