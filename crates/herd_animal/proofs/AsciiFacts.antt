@@ -1,6 +1,6 @@
 -- Numbers and days are written in ASCII.
-use Rattle.std.proofs.Common.{◌≡◌, ◌≢◌, ℕ, ◌<◌, ◌⊎◌, inl, inr, arith, List, length, slice_index, sym, subst}
-use Rattle.std.specs.Str.{IsUtf8, IsAscii}
+use Rattle.std.proofs.Common.{ℕ, ◌<◌, inl, inr, arith, List, length, slice_index}
+use Rattle.std.specs.Str.{IsUtf8}
 use Rattle.std.proofs.lemmas.Bool.{cases_eq, cases_lt}
 use Rattle.std.proofs.lemmas.List.{get_or_past}
 use Rattle.std.proofs.lemmas.Str.{IsUtf8-from_ascii}

@@ -1,5 +1,5 @@
 -- What a frozen book tells of a number and of a depth.
-use Rattle.std.proofs.Common.{ℕ, ◌+◌, ◌<◌, ◌≤◌, ◌≡◌, ◌≢◌, ⊎_elim, arith, refl, sym, ap, ◌∙◌, subst, Bool, false, List, [], ◌∷◌, Option, Some, None, length, slice_get, map, ◌==◌}
+use Rattle.std.proofs.Common.{ℕ, ◌+◌, ◌<◌, ◌≤◌, ◌≡◌, ⊎_elim, arith, refl, sym, ap, ◌∙◌, subst, Bool, false, List, [], ◌∷◌, Option, Some, None, length, slice_get, map, ◌==◌}
 use Rattle.std.specs.Prelude.{IfNone, IfSome}
 use Rattle.std.specs.Map.{keys_of}
 use Rattle.std.specs.List.{filter, range_with_len}

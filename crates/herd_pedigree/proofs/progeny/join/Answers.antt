@@ -1,6 +1,5 @@
-use Rattle.std.proofs.Common.{arith, ap, sym, ◌∙◌, ◌≡◌, List, ℕ, length}
+use Rattle.std.proofs.Common.{arith, ap, sym, ◌∙◌, List}
 use Rattle.herd_pedigree.specs.declared.progeny.Family.{Family}
-use Rattle.herd_pedigree.specs.Calves.{Show, first_of, next_of, parent_of, previous_of, put}
 use Rattle.herd_pedigree.proofs.ProgenyFacts.{animal-within, chained-link, joined, parents-set}
 use Rattle.herd_pedigree.proofs.progeny.join.Goals as goal
 

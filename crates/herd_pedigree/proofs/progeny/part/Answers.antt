@@ -1,6 +1,6 @@
-use Rattle.std.proofs.Common.{arith, ap, sym, ◌∙◌, ◌≡◌, List, ℕ, Option, Some, None}
+use Rattle.std.proofs.Common.{arith, ap, sym, ◌∙◌, List, None}
 use Rattle.herd_pedigree.specs.declared.progeny.Family.{Family}
-use Rattle.herd_pedigree.specs.Calves.{family_at, parent_of, previous_of}
+use Rattle.herd_pedigree.specs.Calves.{family_at}
 use Rattle.herd_pedigree.proofs.ProgenyFacts.{chained-part, led-within, next-within, parents-set, parted, previous-within}
 use Rattle.herd_pedigree.proofs.progeny.part.Goals as goal
 
