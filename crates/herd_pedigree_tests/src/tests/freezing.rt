@@ -5,7 +5,7 @@ ghost use Rattle.herd_pedigree.specs.declared.TheConstants.{DEPTH_LIMIT, MOST_AN
 use herd_animal::AnimalNumber;
 use herd_fixtures::Name::{Bull, Cow};
 use herd_fixtures::{Birth, Pair, UNKNOWN, pedigree_of, row_at};
-use herd_pedigree::{Animal, Frozen, Parents, Row, freeze_list};
+use herd_pedigree::{Animal, Frozen, Parents, Pedigree, Row, freeze_list};
 use linked_list_allocator::LocalHeap;
 use std::alloc::{Allocator, Global};
 use std::test::Fail;
@@ -105,4 +105,12 @@ fn answers_memory_or_the_family(rt: HostRuntime) -> Result<(), Fail> {
     }
     assert!(rt; 0 < refused && refused < 199);
     Ok(())
+}
+
+#[test]
+fn begins_empty(rt: HostRuntime) {
+    let pedigree = Pedigree::new(rt.alloc());
+    assert!(rt; pedigree.is_empty());
+    let empty = pedigree.freeze(rt.alloc()).map(|frozen| frozen.is_empty());
+    assert_eq!(rt; empty, Ok(true));
 }
