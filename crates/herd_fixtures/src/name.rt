@@ -1,6 +1,6 @@
 //! Animals, written short.
 
-ghost use Rattle.std.specs.Prelude.{◌≡◌, IfSome, length, slice_index};
+ghost use Rattle.std.specs.Prelude.{◌≡◌, length};
 ghost use Rattle.herd_animal.specs.Sex.{sex_of};
 ghost use Rattle.herd_fixtures.specs.Name.{digits, letter_of, number_named, number_with, sex_named};
 
@@ -14,17 +14,6 @@ pub enum Name {
 }
 
 impl Name {
-    /// Reads a name that is written as a sex letter and digits: `M5` is `Bull(5)`.
-    pub fn parse(short: &str) -> Option<Name>
-        ensures { IfSome result (λ name. slice_index short.now 0 ≡ letter_of (sex_named name)) }
-    {
-        if let Some(digits) = short.strip_prefix('M') {
-            return digits.parse().ok().map(Name::Bull);
-        }
-        let digits = short.strip_prefix('F')?;
-        digits.parse().ok().map(Name::Cow)
-    }
-
     /// The whole number.
     pub fn number(self) -> AnimalNumber
         ensures number { result ≡ number_named self }
