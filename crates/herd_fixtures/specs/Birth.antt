@@ -1,6 +1,6 @@
 -- What a book keeps of an animal when it is born.
 use Rattle.std.specs.Prelude.{ℕ, false, List, Option, Some, None}
-use Rattle.herd_animal.specs.Day.{number_of}
+use Rattle.herd_animal.specs.Day.{day_number}
 use Rattle.herd_pedigree.specs.declared.animal.Animal.{Animal}
 use Rattle.herd_fixtures.specs.declared.birth.Birth.{Birth}
 use Rattle.herd_fixtures.specs.declared.name.Name.{Name}
@@ -13,7 +13,7 @@ named (Some name) = Some (number_named name)
 
 -- born in herd 1
 abbrev pub newborn : Birth → Animal
-newborn birth = record { birth = number_of birth.1; sire = named birth.2.sire; dam = named birth.2.dam; embryo = false; herd = 1; since = number_of birth.1; left = None }
+newborn birth = record { birth = day_number birth.1; sire = named birth.2.sire; dam = named birth.2.dam; embryo = false; herd = 1; since = day_number birth.1; left = None }
 
 -- the animal in a book
 abbrev pub entry : Birth → List ℕ × Animal
