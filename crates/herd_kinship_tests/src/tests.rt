@@ -2,8 +2,9 @@
 
 mod books;
 mod coefficients;
+mod fractions;
 mod inverse_entries;
 mod matings;
 mod memory;
 mod tabular;
-mod tracing_each;
+mod tracing;

@@ -4,7 +4,6 @@ mod copies;
 mod copies_without_memory;
 mod filed;
 mod full;
-mod heaps;
 mod refusals;
 mod registers_without_memory;
 mod texts;

@@ -2,10 +2,12 @@
 
 ghost use Rattle.std.specs.Prelude.{false};
 
-use super::books::{Birth, FULL_SIBS, number, register, register_all, with_one_parent};
+use super::books::with_one_parent;
 use herd_animal::AnimalNumber;
+use herd_fixtures::Name::{Bull, Cow};
+use herd_fixtures::{Birth, Pair, file_births, full_sibs, pedigree_of};
 use herd_kinship::*;
-use herd_pedigree::{Frozen, Pedigree};
+use herd_pedigree::Frozen;
 use std::alloc::Global;
 use std::process::Abort;
 use std::test::Fail;
@@ -47,15 +49,15 @@ fn contributes(
 
 #[test]
 fn lists_contributions(rt: HostRuntime) -> Result<(), Fail> {
-    let frozen = with_one_parent(&rt, rt.alloc())?;
+    let frozen = with_one_parent(rt.alloc())?;
     let founder = [at(1, 1, false, 1, 1)];
-    contributes(&rt, rt.alloc(), &frozen, number(b'M', 1)?, &founder)?;
+    contributes(&rt, rt.alloc(), &frozen, Bull(1).number(), &founder)?;
     let sire_alone = [
         at(8, 8, false, 4, 3),
         at(8, 1, true, 2, 3),
         at(1, 1, false, 1, 3),
     ];
-    contributes(&rt, rt.alloc(), &frozen, number(b'F', 9)?, &sire_alone)?;
+    contributes(&rt, rt.alloc(), &frozen, Cow(9).number(), &sire_alone)?;
     let both_parents = [
         at(4, 4, false, 2, 1),
         at(4, 1, true, 1, 1),
@@ -64,7 +66,7 @@ fn lists_contributions(rt: HostRuntime) -> Result<(), Fail> {
         at(0, 0, false, 1, 2),
         at(1, 0, false, 1, 2),
     ];
-    contributes(&rt, rt.alloc(), &frozen, number(b'M', 3)?, &both_parents)?;
+    contributes(&rt, rt.alloc(), &frozen, Bull(3).number(), &both_parents)?;
     let inbred_sire = [
         at(7, 7, false, 16, 7),
         at(7, 6, true, 8, 7),
@@ -73,16 +75,23 @@ fn lists_contributions(rt: HostRuntime) -> Result<(), Fail> {
         at(2, 2, false, 4, 7),
         at(6, 2, false, 4, 7),
     ];
-    contributes(&rt, rt.alloc(), &frozen, number(b'M', 8)?, &inbred_sire)
+    contributes(&rt, rt.alloc(), &frozen, Bull(8).number(), &inbred_sire)
+}
+
+// The full sibs, a calf of the two youngest, and one of the cow alone.
+fn with_inbred_parents(alloc: Global) -> Result<Frozen<Global>, Fail> {
+    let mut pedigree = pedigree_of(alloc, &full_sibs())?;
+    let calves = [
+        Birth(Bull(8), *b"2006-01-01", Pair::of(Bull(5), Cow(6))),
+        Birth(Bull(9), *b"2006-01-02", Pair::of_dam(Cow(6))),
+    ];
+    file_births(&mut pedigree, &calves)?;
+    Ok(pedigree.freeze(alloc)?)
 }
 
 #[test]
 fn lists_contributions_of_inbred_parents(rt: HostRuntime) -> Result<(), Fail> {
-    let mut pedigree = Pedigree::new(rt.alloc());
-    register_all(&rt, &mut pedigree, &FULL_SIBS)?;
-    register(&rt, &mut pedigree, &Birth(b'M', 8, *b"2006-01-01", 5, 6))?;
-    register(&rt, &mut pedigree, &Birth(b'M', 9, *b"2006-01-02", 0, 6))?;
-    let frozen = pedigree.freeze(rt.alloc())?;
+    let frozen = with_inbred_parents(rt.alloc())?;
     let both_inbred = [
         at(6, 6, false, 8, 3),
         at(6, 5, true, 4, 3),
@@ -91,11 +100,11 @@ fn lists_contributions_of_inbred_parents(rt: HostRuntime) -> Result<(), Fail> {
         at(4, 4, false, 2, 3),
         at(5, 4, false, 2, 3),
     ];
-    contributes(&rt, rt.alloc(), &frozen, number(b'M', 8)?, &both_inbred)?;
+    contributes(&rt, rt.alloc(), &frozen, Bull(8).number(), &both_inbred)?;
     let dam_alone = [
         at(7, 7, false, 16, 11),
         at(7, 4, true, 8, 11),
         at(4, 4, false, 4, 11),
     ];
-    contributes(&rt, rt.alloc(), &frozen, number(b'M', 9)?, &dam_alone)
+    contributes(&rt, rt.alloc(), &frozen, Bull(9).number(), &dam_alone)
 }

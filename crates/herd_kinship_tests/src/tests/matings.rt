@@ -1,7 +1,8 @@
 //! Matings, by tracing and by the dam's relationships.
 
-use super::books::{FULL_SIBS, book, generations, number};
 use herd_animal::AnimalNumber;
+use herd_fixtures::Name::{Bull, Cow};
+use herd_fixtures::{frozen_of, full_sibs, generations};
 use herd_kinship::*;
 use herd_pedigree::Frozen;
 use std::alloc::Global;
@@ -33,25 +34,25 @@ fn advises(
 
 #[test]
 fn advises_on_matings(rt: HostRuntime) -> Result<(), Fail> {
-    let frozen = book(&rt, rt.alloc(), &FULL_SIBS)?;
+    let frozen = frozen_of(rt.alloc(), &full_sibs())?;
     let matings = [
-        (b'M', 3, b'F', 4, Ok((1, 4))),
-        (b'M', 1, b'F', 4, Ok((1, 4))),
-        (b'M', 5, b'F', 4, Ok((3, 8))),
-        (b'M', 5, b'F', 6, Ok((5, 16))),
-        (b'M', 1, b'F', 2, Ok((0, 1))),
-        (b'M', 99, b'F', 4, Err(1)),
-        (b'M', 3, b'F', 99, Err(2)),
-        (b'F', 4, b'F', 4, Err(3)),
-        (b'M', 3, b'M', 1, Err(4)),
+        (Bull(3), Cow(4), Ok((1, 4))),
+        (Bull(1), Cow(4), Ok((1, 4))),
+        (Bull(5), Cow(4), Ok((3, 8))),
+        (Bull(5), Cow(6), Ok((5, 16))),
+        (Bull(1), Cow(2), Ok((0, 1))),
+        (Bull(99), Cow(4), Err(1)),
+        (Bull(3), Cow(99), Err(2)),
+        (Cow(4), Cow(4), Err(3)),
+        (Bull(3), Bull(1), Err(4)),
     ];
-    for (first, sire, second, dam, expected) in matings {
+    for (sire, dam, expected) in matings {
         advises(
             &rt,
             rt.alloc(),
             &frozen,
-            number(first, sire)?,
-            number(second, dam)?,
+            sire.number(),
+            dam.number(),
             expected,
         )?;
     }
@@ -60,9 +61,9 @@ fn advises_on_matings(rt: HostRuntime) -> Result<(), Fail> {
 
 #[test]
 fn advises_on_a_deep_mating(rt: HostRuntime) -> Result<(), Fail> {
-    let frozen = generations(&rt, rt.alloc(), 28)?;
-    let sire = number(b'M', 57)?;
-    let dam = number(b'F', 58)?;
+    let frozen = generations(rt.alloc(), 29)?;
+    let sire = Bull(57).number();
+    let dam = Cow(58).number();
     advises(
         &rt,
         rt.alloc(),

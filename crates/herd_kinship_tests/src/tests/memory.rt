@@ -1,6 +1,7 @@
 //! Growths that are refused.
 
-use super::books::{FULL_SIBS, book, number};
+use herd_fixtures::Name::{Bull, Cow};
+use herd_fixtures::{frozen_of, full_sibs};
 use herd_kinship::*;
 use linked_list_allocator::LocalHeap;
 use std::test::Fail;
@@ -8,7 +9,7 @@ use std::test::Fail;
 // Every growth is refused in turn: the heap is a little larger each time.
 #[test]
 fn answers_memory_or_the_coefficients(rt: HostRuntime) -> Result<(), Fail> {
-    let frozen = book(&rt, rt.alloc(), &FULL_SIBS)?;
+    let frozen = frozen_of(rt.alloc(), &full_sibs())?;
     let right = coefficients_plain(rt.alloc(), &frozen)?;
     let mut refused = 0u32;
     for size in 1..64 {
@@ -24,10 +25,10 @@ fn answers_memory_or_the_coefficients(rt: HostRuntime) -> Result<(), Fail> {
 
 #[test]
 fn answers_memory_or_the_mating(rt: HostRuntime) -> Result<(), Fail> {
-    let frozen = book(&rt, rt.alloc(), &FULL_SIBS)?;
+    let frozen = frozen_of(rt.alloc(), &full_sibs())?;
     let coefficients = coefficients_plain(rt.alloc(), &frozen)?;
-    let sire = number(b'M', 5)?;
-    let dam = number(b'F', 6)?;
+    let sire = Bull(5).number();
+    let dam = Cow(6).number();
     let mut refused = 0u32;
     for size in 1..64 {
         let heap = LocalHeap::new(rt.alloc(), 16 * size)?;
@@ -45,9 +46,9 @@ fn answers_memory_or_the_mating(rt: HostRuntime) -> Result<(), Fail> {
 
 #[test]
 fn answers_memory_or_the_traced_value(rt: HostRuntime) -> Result<(), Fail> {
-    let frozen = book(&rt, rt.alloc(), &FULL_SIBS)?;
+    let frozen = frozen_of(rt.alloc(), &full_sibs())?;
     let coefficients = coefficients_plain(rt.alloc(), &frozen)?;
-    let place = frozen.place(&number(b'M', 5)?).ok_or("absent")?;
+    let place = frozen.place(&Bull(5).number()).ok_or("absent")?;
     let mut refused = 0u32;
     for size in 1..64 {
         let heap = LocalHeap::new(rt.alloc(), 16 * size)?;

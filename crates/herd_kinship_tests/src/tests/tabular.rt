@@ -1,8 +1,7 @@
 //! The list of coefficients beside the tabular method.
 
-use super::books::{
-    FATHER_AND_DAUGHTER, FULL_SIBS, HALF_COUSINS, HALF_SIBS, book, generations, with_one_parent,
-};
+use super::books::{father_and_daughter, half_cousins, half_sibs, with_one_parent};
+use herd_fixtures::{frozen_of, full_sibs, generations};
 use herd_kinship::*;
 use herd_pedigree::Frozen;
 use std::alloc::Global;
@@ -74,21 +73,21 @@ fn agrees_with_its_table(
 
 #[test]
 fn agrees_with_the_tabular_method(rt: HostRuntime) -> Result<(), Fail> {
-    agrees_with_its_table(&rt, rt.alloc(), &book(&rt, rt.alloc(), &FULL_SIBS)?)?;
-    agrees_with_its_table(&rt, rt.alloc(), &book(&rt, rt.alloc(), &HALF_SIBS)?)?;
+    agrees_with_its_table(&rt, rt.alloc(), &frozen_of(rt.alloc(), &full_sibs())?)?;
+    agrees_with_its_table(&rt, rt.alloc(), &frozen_of(rt.alloc(), &half_sibs())?)?;
     agrees_with_its_table(
         &rt,
         rt.alloc(),
-        &book(&rt, rt.alloc(), &FATHER_AND_DAUGHTER)?,
+        &frozen_of(rt.alloc(), &father_and_daughter())?,
     )?;
-    agrees_with_its_table(&rt, rt.alloc(), &book(&rt, rt.alloc(), &HALF_COUSINS)?)?;
-    agrees_with_its_table(&rt, rt.alloc(), &with_one_parent(&rt, rt.alloc())?)
+    agrees_with_its_table(&rt, rt.alloc(), &frozen_of(rt.alloc(), &half_cousins())?)?;
+    agrees_with_its_table(&rt, rt.alloc(), &with_one_parent(rt.alloc())?)
 }
 
 #[test]
 fn agrees_with_the_tabular_method_over_generations(rt: HostRuntime) -> Result<(), Fail> {
-    for last in [4, 28, 60] {
-        agrees_with_its_table(&rt, rt.alloc(), &generations(&rt, rt.alloc(), last)?)?;
+    for count in [5, 29, 61] {
+        agrees_with_its_table(&rt, rt.alloc(), &generations(rt.alloc(), count)?)?;
     }
     Ok(())
 }

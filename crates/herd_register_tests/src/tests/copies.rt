@@ -3,7 +3,9 @@ ghost use Rattle.std.specs.Prelude.{◌≡◌, ◌≤◌, [], IfOk, length};
 ghost use Rattle.herd_register.specs.Run.{IsLegal};
 
 use super::filed::{file, with_family};
-use super::texts::{Text, number};
+use super::texts::Text;
+use herd_fixtures::Name::{Bull, Cow};
+use herd_fixtures::Pair;
 use herd_pedigree::{Frozen, MOST_ANIMALS};
 use herd_register::{Copybook, Limits, MOST_STEPS, Register, Reply, Step};
 use std::alloc::{AllocError, Allocator, Global};
@@ -13,7 +15,7 @@ use std::test::Fail;
 /// A register in which the family was filed, and a correction of the calf's dam.
 pub(super) fn corrected(rt: &impl Abort, alloc: Global) -> Result<Register<Global>, Fail> {
     let mut register = with_family(rt, alloc)?;
-    let correction = Text::Parents("M3", "M1", "F2");
+    let correction = Text::Parents(Bull(3), Pair::of(Bull(1), Cow(2)));
     file(rt, &mut register, correction, Reply::Accepted)?;
     Ok(register)
 }
@@ -96,7 +98,7 @@ fn freezes_to_the_rows_of_the_register(rt: HostRuntime) -> Result<(), Fail> {
 fn freezes_in_age_order(rt: HostRuntime) -> Result<(), Fail> {
     let register = corrected(&rt, rt.alloc())?;
     let frozen = frozen_copy(rt.alloc(), &register, rt.alloc())?;
-    for (place, number) in [number("F2")?, number("M1")?, number("M3")?]
+    for (place, number) in [Cow(2).number(), Bull(1).number(), Bull(3).number()]
         .iter()
         .enumerate()
     {

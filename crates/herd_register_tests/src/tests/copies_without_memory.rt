@@ -1,7 +1,7 @@
 //! Copies on heaps that are too small.
 
 use super::copies::{are_same, corrected, frozen_copy, take_over_all};
-use super::heaps::{heap_of, spare_of};
+use herd_fixtures::{heap_of, spare_of};
 use herd_pedigree::Frozen;
 use herd_register::{Copybook, Register};
 use linked_list_allocator::LocalHeap;

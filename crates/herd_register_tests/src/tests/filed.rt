@@ -1,6 +1,8 @@
 //! Registers in which something was filed, and what is seen of them.
 
-use super::texts::{Text, number};
+use super::texts::Text;
+use herd_fixtures::Name::{Bull, Cow};
+use herd_fixtures::{Name, Pair};
 use herd_pedigree::Animal;
 use herd_register::{Command, FileFault, Limits, Register, Reply, Step};
 use std::alloc::{Allocator, Global};
@@ -52,9 +54,9 @@ pub(super) fn last_step<A: Allocator>(register: &Register<A>) -> Option<Step> {
 /// Two founders and a calf of the first.
 pub(super) fn family() -> [Text; 3] {
     [
-        Text::Founder("M1"),
-        Text::Founder("F2"),
-        Text::Birth("M3", "2002-01-01", "M1", ""),
+        Text::Founder(Bull(1)),
+        Text::Founder(Cow(2)),
+        Text::Birth(Bull(3), "2002-01-01", Pair::of_sire(Bull(1))),
     ]
 }
 
@@ -70,35 +72,30 @@ pub(super) fn with_family(rt: &impl Abort, alloc: Global) -> Result<Register<Glo
 /// A command of each kind, which is accepted after the family.
 pub(super) fn one_of_each_kind() -> [Text; 4] {
     [
-        Text::Parents("M3", "M1", "F2"),
-        Text::Birth("F4", "2002-01-01", "M1", "F2"),
-        Text::Transfer("M3", "2003-01-01", "1", "2"),
-        Text::Exit("M3", "2003-01-01"),
+        Text::Parents(Bull(3), Pair::of(Bull(1), Cow(2))),
+        Text::Birth(Cow(4), "2002-01-01", Pair::of(Bull(1), Cow(2))),
+        Text::Transfer(Bull(3), "2003-01-01", "1", "2"),
+        Text::Exit(Bull(3), "2003-01-01"),
     ]
 }
 
 /// The records of the family, the number of animals, and the number of steps.
 pub type Seen = ([Option<Animal>; 3], u32, usize);
 
-pub(super) fn seen<A: Allocator>(register: &Register<A>) -> Result<Seen, Fail> {
+pub(super) fn seen<A: Allocator>(register: &Register<A>) -> Seen {
     let records = [
-        record_of(register, "M1")?,
-        record_of(register, "F2")?,
-        record_of(register, "M3")?,
+        record_of(register, Bull(1)),
+        record_of(register, Cow(2)),
+        record_of(register, Bull(3)),
     ];
-    Ok((records, register.pedigree().len(), register.journal().len()))
+    (records, register.pedigree().len(), register.journal().len())
 }
 
-fn record_of<A: Allocator>(register: &Register<A>, short: &str) -> Result<Option<Animal>, Fail> {
-    Ok(register.pedigree().get(&number(short)?))
+fn record_of<A: Allocator>(register: &Register<A>, name: Name) -> Option<Animal> {
+    register.pedigree().get(&name.number())
 }
 
 /// The register is seen as it was.
-pub(super) fn expect_seen<A: Allocator>(
-    rt: &impl Abort,
-    register: &Register<A>,
-    wanted: Seen,
-) -> Result<(), Fail> {
-    assert_eq!(rt; seen(register)?, wanted);
-    Ok(())
+pub(super) fn expect_seen<A: Allocator>(rt: &impl Abort, register: &Register<A>, wanted: Seen) {
+    assert_eq!(rt; seen(register), wanted);
 }

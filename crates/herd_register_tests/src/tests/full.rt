@@ -2,14 +2,15 @@
 
 use super::filed::{answered, file, last_step};
 use super::texts::Text;
+use herd_fixtures::Name::Bull;
 use herd_register::{FileFault, Limits, Refusal, Register, Reply};
 use std::alloc::Allocator;
 use std::process::Abort;
 use std::test::Fail;
 
 fn file_two<A: Allocator + Copy>(rt: &impl Abort, register: &mut Register<A>) -> Result<(), Fail> {
-    file(rt, register, Text::Founder("M1"), Reply::Accepted)?;
-    file(rt, register, Text::Founder("M2"), Reply::Accepted)
+    file(rt, register, Text::Founder(Bull(1)), Reply::Accepted)?;
+    file(rt, register, Text::Founder(Bull(2)), Reply::Accepted)
 }
 
 #[test]
@@ -21,7 +22,7 @@ fn refuses_an_animal_beyond_the_limit(rt: HostRuntime) -> Result<(), Fail> {
     let mut register = Register::new(rt.alloc(), limits);
     file_two(&rt, &mut register)?;
     let reply = Reply::Refused(Refusal::BookFull);
-    file(&rt, &mut register, Text::Founder("M3"), reply)?;
+    file(&rt, &mut register, Text::Founder(Bull(3)), reply)?;
     let third = register.step(3).copied();
     assert_eq!(rt; third, last_step(&register));
     assert_eq!(rt; register.pedigree().len(), 2);
@@ -38,7 +39,7 @@ fn answers_as_many_commands_as_the_journal_holds(rt: HostRuntime) -> Result<(), 
     assert_eq!(rt; register.limits(), limits);
     file_two(&rt, &mut register)?;
     assert!(rt; register.is_full());
-    let third = Text::Founder("M3").command()?;
+    let third = Text::Founder(Bull(3)).command()?;
     assert_eq!(rt; answered(&mut register, third), Err(FileFault::JournalFull));
     assert_eq!(rt; register.journal().len(), 2);
     let second = register.step(2).copied();

@@ -1,8 +1,9 @@
 //! Registers on heaps that are too small.
 
 use super::filed::{answered, empty, expect_seen, family, one_of_each_kind, seen};
-use super::heaps::{heap_of, spare_of};
 use super::texts::Text;
+use herd_fixtures::Name::Bull;
+use herd_fixtures::{Pair, heap_of, spare_of};
 use herd_register::{FileFault, Register, Reply};
 use std::alloc::Allocator;
 use std::process::Abort;
@@ -14,7 +15,7 @@ fn is_answered<A: Allocator + Copy>(
     register: &mut Register<A>,
     text: Text,
 ) -> Result<bool, Fail> {
-    let before = seen(register)?;
+    let before = seen(register);
     let could_withdraw = register.can_withdraw();
     match answered(register, text.command()?) {
         Ok(reply) => {
@@ -24,7 +25,7 @@ fn is_answered<A: Allocator + Copy>(
         Err(fault) => {
             assert!(rt; fault == FileFault::Memory);
             assert!(rt; register.can_withdraw() == could_withdraw);
-            expect_seen(rt, register, before)?;
+            expect_seen(rt, register, before);
             Ok(false)
         }
     }
@@ -75,7 +76,13 @@ fn is_too_small(
 // The journal grows at the last.
 fn five(last: Text) -> [Text; 5] {
     let [bull, cow, calf] = family();
-    [bull, cow, calf, Text::Parents("M3", "M1", ""), last]
+    [
+        bull,
+        cow,
+        calf,
+        Text::Parents(Bull(3), Pair::of_sire(Bull(1))),
+        last,
+    ]
 }
 
 // Every growth is refused in turn: the heap is a little larger each time.

@@ -1,13 +1,28 @@
-//! The list of coefficients beside the tracing of each animal.
+//! Tracing, and the list of coefficients beside the tracing of each animal.
 
 ghost use Rattle.std.specs.Prelude.{◌<◌};
 
-use super::books::{Birth, digit, register};
+use herd_fixtures::Name::{Bull, Cow};
+use herd_fixtures::{
+    Birth, BirthFault, DayText, Name, Pair, UNKNOWN, file_birth, frozen_of, full_sibs,
+};
 use herd_kinship::*;
 use herd_pedigree::{Frozen, Pedigree};
 use std::alloc::Global;
 use std::process::Abort;
 use std::test::Fail;
+
+#[test]
+fn traces_an_animal(rt: HostRuntime) -> Result<(), Fail> {
+    let frozen = frozen_of(rt.alloc(), &full_sibs())?;
+    let coefficients = coefficients_plain(rt.alloc(), &frozen)?;
+    let place = frozen.place(&Bull(5).number()).ok_or("absent")?;
+    let traced = trace(rt.alloc(), &frozen, coefficients.list(), place)?;
+    assert_eq!(rt; traced, (1 << 120) + (1 << 118));
+    assert_eq!(rt; inbred(traced), 1 << 118);
+    assert_eq!(rt; mendelian(&frozen, coefficients.list(), place), 1 << 119);
+    Ok(())
+}
 
 // How many animals a generation has, males and females in turn, and how many of each have calves.
 #[derive(Clone, Copy)]
@@ -24,18 +39,30 @@ fn index_in(shape: Shape, generation: u32, place: u32) -> u32 {
     older.wrapping_add(place).wrapping_add(1)
 }
 
+// The first day of the year that is so many after 2000.
+fn new_year(after: u32) -> DayText {
+    let mut day = *b"2000-01-01";
+    day[2] = b'0' + (after / 10 % 10) as u8;
+    day[3] = b'0' + (after % 10) as u8;
+    day
+}
+
+fn name_in(shape: Shape, generation: u32, place: u32) -> Name {
+    let index = index_in(shape, generation, place);
+    if place.is_multiple_of(2) {
+        Bull(index)
+    } else {
+        Cow(index)
+    }
+}
+
 // The sire is of the generation before, the dam of every third one of the generation before that; some are unknown.
-fn birth_in(shape: Shape, generation: u32, place: u32) -> Birth
+fn parents_in(shape: Shape, generation: u32, place: u32) -> Pair
     requires sires { 0 < shape.sires }
     requires dams { 0 < shape.dams }
 {
-    let mut day = *b"2000-01-01";
-    day[2] = digit(generation / 10);
-    day[3] = digit(generation);
-    let sex = if place.is_multiple_of(2) { b'M' } else { b'F' };
-    let index = index_in(shape, generation, place);
-    if generation == 0 || index.is_multiple_of(17) {
-        return Birth(sex, index, day, 0, 0);
+    if generation == 0 || index_in(shape, generation, place).is_multiple_of(17) {
+        return UNKNOWN;
     }
     let back = if generation > 1 && place.is_multiple_of(3) {
         2
@@ -44,24 +71,22 @@ fn birth_in(shape: Shape, generation: u32, place: u32) -> Birth
     };
     let male = (place / 2 % shape.sires).wrapping_mul(2);
     let female = (place % shape.dams).wrapping_mul(2).wrapping_add(1);
-    let sire = index_in(shape, generation - 1, male);
-    Birth(
-        sex,
-        index,
-        day,
-        sire,
-        index_in(shape, generation - back, female),
+    Pair::of(
+        name_in(shape, generation - 1, male),
+        name_in(shape, generation - back, female),
     )
 }
 
-fn shaped(rt: &impl Abort, alloc: Global, shape: Shape) -> Result<Frozen<Global>, Fail>
+fn shaped(alloc: Global, shape: Shape) -> Result<Frozen<Global>, BirthFault>
     requires sires { 0 < shape.sires }
     requires dams { 0 < shape.dams }
 {
     let mut pedigree = Pedigree::new(alloc);
     for generation in 0..shape.generations {
         for place in 0..shape.animals {
-            register(rt, &mut pedigree, &birth_in(shape, generation, place))?;
+            let name = name_in(shape, generation, place);
+            let parents = parents_in(shape, generation, place);
+            file_birth(&mut pedigree, Birth(name, new_year(generation), parents))?;
         }
     }
     Ok(pedigree.freeze(alloc)?)
@@ -71,7 +96,7 @@ fn agrees_with_tracing(rt: &impl Abort, alloc: Global, shape: Shape) -> Result<(
     requires sires { 0 < shape.sires }
     requires dams { 0 < shape.dams }
 {
-    let frozen = shaped(rt, alloc, shape)?;
+    let frozen = shaped(alloc, shape)?;
     let coefficients = coefficients_plain(alloc, &frozen)?;
     let mut inbred_animals = 0u32;
     for place in 0..frozen.len() {
