@@ -16,12 +16,14 @@ unknown. What it does:
 --map keeps which number stands for which id, --herds which herd for which owner. What it could not do is told on
 standard error, a line each: a row without an id, with an id that another row has, with an unreadable sex or birth day
 is left out; a parent of the wrong sex or not older than its offspring is written as unknown. The status is 0 all the
-same, and 2 where a column is missing or the spreadsheet isn't UTF-8. Only the standard library is used.
+same, and 2 where a column is missing, the spreadsheet isn't UTF-8, or breed or country aren't three letters. Only the
+standard library is used.
 """
 
 import argparse
 import csv
 import datetime
+import re
 import sys
 
 COLUMNS = ["id", "sex", "born", "sire", "dam", "owner"]
@@ -97,6 +99,13 @@ def drop_faulty_parents(animals):
                 row[column] = ""
 
 
+def three_letters(text):
+    """The breed or the country of a number, as it has to be."""
+    if not re.fullmatch("[A-Z]{3}", text):
+        raise argparse.ArgumentTypeError(f"{text!r} isn't three letters A to Z")
+    return text
+
+
 def numbered(animals, breed, country):
     """The number for each id, in order of birth."""
     in_order = sorted(animals.values(), key=lambda row: (row["born"], row["id"]))
@@ -122,8 +131,8 @@ def keep(path, header, rows):
 
 def main():
     parser = argparse.ArgumentParser(description=__doc__, formatter_class=argparse.RawDescriptionHelpFormatter)
-    parser.add_argument("--breed", default="HOL", help="three letters A to Z")
-    parser.add_argument("--country", default="GBR", help="three letters A to Z")
+    parser.add_argument("--breed", default="HOL", type=three_letters, help="three letters A to Z")
+    parser.add_argument("--country", default="GBR", type=three_letters, help="three letters A to Z")
     parser.add_argument("--founders", default="1900-01-01", help="the birth day of added parents")
     parser.add_argument("--map", help="file for the numbers and their ids")
     parser.add_argument("--herds", help="file for the herds and their owners")

@@ -198,6 +198,7 @@ class Checks:
         self.expect("the society's book", wrote(accepted), ["file"], made.stdout)
         self.encodings(script, room, made)
         self.unknown_parents(script, room)
+        self.letters(script, room)
         self.recipes(room, made.stdout)
 
     def encodings(self, script, room, made):
@@ -219,6 +220,13 @@ class Checks:
             first, second = animal("M", 1), animal("F", 2)
             wanted = HEADER + f"birth,{first},2000-01-01,0,0,,1\nbirth,{second},2001-01-01,{first},0,,1\n"
             self.count((done.stdout, done.stderr) == (wanted, ""), f"command_file.py: unknown as {unknown!r}: {done}")
+
+    def letters(self, script, room):
+        """A breed or a country that isn't three letters is refused, and nothing is written."""
+        for words in ["--breed", "hol"], ["--breed", "HOLX"], ["--country", "G1B"], ["--country", ""]:
+            done = subprocess.run(script + words, cwd=room, input="", capture_output=True, text=True, timeout=SECONDS)
+            told = "isn't three letters A to Z" in done.stderr
+            self.count((done.returncode, done.stdout, told) == (2, "", True), f"command_file.py: {words}: {done}")
 
     def recipes(self, room, book):
         listed = self.run(["inbreeding"], book).out.decode()
