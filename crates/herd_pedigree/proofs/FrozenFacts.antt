@@ -1,17 +1,16 @@
 -- What a frozen book tells of a number and of a depth.
-use Rattle.std.proofs.Common.{ℕ, ◌+◌, ◌<◌, ◌≤◌, ◌≡◌, ⊎_elim, arith, refl, sym, ap, ◌∙◌, subst, Bool, false, List, [], ◌∷◌, Option, Some, None, length, slice_get, map, ◌==◌}
+use Rattle.std.proofs.Common.{ℕ, ◌+◌, ◌<◌, ◌≤◌, ◌≡◌, ⊎_elim, arith, refl, sym, ap, ◌∙◌, subst, Bool, false, List, [], ◌∷◌, Option, Some, None, length, slice_get, get_or, map, All, ◌==◌}
 use Rattle.std.specs.Prelude.{IfNone, IfSome}
 use Rattle.std.specs.Map.{keys_of}
 use Rattle.std.specs.List.{filter, range_with_len}
 use Rattle.std.proofs.lemmas.Option.{slice_get_within, get_or_from_slice_get}
 use Rattle.std.proofs.lemmas.Bool.{cases_lt, false_from_ne_true, ne_eqb}
 use Rattle.std.proofs.lemmas.List.{length-map, get_or-map, get_or_past}
+use Rattle.std.proofs.lemmas.List.Elements.{All-get_or}
 use Rattle.std.proofs.lemmas.List.FromFn.{length-map-range_with_len, get_or-map-range_with_len}
 use Rattle.herd_pedigree.specs.declared.frozen.Row.{Row}
 use Rattle.herd_pedigree.specs.Book.{is_there, record_of}
 use Rattle.herd_pedigree.specs.Frozen.{IsFrozen, IsFrozenRow, IsPlaceOf, book_of, numbers_of, depth_at, level_of, levels_of}
-use Rattle.herd_pedigree.specs.Packed.{FitPacked}
-use Rattle.herd_pedigree.specs.PackedPlace.{nowhere}
 use Rattle.herd_pedigree.proofs.BookFacts.{is_some_with, key_from_entry, place_of, there}
 use Rattle.herd_pedigree.proofs.FrozenDepthFacts.{IsDepthOf-le}
 
@@ -35,24 +34,23 @@ pub depth-le : (l most : ℕ) (rows : List Row) → IsFrozen l most rows → (pl
 depth-le l most rows frozen place row at =
     IsDepthOf-le l (book_of rows) frozen.lawful.shallow row.number row.depth (frozen.each place row at).depth
 
--- a parent's place is that of a row
-parent-within : (rows : List Row) (parent : Option ℕ) (number : Option (List ℕ)) → IsPlaceOf rows parent number → IfSome parent (λ p. p < length rows)
-parent-within rows None number is = tt
-parent-within rows (Some p) None is = absurd is
-parent-within rows (Some p) (Some x) is = subst (λ n. p < n) (length-map rows (λ r. r.number)) (slice_get_within (numbers_of rows) p x is)
+-- a row of shallow rows whose depth is read
+pub record IsShallowAt (l : ℕ) (rows : List Row) (place : ℕ) : Type 0 where
+  pub row : Row
+  pub read : row ≡ get_or rows place row
+  pub depth : depth_at rows place ≡ row.depth
+  pub shallow : row.depth ≤ l
 
--- the places of parents can be kept in four bytes
-pub fit-packed : (l most : ℕ) (rows : List Row) → IsFrozen l most rows → most < nowhere → (place : ℕ) (row : Row) → slice_get rows place ≡ Some row → FitPacked row
-fit-packed l most rows frozen small place row at =
-    let its_row : IsFrozenRow rows row = frozen.each place row at in
-    record { sire = below row.sire (parent-within rows row.sire row.animal.sire its_row.sire); dam = below row.dam (parent-within rows row.dam row.animal.dam its_row.dam) }
-  where
-    below : (parent : Option ℕ) → IfSome parent (λ p. p < length rows) → IfSome parent (λ p. p < nowhere)
-    below None within = tt
-    below (Some p) within =
-        let few : length (book_of rows) ≤ most = frozen.lawful.few in
-        let long : length (book_of rows) ≡ length rows = length-map rows (λ r. (r.number, r.animal)) in
-        omega (arith, within, few, long, small)
+pub shallow-at : (l : ℕ) (rows : List Row) (place : ℕ) → place < length rows → All (λ r. r.depth ≤ l) rows → IsShallowAt l rows place
+shallow-at l rows place within shallow =
+    let row = there rows place within in
+    let read : get_or rows place row.0 ≡ row.0 = get_or_from_slice_get rows place row.0 row.0 row.1 in
+    record {
+      row = row.0;
+      read = sym read;
+      depth = get_or-map (λ r. r.depth) rows place row.0 0 within ∙ ap (λ (r : Row). r.depth) read;
+      shallow = subst (λ (r : Row). r.depth ≤ l) read (All-get_or (λ (r : Row). r.depth ≤ l) rows place row.0 within shallow);
+    }
 
 -- a list in which no element passes a test
 filter_none : (p : ℕ → Bool) (xs : List ℕ) → ((x : ℕ) → p x ≡ false) → filter p xs ≡ []

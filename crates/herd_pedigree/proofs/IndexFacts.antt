@@ -4,9 +4,7 @@ use Rattle.std.specs.Prelude.{slice_index}
 use Rattle.std.specs.Str.{bytes_eq}
 use Rattle.std.proofs.lemmas.Bool.{cases_lt, cases_eq}
 use Rattle.std.proofs.lemmas.List.{length-set, get_or-set_same, get_or-set_other, get_or_push, get_or_append_left, length_push}
-use Rattle.std.proofs.lemmas.Option.{same_Some, slice_get-map, slice_get_read, slice_get_within}
-use Rattle.herd_pedigree.specs.declared.frozen.Row.{Row}
-use Rattle.herd_pedigree.specs.Frozen.{numbers_of}
+use Rattle.std.proofs.lemmas.Option.{same_Some, slice_get_within}
 use Rattle.herd_pedigree.specs.NumberIndex.{IsAfterLast, IsIndexOf, bucket_of}
 use Rattle.herd_pedigree.proofs.BookFacts.{bytes_itself}
 
@@ -120,10 +118,6 @@ module _ (numbers : List (List ℕ)) (n : ℕ) (all : n ≡ length numbers) (las
   pub follow-smaller : (place : ℕ) (x : List ℕ) → slice_get numbers place ≡ Some x → slice_index earlier place ≤ place
   follow-smaller place x at = let within = slice_get_within numbers place x at in (index.earlier_are place x (omega (arith, within, all)) at).within
 
--- the number of a row that is read
-pub number-read : (rows : List Row) (place : ℕ) (row : Row) → place < length rows → row ≡ get_or rows place row → slice_get (numbers_of rows) place ≡ Some row.number
-number-read rows place row within read = slice_get-map (λ r. r.number) rows place ∙ rw (slice_get_read rows (length rows) place row refl within read) refl
-
 -- numbers that compare unequal
-pub apart : (x y z : List ℕ) → x ≡ y → bytes_eq y z ≡ false → x ≢ z
-apart x y z e unequal same = let t : bytes_eq y z ≡ true = subst (λ v. bytes_eq v z ≡ true) (sym same ∙ e) (bytes_itself z) in absurd (cc)
+pub apart : (x y : List ℕ) → bytes_eq x y ≡ false → x ≢ y
+apart x y unequal same = let t : bytes_eq x y ≡ true = subst (λ v. bytes_eq v y ≡ true) (sym same) (bytes_itself y) in absurd (cc)

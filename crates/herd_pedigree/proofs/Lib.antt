@@ -7,6 +7,7 @@ pub mod AgeOrderFacts
 pub mod PermutedFacts
 pub mod RankFacts
 mod RecordsFacts
+mod RowsFacts
 pub mod RowFacts
 pub mod LevelFacts
 pub mod FreezeFacts

@@ -50,7 +50,7 @@ module _ (numbers : List (List ℕ)) where
   set-book_with (first ∷ es) (suc i) e = ap (λ book. (first.0, named numbers first.1) ∷ book) (set-book_with es i e)
 
   -- one number more changes none of those before it
-  number_at-push : (x : List ℕ) (o : Option ℕ) → IfSome o (λ p. p < length numbers) → number_at (numbers ++ x ∷ []) o ≡ number_at numbers o
+  pub number_at-push : (x : List ℕ) (o : Option ℕ) → IfSome o (λ p. p < length numbers) → number_at (numbers ++ x ∷ []) o ≡ number_at numbers o
   number_at-push x None h = refl
   number_at-push x (Some p) h = let n = there numbers p h in push_keeps numbers x n.0 p n.1 ∙ sym n.1
 
@@ -78,7 +78,7 @@ module _ (numbers : List (List ℕ)) where
   place-within (Some p) (Some x) h = slice_get_within numbers p x h
 
 -- a place among some is among more
-further : {m n : ℕ} (o : Option ℕ) → m ≤ n → IfSome o (λ p. p < m) → IfSome o (λ p. p < n)
+pub further : {m n : ℕ} (o : Option ℕ) → m ≤ n → IfSome o (λ p. p < m) → IfSome o (λ p. p < n)
 further None more h = tt
 further (Some p) more h = omega (arith, more, h)
 

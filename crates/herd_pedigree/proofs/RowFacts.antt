@@ -11,7 +11,7 @@ use Rattle.herd_pedigree.specs.declared.frozen.Row.{Row}
 use Rattle.herd_pedigree.specs.declared.links.Link.{Link}
 use Rattle.herd_pedigree.specs.Book.{Book, IsDepthOf, parentage_of, record_of}
 use Rattle.herd_pedigree.specs.Lawful.{IsLawfulRecord}
-use Rattle.herd_pedigree.specs.Frozen.{depth_at}
+use Rattle.herd_pedigree.specs.Frozen.{depth_at, numbers_of}
 use Rattle.herd_pedigree.specs.Freeze.{AreRows, IsAbove, IsRanked, IsRowOf, places_of}
 use Rattle.herd_pedigree.specs.Links.{IsLinkAt}
 use Rattle.herd_pedigree.specs.Places.{IsPlaceIn}
@@ -142,3 +142,16 @@ rows-more book keys rows row made next_made place key other at_key at_row =
     let here : slice_get keys (length rows) ≡ Some key = ap (λ n. slice_get keys n) (sym last.0) ∙ at_key in
     subst (λ r. IsRowOf book keys key r) last.1 (rw here at next_made))
     (push_cases rows row other place at_row)
+
+-- the place of a parent whose row is made is its place among the rows
+pub made-already : (book : Book) (keys : List AgeKey) (rows : List Row) → AreRows book keys rows → length rows ≤ length keys → (place : Option ℕ) (parent : Option (List ℕ))
+    → IsPlaceIn (map (λ k. k.number) keys) place parent → IfSome place (λ p. p < length rows) → IsPlaceIn (numbers_of rows) place parent
+made-already book keys rows made few None None is earlier = tt
+made-already book keys rows made few None (Some x) is earlier = absurd is
+made-already book keys rows made few (Some p) None is earlier = absurd is
+made-already book keys rows made few (Some p) (Some x) is earlier =
+    let row = there rows p earlier in
+    let key = there keys p (omega (arith, earlier, few)) in
+    let its_row : IsRowOf book keys key.0 row.0 = made p key.0 row.0 key.1 row.1 in
+    let named : key.0.number ≡ x = same_Some key.0.number x (sym (slice_get-map (λ (k : AgeKey). k.number) keys p ∙ rw key.1 refl) ∙ is) in
+    slice_get-map (λ (r : Row). r.number) rows p ∙ rw row.1 (ap Some (its_row.number ∙ named))

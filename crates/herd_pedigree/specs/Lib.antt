@@ -8,7 +8,7 @@ pub mod PackedPlace
 pub mod Links
 pub mod Listed
 pub mod Frozen
-pub mod Packed
+pub mod Rows
 pub mod NumberIndex
 pub mod Freeze
 pub mod Depths

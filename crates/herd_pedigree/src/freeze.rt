@@ -1,9 +1,10 @@
 ghost use Rattle.std.specs.Prelude.{◌≡◌, ◌+◌, ◌<◌, ◌≤◌, length, map, slice_get, All, IfOk, IfSome, IsPermutation};
 ghost use Rattle.std.specs.List.{range_with_len};
 ghost use Rattle.std.specs.Option.{option_and_then, option_map_or};
-ghost use Rattle.herd_pedigree.specs.Frozen.{IsFrozenFrom, depth_at};
+ghost use Rattle.herd_pedigree.specs.Frozen.{IsFrozenFrom, depth_at, numbers_of};
 ghost use Rattle.herd_pedigree.specs.Freeze.{AreRanks, AreRows, IsAgeOrder, IsRanked, IsRowOf, places_of};
 ghost use Rattle.herd_pedigree.specs.Lawful.{IsLawful};
+ghost use Rattle.herd_pedigree.specs.Places.{IsPlaceIn};
 ghost use Rattle.herd_pedigree.specs.declared.TheConstants.{DEPTH_LIMIT, MOST_ANIMALS};
 
 use crate::age_order::{AgeKey, by_age, ranks_of};
@@ -11,6 +12,7 @@ use crate::animal::Animal;
 use crate::frozen::{Frozen, Row};
 use crate::listed::{Listed, places_by_number};
 use crate::registered::Registered;
+use crate::rows::Rows;
 use herd_animal::AnimalNumber;
 use std::alloc::{AllocError, Allocator};
 
@@ -55,24 +57,31 @@ fn rank_of(ranks: &[u32], parent: Option<u32>) -> Option<u32>
 }
 
 // One more than the depth of a parent, and 0 for an unknown one.
-fn above(rows: &[Row], parent: Option<u32>) -> u8
+fn above<A: Allocator>(rows: &Rows<A>, parent: Option<u32>) -> u8
     requires within { IfSome parent (λ place. place < length rows.now) }
     requires shallow { All (λ row. row.depth ≤ DEPTH_LIMIT) rows.now }
     ensures { result ≡ option_map_or (λ place. depth_at rows.now place + 1) parent 0 }
 {
     match parent {
-        Some(place) => rows[place as usize].depth + 1,
+        Some(place) => rows.depth(place) + 1,
         None => 0,
     }
 }
 
 // The row of the record whose turn it is, once the rows of all the older ones are made.
-fn next_row<S: Registered>(records: &S, keys: &[AgeKey], ranks: &[u32], rows: &[Row]) -> Row
+fn next_row<A: Allocator, S: Registered>(
+    records: &S,
+    keys: &[AgeKey],
+    ranks: &[u32],
+    rows: &Rows<A>,
+) -> Row
     requires ranked { IsRanked DEPTH_LIMIT MOST_ANIMALS (S.book records.now) keys.now ranks.now }
     requires parents { S.knows_parents records.now }
     requires rows { AreRows (S.book records.now) keys.now rows.now }
     requires more { length rows.now < length keys.now }
-    ensures { IfSome (slice_get keys.now (length rows.now)) (λ key. IsRowOf (S.book records.now) keys.now key result) }
+    ensures row { IfSome (slice_get keys.now (length rows.now)) (λ key. IsRowOf (S.book records.now) keys.now key result) }
+    ensures sire { IsPlaceIn (numbers_of rows.now) result.sire result.animal.sire }
+    ensures dam { IsPlaceIn (numbers_of rows.now) result.dam result.animal.dam }
 {
     let key = keys[rows.len()];
     let entry = records.record_at(key.place as usize);
@@ -89,18 +98,18 @@ fn next_row<S: Registered>(records: &S, keys: &[AgeKey], ranks: &[u32], rows: &[
 }
 
 // The rows of the records, in age order.
-fn rows_of<A: Allocator, S: Registered>(
+fn rows_of<A: Allocator + Clone, S: Registered>(
     alloc: A,
     records: &S,
     keys: &[AgeKey],
     ranks: &[u32],
-) -> Result<Vec<Row, A>, AllocError>
+) -> Result<Rows<A>, AllocError>
     requires ranked { IsRanked DEPTH_LIMIT MOST_ANIMALS (S.book records.now) keys.now ranks.now }
     requires parents { S.knows_parents records.now }
-    ensures long { IfOk result (λ rows. length rows.items ≡ length keys.now) }
-    ensures rows { IfOk result (λ rows. AreRows (S.book records.now) keys.now rows.items) }
+    ensures long { IfOk result (λ rows. length rows ≡ length keys.now) }
+    ensures rows { IfOk result (λ rows. AreRows (S.book records.now) keys.now rows) }
 {
-    let mut rows = Vec::with_capacity(alloc, keys.len())?;
+    let mut rows = Rows::with_capacity(alloc, keys.len())?;
     for _ in 0..keys.len() {
         let row = next_row(records, keys, ranks, &rows);
         rows.push(row)?;

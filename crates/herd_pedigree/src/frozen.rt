@@ -1,13 +1,12 @@
 ghost use Rattle.std.specs.Prelude.{◌≡◌, ◌==◌, ◌<◌, false, length, map, slice_get, All, Some, IfOk, IfSome, IfNone};
 ghost use Rattle.herd_pedigree.specs.Book.{is_there};
 ghost use Rattle.herd_pedigree.specs.Frozen.{IsFrozen, book_of, level_of, numbers_of, parents_of};
-ghost use Rattle.herd_pedigree.specs.Packed.{FitPacked, packed_of};
 ghost use Rattle.herd_pedigree.specs.declared.TheConstants.{DEPTH_LIMIT, MOST_ANIMALS};
 
 use crate::animal::Animal;
 use crate::levels::levels_of;
 use crate::number_index::NumberIndex;
-use crate::packed_place::PackedPlace;
+use crate::rows::Rows;
 use herd_animal::AnimalNumber;
 use std::alloc::{AllocError, Allocator};
 use std::marker::Model;
@@ -36,19 +35,10 @@ pub struct Parents {
     pub depth: u8,
 }
 
-/// What is kept of a row's parents, in twelve bytes.
-#[derive(Clone, Copy)]
-pub struct PackedParents {
-    pub(crate) sire: PackedPlace,
-    pub(crate) dam: PackedPlace,
-    pub(crate) depth: u8,
-}
-
 /// A book in age order, which doesn't change any more.
 #[derive(Drop)]
 pub struct Frozen<A: Allocator> {
-    rows: Vec<Row, A>,
-    parents: Vec<PackedParents, A>,
+    rows: Rows<A>,
     levels: Vec<Vec<u32, A>, A>,
     index: NumberIndex<A>,
 }
@@ -57,18 +47,16 @@ impl<A: Allocator> Model for Frozen<A> {
     ghost use Rattle.std.specs.Prelude.{List, ◌≡◌, length, map};
     ghost use Rattle.herd_pedigree.specs.declared.frozen.Row.{Row};
     ghost use Rattle.herd_pedigree.specs.Frozen.{IsFrozen, levels_of, numbers_of};
-    ghost use Rattle.herd_pedigree.specs.Packed.{packed_of};
     ghost use Rattle.herd_pedigree.specs.NumberIndex.{IsIndexOf};
     ghost use Rattle.herd_pedigree.specs.declared.TheConstants.{DEPTH_LIMIT, MOST_ANIMALS};
 
     ghost Value = { List Row };
 
-    ghost view = { λ f. f.rows.items };
+    ghost view = { λ f. f.rows };
 
-    ghost invariant = { λ f. IsFrozen DEPTH_LIMIT MOST_ANIMALS f.rows.items
-        × (f.parents.items ≡ map packed_of f.rows.items)
-        × (map (λ level. level.items) f.levels.items ≡ levels_of DEPTH_LIMIT f.rows.items)
-        × IsIndexOf (numbers_of f.rows.items) (length f.rows.items) f.index.lasts.items f.index.earlier.items };
+    ghost invariant = { λ f. IsFrozen DEPTH_LIMIT MOST_ANIMALS f.rows
+        × (map (λ level. level.items) f.levels.items ≡ levels_of DEPTH_LIMIT f.rows)
+        × IsIndexOf (numbers_of f.rows) (length f.rows) f.index.lasts.items f.index.earlier.items };
 }
 
 impl<A: Allocator> Frozen<A> {
@@ -88,11 +76,13 @@ impl<A: Allocator> Frozen<A> {
     }
 
     /// The row at a place.
-    pub fn row(&self, place: u32) -> &Row
+    // Inlined: a caller reads no more of a row than it uses.
+    #[inline(always)]
+    pub fn row(&self, place: u32) -> Row
         requires { place < length self.now }
-        ensures { slice_get self.now place ≡ Some result.now }
+        ensures { slice_get self.now place ≡ Some result }
     {
-        &self.rows[place as usize]
+        self.rows.row(place)
     }
 
     /// The place of an animal. It reads an index, and takes no memory.
@@ -109,12 +99,7 @@ impl<A: Allocator> Frozen<A> {
         requires { place < length self.now }
         ensures { slice_get (map parents_of self.now) place ≡ Some result }
     {
-        let packed = self.parents[place as usize];
-        Parents {
-            sire: packed.sire.get(),
-            dam: packed.dam.get(),
-            depth: packed.depth,
-        }
+        self.rows.parents(place)
     }
 
     /// The places of the animals of a depth, ascending; none beyond the limit.
@@ -130,32 +115,16 @@ impl<A: Allocator> Frozen<A> {
 
 impl<A: Allocator + Clone> Frozen<A> {
     /// The frozen book of these rows.
-    pub(crate) fn from_rows(alloc: A, rows: Vec<Row, A>) -> Result<Frozen<A>, AllocError>
-        requires { IsFrozen DEPTH_LIMIT MOST_ANIMALS rows.items }
-        ensures { IfOk result (λ frozen. frozen ≡ rows.items) }
+    pub(crate) fn from_rows(alloc: A, rows: Rows<A>) -> Result<Frozen<A>, AllocError>
+        requires { IsFrozen DEPTH_LIMIT MOST_ANIMALS rows }
+        ensures { IfOk result (λ frozen. frozen ≡ rows) }
     {
-        let parents = parents_column(alloc.clone()?, &rows)?;
         let levels = levels_of(alloc.clone()?, &rows)?;
         let index = NumberIndex::of(alloc, &rows)?;
         Ok(Frozen {
             rows,
-            parents,
             levels,
             index,
         })
     }
-}
-
-// The rows without their records.
-fn parents_column<A: Allocator>(alloc: A, rows: &[Row]) -> Result<Vec<PackedParents, A>, AllocError>
-    requires { All FitPacked rows.now }
-    ensures { IfOk result (λ parents. parents.items ≡ map packed_of rows.now) }
-{
-    rows.iter()
-        .map(|row| PackedParents {
-            sire: PackedPlace::of(row.sire),
-            dam: PackedPlace::of(row.dam),
-            depth: row.depth,
-        })
-        .collect(alloc)
 }

@@ -3,7 +3,7 @@ ghost use Rattle.herd_pedigree.specs.Frozen.{levels_of};
 ghost use Rattle.herd_pedigree.specs.declared.TheConstants.{DEPTH_LIMIT, MOST_ANIMALS};
 
 use crate::DEPTH_LIMIT;
-use crate::frozen::Row;
+use crate::rows::Rows;
 use std::alloc::{AllocError, Allocator};
 
 // A level with no place for each depth up to the limit.
@@ -18,17 +18,17 @@ fn empty_levels<A: Allocator + Clone>(alloc: A) -> Result<Vec<Vec<u32, A>, A>, A
 }
 
 /// The places of each depth up to the limit, ascending.
-pub(crate) fn levels_of<A: Allocator + Clone>(
+pub(crate) fn levels_of<A: Allocator + Clone, B: Allocator>(
     alloc: A,
-    rows: &[Row],
+    rows: &Rows<B>,
 ) -> Result<Vec<Vec<u32, A>, A>, AllocError>
     requires few { length rows.now ≤ MOST_ANIMALS }
     requires shallow { All (λ row. row.depth ≤ DEPTH_LIMIT) rows.now }
     ensures { IfOk result (λ levels. map (λ level. level.items) levels.items ≡ levels_of DEPTH_LIMIT rows.now) }
 {
     let mut levels = empty_levels(alloc)?;
-    for (place, row) in rows.iter().enumerate() {
-        levels[usize::from(row.depth)].push(place as u32)?;
+    for place in 0..rows.len() as u32 {
+        levels[usize::from(rows.depth(place))].push(place)?;
     }
     Ok(levels)
 }

@@ -30,6 +30,7 @@ mod pedigree;
 mod progeny;
 mod records;
 mod registered;
+mod rows;
 mod undo;
 
 pub use animal::Animal;
@@ -39,8 +40,6 @@ pub use parent_fault::ParentFault;
 pub use pedigree::Pedigree;
 // A crate can name a pedigree or a frozen book in a contract only if the types of its fields are exported.
 #[doc(hidden)]
-pub use frozen::PackedParents;
-#[doc(hidden)]
 pub use number_index::NumberIndex;
 #[doc(hidden)]
 pub use packed_place::PackedPlace;
@@ -48,6 +47,8 @@ pub use packed_place::PackedPlace;
 pub use progeny::{Family, Progeny};
 #[doc(hidden)]
 pub use records::{Records, StoredRecord};
+#[doc(hidden)]
+pub use rows::{PackedParents, RowRecord, Rows};
 #[doc(hidden)]
 pub use undo::Undo;
 

@@ -4,7 +4,7 @@ ghost use Rattle.herd_pedigree.specs.Frozen.{numbers_of};
 ghost use Rattle.herd_pedigree.specs.NumberIndex.{IsIndexOf, bucket_of, hash_of};
 ghost use Rattle.herd_pedigree.specs.declared.TheConstants.{MOST_ANIMALS};
 
-use crate::frozen::Row;
+use crate::rows::Rows;
 use herd_animal::AnimalNumber;
 use std::alloc::{AllocError, Allocator};
 use std::hash::{FoldHasher, Hash, Hasher};
@@ -20,16 +20,16 @@ pub struct NumberIndex<A: Allocator> {
 
 impl<A: Allocator + Clone> NumberIndex<A> {
     /// The index of the rows. There is a bucket for each row, and one more.
-    pub fn of(alloc: A, rows: &[Row]) -> Result<NumberIndex<A>, AllocError>
+    pub fn of<B: Allocator>(alloc: A, rows: &Rows<B>) -> Result<NumberIndex<A>, AllocError>
         requires { length rows.now ≤ MOST_ANIMALS }
         ensures { IfOk result (λ index. IsIndexOf (numbers_of rows.now) (length rows.now) index.lasts.items index.earlier.items) }
     {
         let mut lasts = vec![in alloc.clone()?; 0u32; rows.len() + 1]?;
         let mut earlier = Vec::with_capacity(alloc, rows.len())?;
-        for (place, row) in rows.iter().enumerate() {
-            let bucket = bucket_of(&row.number, lasts.len());
+        for place in 0..rows.len() as u32 {
+            let bucket = bucket_of(rows.number(place), lasts.len());
             earlier.push(lasts[bucket])?;
-            lasts[bucket] = place as u32 + 1;
+            lasts[bucket] = place + 1;
         }
         Ok(NumberIndex { lasts, earlier })
     }
@@ -37,7 +37,7 @@ impl<A: Allocator + Clone> NumberIndex<A> {
 
 impl<A: Allocator> NumberIndex<A> {
     /// The place of a number among the rows that were indexed.
-    pub fn place(&self, rows: &[Row], number: &AnimalNumber) -> Option<u32>
+    pub fn place<B: Allocator>(&self, rows: &Rows<B>, number: &AnimalNumber) -> Option<u32>
         requires few { length rows.now ≤ MOST_ANIMALS }
         requires index { IsIndexOf (numbers_of rows.now) (length rows.now) self.now.lasts.items self.now.earlier.items }
         ensures found { IfSome result (λ place. slice_get (numbers_of rows.now) place ≡ Some number.now) }
@@ -46,7 +46,7 @@ impl<A: Allocator> NumberIndex<A> {
         let mut after = self.lasts[bucket_of(number, self.lasts.len())];
         while after > 0 {
             let place = after - 1;
-            if rows[place as usize].number == *number {
+            if *rows.number(place) == *number {
                 return Some(place);
             }
             after = self.earlier[place as usize];

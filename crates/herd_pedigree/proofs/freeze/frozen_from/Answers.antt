@@ -20,11 +20,11 @@ ranks_of-requires-clause-places g c =
 pub from_rows-requires : goal.from_rows-requires
 from_rows-requires g c =
     let order = subst (λ (keys : List AgeKey). IsAgeOrder (g.S.Registered.book c.args.records.now) keys) (sym c.deref-2.ensures.value) c.in_ok-keys.ensures in
-    (frozen-from (g.S.Registered.book c.args.records.now) c.deref-2.result.now c.in_ok-rows.rows.items order c.in_ok-rows.ensures.long c.in_ok-rows.ensures.rows DEPTH_LIMIT MOST_ANIMALS c.requires.lawful).frozen
+    (frozen-from (g.S.Registered.book c.args.records.now) c.deref-2.result.now c.in_ok-rows.rows order c.in_ok-rows.ensures.long c.in_ok-rows.ensures.rows DEPTH_LIMIT MOST_ANIMALS c.requires.lawful).frozen
 
 pub returns : goal.returns
 returns g c =
     let order = subst (λ (keys : List AgeKey). IsAgeOrder (g.S.Registered.book c.args.records.now) keys) (sym c.deref-2.ensures.value) c.in_ok-keys.ensures in
-    let is : IsFrozenFrom DEPTH_LIMIT MOST_ANIMALS (g.S.Registered.book c.args.records.now) c.in_ok-rows.rows.items =
-    frozen-from (g.S.Registered.book c.args.records.now) c.deref-2.result.now c.in_ok-rows.rows.items order c.in_ok-rows.ensures.long c.in_ok-rows.ensures.rows DEPTH_LIMIT MOST_ANIMALS c.requires.lawful in
+    let is : IsFrozenFrom DEPTH_LIMIT MOST_ANIMALS (g.S.Registered.book c.args.records.now) c.in_ok-rows.rows =
+    frozen-from (g.S.Registered.book c.args.records.now) c.deref-2.result.now c.in_ok-rows.rows order c.in_ok-rows.ensures.long c.in_ok-rows.ensures.rows DEPTH_LIMIT MOST_ANIMALS c.requires.lawful in
     IfOk-weaker c.from_rows.result _ _ (λ frozen same. subst (λ (rows : List Row). IsFrozenFrom DEPTH_LIMIT MOST_ANIMALS (g.S.Registered.book c.args.records.now) rows) (sym same) is) c.from_rows.ensures

@@ -4,4 +4,4 @@ use Rattle.herd_pedigree.specs.Freeze.{AreRows}
 use Rattle.herd_pedigree.proofs.freeze.rows_of.Given as goal
 
 abbrev pub invariant-loop : goal.invariant-loop
-invariant-loop g l = (length l.rows.items ≡ l.counter) × AreRows (g.S.Registered.book l.records) l.keys l.rows.items
+invariant-loop g l = (length l.rows ≡ l.counter) × AreRows (g.S.Registered.book l.records) l.keys l.rows

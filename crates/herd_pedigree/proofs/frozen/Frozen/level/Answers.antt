@@ -17,7 +17,7 @@ returns-in-Some g c =
     let read : slice_get vectors depth ≡ Some level =
     subst (λ vs. slice_get vs depth ≡ Some level) c.deref.ensures.value (slice_get_read c.deref.result.now (length c.deref.result.now) depth level refl within c.in-Some.ensures.lookup.1) in
     let at : slice_get (map (λ v. v.items) vectors) depth ≡ Some level.items = slice_get-map (λ v. v.items) vectors depth ∙ rw read refl in
-    let is : level.items ≡ level_of depth c.self.inside.rows.items = level-at DEPTH_LIMIT c.self.inside.rows.items (map (λ v. v.items) vectors) c.self.invariant.2 depth level.items at in
+    let is : level.items ≡ level_of depth c.self.inside.rows = level-at DEPTH_LIMIT c.self.inside.rows (map (λ v. v.items) vectors) c.self.invariant.1 depth level.items at in
     c.as_slice.ensures.value ∙ is ∙ ap (λ (rows : List Row). level_of depth rows) c.self.view_is
 
 pub returns-in-None : goal.returns-in-None
@@ -26,5 +26,5 @@ returns-in-None g c =
     let depth : ℕ = c.args.depth in
     let past : length c.deref.result.now ≤ depth = ltb-false depth (length c.deref.result.now) (sym c.in-None.ensures.lookup.0) in
     let beyond : length (map (λ v. v.items) vectors) ≤ depth = rw length-map (subst (λ vs. length vs ≤ depth) c.deref.ensures.value past) in
-    let none : level_of depth c.self.inside.rows.items ≡ [] = level-beyond DEPTH_LIMIT MOST_ANIMALS c.self.inside.rows.items (map (λ v. v.items) vectors) c.self.invariant.0 c.self.invariant.2 depth beyond in
+    let none : level_of depth c.self.inside.rows ≡ [] = level-beyond DEPTH_LIMIT MOST_ANIMALS c.self.inside.rows (map (λ v. v.items) vectors) c.self.invariant.0 c.self.invariant.1 depth beyond in
     sym none ∙ ap (λ (rows : List Row). level_of depth rows) c.self.view_is

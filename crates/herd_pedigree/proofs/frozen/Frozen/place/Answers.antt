@@ -1,4 +1,4 @@
-use Rattle.std.proofs.Common.{◌≡◌, ◌∙◌, IfNone, List, false, subst}
+use Rattle.std.proofs.Common.{◌≡◌, IfNone, List, false, subst}
 use Rattle.herd_pedigree.specs.declared.frozen.Row.{Row}
 use Rattle.herd_pedigree.specs.Book.{is_there}
 use Rattle.herd_pedigree.specs.Frozen.{book_of}
@@ -7,5 +7,5 @@ use Rattle.herd_pedigree.proofs.frozen.Frozen.place.Goals as goal
 
 pub returns-clause-absent : goal.returns-clause-absent
 returns-clause-absent g c =
-    subst (λ (rows : List Row). IfNone c.place.result (is_there (book_of rows) c.args.number.now ≡ false)) (c.deref.ensures.value ∙ c.self.view_is)
-    (not_found c.deref.result.now c.args.number.now c.place.result c.place.ensures.absent)
+    subst (λ (rows : List Row). IfNone c.place.result (is_there (book_of rows) c.args.number.now ≡ false)) c.self.view_is
+    (not_found c.self.inside.rows c.args.number.now c.place.result c.place.ensures.absent)
