@@ -10,7 +10,7 @@ pub fn row_at<A: Allocator>(frozen: &Frozen<A>, place: u32) -> Option<Row>
     ensures { result ≡ slice_get frozen.now place }
 {
     if place < frozen.len() {
-        Some(*frozen.row(place))
+        Some(frozen.row(place))
     } else {
         None
     }

@@ -215,7 +215,7 @@ pub fn trace<F: Allocator, A: Allocator + Clone>(
 {
     prove!(place < frozen.len());
     let row = frozen.row(place);
-    if has_both_parents(row) {
+    if has_both_parents(&row) {
         trace_ancestors(alloc, frozen, known, place)
     } else {
         Ok(ONE)

@@ -128,7 +128,7 @@ fn ancestor<F: Allocator>(frozen: &Frozen<F>, start: u32, line: &[Parent]) -> Op
 {
     let mut place = start;
     for parent in line {
-        place = parent.place_in(frozen.row(place))?;
+        place = parent.place_in(&frozen.row(place))?;
     }
     Some(frozen.row(place).number)
 }

@@ -61,7 +61,7 @@ fn write_at<W: Write, A: Allocator, F: Allocator>(
 {
     prove!(place < frozen.len());
     let mut output = Output::new(alloc);
-    push_animal(&mut output, frozen.row(place), numerator)?;
+    push_animal(&mut output, &frozen.row(place), numerator)?;
     push_ancestors(&mut output, frozen, place)?;
     output.finish(writer)
 }

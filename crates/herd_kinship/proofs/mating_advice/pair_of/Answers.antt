@@ -30,8 +30,8 @@ there g c = (
 deeper : (g : Over) (c : After-max-deeper g) → c.max-deeper.result ≡ max (depth_at c.args.frozen.now c.in-Some.sire_place) (depth_at c.args.frozen.now c.in-Some-place.dam_place)
 deeper g c =
     rw (
-      depth_at-row c.args.frozen.now c.in-Some.sire_place c.row.result.now c.row.ensures,
-      depth_at-row c.args.frozen.now c.in-Some-place.dam_place c.row-2.result.now c.row-2.ensures,
+      depth_at-row c.args.frozen.now c.in-Some.sire_place c.row.result c.row.ensures,
+      depth_at-row c.args.frozen.now c.in-Some-place.dam_place c.row-2.result c.row-2.ensures,
     ) c.max-deeper.ensures
 
 pub returns-then-not-is_male-clause-fault : goal.returns-then-not-is_male-clause-fault

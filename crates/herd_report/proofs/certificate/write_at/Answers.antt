@@ -10,23 +10,23 @@ use Rattle.herd_report.proofs.certificate.write_at.Goals as goal
 pub returns-in_err-push_animal-clause-err : goal.returns-in_err-push_animal-clause-err
 returns-in_err-push_animal-clause-err g c =
     let exit = err_from_is_err_and c.from_residual.result c.from_residual.ensures.1 in
-    let some = some_certificate_at DEPTH_LIMIT MOST_ANIMALS c.args.frozen.now c.len.ensures.frozen c.args.place c.row.result.now c.row.ensures c.args.numerator in
+    let some = some_certificate_at DEPTH_LIMIT MOST_ANIMALS c.args.frozen.now c.len.ensures.frozen c.args.place c.row.result c.row.ensures c.args.numerator in
     rw exit.1 (front_nothing _ _ some)
 
 pub returns-in_err-push_ancestors-clause-err : goal.returns-in_err-push_ancestors-clause-err
 returns-in_err-push_ancestors-clause-err g c =
     let exit = err_from_is_err_and c.from_residual-in_err-push_ancestors.result c.from_residual-in_err-push_ancestors.ensures.1 in
-    let some = some_certificate_at DEPTH_LIMIT MOST_ANIMALS c.args.frozen.now c.len.ensures.frozen c.args.place c.row.result.now c.row.ensures c.args.numerator in
+    let some = some_certificate_at DEPTH_LIMIT MOST_ANIMALS c.args.frozen.now c.len.ensures.frozen c.args.place c.row.result c.row.ensures c.args.numerator in
     rw exit.1 (front_nothing _ _ some)
 
 pub returns-clause-ok : goal.returns-clause-ok
 returns-clause-ok g c =
-    let made = certificate_made DEPTH_LIMIT MOST_ANIMALS c.args.frozen.now c.len.ensures.frozen c.args.place c.row.result.now c.row.ensures c.args.numerator
+    let made = certificate_made DEPTH_LIMIT MOST_ANIMALS c.args.frozen.now c.len.ensures.frozen c.args.place c.row.result c.row.ensures c.args.numerator
     c.new-output.result c.push_animal.new.output c.push_ancestors.new.output c.new-output.ensures c.in_ok-push_animal.ensures c.in_ok-push_ancestors.ensures in
     on_ok_weaker c.finish.result (subst (Appends (g.W.Write.contents c.args.writer.now) (g.W.Write.contents c.finish.new.writer)) made) c.finish.ensures.ok
 
 pub returns-clause-err : goal.returns-clause-err
 returns-clause-err g c =
-    let made = certificate_made DEPTH_LIMIT MOST_ANIMALS c.args.frozen.now c.len.ensures.frozen c.args.place c.row.result.now c.row.ensures c.args.numerator
+    let made = certificate_made DEPTH_LIMIT MOST_ANIMALS c.args.frozen.now c.len.ensures.frozen c.args.place c.row.result c.row.ensures c.args.numerator
     c.new-output.result c.push_animal.new.output c.push_ancestors.new.output c.new-output.ensures c.in_ok-push_animal.ensures c.in_ok-push_ancestors.ensures in
     on_err_weaker c.finish.result (subst (AppendsFront (g.W.Write.contents c.args.writer.now) (g.W.Write.contents c.finish.new.writer)) made) c.finish.ensures.err

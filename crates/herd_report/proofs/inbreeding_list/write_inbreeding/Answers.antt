@@ -18,7 +18,7 @@ returns-in_err-pass_on-clause-err g c =
 pub returns-in_err-push_line-clause-err : goal.returns-in_err-push_line-clause-err
 returns-in_err-push_line-clause-err g c =
     let exit = err_from_is_err_and c.from_residual-in_err-push_line.result c.from_residual-in_err-push_line.ensures.1 in
-    let row = c.row.result.now in
+    let row = c.row.result in
     let rows = c.args.frozen.now in
     let line = λ (r : Row). coefficient_line r.number (coefficient (ancestry_of rows) DEPTH_LIMIT r.number) in
     let some = some_left line rows c.loop-place.place row c.row.ensures (some_coefficient_line row.number (coefficient (ancestry_of rows) DEPTH_LIMIT row.number)) in
@@ -26,7 +26,7 @@ returns-in_err-push_line-clause-err g c =
 
 pub loop-place-preserved : goal.loop-place-preserved
 loop-place-preserved g c =
-    let row = c.row.result.now in
+    let row = c.row.result in
     let rows = c.args.frozen.now in
     let place = c.loop-place.place in
     let line = λ (r : Row). coefficient_line r.number (coefficient (ancestry_of rows) DEPTH_LIMIT r.number) in
