@@ -1,6 +1,6 @@
 -- What a frozen book tells of a number and of a depth.
 use Rattle.std.proofs.Common.{ℕ, ◌+◌, ◌<◌, ◌≤◌, ◌≡◌, ⊎_elim, arith, refl, sym, ap, ◌∙◌, subst, Bool, false, List, [], ◌∷◌, Option, Some, None, length, slice_get, get_or, map, All, ◌==◌}
-use Rattle.std.specs.Prelude.{IfNone, IfSome}
+use Rattle.std.specs.Prelude.{IfNone}
 use Rattle.std.specs.Map.{keys_of}
 use Rattle.std.specs.List.{filter, range_with_len}
 use Rattle.std.proofs.lemmas.Option.{slice_get_within, get_or_from_slice_get}
@@ -10,7 +10,7 @@ use Rattle.std.proofs.lemmas.List.Elements.{All-get_or}
 use Rattle.std.proofs.lemmas.List.FromFn.{length-map-range_with_len, get_or-map-range_with_len}
 use Rattle.herd_pedigree.specs.declared.frozen.Row.{Row}
 use Rattle.herd_pedigree.specs.Book.{is_there, record_of}
-use Rattle.herd_pedigree.specs.Frozen.{IsFrozen, IsFrozenRow, IsPlaceOf, book_of, numbers_of, depth_at, level_of, levels_of}
+use Rattle.herd_pedigree.specs.Frozen.{IsFrozen, book_of, numbers_of, depth_at, level_of, levels_of}
 use Rattle.herd_pedigree.proofs.BookFacts.{is_some_with, key_from_entry, place_of, there}
 use Rattle.herd_pedigree.proofs.FrozenDepthFacts.{IsDepthOf-le}
 

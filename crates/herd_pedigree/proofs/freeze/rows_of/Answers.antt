@@ -1,4 +1,4 @@
-use Rattle.std.proofs.Common.{arith, ap, ◌∙◌, ◌≡◌, ◌+◌, ◌<◌, ◌≤◌, length}
+use Rattle.std.proofs.Common.{arith, ap, ◌∙◌, ◌+◌, ◌<◌}
 use Rattle.std.proofs.lemmas.List.{length_push}
 use Rattle.herd_pedigree.specs.declared.TheConstants.{MOST_ANIMALS}
 use Rattle.herd_pedigree.specs.PackedPlace.{nowhere}

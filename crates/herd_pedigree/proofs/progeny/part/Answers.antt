@@ -1,6 +1,5 @@
 use Rattle.std.proofs.Common.{arith, ap, sym, ◌∙◌, List, None}
 use Rattle.herd_pedigree.specs.declared.progeny.Family.{Family}
-use Rattle.herd_pedigree.specs.Calves.{family_at}
 use Rattle.herd_pedigree.proofs.ProgenyFacts.{chained-part, led-within, next-within, parents-set, parted, previous-within}
 use Rattle.herd_pedigree.proofs.progeny.part.Goals as goal
 

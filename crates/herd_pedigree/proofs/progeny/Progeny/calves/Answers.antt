@@ -1,4 +1,4 @@
-use Rattle.std.proofs.Common.{arith, ap, ◌∙◌, subst, ◌≡◌, ◌↔◌, ℕ, List, Some, Contains, length}
+use Rattle.std.proofs.Common.{ap, ◌∙◌, subst, ◌≡◌, ◌↔◌, ℕ, List, Some, Contains, length}
 use Rattle.herd_pedigree.specs.declared.progeny.Family.{Family}
 use Rattle.herd_pedigree.specs.Calves.{chain, family_at, first_of}
 use Rattle.herd_pedigree.specs.Places.{parent_at}

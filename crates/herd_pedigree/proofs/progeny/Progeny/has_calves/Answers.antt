@@ -1,4 +1,4 @@
-use Rattle.std.proofs.Common.{arith, sym, ap, ◌∙◌, ◌≡◌, ℕ, List, None, is_some}
+use Rattle.std.proofs.Common.{sym, ap, ◌∙◌, ◌≡◌, ℕ, List, None, is_some}
 use Rattle.herd_pedigree.specs.declared.progeny.Family.{Family}
 use Rattle.herd_pedigree.specs.Calves.{family_at, first_of}
 use Rattle.herd_pedigree.specs.Places.{parent_at}

@@ -6,7 +6,7 @@ use Rattle.herd_pedigree.specs.declared.frozen.Row.{Row}
 use Rattle.herd_pedigree.specs.declared.rows.RowRecord.{RowRecord}
 use Rattle.herd_pedigree.specs.Frozen.{numbers_of}
 use Rattle.herd_pedigree.specs.Records.{number_at}
-use Rattle.herd_pedigree.specs.Rows.{numbers_kept, rows_kept}
+use Rattle.herd_pedigree.specs.Rows.{rows_kept}
 use Rattle.herd_pedigree.proofs.RowsFacts.{number-told, numbers-rows}
 use Rattle.herd_pedigree.proofs.rows.Rows.number_at.Goals as goal
 

@@ -1,9 +1,9 @@
-use Rattle.std.proofs.Common.{rules, ◌≡◌, ◌<◌, ◌≤◌, ◌∙◌, arith, sym, ap, subst, ℕ, List, [], ◌∷◌, ◌++◌, Option, Some, IfSome, length}
+use Rattle.std.proofs.Common.{rules, ◌≡◌, ◌<◌, ◌∙◌, arith, sym, ap, subst, List, [], ◌∷◌, ◌++◌, length}
 use Rattle.herd_pedigree.specs.declared.frozen.Row.{Row}
 use Rattle.herd_pedigree.specs.Frozen.{numbers_of}
 use Rattle.herd_pedigree.specs.PackedPlace.{nowhere}
 use Rattle.herd_pedigree.specs.Places.{IsPlaceIn}
-use Rattle.herd_pedigree.specs.Rows.{AreKept, packed_parents, record_of_row, rows_kept}
+use Rattle.herd_pedigree.specs.Rows.{packed_parents, record_of_row, rows_kept}
 use Rattle.herd_pedigree.proofs.RecordsFacts.{further}
 use Rattle.herd_pedigree.proofs.RowsFacts.{kept-push, length-rows, parents-here, rows-push}
 use Rattle.herd_pedigree.proofs.rows.Rows.push.Goals as goal

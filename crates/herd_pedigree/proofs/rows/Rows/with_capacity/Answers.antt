@@ -1,4 +1,3 @@
-use Rattle.std.proofs.Common.{◌≡◌, []}
 use Rattle.herd_pedigree.specs.Rows.{rows_kept, rows_with}
 use Rattle.herd_pedigree.proofs.rows.Rows.with_capacity.Goals as goal
 
