@@ -8,7 +8,7 @@ pub mod PermutedFacts
 pub mod RankFacts
 mod RecordsFacts
 mod RowsFacts
-pub mod RowFacts
+pub mod NextRowFacts
 pub mod LevelFacts
 pub mod FreezeFacts
 pub mod LinkFacts

@@ -1,5 +1,5 @@
 use Rattle.std.proofs.Common.{arith, refl, ap, ◌∙◌, ◌≤◌, get_or, length}
-use Rattle.herd_pedigree.proofs.RowFacts.{key-read, made-already, next, place-within, row-next, rows-shallow}
+use Rattle.herd_pedigree.proofs.NextRowFacts.{key-read, made-already, next, place-within, row-next, rows-shallow}
 use Rattle.herd_pedigree.proofs.freeze.next_row.Goals as goal
 
 pub record_at-entry-requires : goal.record_at-entry-requires

@@ -3,7 +3,7 @@ use Rattle.std.proofs.lemmas.List.{length_push}
 use Rattle.herd_pedigree.specs.declared.TheConstants.{MOST_ANIMALS}
 use Rattle.herd_pedigree.specs.PackedPlace.{nowhere}
 use Rattle.herd_pedigree.proofs.AgeOrderFacts.{length-keys}
-use Rattle.herd_pedigree.proofs.RowFacts.{rows-more}
+use Rattle.herd_pedigree.proofs.NextRowFacts.{rows-more}
 use Rattle.herd_pedigree.proofs.freeze.rows_of.Goals as goal
 
 pub next_row-row-requires-clause-rows : goal.next_row-row-requires-clause-rows
