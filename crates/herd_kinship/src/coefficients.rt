@@ -85,7 +85,7 @@ fn write_calves<F: Allocator, C: Allocator, A: Allocator>(
     ensures known { IfOk result (λ _. KnowsReached DEPTH_LIMIT frozen.now (sire + 1) known.new) }
 {
     prove!(sire < frozen.len());
-    if calves.latest[sire as usize].is_some() {
+    if calves.latest[sire as usize].get().is_some() {
         mates.relate_to(frozen, calves, known, sire)?;
         calves.write_coefficients(frozen, sire, &mates.column, known);
     }
