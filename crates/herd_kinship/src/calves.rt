@@ -1,4 +1,4 @@
-ghost use Rattle.std.specs.Prelude.{◌≡◌, ℕ, ◌+◌, ◌*◌, ◌-◌, ◌/◌, ◌<◌, ◌≤◌, ◌⊎◌, is_some, length, slice_index, true, IfOk, IfSome, IfNone, None, Some};
+ghost use Rattle.std.specs.Prelude.{◌≡◌, ℕ, ◌+◌, ◌*◌, ◌-◌, ◌/◌, ◌<◌, ◌≤◌, ◌⊎◌, is_some, length, slice_index, true, IsFalse, IfOk, IfSome, IfNone, None, Some};
 ghost use Rattle.herd_kinship.specs.CalfLinks.{AreLinked, IsCalf};
 ghost use Rattle.herd_kinship.specs.Pending.{mark};
 ghost use Rattle.herd_kinship.specs.Places.{sire_place, dam_place};
@@ -28,6 +28,18 @@ fn sire_of_pair(parents: Parents) -> Option<u32>
         Some(_) => parents.sire,
         None => None,
     }
+}
+
+/// Whether there is an animal of which both parents are known.
+pub fn has_calves<F: Allocator>(frozen: &Frozen<F>) -> bool
+    ensures { IsFalse result → (sire calf : ℕ) → IsCalf frozen.now sire calf → ⊥ }
+{
+    for calf in 0..frozen.len() {
+        if sire_of_pair(parents_at(frozen, calf)).is_some() {
+            return true;
+        }
+    }
+    false
 }
 
 impl<A: Allocator + Clone> Calves<A> {
