@@ -1,4 +1,4 @@
-ghost use Rattle.std.specs.Prelude.{◌≡◌, ℕ, ◌+◌, ◌*◌, ◌-◌, ◌/◌, ◌<◌, ◌≤◌, ◌⊎◌, is_some, length, slice_index, true, IfOk, IfSome, IfNone, None, Some};
+ghost use Rattle.std.specs.Prelude.{◌≡◌, ℕ, ◌+◌, ◌*◌, ◌-◌, ◌/◌, ◌<◌, ◌≤◌, ◌⊎◌, is_some, length, slice_index, true, IsFalse, IfOk, IfSome, IfNone, None, Some};
 ghost use Rattle.herd_kinship.specs.CalfLinks.{AreLinked, IsCalf};
 ghost use Rattle.herd_kinship.specs.Pending.{mark};
 ghost use Rattle.herd_kinship.specs.Places.{sire_place, dam_place};
@@ -6,16 +6,16 @@ ghost use Rattle.herd_kinship.specs.Places.{sire_place, dam_place};
 use crate::columns::{mark_parent, with_parent};
 use crate::pending::Pending;
 use crate::tracing::parents_at;
-use herd_pedigree::{Frozen, Parents};
+use herd_pedigree::{Frozen, PackedPlace, Parents};
 use std::alloc::{AllocError, Allocator};
 
 /// The calves of each sire, those of which the dam is known too, linked from the youngest to the oldest.
 #[derive(Drop)]
 pub struct Calves<A: Allocator> {
     /// By the sire's place, its youngest calf.
-    pub latest: Vec<Option<u32>, A>,
+    pub latest: Vec<PackedPlace, A>,
     /// By the calf's place, the next older calf of its sire.
-    pub earlier: Vec<Option<u32>, A>,
+    pub earlier: Vec<PackedPlace, A>,
 }
 
 /// The sire, where the dam is known too.
@@ -30,18 +30,30 @@ fn sire_of_pair(parents: Parents) -> Option<u32>
     }
 }
 
+/// Whether there is an animal of which both parents are known.
+pub fn has_calves<F: Allocator>(frozen: &Frozen<F>) -> bool
+    ensures { IsFalse result → (sire calf : ℕ) → IsCalf frozen.now sire calf → ⊥ }
+{
+    for calf in 0..frozen.len() {
+        if sire_of_pair(parents_at(frozen, calf)).is_some() {
+            return true;
+        }
+    }
+    false
+}
+
 impl<A: Allocator + Clone> Calves<A> {
     /// The calves of a frozen book.
     pub fn of<F: Allocator>(alloc: A, frozen: &Frozen<F>) -> Result<Calves<A>, AllocError>
         ensures { IfOk result (λ calves. AreLinked frozen.now (length frozen.now) calves.latest.items calves.earlier.items) }
     {
         let animals = frozen.len() as usize;
-        let mut latest = vec![in alloc.clone()?; None; animals]?;
-        let mut earlier = vec![in alloc; None; animals]?;
+        let mut latest = vec![in alloc.clone()?; PackedPlace::none(); animals]?;
+        let mut earlier = vec![in alloc; PackedPlace::none(); animals]?;
         for calf in 0..frozen.len() {
             if let Some(sire) = sire_of_pair(parents_at(frozen, calf)) {
                 earlier[calf as usize] = latest[sire as usize];
-                latest[sire as usize] = Some(calf);
+                latest[sire as usize] = PackedPlace::at(calf);
             }
         }
         Ok(Calves { latest, earlier })
@@ -67,10 +79,10 @@ impl<A: Allocator> Calves<A> {
         ensures mates { (calf dam : ℕ) → sire_place frozen.now calf ≡ Some sire → dam_place frozen.now calf ≡ Some dam → mark marked.new.chunks.items (last - dam) ≡ 1 }
     {
         prove!(sire < frozen.len());
-        let mut link = self.latest[sire as usize];
+        let mut link = self.latest[sire as usize].get();
         while let Some(calf) = link {
             mark_parent(marked, last, parents_at(frozen, calf).dam);
-            link = self.earlier[calf as usize];
+            link = self.earlier[calf as usize].get();
         }
     }
 
@@ -91,10 +103,10 @@ impl<A: Allocator> Calves<A> {
         ensures others { (other : ℕ) → (IsCalf frozen.now sire other → ⊥) → slice_index known.new other ≡ slice_index known.old other }
     {
         prove!(sire < frozen.len());
-        let mut link = self.latest[sire as usize];
+        let mut link = self.latest[sire as usize].get();
         while let Some(calf) = link {
             known[calf as usize] = with_parent(column, parents_at(frozen, calf).dam) / 2;
-            link = self.earlier[calf as usize];
+            link = self.earlier[calf as usize].get();
         }
     }
 }

@@ -4,7 +4,7 @@ ghost use Rattle.herd_kinship.specs.CalfLinks.{AreLinked};
 ghost use Rattle.herd_kinship.specs.Coefficients.{AreCoefficients, KnowsReached};
 ghost use Rattle.herd_kinship.specs.Mates.{IsReady};
 
-use crate::calves::Calves;
+use crate::calves::{Calves, has_calves};
 use crate::mates::Mates;
 use herd_pedigree::Frozen;
 use std::alloc::{AllocError, Allocator};
@@ -85,9 +85,29 @@ fn write_calves<F: Allocator, C: Allocator, A: Allocator>(
     ensures known { IfOk result (λ _. KnowsReached DEPTH_LIMIT frozen.now (sire + 1) known.new) }
 {
     prove!(sire < frozen.len());
-    if calves.latest[sire as usize].is_some() {
+    if calves.latest[sire as usize].get().is_some() {
         mates.relate_to(frozen, calves, known, sire)?;
         calves.write_coefficients(frozen, sire, &mates.column, known);
+    }
+    Ok(())
+}
+
+/// Writes the coefficients of all calves, sire by sire. It takes no memory where no animal has two known parents.
+fn write_all<F: Allocator, A: Allocator + Clone>(
+    alloc: A,
+    frozen: &Frozen<F>,
+    known: &mut [u128],
+) -> Result<(), AllocError>
+    requires { KnowsReached DEPTH_LIMIT frozen.now 0 known.old }
+    ensures { IfOk result (λ _. KnowsReached DEPTH_LIMIT frozen.now (length frozen.now) known.new) }
+{
+    if !has_calves(frozen) {
+        return Ok(());
+    }
+    let calves = Calves::of(alloc.clone()?, frozen)?;
+    let mut mates = Mates::with_room(alloc, frozen.len())?;
+    for sire in 0..frozen.len() {
+        write_calves(frozen, &calves, &mut mates, sire, known)?;
     }
     Ok(())
 }
@@ -103,11 +123,7 @@ pub fn coefficients_plain<F: Allocator, A: Allocator + Clone>(
 ) -> Result<Coefficients<A>, AllocError>
     ensures { IfOk result (AreCoefficients DEPTH_LIMIT frozen.now) }
 {
-    let calves = Calves::of(alloc.clone()?, frozen)?;
-    let mut mates = Mates::with_room(alloc.clone()?, frozen.len())?;
-    let mut known = vec![in alloc; 0u128; frozen.len() as usize]?;
-    for sire in 0..frozen.len() {
-        write_calves(frozen, &calves, &mut mates, sire, &mut known)?;
-    }
+    let mut known = vec![in alloc.clone()?; 0u128; frozen.len() as usize]?;
+    write_all(alloc, frozen, &mut known)?;
     Ok(Coefficients::from_list(known))
 }

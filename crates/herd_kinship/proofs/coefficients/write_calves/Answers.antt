@@ -19,8 +19,9 @@ returns-in_ok-relate_to-clause-known g c =
 pub returns-else-is_some-clause-known : goal.returns-else-is_some-clause-known
 returns-else-is_some-clause-known g c =
     let rows = c.args.frozen.now in
-    let none : is_some c.index.result.now ≡ false = cc in
+    let none : is_some c.get.result ≡ false = cc in
     reached-none DEPTH_LIMIT MOST_ANIMALS rows c.len.ensures.frozen c.args.sire c.args.known.now c.requires.sire
-    (link-none rows c.args.sire c.index.result.now none
-    (latest-link rows c.args.sire c.args.calves.now.latest.items c.args.calves.now.earlier.items c.index.result.now c.requires.sire c.requires.calves c.index.ensures))
+    (link-none rows c.args.sire c.get.result none
+    (rw c.get.ensures
+    (latest-link rows c.args.sire c.args.calves.now.latest.items c.args.calves.now.earlier.items c.index.result.now c.requires.sire c.requires.calves c.index.ensures)))
     c.requires.known

@@ -9,7 +9,7 @@ use Rattle.herd_kinship.proofs.Collecting.{gives-from, gives-it, gives-kept, giv
 use Rattle.herd_kinship.proofs.FrozenFacts.{frozen-placed}
 use Rattle.herd_kinship.proofs.ParentsFacts.{parents-dam}
 use Rattle.herd_kinship.proofs.calves.Calves.mark_mates.Given.{Over}
-use Rattle.herd_kinship.proofs.calves.Calves.mark_mates.Goals.{After-index-link-in-Some, After-parents_at, In-Some}
+use Rattle.herd_kinship.proofs.calves.Calves.mark_mates.Goals.{After-get-link-in-Some, After-parents_at, In-Some}
 use Rattle.herd_kinship.proofs.calves.Calves.mark_mates.Goals as goal
 
 -- the calf that the link leads to is one of the book
@@ -25,20 +25,23 @@ dam-older g c d e =
     (inr (parents-dam rows c.in-Some.calf c.parents_at.result c.parents_at.ensures ∙ e))
 
 -- the next link leads to the next older calf
-older : (g : Over) (c : After-index-link-in-Some g) → IsLink c.args.frozen.now c.args.sire c.in-Some.calf c.index-link-in-Some.result.now
+older : (g : Over) (c : After-get-link-in-Some g) → IsLink c.args.frozen.now c.args.sire c.in-Some.calf c.get-link-in-Some.result
 older g c =
-    next-link c.args.frozen.now c.args.sire c.in-Some.calf c.args.self.now.latest.items c.args.self.now.earlier.items c.index-link-in-Some.result.now c.requires.calves
-    (c.loop-link.invariant.walked.next c.in-Some.calf c.in-Some.is) c.index-link-in-Some.ensures
+    rw c.get-link-in-Some.ensures
+    (next-link c.args.frozen.now c.args.sire c.in-Some.calf c.args.self.now.latest.items c.args.self.now.earlier.items c.index-in-Some.result.now c.requires.calves
+    (c.loop-link.invariant.walked.next c.in-Some.calf c.in-Some.is) c.index-in-Some.ensures)
 
 pub loop-link-init : goal.loop-link-init
 loop-link-init g c =
     let rows = c.args.frozen.now in
     let s : ℕ = c.args.sire in
-    let is = latest-link rows s c.args.self.now.latest.items c.args.self.now.earlier.items c.index-link.result.now c.requires.sire c.requires.calves c.index-link.ensures in
+    let is : IsLink rows s (length rows) c.get-link.result =
+    rw c.get-link.ensures
+    (latest-link rows s c.args.self.now.latest.items c.args.self.now.earlier.items c.index.result.now c.requires.sire c.requires.calves c.index.ensures) in
     record {
       room = c.requires.room;
       near = λ e m. let none = c.requires.empty e in absurd (omega arith);
-      walked = walked-start rows s c.index-link.result.now _ is;
+      walked = walked-start rows s c.get-link.result _ is;
     }
 
 pub parents_at-requires : goal.parents_at-requires
@@ -51,18 +54,18 @@ mark_parent-requires-clause-older g c = λ d e.
     let last = c.requires.last in
     omega arith
 
-pub index-link-requires-in-Some : goal.index-link-requires-in-Some
-index-link-requires-in-Some g c =
-    let here = within g (goal.at.index-link-requires-in-Some g c).In-Some in
+pub index-requires-in-Some : goal.index-requires-in-Some
+index-requires-in-Some g c =
+    let here = within g (goal.at.index-requires-in-Some g c).In-Some in
     let each = c.requires.calves.each_calf in
     let ok = c.args.self.now.earlier.ok in
     omega arith
 
 pub loop-link-smaller : goal.loop-link-smaller
 loop-link-smaller g c =
-    let is = older g (goal.at.loop-link-smaller g c).After-index-link-in-Some in
-    subst (λ o. left_from c.index-link-in-Some.result.now < left_from o) (sym c.in-Some.is)
-    (left-smaller c.args.frozen.now c.args.sire c.in-Some.calf c.index-link-in-Some.result.now is)
+    let is = older g (goal.at.loop-link-smaller g c).After-get-link-in-Some in
+    subst (λ o. left_from c.get-link-in-Some.result < left_from o) (sym c.in-Some.is)
+    (left-smaller c.args.frozen.now c.args.sire c.in-Some.calf c.get-link-in-Some.result is)
 
 pub loop-link-preserved : goal.loop-link-preserved
 loop-link-preserved g c =
@@ -75,7 +78,7 @@ loop-link-preserved g c =
     let gives : GivesMark last chunks chunks' dam = c.mark_parent.ensures in
     let long = gives-room last chunks chunks' dam gives in
     let room : last < 64 * length chunks = c.loop-link.invariant.room in
-    let is = older g (goal.at.loop-link-preserved g c).After-index-link-in-Some in
+    let is = older g (goal.at.loop-link-preserved g c).After-get-link-in-Some in
     record {
       room = omega arith;
       near = λ e m.
@@ -83,7 +86,7 @@ loop-link-preserved g c =
           (λ (was : mark chunks e ≡ 1). c.loop-link.invariant.near e was)
           (λ at. let far = at.2 in omega arith)
           (gives-from last chunks chunks' dam gives e m);
-      walked = walked-next rows c.args.sire z c.index-link-in-Some.result.now (λ x. (d : ℕ) → dam_place rows x ≡ Some d → mark chunks (last - d) ≡ 1) _ is
+      walked = walked-next rows c.args.sire z c.get-link-in-Some.result (λ x. (d : ℕ) → dam_place rows x ≡ Some d → mark chunks (last - d) ≡ 1) _ is
           (λ x zx marked d e. gives-kept last chunks chunks' dam gives (last - d) (marked d e))
           (λ d e. gives-it last chunks chunks' dam gives d (sym (parents-dam rows z c.parents_at.result c.parents_at.ensures) ∙ e))
           (subst (λ o. IsWalked rows c.args.sire o (λ x. (d : ℕ) → dam_place rows x ≡ Some d → mark chunks (last - d) ≡ 1)) c.in-Some.is c.loop-link.invariant.walked);

@@ -41,7 +41,7 @@ loop-calf-preserved g c =
           let lower : p < i = (frozen-placed DEPTH_LIMIT MOST_ANIMALS rows c.len-animals.ensures.frozen).below i p li (inl calf.0) in
           let each : length latest ≡ length rows = c.loop-calf.invariant.each_sire in
           let read = get_or_read latest p w.index.result.now (omega arith) w.index.ensures None in
-          rw (w.latest-is, w.earlier-is, read) (linked-calf rows i p latest earlier li (omega arith) calf c.loop-calf.invariant))
+          rw (w.latest-is, w.earlier-is, w.at.ensures, read) (linked-calf rows i p latest earlier li (omega arith) calf c.loop-calf.invariant))
       | in_default w ↦
           rw (w.latest-is, w.earlier-is) (linked-other rows i latest earlier (no-calf rows i c.parents_at.result c.parents_at.ensures w.in_default.ensures.unknown) c.loop-calf.invariant)
     ]

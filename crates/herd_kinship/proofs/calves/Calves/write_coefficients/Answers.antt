@@ -8,7 +8,7 @@ use Rattle.herd_kinship.proofs.CalfFacts.{calf-within, latest-link, left_from, l
 use Rattle.herd_kinship.proofs.FrozenFacts.{frozen-placed}
 use Rattle.herd_kinship.proofs.ParentsFacts.{parents-dam}
 use Rattle.herd_kinship.proofs.calves.Calves.write_coefficients.Given.{Over}
-use Rattle.herd_kinship.proofs.calves.Calves.write_coefficients.Goals.{After-index-link-in-Some, After-parents_at, In-Some}
+use Rattle.herd_kinship.proofs.calves.Calves.write_coefficients.Goals.{After-get-link-in-Some, After-parents_at, In-Some}
 use Rattle.herd_kinship.proofs.calves.Calves.write_coefficients.Goals as goal
 
 -- the calf that the link leads to is one of the book
@@ -24,20 +24,23 @@ dam-older g c d e =
     (inr (parents-dam rows c.in-Some.calf c.parents_at.result c.parents_at.ensures ∙ e))
 
 -- the next link leads to the next older calf
-older : (g : Over) (c : After-index-link-in-Some g) → IsLink c.args.frozen.now c.args.sire c.in-Some.calf c.index-link-in-Some.result.now
+older : (g : Over) (c : After-get-link-in-Some g) → IsLink c.args.frozen.now c.args.sire c.in-Some.calf c.get-link-in-Some.result
 older g c =
-    next-link c.args.frozen.now c.args.sire c.in-Some.calf c.args.self.now.latest.items c.args.self.now.earlier.items c.index-link-in-Some.result.now c.requires.calves
-    (c.loop-link.invariant.walked.next c.in-Some.calf c.in-Some.is) c.index-link-in-Some.ensures
+    rw c.get-link-in-Some.ensures
+    (next-link c.args.frozen.now c.args.sire c.in-Some.calf c.args.self.now.latest.items c.args.self.now.earlier.items c.index-in-Some.result.now c.requires.calves
+    (c.loop-link.invariant.walked.next c.in-Some.calf c.in-Some.is) c.index-in-Some.ensures)
 
 pub loop-link-init : goal.loop-link-init
 loop-link-init g c =
     let rows = c.args.frozen.now in
     let s : ℕ = c.args.sire in
-    let is = latest-link rows s c.args.self.now.latest.items c.args.self.now.earlier.items c.index-link.result.now c.requires.sire c.requires.calves c.index-link.ensures in
+    let is : IsLink rows s (length rows) c.get-link.result =
+    rw c.get-link.ensures
+    (latest-link rows s c.args.self.now.latest.items c.args.self.now.earlier.items c.index.result.now c.requires.sire c.requires.calves c.index.ensures) in
     record {
       each = c.requires.known;
       others = λ x none. refl;
-      walked = walked-start rows s c.index-link.result.now _ is;
+      walked = walked-start rows s c.get-link.result _ is;
     }
 
 pub parents_at-requires : goal.parents_at-requires
@@ -56,18 +59,18 @@ bounds-known-calf g c =
     let each = c.loop-link.invariant.each in
     omega arith
 
-pub index-link-requires-in-Some : goal.index-link-requires-in-Some
-index-link-requires-in-Some g c =
-    let here = within g (goal.at.index-link-requires-in-Some g c).In-Some in
+pub index-requires-in-Some : goal.index-requires-in-Some
+index-requires-in-Some g c =
+    let here = within g (goal.at.index-requires-in-Some g c).In-Some in
     let each = c.requires.calves.each_calf in
     let ok = c.args.self.now.earlier.ok in
     omega arith
 
 pub loop-link-smaller : goal.loop-link-smaller
 loop-link-smaller g c =
-    let is = older g (goal.at.loop-link-smaller g c).After-index-link-in-Some in
-    subst (λ o. left_from c.index-link-in-Some.result.now < left_from o) (sym c.in-Some.is)
-    (left-smaller c.args.frozen.now c.args.sire c.in-Some.calf c.index-link-in-Some.result.now is)
+    let is = older g (goal.at.loop-link-smaller g c).After-get-link-in-Some in
+    subst (λ o. left_from c.get-link-in-Some.result < left_from o) (sym c.in-Some.is)
+    (left-smaller c.args.frozen.now c.args.sire c.in-Some.calf c.get-link-in-Some.result is)
 
 pub loop-link-preserved : goal.loop-link-preserved
 loop-link-preserved g c =
@@ -78,14 +81,14 @@ loop-link-preserved g c =
     let calf : IsCalf rows c.args.sire z = c.loop-link.invariant.walked.next z c.in-Some.is in
     let here = within g (goal.at.loop-link-preserved g c).In-Some in
     let each : length known ≡ length rows = c.loop-link.invariant.each in
-    let is = older g (goal.at.loop-link-preserved g c).After-index-link-in-Some in
+    let is = older g (goal.at.loop-link-preserved g c).After-get-link-in-Some in
     let right : value ≡ at_parent c.args.column.now (dam_place rows z) / 2 =
     ap (λ v. v / 2) c.with_parent.ensures ∙ ap (λ o. at_parent c.args.column.now o / 2) (sym (parents-dam rows z c.parents_at.result c.parents_at.ensures)) in
     record {
       each = length-set known z value ∙ each;
       others = λ x none.
           get_or-set_other known z x value 0 (λ same. none (subst (λ v. IsCalf rows c.args.sire v) (sym same) calf)) ∙ c.loop-link.invariant.others x none;
-      walked = walked-next rows c.args.sire z c.index-link-in-Some.result.now (λ x. get_or known x 0 ≡ at_parent c.args.column.now (dam_place rows x) / 2) _ is
+      walked = walked-next rows c.args.sire z c.get-link-in-Some.result (λ x. get_or known x 0 ≡ at_parent c.args.column.now (dam_place rows x) / 2) _ is
           (λ x zx done. get_or-set_other known z x value 0 (λ same. omega arith) ∙ done)
           (get_or-set_same known z value 0 (omega arith) ∙ right)
           (subst (λ o. IsWalked rows c.args.sire o (λ x. get_or known x 0 ≡ at_parent c.args.column.now (dam_place rows x) / 2)) c.in-Some.is c.loop-link.invariant.walked);
