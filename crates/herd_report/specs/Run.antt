@@ -13,7 +13,7 @@ use Rattle.herd_register.specs.declared.step.Step.{Step}
 use Rattle.herd_kinship.specs.FrozenAncestry.{ancestry_of}
 use Rattle.herd_kinship.specs.Table.{coefficient}
 use Rattle.herd_pool.specs.declared.limits.TheConstants.{MOST_WORKERS}
-use Rattle.herd_report.specs.Certificate.{certificate_text}
+use Rattle.herd_report.specs.Certificate.{certificate_of}
 use Rattle.herd_report.specs.CommandFile.{CommandFile, IsRead}
 use Rattle.herd_report.specs.InbreedingList.{inbreeding_text}
 use Rattle.herd_report.specs.InverseList.{inverse_text}
@@ -50,7 +50,7 @@ replies_to limits commands = replies_text (filed_from limits [] commands)
 abbrev pub wanted : Order → Limits → List Command → List Row → List ℕ
 wanted File limits commands rows = replies_to limits commands
 wanted (Inbreeding workers block) limits commands rows = inbreeding_text (coefficient (ancestry_of rows) DEPTH_LIMIT) rows
-wanted (Certificate number) limits commands rows = certificate_text (book_of rows) (coefficient (ancestry_of rows) DEPTH_LIMIT number) number
+wanted (Certificate number) limits commands rows = certificate_of rows number
 wanted (Mating dam sires) limits commands rows = mating_text (book_of rows) dam sires.now
 wanted Inverse limits commands rows = inverse_text rows
 

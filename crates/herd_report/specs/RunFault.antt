@@ -5,6 +5,8 @@ use Rattle.herd_pool.specs.declared.pool_fault.PoolFault.TheVariants as pool
 use Rattle.herd_register.specs.declared.limits.Limits.{Limits}
 use Rattle.herd_report.specs.CommandFile.{CommandFile, IsReadUpTo}
 use Rattle.herd_report.specs.Output.{AppendsFront}
+use Rattle.herd_report.specs.declared.certificate_fault.CertificateFault.{CertificateFault}
+use Rattle.herd_report.specs.declared.certificate_fault.CertificateFault.TheVariants as certificate
 use Rattle.herd_report.specs.declared.line_fault.LineFault.{LineFault}
 use Rattle.herd_report.specs.declared.report_fault.ReportFault.{ReportFault}
 use Rattle.herd_report.specs.declared.report_fault.ReportFault.TheVariants as report
@@ -14,7 +16,10 @@ use Rattle.herd_report.specs.declared.run_fault.RunFault.TheVariants.{Line, NotR
 abbrev pub run_fault_of : ReportFault → RunFault
 run_fault_of report.Write = Write
 run_fault_of report.Memory = Memory
-run_fault_of report.NotRegistered = NotRegistered
+
+abbrev pub run_fault_of_certificate : CertificateFault → RunFault
+run_fault_of_certificate certificate.NotRegistered = NotRegistered
+run_fault_of_certificate (certificate.Report fault) = run_fault_of fault
 
 abbrev pub run_fault_of_pool : PoolFault → RunFault
 run_fault_of_pool pool.NoThread = NoThread
@@ -51,7 +56,6 @@ EndsFreezing limits file NoPlace = ⊥
 abbrev pub EndsReport : Option (List ℕ) → Option (List ℕ) → List ℕ → ReportFault → Type 0
 EndsReport old new text report.Write = AppendsFront old new text
 EndsReport old new text report.Memory = (new ≡ old) ⊎ AppendsFront old new text
-EndsReport old new text report.NotRegistered = ⊥
 
 -- how so many workers' list of coefficients may end early
 abbrev pub EndsListing : ℕ → Option (List ℕ) → Option (List ℕ) → List ℕ → RunFault → Type 0

@@ -1,4 +1,4 @@
-ghost use Rattle.std.specs.Prelude.{◌≡◌, ◌≢◌, ◌<◌, ◌++◌, All, codes, length, IfErr, IfSome, OnErr, OnOk};
+ghost use Rattle.std.specs.Prelude.{◌≡◌, ◌<◌, ◌++◌, All, codes, length, IfSome, OnErr, OnOk};
 ghost use Rattle.std.specs.Io.KnownBytes.{Appends};
 ghost use Rattle.std.specs.List.{flat_map};
 ghost use Rattle.herd_pedigree.specs.declared.TheConstants.{DEPTH_LIMIT, MOST_ANIMALS};
@@ -28,7 +28,6 @@ pub fn write_inverse<W: Write, A: Allocator, F: Allocator, C: Allocator>(
     requires { AreCoefficients DEPTH_LIMIT frozen.now coefficients.now }
     ensures ok { OnOk result (Appends (W.contents writer.old) (W.contents writer.new) (inverse_text frozen.now)) }
     ensures err { OnErr result (AppendsFront (W.contents writer.old) (W.contents writer.new) (inverse_text frozen.now)) }
-    ensures fault { IfErr result (λ fault. fault ≢ ReportFault.NotRegistered) }
 {
     let mut output = Output::new(&alloc);
     let mut end = Output::new(&alloc);

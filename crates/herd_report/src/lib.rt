@@ -3,6 +3,7 @@
 
 mod ancestors;
 mod certificate;
+mod certificate_fault;
 mod coefficient_text;
 mod columns;
 mod command_file;
@@ -22,6 +23,7 @@ mod run_fault;
 mod version;
 
 pub use certificate::write_certificate;
+pub use certificate_fault::CertificateFault;
 pub use command_file::{Commands, read_commands};
 pub use inbreeding_list::write_inbreeding;
 pub use inverse_list::write_inverse;

@@ -6,18 +6,17 @@ use Rattle.herd_pedigree.specs.Frozen.{book_of}
 use Rattle.herd_pedigree.specs.declared.TheConstants.{DEPTH_LIMIT}
 use Rattle.herd_kinship.specs.FrozenAncestry.{ancestry_of}
 use Rattle.herd_kinship.specs.Table.{coefficient}
-use Rattle.herd_report.proofs.CertificateFacts.{number_is_there, some_certificate_text}
+use Rattle.herd_report.proofs.CertificateFacts.{number_at_place, number_is_there, some_certificate_text}
 use Rattle.herd_report.proofs.OutputFacts.{front_nothing}
 use Rattle.herd_report.proofs.orders.certify.Goals as goal
 
-pub returns-in_err-coefficients-in-Some-clause-err : goal.returns-in_err-coefficients-in-Some-clause-err
-returns-in_err-coefficients-in-Some-clause-err g c =
+pub returns-in_err-coefficients-clause-err : goal.returns-in_err-coefficients-clause-err
+returns-in_err-coefficients-clause-err g c =
     let exit = err_from_is_err_and c.from_residual.result c.from_residual.ensures.1 in
-    let there = number_is_there c.args.frozen.now c.in-Some.field-0 c.args.number c.in-Some.ensures.place in
-    rw exit.1 (λ other. front_nothing _ _ (some_certificate_text (book_of c.args.frozen.now) (coefficient (ancestry_of c.args.frozen.now) DEPTH_LIMIT c.args.number) c.args.number there))
+    rw exit.1 (λ there. front_nothing _ _ (some_certificate_text (book_of c.args.frozen.now) (coefficient (ancestry_of c.args.frozen.now) DEPTH_LIMIT c.args.number) c.args.number there))
 
-pub returns-in_err-coefficients-in-Some-clause-absent : goal.returns-in_err-coefficients-in-Some-clause-absent
-returns-in_err-coefficients-in-Some-clause-absent g c =
+pub returns-in_err-coefficients-clause-absent : goal.returns-in_err-coefficients-clause-absent
+returns-in_err-coefficients-clause-absent g c =
     let exit = err_from_is_err_and c.from_residual.result c.from_residual.ensures.1 in
-    let there = number_is_there c.args.frozen.now c.in-Some.field-0 c.args.number c.in-Some.ensures.place in
+    let there = number_is_there c.args.frozen.now c.in-Some.place c.args.number c.in-Some.ensures.place in
     (λ told. absurd (cc (exit.1, exit.2, told)), λ absent. absurd (false≢true (sym absent ∙ there)))
