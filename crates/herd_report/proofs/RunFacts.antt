@@ -108,8 +108,8 @@ pub first_commands : (most : ℕ) (file : CommandFile) (list : List Command) (fa
     (rest : List Command) × (file.commands ≡ list ++ rest)
 first_commands most file list None read = ([], sym read.0 ∙ sym (append-nil list))
 first_commands most file list (Some fault) read =
-    elim (is_interruption fault.cause) as (λ b. MatchBool b (IsReadBefore most fault.entry list file) ((list ≡ file.commands) × (file.fault ≡ Some fault)) → (rest : List Command) × (file.commands ≡ list ++ rest)) [
-      | true ↦ λ before. ⊎_elim (λ none. (file.commands, sym (ap (λ l. l ++ file.commands) none.1))) (λ some. ((commands_from some.1 most fault.entry some.2).commands, ap (λ f. f.commands) some.3)) before
+    elim (is_interruption fault.cause) as (λ b. MatchBool b (IsReadBefore most fault.record_number list file) ((list ≡ file.commands) × (file.fault ≡ Some fault)) → (rest : List Command) × (file.commands ≡ list ++ rest)) [
+      | true ↦ λ before. ⊎_elim (λ none. (file.commands, sym (ap (λ l. l ++ file.commands) none.1))) (λ some. ((commands_from some.1 most fault.record_number some.2).commands, ap (λ f. f.commands) some.3)) before
       | false ↦ λ all. ([], sym all.0 ∙ sym (append-nil list))
     ] read
 

@@ -18,7 +18,7 @@ ghost use Rattle.herd_report.specs.RunFault.{CanEndFreezing, EndsFreezing, EndsL
 
 use crate::certificate::write_certificate_at;
 use crate::certificate_fault::CertificateFault;
-use crate::filing::{file_commands, file_faultless};
+use crate::command_filing::{file_commands, file_faultless};
 use crate::inbreeding_list::write_inbreeding;
 use crate::inverse_list::write_inverse;
 use crate::mating_list::write_mating;
@@ -53,7 +53,7 @@ pub enum Order<'a> {
         dam: AnimalNumber,
         sires: &'a [AnimalNumber],
     },
-    /// What each animal contributes to the inverse of the table of relationships.
+    /// What each animal contributes to the inverse of A, the numerator relationship matrix.
     Inverse,
 }
 

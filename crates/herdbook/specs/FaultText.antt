@@ -2,7 +2,7 @@
 use Rattle.std.specs.Prelude.{ℕ, List, ◌++◌, codes, decimal}
 use Rattle.herd_animal.specs.declared.number.NumberFault.{NumberFault}
 use Rattle.herd_animal.specs.declared.number.NumberFault.TheVariants.{Length, Letter, SexLetter, NumberCharacter}
-use Rattle.herd_report.specs.LineCause.{number_of}
+use Rattle.herd_report.specs.LineCause.{cause_number}
 use Rattle.herd_report.specs.declared.line_fault.LineCause.{LineCause}
 use Rattle.herd_report.specs.declared.line_fault.LineCause.TheVariants.{Header, Fields, Kind, Animal, Day, Sire, Dam, FromHerd, ToHerd, FieldNotUsed, Read, TooMany, Memory as NoMemory, Embryo}
 use Rattle.herd_report.specs.declared.run_fault.RunFault.{RunFault}
@@ -26,7 +26,7 @@ cause_name Embryo = codes "Embryo"
 
 abbrev pub run_fault_text : RunFault → List ℕ
 run_fault_text (Line fault) =
-    codes "record " ++ decimal fault.entry ++ codes ": fault " ++ decimal (number_of fault.cause) ++ codes " " ++ cause_name fault.cause
+    codes "record " ++ decimal fault.record_number ++ codes ": fault " ++ decimal (cause_number fault.cause) ++ codes " " ++ cause_name fault.cause
 run_fault_text NotRegistered = codes "not registered"
 run_fault_text NoThread = codes "no thread"
 run_fault_text Memory = codes "no memory"

@@ -19,9 +19,12 @@ impl fmt::Display for RunFaultText {
 
     fn fmt<W: fmt::Write>(&self, f: &mut fmt::Formatter<W>) -> fmt::Result {
         match self.0 {
-            RunFault::Line(LineFault { entry, cause }) => {
+            RunFault::Line(LineFault {
+                record_number,
+                cause,
+            }) => {
                 let (code, name) = (cause.number(), name_of(cause));
-                write!(f, "record {entry}: fault {code} {name}")
+                write!(f, "record {record_number}: fault {code} {name}")
             }
             RunFault::NotRegistered => f.write_str("not registered"),
             RunFault::NoThread => f.write_str("no thread"),
