@@ -30,7 +30,7 @@ use Rattle.herd_report.specs.declared.report_fault.ReportFault.TheVariants as re
 use Rattle.herd_report.specs.declared.orders.Order.{Order}
 use Rattle.herd_report.specs.declared.orders.Order.TheVariants.{File, Inbreeding, Certificate}
 use Rattle.herd_report.specs.declared.run_fault.RunFault.{RunFault}
-use Rattle.herd_report.specs.declared.run_fault.RunFault.TheVariants.{Line, NotRegistered, NoThread, Memory, Write, NoPlace}
+use Rattle.herd_report.specs.declared.run_fault.RunFault.TheVariants.{Line, NotRegistered, NoThread, Memory, Write}
 use Rattle.herd_report.proofs.OutputFacts.{passes_before, some_before}
 
 -- the steps of more commands come after those of the first ones
@@ -195,7 +195,6 @@ stops_listing limits workers block file rows old new NotRegistered made ends = a
 stops_listing limits workers block file rows old new NoThread made ends = (ends.0, made.faultless, ends.1)
 stops_listing limits workers block file rows old new Memory made ends = stops_reporting limits (Inbreeding workers block) file rows old new report.Memory made tt tt ends
 stops_listing limits workers block file rows old new Write made ends = stops_reporting limits (Inbreeding workers block) file rows old new report.Write made tt tt ends
-stops_listing limits workers block file rows old new NoPlace made ends = absurd ends
 
 -- a list of coefficients that ends before any was written
 pub nothing_listed : (workers : ℕ) (known : Option (List ℕ)) (text : List ℕ) (fault : PoolFault) → (fault ≡ pool.NoThread → 1 < workers) →

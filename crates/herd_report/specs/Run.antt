@@ -24,7 +24,7 @@ use Rattle.herd_report.specs.declared.line_fault.LineFault.{LineFault}
 use Rattle.herd_report.specs.declared.orders.Order.{Order}
 use Rattle.herd_report.specs.declared.orders.Order.TheVariants.{File, Inbreeding, Certificate, Mating, Inverse}
 use Rattle.herd_report.specs.declared.run_fault.RunFault.{RunFault}
-use Rattle.herd_report.specs.declared.run_fault.RunFault.TheVariants.{Line, NotRegistered, NoThread, Memory, Write, NoPlace}
+use Rattle.herd_report.specs.declared.run_fault.RunFault.TheVariants.{Line, NotRegistered, NoThread, Memory, Write}
 
 -- the steps of commands that are filed at desk 0 one after the other, the first with this book
 abbrev pub filed_from : Limits → Book → List Command → List Step
@@ -91,7 +91,6 @@ CanEndBy order NotRegistered = IsCertificate order
 CanEndBy order NoThread = IsShared order
 CanEndBy order Memory = ⊤
 CanEndBy order Write = ⊤
-CanEndBy order NoPlace = ⊥
 
 -- a text that an order wants of commands passes a test; only for the replies no frozen rows are needed
 pub record IsReport (limits : Limits) (order : Order) (commands : List Command) (Passes : List ℕ → Type 0) : Type 0 where
@@ -141,4 +140,3 @@ EndsBy limits order file old new NoThread = IsShared order × (file.fault ≡ No
 EndsBy limits order file old new Memory =
     IsFaultlessFor order file × NeedsMemory order file.commands × ((new ≡ old) ⊎ StopsWriting limits order file old new)
 EndsBy limits order file old new Write = IsFaultlessFor order file × StopsWriting limits order file old new
-EndsBy limits order file old new NoPlace = ⊥

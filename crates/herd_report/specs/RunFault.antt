@@ -11,7 +11,7 @@ use Rattle.herd_report.specs.declared.line_fault.LineFault.{LineFault}
 use Rattle.herd_report.specs.declared.report_fault.ReportFault.{ReportFault}
 use Rattle.herd_report.specs.declared.report_fault.ReportFault.TheVariants as report
 use Rattle.herd_report.specs.declared.run_fault.RunFault.{RunFault}
-use Rattle.herd_report.specs.declared.run_fault.RunFault.TheVariants.{Line, NotRegistered, NoThread, Memory, Write, NoPlace}
+use Rattle.herd_report.specs.declared.run_fault.RunFault.TheVariants.{Line, NotRegistered, NoThread, Memory, Write}
 
 abbrev pub run_fault_of : ReportFault → RunFault
 run_fault_of report.Write = Write
@@ -32,7 +32,6 @@ IfLine NotRegistered Passes = ⊤
 IfLine NoThread Passes = ⊤
 IfLine Memory Passes = ⊤
 IfLine Write Passes = ⊤
-IfLine NoPlace Passes = ⊤
 
 -- a fault of reading and filing
 abbrev pub CanEndFreezing : RunFault → Type 0
@@ -41,7 +40,6 @@ CanEndFreezing NotRegistered = ⊥
 CanEndFreezing NoThread = ⊥
 CanEndFreezing Memory = ⊤
 CanEndFreezing Write = ⊥
-CanEndFreezing NoPlace = ⊥
 
 -- why there is no frozen book: a line fault or an interruption of the reading, or where there is none a want of memory
 abbrev pub EndsFreezing : Limits → CommandFile → RunFault → Type 0
@@ -50,7 +48,6 @@ EndsFreezing limits file NotRegistered = ⊥
 EndsFreezing limits file NoThread = ⊥
 EndsFreezing limits file Memory = file.fault ≡ None
 EndsFreezing limits file Write = ⊥
-EndsFreezing limits file NoPlace = ⊥
 
 -- how a report whose coefficients are computed first may end early
 abbrev pub EndsReport : Option (List ℕ) → Option (List ℕ) → List ℕ → ReportFault → Type 0
@@ -64,4 +61,3 @@ EndsListing workers old new text NotRegistered = ⊥
 EndsListing workers old new text NoThread = (1 < workers) × (new ≡ old)
 EndsListing workers old new text Memory = (new ≡ old) ⊎ AppendsFront old new text
 EndsListing workers old new text Write = AppendsFront old new text
-EndsListing workers old new text NoPlace = ⊥

@@ -26,9 +26,6 @@ pub enum RunFault {
     /// A write failed or took no byte.
     #[error("write fault")]
     Write,
-    /// There is no reader's place in an office. A run has no office, and never ends by it.
-    #[error("no reader's place")]
-    NoPlace,
 }
 
 impl From<AllocError> for RunFault {

@@ -6,7 +6,9 @@ use Rattle.herd_report.specs.LineCause.{cause_number}
 use Rattle.herd_report.specs.declared.line_fault.LineCause.{LineCause}
 use Rattle.herd_report.specs.declared.line_fault.LineCause.TheVariants.{Header, Fields, Kind, Animal, Day, Sire, Dam, FromHerd, ToHerd, FieldNotUsed, Read, TooMany, Memory as NoMemory, Embryo}
 use Rattle.herd_report.specs.declared.run_fault.RunFault.{RunFault}
-use Rattle.herd_report.specs.declared.run_fault.RunFault.TheVariants.{Line, NotRegistered, NoThread, Memory, Write, NoPlace}
+use Rattle.herd_report.specs.declared.run_fault.RunFault.TheVariants.{Line, NotRegistered, NoThread, Memory, Write}
+use Rattle.herdbook.specs.declared.task_fault.TaskFault.{TaskFault}
+use Rattle.herdbook.specs.declared.task_fault.TaskFault.TheVariants.{Run, NoPlace}
 
 abbrev pub cause_name : LineCause → List ℕ
 cause_name Header = codes "Header"
@@ -31,7 +33,10 @@ run_fault_text NotRegistered = codes "not registered"
 run_fault_text NoThread = codes "no thread"
 run_fault_text Memory = codes "no memory"
 run_fault_text Write = codes "write fault"
-run_fault_text NoPlace = codes "no reader's place"
+
+abbrev pub task_fault_text : TaskFault → List ℕ
+task_fault_text (Run fault) = run_fault_text fault
+task_fault_text NoPlace = codes "no reader's place"
 
 abbrev pub number_fault_code : NumberFault → ℕ
 number_fault_code Length = 1

@@ -98,7 +98,7 @@ fn ended_or_ran_out(outcome: Result<(), RunFault>) -> bool {
     match outcome {
         Ok(()) | Err(RunFault::NoThread | RunFault::Memory | RunFault::Write) => true,
         Err(RunFault::Line(fault)) => fault.cause == LineCause::Memory,
-        Err(RunFault::NotRegistered | RunFault::NoPlace) => false,
+        Err(RunFault::NotRegistered) => false,
     }
 }
 
