@@ -1,5 +1,5 @@
 -- The certificate of an animal that stands at a place of a frozen book.
-use Rattle.std.proofs.Common.{◌≡◌, ◌∙◌, ℕ, ◌<◌, List, [], ◌++◌, length, slice_get, slice_index, Option, Some, None, true, Contains, ap, refl, sym, arith}
+use Rattle.std.proofs.Common.{◌≡◌, ◌∙◌, ℕ, ◌<◌, List, [], ◌++◌, length, slice_get, slice_index, Option, Some, None, false, true, Contains, ap, refl, sym, arith}
 use Rattle.std.proofs.lemmas.Bool.{false≢true}
 use Rattle.std.specs.Map.{keys_of}
 use Rattle.std.specs.Option.{is_some, option_map_or}
@@ -32,13 +32,18 @@ certificate_made l most rows frozen place row there numerator none first whole e
     rw (number_of_row-is rows place row there) (end ∙ sym text)
 
 -- the number that stands at a place is there
-pub number_is_there : (rows : List Row) (place : ℕ) (number : List ℕ) → slice_get (numbers_of rows) place ≡ Some number
+number_is_there : (rows : List Row) (place : ℕ) (number : List ℕ) → slice_get (numbers_of rows) place ≡ Some number
     → is_there (book_of rows) number ≡ true
 number_is_there rows place number there =
     let found = get_or_from_slice_get (numbers_of rows) place number [] there in
     let among : Contains (keys_of (book_of rows)) number =
     rw (← numbers_are_keys rows, ← found) (Contains-get_or (numbers_of rows) place [] (slice_get_within (numbers_of rows) place number there)) in
     ap is_some (record_there (book_of rows) number among).1
+
+-- so it isn't absent
+pub not_absent : (rows : List Row) (place : ℕ) (number : List ℕ) → slice_get (numbers_of rows) place ≡ Some number
+    → is_there (book_of rows) number ≡ false → ⊥
+not_absent rows place number there absent = absurd (false≢true (sym absent ∙ number_is_there rows place number there))
 
 -- the row at the place of a number has that number
 pub number_at_place : (rows : List Row) (place : ℕ) (number : List ℕ) → slice_get (numbers_of rows) place ≡ Some number

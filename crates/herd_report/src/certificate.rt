@@ -10,8 +10,8 @@ ghost use Rattle.herd_report.specs.CoefficientText.{coefficient_text};
 ghost use Rattle.herd_report.specs.Output.{AppendsFront};
 
 use crate::ancestors::push_ancestors;
-use crate::coefficient_text::push_coefficient;
 use crate::certificate_fault::CertificateFault;
+use crate::coefficient_text::push_coefficient;
 use crate::output::Output;
 use crate::report_fault::ReportFault;
 use herd_animal::{AnimalNumber, Day, Sex};
@@ -56,7 +56,11 @@ pub(crate) fn write_certificate_at<W: Write, A: Allocator, F: Allocator, C: Allo
 {
     prove!(place < frozen.len());
     let mut output = Output::new(alloc);
-    push_animal(&mut output, frozen.row(place), coefficients.numerator(place))?;
+    push_animal(
+        &mut output,
+        frozen.row(place),
+        coefficients.numerator(place),
+    )?;
     push_ancestors(&mut output, frozen, place)?;
     output.finish(writer)
 }
