@@ -63,7 +63,10 @@ impl LineCause {
     pub(crate) fn at(self, record_number: u32) -> LineFault
         ensures { result ≡ record { record_number = record_number; cause = self } }
     {
-        LineFault { record_number, cause: self }
+        LineFault {
+            record_number,
+            cause: self,
+        }
     }
 }
 

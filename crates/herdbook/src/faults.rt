@@ -20,10 +20,14 @@ impl fmt::Display for TaskFaultText {
 
     fn fmt<W: fmt::Write>(&self, f: &mut fmt::Formatter<W>) -> fmt::Result {
         match self.0 {
-            TaskFault::Run(RunFault::Line(LineFault {
-                record_number,
-                cause,
-            })) => {
+            TaskFault::Run(
+                RunFault::Line(
+                    LineFault {
+                        record_number,
+                        cause,
+                    },
+                ),
+            ) => {
                 let (code, name) = (cause.number(), name_of(cause));
                 write!(f, "record {record_number}: fault {code} {name}")
             }

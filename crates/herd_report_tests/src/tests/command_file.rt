@@ -213,7 +213,12 @@ fn stops_where_the_reader_fails(rt: HostRuntime) -> Result<(), Fail> {
         let commands = lines.saturating_sub(1);
         assert!(rt; commands <= whole.list.len());
         let record_number = u32::try_from(lines)?;
-        expect(&rt, &answer, &whole.list[..commands], Some((record_number, 11)));
+        expect(
+            &rt,
+            &answer,
+            &whole.list[..commands],
+            Some((record_number, 11)),
+        );
     }
     Ok(())
 }
