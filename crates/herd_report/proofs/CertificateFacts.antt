@@ -1,5 +1,5 @@
 -- The certificate of an animal that stands at a place of a frozen book.
-use Rattle.std.proofs.Common.{◌≡◌, ◌∙◌, ℕ, ◌<◌, List, [], ◌++◌, length, slice_get, slice_index, Option, Some, None, true, Contains, ap, refl, sym, arith}
+use Rattle.std.proofs.Common.{◌≡◌, ◌∙◌, ℕ, ◌<◌, List, [], ◌++◌, length, slice_get, slice_index, Option, Some, None, false, true, Contains, ap, refl, sym, arith}
 use Rattle.std.proofs.lemmas.Bool.{false≢true}
 use Rattle.std.specs.Map.{keys_of}
 use Rattle.std.specs.Option.{is_some, option_map_or}
@@ -32,7 +32,7 @@ certificate_made l most rows frozen place row there numerator none first whole e
     rw (number_of_row-is rows place row there) (end ∙ sym text)
 
 -- the number that stands at a place is there
-pub number_is_there : (rows : List Row) (place : ℕ) (number : List ℕ) → slice_get (numbers_of rows) place ≡ Some number
+number_is_there : (rows : List Row) (place : ℕ) (number : List ℕ) → slice_get (numbers_of rows) place ≡ Some number
     → is_there (book_of rows) number ≡ true
 number_is_there rows place number there =
     let found = get_or_from_slice_get (numbers_of rows) place number [] there in
@@ -40,16 +40,23 @@ number_is_there rows place number there =
     rw (← numbers_are_keys rows, ← found) (Contains-get_or (numbers_of rows) place [] (slice_get_within (numbers_of rows) place number there)) in
     ap is_some (record_there (book_of rows) number among).1
 
--- the certificate with the numerator at the place is that of the number with its coefficient
-pub certificate_text-number : (l : ℕ) (rows : List Row) (numerators : List ℕ) → AreCoefficients l rows numerators
-    → (place : ℕ) (number : List ℕ) (numerator : ℕ) → slice_get (numbers_of rows) place ≡ Some number → numerator ≡ slice_index numerators place
+-- so it isn't absent
+pub not_absent : (rows : List Row) (place : ℕ) (number : List ℕ) → slice_get (numbers_of rows) place ≡ Some number
+    → is_there (book_of rows) number ≡ false → ⊥
+not_absent rows place number there absent = absurd (false≢true (sym absent ∙ number_is_there rows place number there))
+
+-- the row at the place of a number has that number
+pub number_at_place : (rows : List Row) (place : ℕ) (number : List ℕ) → slice_get (numbers_of rows) place ≡ Some number
+    → number_of_row rows place ≡ number
+number_at_place rows place number there = get_or_from_slice_get (numbers_of rows) place number [] there
+
+-- the certificate with the numerator at a place is that with the coefficient of the animal there
+pub certificate_with_coefficient : (l : ℕ) (rows : List Row) (numerators : List ℕ) → AreCoefficients l rows numerators
+    → (place : ℕ) → place < length rows → (numerator : ℕ) → numerator ≡ slice_index numerators place
     → certificate_text (book_of rows) numerator (number_of_row rows place)
-    ≡ certificate_text (book_of rows) (coefficient (ancestry_of rows) l number) number
-certificate_text-number l rows numerators are place number numerator there read =
-    let found : number_of_row rows place ≡ number = get_or_from_slice_get (numbers_of rows) place number [] there in
-    let within : place < length rows = rw (← length-numbers_of rows) (slice_get_within (numbers_of rows) place number there) in
-    let known : numerator ≡ coefficient (ancestry_of rows) l number = read ∙ are.right place within ∙ ap (coefficient (ancestry_of rows) l) found in
-    rw (found, known) refl
+    ≡ certificate_text (book_of rows) (coefficient (ancestry_of rows) l (number_of_row rows place)) (number_of_row rows place)
+certificate_with_coefficient l rows numerators are place within numerator read =
+    ap (λ n. certificate_text (book_of rows) n (number_of_row rows place)) (read ∙ are.right place within)
 
 some_text : (book : Book) (numerator : ℕ) (number : List ℕ) (found : Option Animal) → is_some found ≡ true
     → 0 < length (option_map_or (λ (animal : Animal). animal_text number animal numerator ++ ancestors_text book number) found [])

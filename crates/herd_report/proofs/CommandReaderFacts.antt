@@ -10,16 +10,16 @@ use Rattle.herd_report.specs.declared.command_reader.CommandReader.{CommandReade
 use Rattle.herd_report.specs.declared.line_fault.LineCause.{LineCause}
 use Rattle.herd_report.specs.declared.version.Version.{Version}
 
-module _ (version : Version) (most entry : ℕ) where
+module _ (version : Version) (most record_number : ℕ) where
   -- a record that isn't too many is one command or a fault
-  commands_from-one : (fields : Fields) (rest : List Fields) → entry ≤ most
-      → commands_from version most entry (fields ∷ rest) ≡ one_then entry (command_of version fields) (commands_from version most (entry + 1) rest)
-  commands_from-one fields rest below = cond-false (ltb most entry) _ _ (le-ltb most entry below)
+  commands_from-one : (fields : Fields) (rest : List Fields) → record_number ≤ most
+      → commands_from version most record_number (fields ∷ rest) ≡ one_then record_number (command_of version fields) (commands_from version most (record_number + 1) rest)
+  commands_from-one fields rest below = cond-false (ltb most record_number) _ _ (le-ltb most record_number below)
 
   -- a record that was taken is this command
   pub takes_command : (old new : Option (List Fields)) (fields : Fields) (command : Command)
-      → TakesRecord old new fields true → Ok command ≡ command_of version fields → entry ≤ most
-      → TakesNext version most entry old new (Ok (Some command))
+      → TakesRecord old new fields true → Ok command ≡ command_of version fields → record_number ≤ most
+      → TakesNext version most record_number old new (Ok (Some command))
   takes_command None new fields command takes is below = tt
   takes_command (Some []) new fields command takes is below = absurd (false≢true (sym takes))
   takes_command (Some (first ∷ rest)) new fields command takes is below =
@@ -27,7 +27,7 @@ module _ (version : Version) (most entry : ℕ) where
         rest,
         takes.2,
         commands_from-one first rest below
-            ∙ ap (λ (outcome : Result Command LineCause). one_then entry outcome (commands_from version most (entry + 1) rest)) gives,
+            ∙ ap (λ (outcome : Result Command LineCause). one_then record_number outcome (commands_from version most (record_number + 1) rest)) gives,
       )
 
 -- a file whose commands were given up to this one has some

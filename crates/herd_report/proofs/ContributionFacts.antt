@@ -1,4 +1,4 @@
--- The entries that an animal contributes.
+-- The elements that an animal contributes.
 use Rattle.std.proofs.Common.{◌≡◌, ℕ, ◌<◌, ◌≤◌, List, [], ◌∷◌, ◌++◌, length, map, take, max, min, Option, Some, None, All, refl, arith}
 use Rattle.std.specs.Prelude.{codes}
 use Rattle.std.specs.List.{flat_map}
@@ -15,7 +15,7 @@ use Rattle.herd_report.specs.CoefficientText.{fraction_text}
 use Rattle.herd_report.proofs.OutputFacts.{some_after, some_before}
 use Rattle.herd_report.specs.InverseList.{IsWithin, contribution_line, contributions_text}
 
--- of the six entries the first ones are those that count
+-- of the six elements the first ones are those that count
 take-filled : (f : ℕ × ℕ → Contribution) (i : ℕ) (s d : Option ℕ)
     → take (length (map f (pairs_of i s d))) (filled (map f (pairs_of i s d))) ≡ map f (pairs_of i s d)
 take-filled f i None None = refl
@@ -39,17 +39,17 @@ pub length-contributions-le : (rows : List Row) (place : ℕ) → length (contri
 unfolding contributions_of
 length-contributions-le rows place = at_most_six (contribution_at DEPTH_LIMIT rows place) place (sire_place rows place) (dam_place rows place)
 
--- an entry at two places of the book
+-- an element at two places of the book
 within_at : (rows : List Row) (i p q : ℕ) → p < length rows → q < length rows → IsWithin rows (contribution_at DEPTH_LIMIT rows i (p, q))
 within_at rows i p q first second = record { row = first; column = second }
 
--- the entries of an animal and of known parents of the book are within it
+-- the elements of an animal and of known parents of the book are within it
 module _ (rows : List Row) (i : ℕ) (own : i < length rows) where
   abbrev value : ℕ × ℕ → Contribution
   value = contribution_at DEPTH_LIMIT rows i
 
-  one_within : (entry : Contribution) (rest : List Contribution) → IsWithin rows entry → All (IsWithin rows) rest → All (IsWithin rows) (entry ∷ rest)
-  one_within entry rest first later = All-cons (IsWithin rows) entry rest first later
+  one_within : (element : Contribution) (rest : List Contribution) → IsWithin rows element → All (IsWithin rows) rest → All (IsWithin rows) (element ∷ rest)
+  one_within element rest first later = All-cons (IsWithin rows) element rest first later
 
   all_within : (s d : Option ℕ) → ((p : ℕ) → s ≡ Some p → p < length rows) → ((p : ℕ) → d ≡ Some p → p < length rows)
       → All (IsWithin rows) (map (contribution_at DEPTH_LIMIT rows i) (pairs_of i s d))
@@ -85,10 +85,10 @@ contributions_within rows frozen place within =
     (sire_at DEPTH_LIMIT MOST_ANIMALS rows frozen place within).within
     (dam_at DEPTH_LIMIT MOST_ANIMALS rows frozen place within).within
 
-some_line : (rows : List Row) (place : ℕ) (entry : Contribution) → 0 < length (contribution_line rows place entry)
-some_line rows place entry =
+some_line : (rows : List Row) (place : ℕ) (element : Contribution) → 0 < length (contribution_line rows place element)
+some_line rows place element =
     some_after
-    (number_of_row rows place ++ codes "," ++ number_of_row rows entry.row ++ codes "," ++ number_of_row rows entry.column ++ codes "," ++ fraction_text entry.value)
+    (number_of_row rows place ++ codes "," ++ number_of_row rows element.row ++ codes "," ++ number_of_row rows element.column ++ codes "," ++ fraction_text element.value)
     (codes "\n") (omega arith)
 
 some_lines : (rows : List Row) (place : ℕ) (f : ℕ × ℕ → Contribution) (s d : Option ℕ)

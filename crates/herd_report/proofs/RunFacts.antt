@@ -21,14 +21,16 @@ use Rattle.herd_report.specs.LineCause.{is_interruption}
 use Rattle.herd_report.specs.Output.{AppendsFront}
 use Rattle.herd_report.specs.Replies.{reply_line, reply_lines_from, replies_text}
 use Rattle.herd_report.specs.Run.{EndsBy, HasFiled, IsAnswered, IsFiledFile, IsFrozenFile, IsReport, IsThere, NeedsMemory, StopsWriting, filed_from, replies_to, wanted}
-use Rattle.herd_report.specs.RunFault.{EndsListing, EndsReport, run_fault_of, run_fault_of_pool}
+use Rattle.herd_report.specs.RunFault.{EndsListing, EndsReport, run_fault_of, run_fault_of_certificate, run_fault_of_pool}
+use Rattle.herd_report.specs.declared.certificate_fault.CertificateFault.{CertificateFault}
+use Rattle.herd_report.specs.declared.certificate_fault.CertificateFault.TheVariants as certificate
 use Rattle.herd_report.specs.declared.line_fault.LineFault.{LineFault}
 use Rattle.herd_report.specs.declared.report_fault.ReportFault.{ReportFault}
 use Rattle.herd_report.specs.declared.report_fault.ReportFault.TheVariants as report
 use Rattle.herd_report.specs.declared.orders.Order.{Order}
 use Rattle.herd_report.specs.declared.orders.Order.TheVariants.{File, Inbreeding, Certificate}
 use Rattle.herd_report.specs.declared.run_fault.RunFault.{RunFault}
-use Rattle.herd_report.specs.declared.run_fault.RunFault.TheVariants.{Line, NotRegistered, NoThread, Memory, Write, NoPlace}
+use Rattle.herd_report.specs.declared.run_fault.RunFault.TheVariants.{Line, NotRegistered, NoThread, Memory, Write}
 use Rattle.herd_report.proofs.OutputFacts.{passes_before, some_before}
 
 -- the steps of more commands come after those of the first ones
@@ -106,8 +108,8 @@ pub first_commands : (most : ℕ) (file : CommandFile) (list : List Command) (fa
     (rest : List Command) × (file.commands ≡ list ++ rest)
 first_commands most file list None read = ([], sym read.0 ∙ sym (append-nil list))
 first_commands most file list (Some fault) read =
-    elim (is_interruption fault.cause) as (λ b. MatchBool b (IsReadBefore most fault.entry list file) ((list ≡ file.commands) × (file.fault ≡ Some fault)) → (rest : List Command) × (file.commands ≡ list ++ rest)) [
-      | true ↦ λ before. ⊎_elim (λ none. (file.commands, sym (ap (λ l. l ++ file.commands) none.1))) (λ some. ((commands_from some.1 most fault.entry some.2).commands, ap (λ f. f.commands) some.3)) before
+    elim (is_interruption fault.cause) as (λ b. MatchBool b (IsReadBefore most fault.record_number list file) ((list ≡ file.commands) × (file.fault ≡ Some fault)) → (rest : List Command) × (file.commands ≡ list ++ rest)) [
+      | true ↦ λ before. ⊎_elim (λ none. (file.commands, sym (ap (λ l. l ++ file.commands) none.1))) (λ some. ((commands_from some.1 most fault.record_number some.2).commands, ap (λ f. f.commands) some.3)) before
       | false ↦ λ all. ([], sym all.0 ∙ sym (append-nil list))
     ] read
 
@@ -162,13 +164,12 @@ some_commands limits file old new report =
 
 -- a run for the replies that stops while it writes
 pub stops_replying : (limits : Limits) (file : CommandFile) (list : List Command) (line : Option LineFault) (old new : Option (List ℕ)) (fault : ReportFault) →
-    IsRead limits.steps file list line → AppendsFront old new (replies_to limits list) → fault ≢ report.NotRegistered → EndsBy limits File file old new (run_fault_of fault)
-stops_replying limits file list line old new report.Write read front other =
+    IsRead limits.steps file list line → AppendsFront old new (replies_to limits list) → EndsBy limits File file old new (run_fault_of fault)
+stops_replying limits file list line old new report.Write read front =
     (λ reports. absurd (reports refl), record { there = tt; front = replies_of_file limits file list line old new read front })
-stops_replying limits file list line old new report.Memory read front other =
+stops_replying limits file list line old new report.Memory read front =
     let written = replies_of_file limits file list line old new read front in
     (λ reports. absurd (reports refl), some_commands limits file old new written, inr (record { there = tt; front = written }))
-stops_replying limits file list line old new report.NotRegistered read front other = absurd (other refl)
 
 -- what was written of a report of a file's commands, where some of its end wasn't
 stopped : (limits : Limits) (order : Order) (file : CommandFile) (rows : List Row) (old new : Option (List ℕ)) →
@@ -184,7 +185,6 @@ stops_reporting limits order file rows old new report.Write made there needs end
     (λ reports. made.faultless, stopped limits order file rows old new made there ends)
 stops_reporting limits order file rows old new report.Memory made there needs ends =
     (λ reports. made.faultless, needs, ⊎_elim (λ none. inl none) (λ front. inr (stopped limits order file rows old new made there front)) ends)
-stops_reporting limits order file rows old new report.NotRegistered made there needs ends = absurd ends
 
 -- a run for the list of coefficients that stops
 pub stops_listing : (limits : Limits) (workers block : ℕ) (file : CommandFile) (rows : List Row) (old new : Option (List ℕ)) (fault : RunFault) →
@@ -195,7 +195,6 @@ stops_listing limits workers block file rows old new NotRegistered made ends = a
 stops_listing limits workers block file rows old new NoThread made ends = (ends.0, made.faultless, ends.1)
 stops_listing limits workers block file rows old new Memory made ends = stops_reporting limits (Inbreeding workers block) file rows old new report.Memory made tt tt ends
 stops_listing limits workers block file rows old new Write made ends = stops_reporting limits (Inbreeding workers block) file rows old new report.Write made tt tt ends
-stops_listing limits workers block file rows old new NoPlace made ends = absurd ends
 
 -- a list of coefficients that ends before any was written
 pub nothing_listed : (workers : ℕ) (known : Option (List ℕ)) (text : List ℕ) (fault : PoolFault) → (fault ≡ pool.NoThread → 1 < workers) →
@@ -217,22 +216,23 @@ true_else_false false other = absurd (other refl)
 pub err_same : {T E : Type 0} (x y : E) → ◌≡◌ {A = Result T E} (Err x) (Err y) → x ≡ y
 err_same x y e = cc
 
+-- where a front of a report was written, that is how it ended early
+ends_report : (old new : Option (List ℕ)) (text : List ℕ) (fault : ReportFault) → AppendsFront old new text → EndsReport old new text fault
+ends_report old new text report.Write front = front
+ends_report old new text report.Memory front = inr front
+
 -- a run for a certificate that ends early
-pub stops_certifying : (limits : Limits) (number : List ℕ) (file : CommandFile) (rows : List Row) (old new : Option (List ℕ)) (fault : ReportFault) →
-    IsFrozenFile limits file rows → (fault ≢ report.NotRegistered → AppendsFront old new (wanted (Certificate number) limits file.commands rows)) →
-    (fault ≡ report.NotRegistered ↔ is_there (book_of rows) number ≡ false) → (is_there (book_of rows) number ≡ false → new ≡ old) →
-    EndsBy limits (Certificate number) file old new (run_fault_of fault)
-stops_certifying limits number file rows old new fault made front absent untouched =
-    let found : is_there (book_of rows) number ≡ is_there (run_book limits file.commands) number = there-frozen (run_book limits file.commands) rows number made.frozen in
-    let there : fault ≢ report.NotRegistered → is_there (run_book limits file.commands) number ≡ true =
-    λ other. sym found ∙ true_else_false (is_there (book_of rows) number) (λ gone. other (absent.1 gone)) in
-    let stops : fault ≢ report.NotRegistered → StopsWriting limits (Certificate number) file old new =
-    λ other. stopped limits (Certificate number) file rows old new made (there other) (front other) in
-    elim fault as (λ f. (f ≢ report.NotRegistered → StopsWriting limits (Certificate number) file old new) → (f ≡ report.NotRegistered → is_there (book_of rows) number ≡ false) → EndsBy limits (Certificate number) file old new (run_fault_of f)) [
-      | report.Write ↦ λ stops gone. (λ reports. made.faultless, stops (λ e. absurd (cc e)))
-      | report.Memory ↦ λ stops gone. (λ reports. made.faultless, tt, inr (stops (λ e. absurd (cc e))))
-      | report.NotRegistered ↦ λ stops gone. (made.faultless, sym found ∙ gone refl, untouched (gone refl))
-    ] stops absent.0
+pub stops_certifying : (limits : Limits) (number : List ℕ) (file : CommandFile) (rows : List Row) (old new : Option (List ℕ)) (fault : CertificateFault) →
+    IsFrozenFile limits file rows → (is_there (book_of rows) number ≡ true → AppendsFront old new (wanted (Certificate number) limits file.commands rows)) →
+    (fault ≡ certificate.NotRegistered ↔ is_there (book_of rows) number ≡ false) → (is_there (book_of rows) number ≡ false → new ≡ old) →
+    EndsBy limits (Certificate number) file old new (run_fault_of_certificate fault)
+stops_certifying limits number file rows old new certificate.NotRegistered made front absent untouched =
+    let gone = absent.0 refl in
+    (made.faultless, sym (there-frozen (run_book limits file.commands) rows number made.frozen) ∙ gone, untouched gone)
+stops_certifying limits number file rows old new (certificate.Report fault) made front absent untouched =
+    let there : is_there (book_of rows) number ≡ true = true_else_false (is_there (book_of rows) number) (λ gone. absurd (cc (absent.1 gone))) in
+    stops_reporting limits (Certificate number) file rows old new fault made (sym (there-frozen (run_book limits file.commands) rows number made.frozen) ∙ there) tt
+    (ends_report old new (wanted (Certificate number) limits file.commands rows) fault (front there))
 
 -- a run for a report that comes to its end
 pub reported : (limits : Limits) (order : Order) (file : CommandFile) (rows : List Row) (old new : Option (List ℕ)) →

@@ -7,7 +7,12 @@ use Rattle.herd_animal.specs.declared.number.Sex.TheVariants.{Male, Female}
 use Rattle.herd_animal.specs.Day.{day_text}
 use Rattle.herd_animal.specs.Sex.{sex_of}
 use Rattle.herd_pedigree.specs.declared.animal.Animal.{Animal}
+use Rattle.herd_pedigree.specs.declared.TheConstants.{DEPTH_LIMIT}
+use Rattle.herd_pedigree.specs.declared.frozen.Row.{Row}
 use Rattle.herd_pedigree.specs.Book.{Book, record_of}
+use Rattle.herd_pedigree.specs.Frozen.{book_of}
+use Rattle.herd_kinship.specs.FrozenAncestry.{ancestry_of}
+use Rattle.herd_kinship.specs.Table.{coefficient}
 use Rattle.herd_report.specs.declared.ancestors.Parent.{Parent}
 use Rattle.herd_report.specs.Ancestors.{ancestor_of, letter_of, three_generations}
 use Rattle.herd_report.specs.CoefficientText.{coefficient_text}
@@ -53,3 +58,7 @@ ancestors_text book number = flat_map (ancestor_line book number) three_generati
 abbrev pub certificate_text : Book → ℕ → List ℕ → List ℕ
 certificate_text book numerator number =
     option_map_or (λ animal. animal_text number animal numerator ++ ancestors_text book number) (record_of book number) []
+
+-- the certificate of a number of a frozen book
+abbrev pub certificate_of : List Row → List ℕ → List ℕ
+certificate_of rows number = certificate_text (book_of rows) (coefficient (ancestry_of rows) DEPTH_LIMIT number) number

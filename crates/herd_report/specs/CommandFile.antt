@@ -16,23 +16,23 @@ pub record CommandFile : Type 0 where
   pub fault : Option LineFault
 
 abbrev pub fault_at : ℕ → LineCause → CommandFile
-fault_at entry cause = record { commands = []; fault = Some (record { entry = entry; cause = cause }) }
+fault_at record_number cause = record { commands = []; fault = Some (record { record_number = record_number; cause = cause }) }
 
 -- commands, and what comes after them
 abbrev pub followed_by : List Command → CommandFile → CommandFile
 followed_by commands rest = record { commands = commands ++ rest.commands; fault = rest.fault }
 
--- a record at an entry that is one command or a fault, and what comes after it
+-- a record of this number that is one command or a fault, and what comes after it
 abbrev pub one_then : ℕ → Result Command LineCause → CommandFile → CommandFile
-one_then entry (Ok command) rest = followed_by (command ∷ []) rest
-one_then entry (Err cause) rest = fault_at entry cause
+one_then record_number (Ok command) rest = followed_by (command ∷ []) rest
+one_then record_number (Err cause) rest = fault_at record_number cause
 
--- the commands of the records from an entry on, of which `most` is the last that may be a command
+-- the commands of the records from this number on, of which `most` is the last that may be a command
 abbrev pub commands_from : Version → ℕ → ℕ → List Fields → CommandFile
-commands_from version most entry [] = record { commands = []; fault = None }
-commands_from version most entry (fields ∷ rest) =
-    if nat_lt most entry then fault_at entry cause.TooMany
-    else one_then entry (command_of version fields) (commands_from version most (entry + 1) rest)
+commands_from version most record_number [] = record { commands = []; fault = None }
+commands_from version most record_number (fields ∷ rest) =
+    if nat_lt most record_number then fault_at record_number cause.TooMany
+    else one_then record_number (command_of version fields) (commands_from version most (record_number + 1) rest)
 
 -- the commands under the header
 abbrev pub commands_under_header : ℕ → List Fields → CommandFile
@@ -44,22 +44,22 @@ commands_under_header most (first ∷ rest) =
 abbrev pub commands : List ℕ → ℕ → CommandFile
 commands bytes most = commands_under_header most (records default_config (strip_bom bytes))
 
--- the entry of the record after those that were read: the header's at first, and then one more than there are commands
-abbrev pub IsNextEntry : List Command → ℕ → Type 0
-IsNextEntry list entry = ((entry ≡ 0) × (list ≡ [])) ⊎ (entry ≡ length list + 1)
+-- the number of the record after those that were read: the header's at first, and then one more than there are commands
+abbrev pub IsNextRecord : List Command → ℕ → Type 0
+IsNextRecord list record_number = ((record_number ≡ 0) × (list ≡ [])) ⊎ (record_number ≡ length list + 1)
 
--- commands are those before an entry: none before the header, or else those before the records from that entry on
+-- commands are those before the record of this number: none before the header, or else those before the records from it on
 abbrev pub IsReadBefore : ℕ → ℕ → List Command → CommandFile → Type 0
-IsReadBefore most entry list file =
-    ((entry ≡ 0) × (list ≡ []))
-    ⊎ ((entry ≡ length list + 1) × (version : Version) × (rest : List Fields) × (file ≡ followed_by list (commands_from version most entry rest)))
+IsReadBefore most record_number list file =
+    ((record_number ≡ 0) × (list ≡ []))
+    ⊎ ((record_number ≡ length list + 1) × (version : Version) × (rest : List Fields) × (file ≡ followed_by list (commands_from version most record_number rest)))
 
 -- commands that were read, and a fault, are what the file says, or the commands before an interruption
 abbrev pub IsRead : ℕ → CommandFile → List Command → Option LineFault → Type 0
 IsRead most file list None = (list ≡ file.commands) × (file.fault ≡ None)
 IsRead most file list (Some fault) =
     MatchBool (is_interruption fault.cause)
-    (IsReadBefore most fault.entry list file)
+    (IsReadBefore most fault.record_number list file)
     ((list ≡ file.commands) × (file.fault ≡ Some fault))
 
 -- some commands were read up to this fault, or to the end of the file

@@ -37,10 +37,10 @@ abbrev pub Opens : {R : Type 0} → (R → Option (List ℕ)) → ℕ → Comman
 Opens remaining most file (Ok reader) = HasGiven remaining file [] reader
 Opens remaining most file (Err fault) = IsRead most file [] (Some fault)
 
--- where the records to come are known, the first of them, at an entry, is this command, or there is none, or it is a fault
+-- where the records to come are known, the first of them, of this number, is this command, or there is none, or it is a fault
 abbrev pub TakesNext : Version → ℕ → ℕ → Option (List Fields) → Option (List Fields) → Result (Option Command) LineCause → Type 0
-TakesNext version most entry old new (Ok (Some command)) =
-    IfSome old (λ records. (rest : List Fields) × (new ≡ Some rest) × (commands_from version most entry records ≡ followed_by (command ∷ []) (commands_from version most (entry + 1) rest)))
-TakesNext version most entry old new (Ok None) = IfSome old (λ records. records ≡ [])
-TakesNext version most entry old new (Err cause) =
-    MatchBool (is_interruption cause) ⊤ (IfSome old (λ records. commands_from version most entry records ≡ fault_at entry cause))
+TakesNext version most record_number old new (Ok (Some command)) =
+    IfSome old (λ records. (rest : List Fields) × (new ≡ Some rest) × (commands_from version most record_number records ≡ followed_by (command ∷ []) (commands_from version most (record_number + 1) rest)))
+TakesNext version most record_number old new (Ok None) = IfSome old (λ records. records ≡ [])
+TakesNext version most record_number old new (Err cause) =
+    MatchBool (is_interruption cause) ⊤ (IfSome old (λ records. commands_from version most record_number records ≡ fault_at record_number cause))

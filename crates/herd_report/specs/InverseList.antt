@@ -1,4 +1,4 @@
--- The contributions to the inverse of the table of relationships as text.
+-- The contributions to the inverse of A, the numerator relationship matrix, as text.
 use Rattle.std.specs.Prelude.{ℕ, ◌<◌, List, ◌++◌, length, codes}
 use Rattle.std.specs.List.{flat_map, range_with_len}
 use Rattle.herd_pedigree.specs.declared.TheConstants.{DEPTH_LIMIT}
@@ -8,11 +8,11 @@ use Rattle.herd_kinship.specs.Contributions.{contributions_of}
 use Rattle.herd_kinship.specs.FrozenAncestry.{number_of_row}
 use Rattle.herd_report.specs.CoefficientText.{fraction_text}
 
--- the line of one entry: the animal at the place, those of the row and of the column, and the value
+-- the line of one element: the animal at the place, those of the row and of the column, and the value
 abbrev pub contribution_line : List Row → ℕ → Contribution → List ℕ
-contribution_line rows place entry =
-    number_of_row rows place ++ codes "," ++ number_of_row rows entry.row ++ codes "," ++ number_of_row rows entry.column ++ codes ","
-    ++ fraction_text entry.value ++ codes "\n"
+contribution_line rows place element =
+    number_of_row rows place ++ codes "," ++ number_of_row rows element.row ++ codes "," ++ number_of_row rows element.column ++ codes ","
+    ++ fraction_text element.value ++ codes "\n"
 
 -- the lines of what the animal at a place contributes
 abbrev pub contributions_text : List Row → ℕ → List ℕ
@@ -22,7 +22,7 @@ contributions_text rows place = flat_map (contribution_line rows place) (contrib
 abbrev pub inverse_text : List Row → List ℕ
 inverse_text rows = flat_map (contributions_text rows) (range_with_len 0 (length rows))
 
--- the row and the column of an entry are places of the book
-pub record IsWithin (rows : List Row) (entry : Contribution) : Type 0 where
-  pub row : entry.row < length rows
-  pub column : entry.column < length rows
+-- the row and the column of an element are places of the book
+pub record IsWithin (rows : List Row) (element : Contribution) : Type 0 where
+  pub row : element.row < length rows
+  pub column : element.column < length rows

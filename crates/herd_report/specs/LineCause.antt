@@ -6,21 +6,21 @@ use Rattle.csv.specs.declared.error.ErrorKind.TheVariants as error
 use Rattle.herd_report.specs.declared.line_fault.LineCause.TheVariants.{Header, Fields, Kind, Animal, Day, Sire, Dam, FromHerd, ToHerd, FieldNotUsed, Read, TooMany, Memory, Embryo}
 
 -- the number that the program prints
-abbrev pub number_of : LineCause → ℕ
-number_of Header = 1
-number_of Fields = 2
-number_of Kind = 3
-number_of Animal = 4
-number_of Day = 5
-number_of Sire = 6
-number_of Dam = 7
-number_of FromHerd = 8
-number_of ToHerd = 9
-number_of FieldNotUsed = 10
-number_of Read = 11
-number_of TooMany = 12
-number_of Memory = 13
-number_of Embryo = 14
+abbrev pub cause_number : LineCause → ℕ
+cause_number Header = 1
+cause_number Fields = 2
+cause_number Kind = 3
+cause_number Animal = 4
+cause_number Day = 5
+cause_number Sire = 6
+cause_number Dam = 7
+cause_number FromHerd = 8
+cause_number ToHerd = 9
+cause_number FieldNotUsed = 10
+cause_number Read = 11
+cause_number TooMany = 12
+cause_number Memory = 13
+cause_number Embryo = 14
 
 -- a cause that the bytes don't show: the reader failed, or memory ran out
 abbrev pub is_interruption : LineCause → Bool

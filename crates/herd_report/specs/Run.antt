@@ -13,7 +13,7 @@ use Rattle.herd_register.specs.declared.step.Step.{Step}
 use Rattle.herd_kinship.specs.FrozenAncestry.{ancestry_of}
 use Rattle.herd_kinship.specs.Table.{coefficient}
 use Rattle.herd_pool.specs.declared.limits.TheConstants.{MOST_WORKERS}
-use Rattle.herd_report.specs.Certificate.{certificate_text}
+use Rattle.herd_report.specs.Certificate.{certificate_of}
 use Rattle.herd_report.specs.CommandFile.{CommandFile, IsRead}
 use Rattle.herd_report.specs.InbreedingList.{inbreeding_text}
 use Rattle.herd_report.specs.InverseList.{inverse_text}
@@ -24,7 +24,7 @@ use Rattle.herd_report.specs.declared.line_fault.LineFault.{LineFault}
 use Rattle.herd_report.specs.declared.orders.Order.{Order}
 use Rattle.herd_report.specs.declared.orders.Order.TheVariants.{File, Inbreeding, Certificate, Mating, Inverse}
 use Rattle.herd_report.specs.declared.run_fault.RunFault.{RunFault}
-use Rattle.herd_report.specs.declared.run_fault.RunFault.TheVariants.{Line, NotRegistered, NoThread, Memory, Write, NoPlace}
+use Rattle.herd_report.specs.declared.run_fault.RunFault.TheVariants.{Line, NotRegistered, NoThread, Memory, Write}
 
 -- the steps of commands that are filed at desk 0 one after the other, the first with this book
 abbrev pub filed_from : Limits → Book → List Command → List Step
@@ -50,7 +50,7 @@ replies_to limits commands = replies_text (filed_from limits [] commands)
 abbrev pub wanted : Order → Limits → List Command → List Row → List ℕ
 wanted File limits commands rows = replies_to limits commands
 wanted (Inbreeding workers block) limits commands rows = inbreeding_text (coefficient (ancestry_of rows) DEPTH_LIMIT) rows
-wanted (Certificate number) limits commands rows = certificate_text (book_of rows) (coefficient (ancestry_of rows) DEPTH_LIMIT number) number
+wanted (Certificate number) limits commands rows = certificate_of rows number
 wanted (Mating dam sires) limits commands rows = mating_text (book_of rows) dam sires.now
 wanted Inverse limits commands rows = inverse_text rows
 
@@ -91,7 +91,6 @@ CanEndBy order NotRegistered = IsCertificate order
 CanEndBy order NoThread = IsShared order
 CanEndBy order Memory = ⊤
 CanEndBy order Write = ⊤
-CanEndBy order NoPlace = ⊥
 
 -- a text that an order wants of commands passes a test; only for the replies no frozen rows are needed
 pub record IsReport (limits : Limits) (order : Order) (commands : List Command) (Passes : List ℕ → Type 0) : Type 0 where
@@ -141,4 +140,3 @@ EndsBy limits order file old new NoThread = IsShared order × (file.fault ≡ No
 EndsBy limits order file old new Memory =
     IsFaultlessFor order file × NeedsMemory order file.commands × ((new ≡ old) ⊎ StopsWriting limits order file old new)
 EndsBy limits order file old new Write = IsFaultlessFor order file × StopsWriting limits order file old new
-EndsBy limits order file old new NoPlace = ⊥

@@ -5,16 +5,21 @@ use Rattle.herd_pool.specs.declared.pool_fault.PoolFault.TheVariants as pool
 use Rattle.herd_register.specs.declared.limits.Limits.{Limits}
 use Rattle.herd_report.specs.CommandFile.{CommandFile, IsReadUpTo}
 use Rattle.herd_report.specs.Output.{AppendsFront}
+use Rattle.herd_report.specs.declared.certificate_fault.CertificateFault.{CertificateFault}
+use Rattle.herd_report.specs.declared.certificate_fault.CertificateFault.TheVariants as certificate
 use Rattle.herd_report.specs.declared.line_fault.LineFault.{LineFault}
 use Rattle.herd_report.specs.declared.report_fault.ReportFault.{ReportFault}
 use Rattle.herd_report.specs.declared.report_fault.ReportFault.TheVariants as report
 use Rattle.herd_report.specs.declared.run_fault.RunFault.{RunFault}
-use Rattle.herd_report.specs.declared.run_fault.RunFault.TheVariants.{Line, NotRegistered, NoThread, Memory, Write, NoPlace}
+use Rattle.herd_report.specs.declared.run_fault.RunFault.TheVariants.{Line, NotRegistered, NoThread, Memory, Write}
 
 abbrev pub run_fault_of : ReportFault → RunFault
 run_fault_of report.Write = Write
 run_fault_of report.Memory = Memory
-run_fault_of report.NotRegistered = NotRegistered
+
+abbrev pub run_fault_of_certificate : CertificateFault → RunFault
+run_fault_of_certificate certificate.NotRegistered = NotRegistered
+run_fault_of_certificate (certificate.Report fault) = run_fault_of fault
 
 abbrev pub run_fault_of_pool : PoolFault → RunFault
 run_fault_of_pool pool.NoThread = NoThread
@@ -27,7 +32,6 @@ IfLine NotRegistered Passes = ⊤
 IfLine NoThread Passes = ⊤
 IfLine Memory Passes = ⊤
 IfLine Write Passes = ⊤
-IfLine NoPlace Passes = ⊤
 
 -- a fault of reading and filing
 abbrev pub CanEndFreezing : RunFault → Type 0
@@ -36,7 +40,6 @@ CanEndFreezing NotRegistered = ⊥
 CanEndFreezing NoThread = ⊥
 CanEndFreezing Memory = ⊤
 CanEndFreezing Write = ⊥
-CanEndFreezing NoPlace = ⊥
 
 -- why there is no frozen book: a line fault or an interruption of the reading, or where there is none a want of memory
 abbrev pub EndsFreezing : Limits → CommandFile → RunFault → Type 0
@@ -45,13 +48,11 @@ EndsFreezing limits file NotRegistered = ⊥
 EndsFreezing limits file NoThread = ⊥
 EndsFreezing limits file Memory = file.fault ≡ None
 EndsFreezing limits file Write = ⊥
-EndsFreezing limits file NoPlace = ⊥
 
 -- how a report whose coefficients are computed first may end early
 abbrev pub EndsReport : Option (List ℕ) → Option (List ℕ) → List ℕ → ReportFault → Type 0
 EndsReport old new text report.Write = AppendsFront old new text
 EndsReport old new text report.Memory = (new ≡ old) ⊎ AppendsFront old new text
-EndsReport old new text report.NotRegistered = ⊥
 
 -- how so many workers' list of coefficients may end early
 abbrev pub EndsListing : ℕ → Option (List ℕ) → Option (List ℕ) → List ℕ → RunFault → Type 0
@@ -60,4 +61,3 @@ EndsListing workers old new text NotRegistered = ⊥
 EndsListing workers old new text NoThread = (1 < workers) × (new ≡ old)
 EndsListing workers old new text Memory = (new ≡ old) ⊎ AppendsFront old new text
 EndsListing workers old new text Write = AppendsFront old new text
-EndsListing workers old new text NoPlace = ⊥

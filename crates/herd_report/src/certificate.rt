@@ -1,16 +1,16 @@
-ghost use Rattle.std.specs.Prelude.{◌≡◌, ◌≢◌, ◌↔◌, ◌<◌, ◌*◌, ◌^◌, ◌++◌, false, codes, length, Err, IfErr, OnErr, OnOk};
+ghost use Rattle.std.specs.Prelude.{◌≡◌, ◌↔◌, ◌<◌, ◌*◌, ◌^◌, ◌++◌, false, true, codes, length, Err, OnErr, OnOk};
 ghost use Rattle.std.specs.Io.KnownBytes.{Appends};
 ghost use Rattle.herd_pedigree.specs.Book.{is_there};
 ghost use Rattle.herd_pedigree.specs.Frozen.{book_of};
 ghost use Rattle.herd_pedigree.specs.declared.TheConstants.{DEPTH_LIMIT};
 ghost use Rattle.herd_kinship.specs.Coefficients.{AreCoefficients};
-ghost use Rattle.herd_kinship.specs.FrozenAncestry.{ancestry_of, number_of_row};
-ghost use Rattle.herd_kinship.specs.Table.{coefficient};
-ghost use Rattle.herd_report.specs.Certificate.{animal_text, certificate_text, entry_line, left_text, sex_text};
+ghost use Rattle.herd_kinship.specs.FrozenAncestry.{number_of_row};
+ghost use Rattle.herd_report.specs.Certificate.{animal_text, certificate_of, entry_line, left_text, sex_text};
 ghost use Rattle.herd_report.specs.CoefficientText.{coefficient_text};
 ghost use Rattle.herd_report.specs.Output.{AppendsFront};
 
 use crate::ancestors::push_ancestors;
+use crate::certificate_fault::CertificateFault;
 use crate::coefficient_text::push_coefficient;
 use crate::output::Output;
 use crate::report_fault::ReportFault;
@@ -28,40 +28,39 @@ pub fn write_certificate<W: Write, A: Allocator, F: Allocator, C: Allocator>(
     coefficients: &Coefficients<C>,
     number: AnimalNumber,
     writer: &mut W,
-) -> Result<(), ReportFault>
+) -> Result<(), CertificateFault>
     requires { AreCoefficients DEPTH_LIMIT frozen.now coefficients.now }
-    ensures ok { OnOk result (Appends (W.contents writer.old) (W.contents writer.new)
-        (certificate_text (book_of frozen.now) (coefficient (ancestry_of frozen.now) DEPTH_LIMIT number) number)) }
-    ensures err { IfErr result (λ fault. fault ≢ ReportFault.NotRegistered → AppendsFront (W.contents writer.old) (W.contents writer.new)
-        (certificate_text (book_of frozen.now) (coefficient (ancestry_of frozen.now) DEPTH_LIMIT number) number)) }
-    ensures absent { (result ≡ Err ReportFault.NotRegistered) ↔ (is_there (book_of frozen.now) number ≡ false) }
+    ensures ok { OnOk result (Appends (W.contents writer.old) (W.contents writer.new) (certificate_of frozen.now number)) }
+    ensures err { is_there (book_of frozen.now) number ≡ true → OnErr result (AppendsFront (W.contents writer.old) (W.contents writer.new) (certificate_of frozen.now number)) }
+    ensures absent { (result ≡ Err CertificateFault.NotRegistered) ↔ (is_there (book_of frozen.now) number ≡ false) }
     ensures untouched { is_there (book_of frozen.now) number ≡ false → writer.new ≡ writer.old }
 {
-    match frozen.place(&number) {
-        Some(place) => write_at(alloc, frozen, place, coefficients.numerator(place), writer),
-        None => Err(ReportFault::NotRegistered),
-    }
+    let Some(place) = frozen.place(&number) else {
+        return Err(CertificateFault::NotRegistered);
+    };
+    Ok(write_certificate_at(alloc, frozen, coefficients, place, writer)?)
 }
 
-// Writes the certificate of the animal at a place.
-fn write_at<W: Write, A: Allocator, F: Allocator>(
+/// Writes the certificate of the animal at a place.
+pub(crate) fn write_certificate_at<W: Write, A: Allocator, F: Allocator, C: Allocator>(
     alloc: A,
     frozen: &Frozen<F>,
+    coefficients: &Coefficients<C>,
     place: u32,
-    numerator: u128,
     writer: &mut W,
 ) -> Result<(), ReportFault>
     requires place { place < length frozen.now }
-    requires numerator { numerator < 2 ^ (2 * DEPTH_LIMIT) }
-    ensures ok { OnOk result (Appends (W.contents writer.old) (W.contents writer.new)
-        (certificate_text (book_of frozen.now) numerator (number_of_row frozen.now place))) }
-    ensures err { OnErr result (AppendsFront (W.contents writer.old) (W.contents writer.new)
-        (certificate_text (book_of frozen.now) numerator (number_of_row frozen.now place))) }
-    ensures fault { IfErr result (λ fault. fault ≢ ReportFault.NotRegistered) }
+    requires coefficients { AreCoefficients DEPTH_LIMIT frozen.now coefficients.now }
+    ensures ok { OnOk result (Appends (W.contents writer.old) (W.contents writer.new) (certificate_of frozen.now (number_of_row frozen.now place))) }
+    ensures err { OnErr result (AppendsFront (W.contents writer.old) (W.contents writer.new) (certificate_of frozen.now (number_of_row frozen.now place))) }
 {
     prove!(place < frozen.len());
     let mut output = Output::new(alloc);
-    push_animal(&mut output, &frozen.row(place), numerator)?;
+    push_animal(
+        &mut output,
+        frozen.row(place),
+        coefficients.numerator(place),
+    )?;
     push_ancestors(&mut output, frozen, place)?;
     output.finish(writer)
 }

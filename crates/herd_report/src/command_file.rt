@@ -2,7 +2,7 @@
 ghost use Rattle.std.specs.Prelude.{◌≡◌, ◌≤◌, ◌+◌, [], IfErr, IfSome, length};
 ghost use Rattle.std.specs.Result.{result_err};
 ghost use Rattle.herd_register.specs.declared.limits.TheConstants.{MOST_STEPS};
-ghost use Rattle.herd_report.specs.CommandFile.{IsNextEntry, IsRead, commands};
+ghost use Rattle.herd_report.specs.CommandFile.{IsNextRecord, IsRead, commands};
 
 use crate::command_reader::CommandReader;
 use crate::line_fault::{LineCause, LineFault};
@@ -19,14 +19,14 @@ pub struct Commands {
 
 /// Reads a command file of either version, up to its first fault.
 ///
-/// The faults `Read` and `Memory` don't stand in the file: they tell the entry that was being read.
+/// The faults `Read` and `Memory` don't stand in the file: they tell the number of the record that was being read.
 pub fn read_commands<R: Read + Drop>(alloc: Global, reader: R, most: u32) -> Commands
     requires { most ≤ MOST_STEPS }
     ensures file { IfSome (R.remaining reader)
         (λ bytes. IsRead most (commands bytes most) result.list.items result.fault) }
     ensures most { length result.list.items ≤ most }
-    ensures entry { IfSome result.fault (λ fault. IsNextEntry result.list.items fault.entry) }
-    ensures last { IfSome result.fault (λ fault. fault.entry ≤ most + 1) }
+    ensures record_number { IfSome result.fault (λ fault. IsNextRecord result.list.items fault.record_number) }
+    ensures last { IfSome result.fault (λ fault. fault.record_number ≤ most + 1) }
 {
     let mut list = Vec::new(alloc);
     let fault = list_commands(alloc, reader, most, &mut list).err();
@@ -44,12 +44,12 @@ fn list_commands<R: Read + Drop>(
     ensures file { IfSome (R.remaining reader)
         (λ bytes. IsRead most (commands bytes most) list.new.items (result_err result)) }
     ensures most { length list.new.items ≤ most }
-    ensures entry { IfErr result (λ fault. IsNextEntry list.new.items fault.entry) }
+    ensures record_number { IfErr result (λ fault. IsNextRecord list.new.items fault.record_number) }
 {
     let mut commands = CommandReader::open(alloc, reader, most)?;
     while let Some(command) = commands.next_command()? {
         if list.push(command).is_err() {
-            return Err(LineCause::Memory.at(commands.entry()));
+            return Err(LineCause::Memory.at(commands.record_number()));
         }
     }
     Ok(())

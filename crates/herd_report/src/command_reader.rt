@@ -33,7 +33,7 @@ impl<R: Read + Drop> CommandReader<R> {
         requires { most ≤ MOST_STEPS }
         ensures ready { IfOk result (λ commands. IsReady most 0 commands) }
         ensures opens { IfSome (R.remaining reader) (λ bytes. Opens R.remaining most (commands bytes most) result) }
-        ensures entry { IfErr result (λ fault. fault.entry ≡ 0) }
+        ensures record_number { IfErr result (λ fault. fault.record_number ≡ 0) }
     {
         let mut records = open(alloc, reader);
         let mut row = ByteRecord::new(alloc);
@@ -52,8 +52,8 @@ impl<R: Read + Drop> CommandReader<R> {
 }
 
 impl<R: Read> CommandReader<R> {
-    /// The entry of the command that was given last.
-    pub(crate) fn entry(&self) -> u32
+    /// The number of the record that was given last as a command.
+    pub(crate) fn record_number(&self) -> u32
         ensures { result ≡ self.now.given }
     {
         self.given
@@ -67,20 +67,20 @@ impl<R: Read> CommandReader<R> {
         ensures ready { IfOk result (λ given. IfSome given (λ _. IsReady self.old.most (self.old.given + 1) self.new)) }
         ensures gives { (file : CommandFile) → (list : List Command) → HasGiven R.remaining file list self.old
             → Gives R.remaining self.old.most file list self.new result }
-        ensures entry { IfErr result (λ fault. fault.entry ≡ self.old.given + 1) }
+        ensures record_number { IfErr result (λ fault. fault.record_number ≡ self.old.given + 1) }
         ensures given { IfErr result (λ _. self.new.given ≡ self.old.given) }
         ensures interrupted { IfErr result (λ fault. is_interruption fault.cause ≡ has_failed self.new.records) }
         ensures one { IfErr result (λ fault. is_interruption fault.cause ≡ false
             → ReadsOne (upcoming R.remaining self.old.records) (upcoming R.remaining self.new.records)) }
     {
-        let entry = self.given + 1;
+        let record_number = self.given + 1;
         match self.read_command() {
             Ok(Some(command)) => {
-                self.given = entry;
+                self.given = record_number;
                 Ok(Some(command))
             }
             Ok(None) => Ok(None),
-            Err(cause) => Err(cause.at(entry)),
+            Err(cause) => Err(cause.at(record_number)),
         }
     }
 

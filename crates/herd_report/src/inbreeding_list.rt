@@ -1,4 +1,4 @@
-ghost use Rattle.std.specs.Prelude.{◌≡◌, ◌≢◌, ◌<◌, ◌*◌, ◌^◌, ◌++◌, IfErr, IfSome, OnErr, OnOk};
+ghost use Rattle.std.specs.Prelude.{◌≡◌, ◌<◌, ◌*◌, ◌^◌, ◌++◌, IfSome, OnErr, OnOk};
 ghost use Rattle.std.specs.Io.KnownBytes.{Appends};
 ghost use Rattle.herd_pedigree.specs.declared.TheConstants.{DEPTH_LIMIT};
 ghost use Rattle.herd_kinship.specs.Coefficients.{AreCoefficients};
@@ -29,7 +29,6 @@ pub fn write_inbreeding<W: Write, A: Allocator, F: Allocator, C: Allocator>(
         (inbreeding_text (coefficient (ancestry_of frozen.now) DEPTH_LIMIT) frozen.now)) }
     ensures err { OnErr result (AppendsFront (W.contents writer.old) (W.contents writer.new)
         (inbreeding_text (coefficient (ancestry_of frozen.now) DEPTH_LIMIT) frozen.now)) }
-    ensures fault { IfErr result (λ fault. fault ≢ ReportFault.NotRegistered) }
 {
     let mut output = Output::new(&alloc);
     let mut end = Output::new(&alloc);

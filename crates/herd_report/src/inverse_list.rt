@@ -1,4 +1,4 @@
-ghost use Rattle.std.specs.Prelude.{◌≡◌, ◌≢◌, ◌<◌, ◌++◌, All, codes, length, IfErr, IfSome, OnErr, OnOk};
+ghost use Rattle.std.specs.Prelude.{◌≡◌, ◌<◌, ◌++◌, All, codes, length, IfSome, OnErr, OnOk};
 ghost use Rattle.std.specs.Io.KnownBytes.{Appends};
 ghost use Rattle.std.specs.List.{flat_map};
 ghost use Rattle.herd_pedigree.specs.declared.TheConstants.{DEPTH_LIMIT, MOST_ANIMALS};
@@ -18,7 +18,7 @@ use herd_pedigree::Frozen;
 use std::alloc::{AllocError, Allocator};
 use std::io::Write;
 
-/// Writes what each animal of a book contributes to the inverse of the table of relationships, in age order.
+/// Writes what each animal of a book contributes to the inverse of A, the numerator relationship matrix, in age order.
 pub fn write_inverse<W: Write, A: Allocator, F: Allocator, C: Allocator>(
     alloc: A,
     frozen: &Frozen<F>,
@@ -28,7 +28,6 @@ pub fn write_inverse<W: Write, A: Allocator, F: Allocator, C: Allocator>(
     requires { AreCoefficients DEPTH_LIMIT frozen.now coefficients.now }
     ensures ok { OnOk result (Appends (W.contents writer.old) (W.contents writer.new) (inverse_text frozen.now)) }
     ensures err { OnErr result (AppendsFront (W.contents writer.old) (W.contents writer.new) (inverse_text frozen.now)) }
-    ensures fault { IfErr result (λ fault. fault ≢ ReportFault.NotRegistered) }
 {
     let mut output = Output::new(&alloc);
     let mut end = Output::new(&alloc);
@@ -53,33 +52,33 @@ fn push_contributions<A: Allocator, F: Allocator, C: Allocator>(
     ensures { OnOk result (output.new ≡ output.old ++ contributions_text frozen.now place) }
 {
     let listed = contributions(frozen, coefficients, place);
-    let entries = &listed.list[..listed.count as usize];
-    push_entries(output, end, frozen, place, entries)
+    let elements = &listed.list[..listed.count as usize];
+    push_elements(output, end, frozen, place, elements)
 }
 
-// Adds the lines of some entries of the animal at a place. Of equal values that follow one another the end of the line
+// Adds the lines of some elements of the animal at a place. Of equal values that follow one another the end of the line
 // is made once.
-fn push_entries<A: Allocator, F: Allocator>(
+fn push_elements<A: Allocator, F: Allocator>(
     output: &mut Output<A>,
     end: &mut Output<A>,
     frozen: &Frozen<F>,
     place: u32,
-    entries: &[Contribution],
+    elements: &[Contribution],
 ) -> Result<(), AllocError>
     requires place { place < length frozen.now }
-    requires entries { All (IsWithin frozen.now) entries.now }
-    ensures { OnOk result (output.new ≡ output.old ++ flat_map (contribution_line frozen.now place) entries.now) }
+    requires elements { All (IsWithin frozen.now) elements.now }
+    ensures { OnOk result (output.new ≡ output.old ++ flat_map (contribution_line frozen.now place) elements.now) }
 {
     let mut made = None;
-    for entry in entries {
-        make_end(end, made, entry.value)?;
-        made = Some(entry.value);
-        push_entry(output, frozen, place, *entry, end.bytes())?;
+    for element in elements {
+        make_end(end, made, element.value)?;
+        made = Some(element.value);
+        push_element(output, frozen, place, *element, end.bytes())?;
     }
     Ok(())
 }
 
-// Makes the end of the line of an entry, where the end that is there isn't of an equal value.
+// Makes the end of the line of an element, where the end that is there isn't of an equal value.
 fn make_end<A: Allocator>(
     end: &mut Output<A>,
     made: Option<Fraction>,
@@ -96,21 +95,21 @@ fn make_end<A: Allocator>(
     end.push(b"\n")
 }
 
-fn push_entry<A: Allocator, F: Allocator>(
+fn push_element<A: Allocator, F: Allocator>(
     output: &mut Output<A>,
     frozen: &Frozen<F>,
     place: u32,
-    entry: Contribution,
+    element: Contribution,
     end: &[u8],
 ) -> Result<(), AllocError>
     requires place { place < length frozen.now }
-    requires entry { IsWithin frozen.now entry }
-    requires end { end.now ≡ fraction_text entry.value ++ codes "\n" }
-    ensures { OnOk result (output.new ≡ output.old ++ contribution_line frozen.now place entry) }
+    requires element { IsWithin frozen.now element }
+    requires end { end.now ≡ fraction_text element.value ++ codes "\n" }
+    ensures { OnOk result (output.new ≡ output.old ++ contribution_line frozen.now place element) }
 {
     push_number_at(output, frozen, place)?;
-    push_number_at(output, frozen, entry.row)?;
-    push_number_at(output, frozen, entry.column)?;
+    push_number_at(output, frozen, element.row)?;
+    push_number_at(output, frozen, element.column)?;
     output.push(end)
 }
 

@@ -1,14 +1,41 @@
 //! Reading a command file, filing it, and every text that the herd book prints.
+//!
+//! A command file is read record by record (`csv` splits it), each record is one command or a fault, and each command
+//! is filed as soon as it is read. The definitions speak of the bytes alone: `commands` says which commands they hold
+//! before the first fault, and which fault that is. What the bytes don't show, a reader that fails or memory that is
+//! refused, is an interruption, and told as such.
+//!
+//! `run` carries out an `Order`: it files a command file, freezes the book where the order wants it, and writes one
+//! text. Each text is also written by a call of its own (`write_replies` and the others), from a journal or a frozen
+//! book. What is written is the whole text, or where memory is refused or a write fails a front of it.
+//!
+//! | | definition (`specs/`) | code (`src/`) | proof (`proofs/`) |
+//! |---|---|---|---|
+//! | the records to come | `Upcoming` | `records` | `UpcomingFacts` |
+//! | a record as a command | `Grammar`, `Columns`, `Field` | `version`, `columns`, `field` | `HeaderFacts`, `FieldFacts`, `HerdFacts` |
+//! | a command file, and where it goes wrong | `CommandFile`, `LineCause` | `command_file`, `line_fault` | |
+//! | its commands, one at a time | `CommandReader` | `command_reader` | `CommandReaderFacts` |
+//! | filing them | `Run` (`HasFiled`) | `command_filing` | `RunFacts` |
+//! | how a text goes to a writer | `Output` | `output` | `OutputFacts`, `Pieces`, `WideDecimal` |
+//! | replies | `Replies` | `replies` | `ReplyLines` |
+//! | fractions and percentages | `CoefficientText` | `coefficient_text` | `CoefficientFacts` |
+//! | the list of coefficients | `InbreedingList` | `inbreeding_list` | `CoefficientFacts` |
+//! | certificates | `Certificate`, `Ancestors` | `certificate`, `ancestors` | `CertificateFacts`, `AncestorFacts` |
+//! | mating advice | `MatingList` | `mating_list` | `MatingFacts` |
+//! | the inverse of A | `InverseList` | `inverse_list` | `ContributionFacts` |
+//! | what a run writes, and how it may end | `Run`, `RunFault` | `orders`, `run_fault` | `RunFacts` |
+//! | how a text of its own may end | | `report_fault`, `certificate_fault` | |
 #![tactic(auto)]
 
 mod ancestors;
 mod certificate;
+mod certificate_fault;
 mod coefficient_text;
 mod columns;
 mod command_file;
+mod command_filing;
 mod command_reader;
 mod field;
-mod filing;
 mod inbreeding_list;
 mod inverse_list;
 mod line_fault;
@@ -22,6 +49,7 @@ mod run_fault;
 mod version;
 
 pub use certificate::write_certificate;
+pub use certificate_fault::CertificateFault;
 pub use command_file::{Commands, read_commands};
 pub use inbreeding_list::write_inbreeding;
 pub use inverse_list::write_inverse;

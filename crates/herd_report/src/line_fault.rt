@@ -1,5 +1,5 @@
 ghost use Rattle.std.specs.Prelude.{◌≡◌};
-ghost use Rattle.herd_report.specs.LineCause.{number_of};
+ghost use Rattle.herd_report.specs.LineCause.{cause_number};
 
 use thiserror::Error;
 
@@ -39,7 +39,7 @@ pub enum LineCause {
 impl LineCause {
     /// The number that the program prints, from 1 to 14.
     pub fn number(self) -> u8
-        ensures { result ≡ number_of self }
+        ensures { result ≡ cause_number self }
     {
         match self {
             LineCause::Header => 1,
@@ -59,18 +59,21 @@ impl LineCause {
         }
     }
 
-    // This cause at an entry.
-    pub(crate) fn at(self, entry: u32) -> LineFault
-        ensures { result ≡ record { entry = entry; cause = self } }
+    // This cause at the record of a number.
+    pub(crate) fn at(self, record_number: u32) -> LineFault
+        ensures { result ≡ record { record_number = record_number; cause = self } }
     {
-        LineFault { entry, cause: self }
+        LineFault {
+            record_number,
+            cause: self,
+        }
     }
 }
 
-/// The first fault of a command file. The header has entry 0, and the commands have 1, 2, ..
+/// The first fault of a command file. The header is record 0, and the commands are 1, 2, ..
 #[derive(Clone, Copy, Debug, PartialEq, Eq, Error)]
-#[error("record {entry}: {cause}")]
+#[error("record {record_number}: {cause}")]
 pub struct LineFault {
-    pub entry: u32,
+    pub record_number: u32,
     pub cause: LineCause,
 }

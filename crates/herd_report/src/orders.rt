@@ -1,4 +1,4 @@
-ghost use Rattle.std.specs.Prelude.{◌≡◌, ◌≢◌, ◌<◌, ◌↔◌, false, Err, IfErr, IfOk, IfSome, OnErr, OnOk};
+ghost use Rattle.std.specs.Prelude.{◌≡◌, ◌<◌, ◌↔◌, false, true, Err, IfErr, IfOk, IfSome, OnErr, OnOk};
 ghost use Rattle.std.specs.Io.KnownBytes.{Appends};
 ghost use Rattle.herd_pedigree.specs.Book.{is_there};
 ghost use Rattle.herd_pedigree.specs.Frozen.{book_of};
@@ -7,7 +7,7 @@ ghost use Rattle.herd_register.specs.Register.{AreLimits};
 ghost use Rattle.herd_kinship.specs.Coefficients.{AreCoefficients};
 ghost use Rattle.herd_kinship.specs.FrozenAncestry.{ancestry_of};
 ghost use Rattle.herd_kinship.specs.Table.{coefficient};
-ghost use Rattle.herd_report.specs.Certificate.{certificate_text};
+ghost use Rattle.herd_report.specs.Certificate.{certificate_of};
 ghost use Rattle.herd_report.specs.CommandFile.{commands};
 ghost use Rattle.herd_report.specs.InbreedingList.{inbreeding_text};
 ghost use Rattle.herd_report.specs.InverseList.{inverse_text};
@@ -16,8 +16,9 @@ ghost use Rattle.herd_report.specs.Output.{AppendsFront};
 ghost use Rattle.herd_report.specs.Run.{CanEndBy, EndsBy, IsAnswered, IsFrozenFile, IsOrder};
 ghost use Rattle.herd_report.specs.RunFault.{CanEndFreezing, EndsFreezing, EndsListing, EndsReport};
 
-use crate::certificate::write_certificate;
-use crate::filing::{file_commands, file_faultless};
+use crate::certificate::write_certificate_at;
+use crate::certificate_fault::CertificateFault;
+use crate::command_filing::{file_commands, file_faultless};
 use crate::inbreeding_list::write_inbreeding;
 use crate::inverse_list::write_inverse;
 use crate::mating_list::write_mating;
@@ -52,7 +53,7 @@ pub enum Order<'a> {
         dam: AnimalNumber,
         sires: &'a [AnimalNumber],
     },
-    /// What each animal contributes to the inverse of the table of relationships.
+    /// What each animal contributes to the inverse of A, the numerator relationship matrix.
     Inverse,
 }
 
@@ -141,21 +142,18 @@ fn certify<W: Write>(
     frozen: &Frozen<Global>,
     number: AnimalNumber,
     writer: &mut W,
-) -> Result<(), ReportFault>
-    ensures ok { OnOk result (Appends (W.contents writer.old) (W.contents writer.new)
-        (certificate_text (book_of frozen.now) (coefficient (ancestry_of frozen.now) DEPTH_LIMIT number) number)) }
-    ensures err { IfErr result (λ fault. fault ≢ ReportFault.NotRegistered → AppendsFront (W.contents writer.old) (W.contents writer.new)
-        (certificate_text (book_of frozen.now) (coefficient (ancestry_of frozen.now) DEPTH_LIMIT number) number)) }
-    ensures absent { (result ≡ Err ReportFault.NotRegistered) ↔ (is_there (book_of frozen.now) number ≡ false) }
+) -> Result<(), CertificateFault>
+    ensures ok { OnOk result (Appends (W.contents writer.old) (W.contents writer.new) (certificate_of frozen.now number)) }
+    ensures err { is_there (book_of frozen.now) number ≡ true
+        → OnErr result (AppendsFront (W.contents writer.old) (W.contents writer.new) (certificate_of frozen.now number)) }
+    ensures absent { (result ≡ Err CertificateFault.NotRegistered) ↔ (is_there (book_of frozen.now) number ≡ false) }
     ensures untouched { is_there (book_of frozen.now) number ≡ false → writer.new ≡ writer.old }
 {
-    match frozen.place(&number) {
-        None => Err(ReportFault::NotRegistered),
-        Some(_) => {
-            let coefficients = coefficients_plain(alloc, frozen)?;
-            write_certificate(alloc, frozen, &coefficients, number, writer)
-        }
-    }
+    let Some(place) = frozen.place(&number) else {
+        return Err(CertificateFault::NotRegistered);
+    };
+    let coefficients = coefficients_plain(alloc, frozen)?;
+    Ok(write_certificate_at(alloc, frozen, &coefficients, place, writer)?)
 }
 
 // Writes mating advice for a dam.

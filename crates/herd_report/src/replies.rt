@@ -1,4 +1,4 @@
-ghost use Rattle.std.specs.Prelude.{◌≡◌, ◌≢◌, ◌++◌, IfErr, OnErr, OnOk};
+ghost use Rattle.std.specs.Prelude.{◌≡◌, ◌++◌, OnErr, OnOk};
 ghost use Rattle.std.specs.Io.KnownBytes.{Appends};
 ghost use Rattle.herd_report.specs.Output.{AppendsFront};
 ghost use Rattle.herd_report.specs.Replies.{reply_line, replies_text};
@@ -17,7 +17,6 @@ pub fn write_replies<W: Write, A: Allocator>(
 ) -> Result<(), ReportFault>
     ensures ok { OnOk result (Appends (W.contents writer.old) (W.contents writer.new) (replies_text steps.now)) }
     ensures err { OnErr result (AppendsFront (W.contents writer.old) (W.contents writer.new) (replies_text steps.now)) }
-    ensures fault { IfErr result (λ fault. fault ≢ ReportFault.NotRegistered) }
 {
     let mut output = Output::new(alloc);
     for (place, step) in steps.iter().enumerate() {

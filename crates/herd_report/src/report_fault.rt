@@ -13,9 +13,6 @@ pub enum ReportFault {
     /// A growth of memory was refused.
     #[error("no memory")]
     Memory,
-    /// The animal isn't in the book. Nothing was written.
-    #[error("not registered")]
-    NotRegistered,
 }
 
 impl From<AllocError> for ReportFault {

@@ -1,5 +1,6 @@
 ghost use Rattle.std.specs.Prelude.{◌≡◌};
 
+use crate::certificate_fault::CertificateFault;
 use crate::line_fault::LineFault;
 use crate::report_fault::ReportFault;
 use herd_pool::PoolFault;
@@ -25,9 +26,6 @@ pub enum RunFault {
     /// A write failed or took no byte.
     #[error("write fault")]
     Write,
-    /// There is no reader's place in an office. A run has no office, and never ends by it.
-    #[error("no reader's place")]
-    NoPlace,
 }
 
 impl From<AllocError> for RunFault {
@@ -49,7 +47,19 @@ impl From<ReportFault> for RunFault {
         match fault {
             ReportFault::Write => RunFault::Write,
             ReportFault::Memory => RunFault::Memory,
-            ReportFault::NotRegistered => RunFault::NotRegistered,
+        }
+    }
+}
+
+impl From<CertificateFault> for RunFault {
+    ghost use Rattle.herd_report.specs.RunFault.{run_fault_of_certificate};
+
+    ghost from_gives = { λ fault told. told ≡ run_fault_of_certificate fault };
+
+    fn from(fault: CertificateFault) -> RunFault {
+        match fault {
+            CertificateFault::NotRegistered => RunFault::NotRegistered,
+            CertificateFault::Report(fault) => RunFault::from(fault),
         }
     }
 }

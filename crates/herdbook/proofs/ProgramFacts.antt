@@ -4,21 +4,21 @@ use Rattle.std.specs.Prelude.{IfErr, IfSome, OnOk}
 use Rattle.clap.specs.Words.{fault_of, subcommand_of}
 use Rattle.herd_register.specs.declared.limits.Limits.{Limits}
 use Rattle.herd_report.specs.CommandFile.{commands}
-use Rattle.herd_report.specs.declared.run_fault.RunFault.{RunFault}
 use Rattle.herdbook.specs.CommandLine.{command_line}
-use Rattle.herdbook.specs.Ending.{end_of_run}
+use Rattle.herdbook.specs.Ending.{end_of_task}
 use Rattle.herdbook.specs.Program.{EndsServing, IsEnded, IsServed}
 use Rattle.herdbook.specs.Words.{IsAsked}
 use Rattle.herdbook.specs.declared.arguments.Request.{Request}
+use Rattle.herdbook.specs.declared.task_fault.TaskFault.{TaskFault}
 
 -- what was begun for a request ends the program
-pub ended-run : {T : Type 0} (known : Option (List ℕ)) (limits : Limits) (words : List (List ℕ)) (old new : Option (List ℕ)) (request : Request) (result : Result T RunFault)
+pub ended-task : {T : Type 0} (known : Option (List ℕ)) (limits : Limits) (words : List (List ℕ)) (old new : Option (List ℕ)) (request : Request) (result : Result T TaskFault)
     → fault_of command_line words ≡ [] → IsAsked (subcommand_of command_line words) request
     → OnOk result (IfSome known (λ bytes. IsServed request limits (commands bytes limits.steps) old new))
     → IfErr result (λ fault. IfSome known (λ bytes. EndsServing request limits (commands bytes limits.steps) old new fault))
-    → IfSome known (λ bytes. IsEnded limits words bytes old new (end_of_run result))
-ended-run None limits words old new request result taken asked ok err = tt
-ended-run (Some bytes) limits words old new request (Ok done) taken asked ok err =
+    → IfSome known (λ bytes. IsEnded limits words bytes old new (end_of_task result))
+ended-task None limits words old new request result taken asked ok err = tt
+ended-task (Some bytes) limits words old new request (Ok done) taken asked ok err =
     record { request = request; taken = taken; asked = asked; holds = ok }
-ended-run (Some bytes) limits words old new request (Err fault) taken asked ok err =
+ended-task (Some bytes) limits words old new request (Err fault) taken asked ok err =
     inl (record { request = request; taken = taken; asked = asked; holds = err })

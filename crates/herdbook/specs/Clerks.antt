@@ -11,12 +11,13 @@ use Rattle.herd_office.specs.declared.faults.FreezeFault.TheVariants as freezing
 use Rattle.herd_report.specs.CommandFile.{CommandFile, IsRead}
 use Rattle.herd_report.specs.Output.{AppendsFront}
 use Rattle.herd_report.specs.declared.line_fault.LineFault.{LineFault}
-use Rattle.herd_report.specs.declared.run_fault.RunFault.{RunFault}
-use Rattle.herd_report.specs.declared.run_fault.RunFault.TheVariants.{Line, NotRegistered, NoThread, Memory, Write, NoPlace}
+use Rattle.herd_report.specs.declared.run_fault.RunFault.TheVariants.{Line, NotRegistered, NoThread, Memory, Write}
 use Rattle.herd_register.specs.declared.command.Command.{Command}
 use Rattle.herdbook.specs.Summary.{TellsOf}
 use Rattle.herdbook.specs.declared.clerk_fault.ClerkFault.{ClerkFault}
 use Rattle.herdbook.specs.declared.clerk_fault.ClerkFault.TheVariants as clerk
+use Rattle.herdbook.specs.declared.task_fault.TaskFault.{TaskFault}
+use Rattle.herdbook.specs.declared.task_fault.TaskFault.TheVariants.{Run, NoPlace}
 
 -- the fault of clerks for one of opening an office
 abbrev pub fault_of_opening : OpenFault → ClerkFault
@@ -34,10 +35,10 @@ abbrev pub fault_of_freezing : FreezeFault → ClerkFault
 fault_of_freezing freezing.Memory = clerk.Memory
 fault_of_freezing freezing.NoReading = clerk.NoPlace
 
--- the fault of a run for one of clerks
-abbrev pub told_of : ClerkFault → RunFault
-told_of clerk.NoThread = NoThread
-told_of clerk.Memory = Memory
+-- the fault of a task for one of clerks
+abbrev pub told_of : ClerkFault → TaskFault
+told_of clerk.NoThread = Run NoThread
+told_of clerk.Memory = Run Memory
 told_of clerk.NoPlace = NoPlace
 
 -- the limits of an office for so many commands: a step for each, and one at least
@@ -62,10 +63,10 @@ pub record EndsByLine (limits : Limits) (file : CommandFile) (fault : LineFault)
   pub unwritten : new ≡ old
 
 -- how clerks may end early
-abbrev pub EndsClerks : Limits → CommandFile → Option (List ℕ) → Option (List ℕ) → RunFault → Type 0
-EndsClerks limits file old new (Line fault) = EndsByLine limits file fault old new
-EndsClerks limits file old new NotRegistered = ⊥
-EndsClerks limits file old new NoThread = (file.fault ≡ None) × (new ≡ old)
+abbrev pub EndsClerks : Limits → CommandFile → Option (List ℕ) → Option (List ℕ) → TaskFault → Type 0
+EndsClerks limits file old new (Run (Line fault)) = EndsByLine limits file fault old new
+EndsClerks limits file old new (Run NotRegistered) = ⊥
+EndsClerks limits file old new (Run NoThread) = (file.fault ≡ None) × (new ≡ old)
+EndsClerks limits file old new (Run Memory) = (file.fault ≡ None) × (new ≡ old)
+EndsClerks limits file old new (Run Write) = IsTold limits file (AppendsFront old new)
 EndsClerks limits file old new NoPlace = (file.fault ≡ None) × (new ≡ old)
-EndsClerks limits file old new Memory = (file.fault ≡ None) × (new ≡ old)
-EndsClerks limits file old new Write = IsTold limits file (AppendsFront old new)

@@ -2,18 +2,19 @@
 use Rattle.std.specs.Prelude.{◌≡◌, ◌≢◌, ◌⊎◌, ℕ, Bool, true, false, List, [], ◌++◌, codes, Option, Some, None, Result, Ok, Err}
 use Rattle.clap.specs.Words.{kind_of}
 use Rattle.clap.specs.declared.error.kind.ErrorKind.TheVariants.{DisplayHelp, DisplayVersion, OutOfMemory}
-use Rattle.herd_report.specs.declared.run_fault.RunFault.{RunFault}
 use Rattle.herd_report.specs.declared.run_fault.RunFault.TheVariants.{Memory, Write}
-use Rattle.herdbook.specs.FaultText.{number_fault_text, run_fault_text}
+use Rattle.herdbook.specs.FaultText.{number_fault_text, task_fault_text}
 use Rattle.herdbook.specs.declared.arguments.WordsFault.{WordsFault}
 use Rattle.herdbook.specs.declared.arguments.WordsFault.TheVariants.{Words, Number as NotNumber}
 use Rattle.herdbook.specs.declared.ending.Ending.{Ending}
-use Rattle.herdbook.specs.declared.ending.Ending.TheVariants.{Done, Shown, Usage, NotText, Number, Run}
+use Rattle.herdbook.specs.declared.ending.Ending.TheVariants.{Done, Shown, Usage, NotText, Number, Early}
+use Rattle.herdbook.specs.declared.task_fault.TaskFault.{TaskFault}
+use Rattle.herdbook.specs.declared.task_fault.TaskFault.TheVariants.{Run}
 
 abbrev pub status_of : Ending → ℕ
 status_of Done = 0
 status_of (Shown error) = 0
-status_of (Run fault) = 1
+status_of (Early fault) = 1
 status_of (Usage error) = 2
 status_of NotText = 2
 status_of (Number fault) = 2
@@ -25,26 +26,26 @@ told (Shown error) = Some []
 told (Usage error) = None
 told NotText = Some (codes "herdbook: a word isn't UTF-8 text\n")
 told (Number fault) = Some (codes "herdbook: " ++ number_fault_text fault ++ codes "\n")
-told (Run fault) = Some (codes "herdbook: " ++ run_fault_text fault ++ codes "\n")
+told (Early fault) = Some (codes "herdbook: " ++ task_fault_text fault ++ codes "\n")
 
 -- the end where the words can't be read: memory ran out, or one isn't UTF-8
 abbrev pub end_of_unread : Bool → Ending
-end_of_unread true = Run Memory
+end_of_unread true = Early (Run Memory)
 end_of_unread false = NotText
 
 -- the end after what was asked for was begun
-abbrev pub end_of_run : {T : Type 0} → Result T RunFault → Ending
-end_of_run (Ok done) = Done
-end_of_run (Err fault) = Run fault
+abbrev pub end_of_task : {T : Type 0} → Result T TaskFault → Ending
+end_of_task (Ok done) = Done
+end_of_task (Err fault) = Early fault
 
 -- the end after what the words ask to be shown was printed, or couldn't be
 abbrev pub end_of_shown : Bool → Ending
 end_of_shown true = Done
-end_of_shown false = Run Write
+end_of_shown false = Early (Run Write)
 
 -- the end tells why words ask for nothing: memory ran out, they ask for help or the version, or they are wrong
 abbrev pub Explains : WordsFault → Ending → Type 0
-Explains (Words error) (Run fault) = (fault ≡ Memory) × (kind_of error ≡ OutOfMemory)
+Explains (Words error) (Early fault) = (fault ≡ Run Memory) × (kind_of error ≡ OutOfMemory)
 Explains (Words error) (Shown text) = (text ≡ error) × ((kind_of error ≡ DisplayHelp) ⊎ (kind_of error ≡ DisplayVersion))
 Explains (Words error) (Usage text) =
     (text ≡ error) × (kind_of error ≢ OutOfMemory) × (kind_of error ≢ DisplayHelp) × (kind_of error ≢ DisplayVersion)

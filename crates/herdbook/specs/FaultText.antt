@@ -2,11 +2,13 @@
 use Rattle.std.specs.Prelude.{ℕ, List, ◌++◌, codes, decimal}
 use Rattle.herd_animal.specs.declared.number.NumberFault.{NumberFault}
 use Rattle.herd_animal.specs.declared.number.NumberFault.TheVariants.{Length, Letter, SexLetter, NumberCharacter}
-use Rattle.herd_report.specs.LineCause.{number_of}
+use Rattle.herd_report.specs.LineCause.{cause_number}
 use Rattle.herd_report.specs.declared.line_fault.LineCause.{LineCause}
 use Rattle.herd_report.specs.declared.line_fault.LineCause.TheVariants.{Header, Fields, Kind, Animal, Day, Sire, Dam, FromHerd, ToHerd, FieldNotUsed, Read, TooMany, Memory as NoMemory, Embryo}
 use Rattle.herd_report.specs.declared.run_fault.RunFault.{RunFault}
-use Rattle.herd_report.specs.declared.run_fault.RunFault.TheVariants.{Line, NotRegistered, NoThread, Memory, Write, NoPlace}
+use Rattle.herd_report.specs.declared.run_fault.RunFault.TheVariants.{Line, NotRegistered, NoThread, Memory, Write}
+use Rattle.herdbook.specs.declared.task_fault.TaskFault.{TaskFault}
+use Rattle.herdbook.specs.declared.task_fault.TaskFault.TheVariants.{Run, NoPlace}
 
 abbrev pub cause_name : LineCause → List ℕ
 cause_name Header = codes "Header"
@@ -26,12 +28,15 @@ cause_name Embryo = codes "Embryo"
 
 abbrev pub run_fault_text : RunFault → List ℕ
 run_fault_text (Line fault) =
-    codes "record " ++ decimal fault.entry ++ codes ": fault " ++ decimal (number_of fault.cause) ++ codes " " ++ cause_name fault.cause
+    codes "record " ++ decimal fault.record_number ++ codes ": fault " ++ decimal (cause_number fault.cause) ++ codes " " ++ cause_name fault.cause
 run_fault_text NotRegistered = codes "not registered"
 run_fault_text NoThread = codes "no thread"
 run_fault_text Memory = codes "no memory"
 run_fault_text Write = codes "write fault"
-run_fault_text NoPlace = codes "no reader's place"
+
+abbrev pub task_fault_text : TaskFault → List ℕ
+task_fault_text (Run fault) = run_fault_text fault
+task_fault_text NoPlace = codes "no reader's place"
 
 abbrev pub number_fault_code : NumberFault → ℕ
 number_fault_code Length = 1

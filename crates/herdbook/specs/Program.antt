@@ -4,7 +4,6 @@ use Rattle.clap.specs.Words.{fault_of, subcommand_of}
 use Rattle.herd_register.specs.declared.limits.Limits.{Limits}
 use Rattle.herd_report.specs.CommandFile.{CommandFile, commands}
 use Rattle.herd_report.specs.Run.{EndsBy, IsAnswered}
-use Rattle.herd_report.specs.declared.run_fault.RunFault.{RunFault}
 use Rattle.herdbook.specs.Clerks.{EndsClerks, IsFiledBy}
 use Rattle.herdbook.specs.CommandLine.{command_line}
 use Rattle.herdbook.specs.Ending.{Explains}
@@ -15,7 +14,9 @@ use Rattle.herdbook.specs.declared.arguments.Task.{Task}
 use Rattle.herdbook.specs.declared.arguments.Task.TheVariants as task
 use Rattle.herdbook.specs.declared.arguments.WordsFault.{WordsFault}
 use Rattle.herdbook.specs.declared.ending.Ending.{Ending}
-use Rattle.herdbook.specs.declared.ending.Ending.TheVariants.{Done, Run}
+use Rattle.herdbook.specs.declared.ending.Ending.TheVariants.{Done, Early}
+use Rattle.herdbook.specs.declared.task_fault.TaskFault.{TaskFault}
+use Rattle.herdbook.specs.declared.task_fault.TaskFault.TheVariants.{Run, NoPlace}
 
 -- a task was carried out on a command file
 abbrev pub IsCarriedOut : Task → Limits → CommandFile → Option (List ℕ) → Option (List ℕ) → Type 0
@@ -23,8 +24,9 @@ IsCarriedOut (task.Run order) limits file old new = IsAnswered limits order file
 IsCarriedOut (task.Clerks desks base) limits file old new = IsFiledBy limits file old new
 
 -- how it may end early
-abbrev pub EndsCarrying : Task → Limits → CommandFile → Option (List ℕ) → Option (List ℕ) → RunFault → Type 0
-EndsCarrying (task.Run order) limits file old new fault = EndsBy limits order file old new fault
+abbrev pub EndsCarrying : Task → Limits → CommandFile → Option (List ℕ) → Option (List ℕ) → TaskFault → Type 0
+EndsCarrying (task.Run order) limits file old new (Run fault) = EndsBy limits order file old new fault
+EndsCarrying (task.Run order) limits file old new NoPlace = ⊥
 EndsCarrying (task.Clerks desks base) limits file old new fault = EndsClerks limits file old new fault
 
 -- a task for the request, of which a fact holds
@@ -38,7 +40,7 @@ abbrev pub IsServed : Request → Limits → CommandFile → Option (List ℕ) �
 IsServed request limits file old new = HasTask request (λ task. IsCarriedOut task limits file old new)
 
 -- it ended early
-abbrev pub EndsServing : Request → Limits → CommandFile → Option (List ℕ) → Option (List ℕ) → RunFault → Type 0
+abbrev pub EndsServing : Request → Limits → CommandFile → Option (List ℕ) → Option (List ℕ) → TaskFault → Type 0
 EndsServing request limits file old new fault = HasTask request (λ task. EndsCarrying task limits file old new fault)
 
 -- `clap` takes the words, and a fact holds of the request that they make
@@ -57,8 +59,8 @@ pub record AsksNothing (words : List (List ℕ)) (ending : Ending) : Type 0 wher
 -- the program did what the words ask for with a command file, or it ended early, or the words ask for nothing
 abbrev pub IsEndedWith : Limits → List (List ℕ) → CommandFile → Option (List ℕ) → Option (List ℕ) → Ending → Type 0
 IsEndedWith limits words file old new Done = Asks words (λ request. IsServed request limits file old new)
-IsEndedWith limits words file old new (Run fault) =
-    Asks words (λ request. EndsServing request limits file old new fault) ⊎ AsksNothing words (Run fault)
+IsEndedWith limits words file old new (Early fault) =
+    Asks words (λ request. EndsServing request limits file old new fault) ⊎ AsksNothing words (Early fault)
 IsEndedWith limits words file old new ending = AsksNothing words ending
 
 abbrev pub IsEnded : Limits → List (List ℕ) → List ℕ → Option (List ℕ) → Option (List ℕ) → Ending → Type 0
@@ -67,5 +69,5 @@ IsEnded limits words bytes old new ending = IsEndedWith limits words (commands b
 -- only what was asked for, and memory that ran out, leave it open whether anything was written
 abbrev pub IsUntouchedUnlessAsked : Type 0 → Ending → Type 0
 IsUntouchedUnlessAsked Untouched Done = Unit {0}
-IsUntouchedUnlessAsked Untouched (Run fault) = Unit {0}
+IsUntouchedUnlessAsked Untouched (Early fault) = Unit {0}
 IsUntouchedUnlessAsked Untouched ending = Untouched

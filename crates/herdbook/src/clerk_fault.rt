@@ -3,6 +3,7 @@ ghost use Rattle.std.specs.Prelude.{◌≡◌};
 ghost use Rattle.herdbook.specs.Clerks.{fault_of_filing, fault_of_freezing, fault_of_opening, told_of};
 ghost use Rattle.herdbook.specs.declared.clerk_fault.ClerkFault.TheVariants.{Memory};
 
+use crate::task_fault::TaskFault;
 use herd_office::{FreezeFault, OpenFault};
 use herd_register::FileFault;
 use herd_report::RunFault;
@@ -20,14 +21,14 @@ pub enum ClerkFault {
 }
 
 impl ClerkFault {
-    /// As the fault of a run.
-    pub fn told(self) -> RunFault
+    /// As the fault of a task.
+    pub fn told(self) -> TaskFault
         ensures { result ≡ told_of self }
     {
         match self {
-            ClerkFault::NoThread => RunFault::NoThread,
-            ClerkFault::Memory => RunFault::Memory,
-            ClerkFault::NoPlace => RunFault::NoPlace,
+            ClerkFault::NoThread => TaskFault::Run(RunFault::NoThread),
+            ClerkFault::Memory => TaskFault::Run(RunFault::Memory),
+            ClerkFault::NoPlace => TaskFault::NoPlace,
         }
     }
 }

@@ -12,6 +12,7 @@ use crate::clerk::{Clerk, Turn};
 use crate::clerk_fault::ClerkFault;
 use crate::crew::file_in_turn;
 use crate::summary::{DeskCount, Summary, text_of, write_all};
+use crate::task_fault::TaskFault;
 use herd_office::{Desk, Inspector, Office, OfficeName, OfficeParts};
 use herd_register::{Command, Limits};
 use herd_report::{RunFault, read_commands};
@@ -34,7 +35,7 @@ pub fn clerks<H: Threads + Wait + Sync, R: Read + Drop, W: Write>(
     base: u32,
     reader: R,
     writer: &mut W,
-) -> Result<(), RunFault>
+) -> Result<(), TaskFault>
     requires limits { AreLimits limits }
     requires desks { (1 ≤ desks) × (desks ≤ MOST_DESKS) }
     ensures ok { OnOk result (IfSome (R.remaining reader)
@@ -44,7 +45,7 @@ pub fn clerks<H: Threads + Wait + Sync, R: Read + Drop, W: Write>(
 {
     let commands = read_commands(alloc, reader, limits.steps);
     if let Some(fault) = commands.fault {
-        return Err(RunFault::Line(fault));
+        return Err(TaskFault::Run(RunFault::Line(fault)));
     }
     match text_filed(
         rt,
@@ -54,7 +55,7 @@ pub fn clerks<H: Threads + Wait + Sync, R: Read + Drop, W: Write>(
         base as usize,
         commands.list.as_slice(),
     ) {
-        Ok(text) => write_all(writer, text.as_bytes()),
+        Ok(text) => Ok(write_all(writer, text.as_bytes())?),
         Err(fault) => Err(fault.told()),
     }
 }

@@ -1,10 +1,11 @@
 //! How the program ends: with which status, and what it tells on standard error.
 
 ghost use Rattle.std.specs.Prelude.{◌≡◌};
-ghost use Rattle.herdbook.specs.Ending.{Explains, end_of_run, end_of_shown, end_of_unread, status_of};
+ghost use Rattle.herdbook.specs.Ending.{Explains, end_of_shown, end_of_task, end_of_unread, status_of};
 
 use crate::arguments::WordsFault;
-use crate::faults::{NumberFaultText, RunFaultText};
+use crate::faults::{NumberFaultText, TaskFaultText};
+use crate::task_fault::TaskFault;
 use clap::error::ErrorKind;
 use herd_animal::NumberFault;
 use herd_report::RunFault;
@@ -24,7 +25,7 @@ pub enum Ending {
     /// A word is no animal number.
     Number(NumberFault),
     /// What was asked for ended early.
-    Run(RunFault),
+    Early(TaskFault),
 }
 
 impl Ending {
@@ -33,7 +34,7 @@ impl Ending {
         ensures { result ≡ end_of_unread is_memory }
     {
         if is_memory {
-            Ending::Run(RunFault::Memory)
+            Ending::Early(TaskFault::Run(RunFault::Memory))
         } else {
             Ending::NotText
         }
@@ -45,7 +46,7 @@ impl Ending {
     {
         match fault {
             WordsFault::Words(error) => match error.kind() {
-                ErrorKind::OutOfMemory => Ending::Run(RunFault::Memory),
+                ErrorKind::OutOfMemory => Ending::Early(TaskFault::Run(RunFault::Memory)),
                 ErrorKind::DisplayHelp | ErrorKind::DisplayVersion => Ending::Shown(error),
                 _ => Ending::Usage(error),
             },
@@ -54,12 +55,12 @@ impl Ending {
     }
 
     /// The end after what was asked for was begun.
-    pub fn of_run(ended: Result<(), RunFault>) -> Ending
-        ensures { result ≡ end_of_run ended }
+    pub fn of_task(ended: Result<(), TaskFault>) -> Ending
+        ensures { result ≡ end_of_task ended }
     {
         match ended {
             Ok(()) => Ending::Done,
-            Err(fault) => Ending::Run(fault),
+            Err(fault) => Ending::Early(fault),
         }
     }
 
@@ -70,7 +71,7 @@ impl Ending {
         if is_printed {
             Ending::Done
         } else {
-            Ending::Run(RunFault::Write)
+            Ending::Early(TaskFault::Run(RunFault::Write))
         }
     }
 
@@ -80,7 +81,7 @@ impl Ending {
     {
         match self {
             Ending::Done | Ending::Shown(_) => 0,
-            Ending::Run(_) => 1,
+            Ending::Early(_) => 1,
             Ending::Usage(_) | Ending::NotText | Ending::Number(_) => 2,
         }
     }
@@ -101,8 +102,8 @@ impl fmt::Display for Ending {
                 let text = NumberFaultText(*fault);
                 write!(f, "herdbook: {text}\n")
             }
-            Ending::Run(fault) => {
-                let text = RunFaultText(*fault);
+            Ending::Early(fault) => {
+                let text = TaskFaultText(*fault);
                 write!(f, "herdbook: {text}\n")
             }
         }

@@ -3,31 +3,39 @@
 ghost use Rattle.std.specs.Prelude.{◌≡◌};
 ghost use Rattle.herdbook.specs.FaultText.{cause_name, number_fault_code, number_fault_name};
 
+use crate::task_fault::TaskFault;
 use herd_animal::NumberFault;
 use herd_report::{LineCause, LineFault, RunFault};
 use std::fmt;
 
-/// Why a run ended early.
+/// Why a task ended early.
 #[derive(Clone, Copy)]
-pub struct RunFaultText(pub RunFault);
+pub struct TaskFaultText(pub TaskFault);
 
-impl fmt::Display for RunFaultText {
+impl fmt::Display for TaskFaultText {
     ghost use Rattle.std.specs.Prelude.{Some};
-    ghost use Rattle.herdbook.specs.FaultText.{run_fault_text};
+    ghost use Rattle.herdbook.specs.FaultText.{task_fault_text};
 
-    ghost output = { λ told. Some (run_fault_text told.0) };
+    ghost output = { λ told. Some (task_fault_text told.0) };
 
     fn fmt<W: fmt::Write>(&self, f: &mut fmt::Formatter<W>) -> fmt::Result {
         match self.0 {
-            RunFault::Line(LineFault { entry, cause }) => {
+            TaskFault::Run(
+                RunFault::Line(
+                    LineFault {
+                        record_number,
+                        cause,
+                    },
+                ),
+            ) => {
                 let (code, name) = (cause.number(), name_of(cause));
-                write!(f, "record {entry}: fault {code} {name}")
+                write!(f, "record {record_number}: fault {code} {name}")
             }
-            RunFault::NotRegistered => f.write_str("not registered"),
-            RunFault::NoThread => f.write_str("no thread"),
-            RunFault::Memory => f.write_str("no memory"),
-            RunFault::Write => f.write_str("write fault"),
-            RunFault::NoPlace => f.write_str("no reader's place"),
+            TaskFault::Run(RunFault::NotRegistered) => f.write_str("not registered"),
+            TaskFault::Run(RunFault::NoThread) => f.write_str("no thread"),
+            TaskFault::Run(RunFault::Memory) => f.write_str("no memory"),
+            TaskFault::Run(RunFault::Write) => f.write_str("write fault"),
+            TaskFault::NoPlace => f.write_str("no reader's place"),
         }
     }
 }

@@ -11,6 +11,7 @@ mod faults;
 mod help;
 mod program;
 mod summary;
+mod task_fault;
 
 use ending::Ending;
 use program::carry_out;

@@ -8,9 +8,10 @@ ghost use Rattle.herdbook.specs.declared.program.TheConstants.{LIMITS};
 use crate::arguments::{Request, Task, read_words};
 use crate::desks::clerks;
 use crate::ending::Ending;
+use crate::task_fault::TaskFault;
 use herd_pedigree::MOST_ANIMALS;
 use herd_register::{Limits, MOST_STEPS};
-use herd_report::{RunFault, run};
+use herd_report::run;
 use std::alloc::Global;
 use std::io::{Read, Write};
 use std::sync::Wait;
@@ -39,7 +40,7 @@ pub fn carry_out<H: Threads + Wait + Sync, R: Read + Drop, W: Write>(
         Ok(request) => request,
         Err(fault) => return Ending::of_words(fault),
     };
-    Ending::of_run(served(rt, alloc, &request, reader, writer))
+    Ending::of_task(served(rt, alloc, &request, reader, writer))
 }
 
 // Does what is asked for.
@@ -49,14 +50,14 @@ fn served<H: Threads + Wait + Sync, R: Read + Drop, W: Write>(
     request: &Request,
     reader: R,
     writer: &mut W,
-) -> Result<(), RunFault>
+) -> Result<(), TaskFault>
     ensures ok { OnOk result (IfSome (R.remaining reader)
         (λ bytes. IsServed request.now LIMITS (commands bytes LIMITS.steps) (W.contents writer.old) (W.contents writer.new))) }
     ensures err { IfErr result (λ fault. IfSome (R.remaining reader)
         (λ bytes. EndsServing request.now LIMITS (commands bytes LIMITS.steps) (W.contents writer.old) (W.contents writer.new) fault)) }
 {
     match request.task() {
-        Task::Run(order) => run(rt, alloc, LIMITS, order, reader, writer),
+        Task::Run(order) => Ok(run(rt, alloc, LIMITS, order, reader, writer)?),
         Task::Clerks { desks, base } => clerks(rt, alloc, LIMITS, desks, base, reader, writer),
     }
 }

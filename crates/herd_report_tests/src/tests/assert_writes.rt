@@ -27,7 +27,8 @@ macro_rules! assert_memory_or {
             match $call {
                 Ok(()) => assert_eq!($rt; written.as_slice(), text),
                 Err(fault) => {
-                    assert_eq!($rt; fault, ReportFault::Memory);
+                    let fault = herd_report::CertificateFault::from(fault);
+                    assert_eq!($rt; fault, herd_report::ReportFault::Memory.into());
                     assert!($rt; text.starts_with(written.as_slice()));
                     refused = refused.saturating_add(1);
                 }

@@ -5,7 +5,7 @@ use herd_animal::{AnimalNumber, Day, Herd};
 use herd_kinship::coefficients_plain;
 use herd_pedigree::Frozen;
 use herd_register::Command;
-use herd_report::{ReportFault, write_certificate};
+use herd_report::{CertificateFault, write_certificate};
 use linked_list_allocator::LocalHeap;
 use std::alloc::{Allocator, Global};
 use std::io::Write;
@@ -43,7 +43,7 @@ fn write<A: Allocator, W: Write>(
     number: AnimalNumber,
     heap: Global,
     writer: &mut W,
-) -> Result<(), ReportFault> {
+) -> Result<(), CertificateFault> {
     let coefficients = coefficients_plain(heap, frozen)?;
     write_certificate(alloc, frozen, &coefficients, number, writer)
 }
@@ -107,6 +107,6 @@ fn writes_nothing_of_an_absent_number(rt: HostRuntime) -> Result<(), Fail> {
     let number = animal(rt.alloc(), 'F', 9)?;
     let mut writer = StopsAfter::new(rt.alloc(), 0, Then::Fails);
     let answer = write(rt.alloc(), &frozen, number, rt.alloc(), &mut writer);
-    assert_eq!(rt; answer, Err(ReportFault::NotRegistered));
+    assert_eq!(rt; answer, Err(CertificateFault::NotRegistered));
     Ok(())
 }

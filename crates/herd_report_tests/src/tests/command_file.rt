@@ -40,7 +40,7 @@ fn founder(rt: &impl Abort, animal: &[u8], embryo: bool) -> Command {
 fn expect(rt: &impl Abort, answer: &Commands, list: &[Command], fault: Option<(u32, u8)>) {
     let told = answer
         .fault
-        .map(|fault| (fault.entry, fault.cause.number()));
+        .map(|fault| (fault.record_number, fault.cause.number()));
     assert_eq!(rt; answer.list.as_slice(), list);
     assert_eq!(rt; told, fault);
 }
@@ -212,8 +212,13 @@ fn stops_where_the_reader_fails(rt: HostRuntime) -> Result<(), Fail> {
         let lines = given.iter().filter(|byte| **byte == b'\n').count();
         let commands = lines.saturating_sub(1);
         assert!(rt; commands <= whole.list.len());
-        let entry = u32::try_from(lines)?;
-        expect(&rt, &answer, &whole.list[..commands], Some((entry, 11)));
+        let record_number = u32::try_from(lines)?;
+        expect(
+            &rt,
+            &answer,
+            &whole.list[..commands],
+            Some((record_number, 11)),
+        );
     }
     Ok(())
 }

@@ -86,8 +86,11 @@ where
     run_order!(rt, Order::Inverse, writer)
 }
 
-fn line(entry: u32, cause: LineCause) -> Result<(), RunFault> {
-    Err(RunFault::Line(LineFault { entry, cause }))
+fn line(record_number: u32, cause: LineCause) -> Result<(), RunFault> {
+    Err(RunFault::Line(LineFault {
+        record_number,
+        cause,
+    }))
 }
 
 // Whether a run came to its end, or tells that memory ran out, perhaps that of the text that it wrote to.
@@ -95,7 +98,7 @@ fn ended_or_ran_out(outcome: Result<(), RunFault>) -> bool {
     match outcome {
         Ok(()) | Err(RunFault::NoThread | RunFault::Memory | RunFault::Write) => true,
         Err(RunFault::Line(fault)) => fault.cause == LineCause::Memory,
-        Err(RunFault::NotRegistered | RunFault::NoPlace) => false,
+        Err(RunFault::NotRegistered) => false,
     }
 }
 

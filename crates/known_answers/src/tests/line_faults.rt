@@ -6,8 +6,11 @@ use super::support::{
 use herd_report::{LineCause, LineFault, RunFault};
 use std::test::Fail;
 
-fn line(entry: u32, cause: LineCause) -> RunFault {
-    RunFault::Line(LineFault { entry, cause })
+fn line(record_number: u32, cause: LineCause) -> RunFault {
+    RunFault::Line(LineFault {
+        record_number,
+        cause,
+    })
 }
 
 #[test]

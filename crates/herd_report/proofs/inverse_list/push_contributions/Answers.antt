@@ -1,4 +1,4 @@
--- The entries that are listed are the first of those that the call gives.
+-- The elements that are listed are the first of those that the call gives.
 use Rattle.std.proofs.Common.{◌≡◌, ◌∙◌, ◌++◌, All, ap, length, subst, sym, take}
 use Rattle.std.proofs.lemmas.Result.{on_ok_weaker}
 use Rattle.std.specs.List.{flat_map}
@@ -8,17 +8,17 @@ use Rattle.herd_report.proofs.ContributionFacts.{contributions_within, length-co
 use Rattle.herd_report.specs.InverseList.{IsWithin, contribution_line}
 use Rattle.herd_report.proofs.inverse_list.push_contributions.Goals as goal
 
-pub shared_ref_as_front-entries : goal.shared_ref_as_front-entries
-shared_ref_as_front-entries g c = rw c.contributions-listed.ensures.count (length-contributions-le c.args.frozen.now c.args.place)
+pub shared_ref_as_front-elements : goal.shared_ref_as_front-elements
+shared_ref_as_front-elements g c = rw c.contributions-listed.ensures.count (length-contributions-le c.args.frozen.now c.args.place)
 
-pub push_entries-requires-clause-entries : goal.push_entries-requires-clause-entries
-push_entries-requires-clause-entries g c =
+pub push_elements-requires-clause-elements : goal.push_elements-requires-clause-elements
+push_elements-requires-clause-elements g c =
     let listed = c.contributions-listed in
     let part : take listed.result.count listed.result.list ≡ contributions_of DEPTH_LIMIT c.args.frozen.now c.args.place =
     ap (λ n. take n listed.result.list) listed.ensures.count
-    ∙ ap (λ entries. take (length (contributions_of DEPTH_LIMIT c.args.frozen.now c.args.place)) entries) listed.ensures.list
+    ∙ ap (λ elements. take (length (contributions_of DEPTH_LIMIT c.args.frozen.now c.args.place)) elements) listed.ensures.list
     ∙ take-filled-contributions c.args.frozen.now c.args.place in
-    subst (λ entries. All (IsWithin c.args.frozen.now) entries) (sym part)
+    subst (λ elements. All (IsWithin c.args.frozen.now) elements) (sym part)
     (contributions_within c.args.frozen.now c.requires.frozen c.args.place c.requires.place)
 
 pub returns : goal.returns
@@ -26,7 +26,7 @@ returns g c =
     let listed = c.contributions-listed in
     let part : take listed.result.count listed.result.list ≡ contributions_of DEPTH_LIMIT c.args.frozen.now c.args.place =
     ap (λ n. take n listed.result.list) listed.ensures.count
-    ∙ ap (λ entries. take (length (contributions_of DEPTH_LIMIT c.args.frozen.now c.args.place)) entries) listed.ensures.list
+    ∙ ap (λ elements. take (length (contributions_of DEPTH_LIMIT c.args.frozen.now c.args.place)) elements) listed.ensures.list
     ∙ take-filled-contributions c.args.frozen.now c.args.place in
-    on_ok_weaker c.push_entries.result
-    (λ made. made ∙ ap (λ entries. c.args.output.now ++ flat_map (contribution_line c.args.frozen.now c.args.place) entries) part) c.push_entries.ensures
+    on_ok_weaker c.push_elements.result
+    (λ made. made ∙ ap (λ elements. c.args.output.now ++ flat_map (contribution_line c.args.frozen.now c.args.place) elements) part) c.push_elements.ensures

@@ -10,8 +10,7 @@ pub returns-in_err-write_replies-clause-err : goal.returns-in_err-write_replies-
 returns-in_err-write_replies-clause-err g c =
     let exit = err_from_is_err_and c.from_residual-in_err-write_replies.result c.from_residual-in_err-write_replies.ensures.1 in
     let filed = c.in_ok-filed in
-    let stopped = c.in_err-write_replies.ensures in
-    let front = rw (c.journal.ensures.value, filed.ensures.filed.journal_is) at stopped.err in
+    let front = rw (c.journal.ensures.value, filed.ensures.filed.journal_is) at c.in_err-write_replies.ensures.err in
     rw (exit.1, exit.2)
     (IfSome_then (g.R.Read.remaining c.args.reader) filed.ensures.file
-    (λ bytes read. stops_replying c.args.limits (commands bytes c.args.limits.steps) (commands_of filed.filed.register.journal) filed.filed.fault _ _ _ read front stopped.fault))
+    (λ bytes read. stops_replying c.args.limits (commands bytes c.args.limits.steps) (commands_of filed.filed.register.journal) filed.filed.fault _ _ _ read front))

@@ -4,7 +4,7 @@ use Rattle.herd_register.specs.Run.{commands_of}
 use Rattle.herd_report.specs.CommandFile.{CommandFile}
 use Rattle.herd_report.specs.CommandReader.{HasGiven, IsReady}
 use Rattle.herd_report.specs.Run.{HasFiled}
-use Rattle.herd_report.proofs.filing.file_each.Given as goal
+use Rattle.herd_report.proofs.command_filing.file_each.Given as goal
 
 abbrev pub invariant-loop-command : goal.invariant-loop-command
 invariant-loop-command g l = record {

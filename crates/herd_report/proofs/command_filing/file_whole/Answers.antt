@@ -6,7 +6,7 @@ use Rattle.herd_register.specs.declared.limits.Limits.{Limits}
 use Rattle.herd_report.specs.CommandFile.{IsRead, IsReadUpTo}
 use Rattle.herd_report.specs.Run.{HasFiled}
 use Rattle.herd_report.proofs.RunFacts.{filed_file}
-use Rattle.herd_report.proofs.filing.file_whole.Goals as goal
+use Rattle.herd_report.proofs.command_filing.file_whole.Goals as goal
 
 pub returns-in-Ok-None-clause-ok : goal.returns-in-Ok-None-clause-ok
 returns-in-Ok-None-clause-ok g c =

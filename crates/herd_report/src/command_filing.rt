@@ -78,7 +78,7 @@ fn file_whole<R: Read>(
     ensures err { IfErr result (λ fault. (file : CommandFile) → HasGiven R.remaining file [] commands.old
         → EndsFreezing limits file fault) }
     ensures fault { IfErr result CanEndFreezing }
-    ensures entry { IfErr result (λ fault. IfLine fault (λ line. line.entry ≡ commands.new.given + 1)) }
+    ensures record_number { IfErr result (λ fault. IfLine fault (λ line. line.record_number ≡ commands.new.given + 1)) }
     ensures interrupted { IfErr result (λ fault. IfLine fault
         (λ line. is_interruption line.cause ≡ has_failed commands.new.records)) }
 {
@@ -102,7 +102,7 @@ fn file_each<R: Read>(
     requires empty { register.old.journal ≡ [] }
     ensures file { IfOk result (λ fault. (file : CommandFile) → HasGiven R.remaining file [] commands.old
         → IsRead register.old.limits.steps file (commands_of register.new.journal) fault) }
-    ensures entry { IfOk result (λ found. IfSome found (λ fault. fault.entry ≡ commands.new.given + 1)) }
+    ensures record_number { IfOk result (λ found. IfSome found (λ fault. fault.record_number ≡ commands.new.given + 1)) }
     ensures interrupted { IfOk result (λ found. IfSome found
         (λ fault. is_interruption fault.cause ≡ has_failed commands.new.records)) }
     ensures filed { OnOk result (HasFiled register.old.limits (commands_of register.new.journal) register.new) }
@@ -125,7 +125,7 @@ fn fault_of_rest<R: Read>(commands: &mut CommandReader<R>) -> Option<LineFault>
     requires { IsReady commands.old.most commands.old.given commands.old }
     ensures file { (file : CommandFile) → (list : List Command) → HasGiven R.remaining file list commands.old
         → IsReadUpTo commands.old.most file result }
-    ensures entry { IfSome result (λ fault. fault.entry ≡ commands.new.given + 1) }
+    ensures record_number { IfSome result (λ fault. fault.record_number ≡ commands.new.given + 1) }
     ensures interrupted { IfSome result (λ fault. is_interruption fault.cause ≡ has_failed commands.new.records) }
 {
     loop {

@@ -6,7 +6,7 @@ use Rattle.herd_register.specs.Register.{Register}
 use Rattle.herd_register.specs.Run.{commands_of}
 use Rattle.herd_report.proofs.CommandReaderFacts.{some_given}
 use Rattle.herd_report.proofs.RunFacts.{commands_of-filed, filed-more}
-use Rattle.herd_report.proofs.filing.file_each.Goals as goal
+use Rattle.herd_report.proofs.command_filing.file_each.Goals as goal
 
 pub loop-command-preserved : goal.loop-command-preserved
 loop-command-preserved g c =

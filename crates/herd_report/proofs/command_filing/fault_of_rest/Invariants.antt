@@ -3,7 +3,7 @@ use Rattle.std.proofs.Common.{List, ◌-◌}
 use Rattle.herd_register.specs.declared.command.Command.{Command}
 use Rattle.herd_report.specs.CommandFile.{CommandFile}
 use Rattle.herd_report.specs.CommandReader.{HasGiven, IsReady}
-use Rattle.herd_report.proofs.filing.fault_of_rest.Given as goal
+use Rattle.herd_report.proofs.command_filing.fault_of_rest.Given as goal
 
 abbrev pub invariant-loop-fault : goal.invariant-loop-fault
 invariant-loop-fault g l = record {

@@ -1,6 +1,6 @@
 -- What was read is what the reader gave.
 use Rattle.std.proofs.Common.{◌∙◌, [], ◌∷◌, ◌++◌, refl}
-use Rattle.herd_report.proofs.filing.fault_of_rest.Goals as goal
+use Rattle.herd_report.proofs.command_filing.fault_of_rest.Goals as goal
 
 pub loop-fault-preserved : goal.loop-fault-preserved
 loop-fault-preserved g c =
