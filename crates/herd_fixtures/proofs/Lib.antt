@@ -1,3 +1,4 @@
 mod DigitFacts
 mod HerdFacts
+mod NameFacts
 mod NumberFacts

@@ -4,8 +4,9 @@ ghost use Rattle.std.specs.Prelude.{◌≡◌, ◌↔◌, None, Some, IfOk, IsOk
 ghost use Rattle.herd_animal.specs.Day.{IsDay};
 ghost use Rattle.herd_fixtures.specs.Birth.{entry, named, newborn};
 
+use crate::herd::herd_of;
 use crate::name::Name;
-use herd_animal::{AnimalNumber, Day, DayFault, Herd};
+use herd_animal::{AnimalNumber, Day, DayFault};
 use herd_pedigree::Animal;
 
 /// The text of a day, `dddd-dd-dd`.
@@ -107,18 +108,9 @@ impl Birth {
             sire: parents.sire_number(),
             dam: parents.dam_number(),
             embryo: false,
-            herd: herd(),
+            herd: herd_of(1),
             since: birth,
             left: None,
         })
     }
-}
-
-fn herd() -> Herd
-    ensures { result ≡ 1 }
-{
-    let Ok(herd) = Herd::parse(b"1") else {
-        unreachable!();
-    };
-    herd
 }

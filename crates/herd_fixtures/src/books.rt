@@ -116,7 +116,8 @@ pub fn generations<A: Allocator + Copy>(alloc: A, count: u8) -> Result<Frozen<A>
     Ok(pedigree.freeze(alloc)?)
 }
 
-fn pair_of(generation: u8) -> [Birth; 2] {
+/// The births of such a pair: of the first one, which has no parents, for 0.
+pub fn pair_of(generation: u8) -> [Birth; 2] {
     let day = new_year(generation);
     let last = 2 * u32::from(generation);
     let parents = if generation == 0 {

@@ -1,19 +1,21 @@
 //! What the tests begin with: animals named short, births, the books of small families and of many generations, and
-//! heaps that are too small. Only tests stand on it.
+//! heaps that are too small. Only tests and the programs that are to be timed stand on it.
 #![tactic(auto)]
 
 mod birth;
 mod books;
 mod families;
 mod heaps;
+mod herd;
 mod name;
 mod rows;
 
 pub use birth::{Birth, DayText, Pair, UNKNOWN};
 pub use books::{
-    BirthFault, file_birth, file_births, founders, frozen_of, generations, pedigree_of,
+    BirthFault, file_birth, file_births, founders, frozen_of, generations, pair_of, pedigree_of,
 };
 pub use families::{descendants_of_full_sibs, full_sibs};
 pub use heaps::{heap_of, spare_of};
+pub use herd::herd_of;
 pub use name::Name;
 pub use rows::row_at;

@@ -3,7 +3,7 @@
 mod books;
 mod coefficients;
 mod fractions;
-mod inverse_entries;
+mod inverse_elements;
 mod matings;
 mod memory;
 mod tabular;

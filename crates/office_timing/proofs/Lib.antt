@@ -1,2 +1,1 @@
-mod FounderFacts
 mod EndFacts

@@ -6,9 +6,10 @@ ghost use Rattle.herd_register.specs.Run.{newborn};
 ghost use Rattle.office_timing.specs.Cast.{the_cast};
 ghost use Rattle.office_timing.specs.Plan.{birth_of, founder_births};
 
-use crate::herds::herd_of;
 use anyhow::Result;
 use herd_animal::{AnimalNumber, Day, Herd};
+use herd_fixtures::Name::{Bull, Cow};
+use herd_fixtures::herd_of;
 use herd_pedigree::Animal;
 use herd_register::Command;
 
@@ -44,20 +45,20 @@ impl Cast {
         ensures { IfOk result (λ cast. cast ≡ the_cast) }
     {
         Ok(Cast {
-            bull: AnimalNumber::parse(b"HOLGBRM000000000001")?,
-            cow: AnimalNumber::parse(b"HOLGBRF000000000002")?,
-            calf: AnimalNumber::parse(b"HOLGBRM000000000003")?,
-            heifer: AnimalNumber::parse(b"HOLGBRF000000000004")?,
-            second_bull: AnimalNumber::parse(b"HOLGBRM000000000005")?,
-            second_cow: AnimalNumber::parse(b"HOLGBRF000000000006")?,
+            bull: Bull(1).number(),
+            cow: Cow(2).number(),
+            calf: Bull(3).number(),
+            heifer: Cow(4).number(),
+            second_bull: Bull(5).number(),
+            second_cow: Cow(6).number(),
             old: Day::parse(b"2000-01-01")?,
             young: Day::parse(b"2002-01-01")?,
             sale: Day::parse(b"2001-05-01")?,
             leaving: Day::parse(b"2003-03-01")?,
             calving: Day::parse(b"2003-03-02")?,
-            herd: herd_of(1)?,
-            second: herd_of(2)?,
-            third: herd_of(3)?,
+            herd: herd_of(1),
+            second: herd_of(2),
+            third: herd_of(3),
         })
     }
 

@@ -4,17 +4,15 @@ ghost use Rattle.std.specs.Prelude.{◌≡◌, ◌≤◌, IfOk};
 ghost use Rattle.herd_office.specs.Parts.{AreNamed};
 
 use crate::desk_births::{Told, file_births, part, steps_at_close, told_of};
+use crate::filed::{Filed, gathered};
 use crate::founders::Founders;
 use crate::freezing::freeze_until;
 use anyhow::Result;
 use herd_office::{Desk, FreezeFault, Inspector, Office, OfficeName, OfficeParts};
-use herd_register::FileFault;
 use std::alloc::Global;
 use std::sync::Wait;
 use std::sync::atomic::{AtomicBool, Ordering};
 use std::thread::{Threads, join, map_vec};
-
-type Filed<N> = Result<(Desk<N>, u64), FileFault>;
 
 type Froze<N> = Result<(Inspector<N>, bool), FreezeFault>;
 
@@ -75,18 +73,6 @@ fn file_part<N: OfficeName, R: Wait>(
 ) -> Filed<N> {
     let places = part(births, desk.number().max(1), desks.max(1));
     file_births(rt, office, desk, founders, places)
-}
-
-// The desks, and how many births were accepted at all of them.
-fn gathered<N: OfficeName>(alloc: Global, filed: Vec<Filed<N>>) -> Result<(Vec<Desk<N>>, u64)> {
-    let mut desks = Vec::new(alloc);
-    let mut accepted = 0_u64;
-    for one in filed {
-        let (desk, more) = one?;
-        desks.push(desk)?;
-        accepted = accepted.saturating_add(more);
-    }
-    Ok((desks, accepted))
 }
 
 // All inspectors: those that were idle, and those that froze.

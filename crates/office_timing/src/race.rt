@@ -3,6 +3,7 @@
 ghost use Rattle.std.specs.Prelude.{◌≡◌, ◌+◌, IfOk, length};
 ghost use Rattle.herd_office.specs.Parts.{AreNamed};
 
+use crate::filed::{Filed, gathered};
 use crate::plan::Plan;
 use crate::start::Start;
 use anyhow::{Context, Result, bail};
@@ -19,8 +20,6 @@ pub struct Raced {
     pub register: Register<Global>,
     pub full: u64,
 }
-
-type Filed<N> = Result<(Desk<N>, u64), FileFault>;
 
 /// The race that is planned, in an office of its own. Each call was answered, or found the journal full.
 pub fn run_race<R: Threads + Wait + Sync>(rt: &R, alloc: Global, plan: &Plan) -> Result<Raced>
@@ -96,18 +95,6 @@ fn file_each<N: OfficeName, R: Wait>(
         }
     }
     Ok(full)
-}
-
-// The desks, and how many calls at all of them found the journal full.
-fn gathered<N: OfficeName>(alloc: Global, filed: Vec<Filed<N>>) -> Result<(Vec<Desk<N>>, u64)> {
-    let mut desks = Vec::new(alloc);
-    let mut full = 0_u64;
-    for one in filed {
-        let (desk, more) = one?;
-        desks.push(desk)?;
-        full = full.saturating_add(more);
-    }
-    Ok((desks, full))
 }
 
 fn closed<N: OfficeName, R: Wait>(

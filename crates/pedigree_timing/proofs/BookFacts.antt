@@ -5,20 +5,22 @@ use Rattle.std.proofs.lemmas.List.Sorted.{length_permutation}
 use Rattle.std.proofs.lemmas.List.FromFn.{length-map-range_with_len, map-range_with_len_more}
 use Rattle.std.specs.Map.{keys_of}
 use Rattle.std.specs.Str.{bytes_eq}
-use Rattle.herd_animal.specs.declared.number.Sex.TheVariants.{Male}
+use Rattle.herd_fixtures.specs.Birth.{entry}
+use Rattle.herd_fixtures.specs.Name.{number_named}
+use Rattle.herd_fixtures.specs.declared.birth.Birth.{Birth}
+use Rattle.herd_fixtures.specs.declared.name.Name.TheVariants.{Bull}
 use Rattle.herd_pedigree.specs.declared.animal.Animal.{Animal}
 use Rattle.herd_pedigree.specs.Book.{Book, changed, with_parents}
 use Rattle.herd_pedigree.specs.Frozen.{IsFrozenFrom, book_of}
 use Rattle.herd_pedigree.specs.declared.frozen.Row.{Row}
 use Rattle.pedigree_timing.specs.declared.filling.TheConstants.{LINE}
-use Rattle.pedigree_timing.specs.Animals.{nth_number}
 use Rattle.pedigree_timing.specs.Books.{first_of, lines_in, corrected}
 
-pub first_of-more : (entry : ℕ → List ℕ × Animal) (n : ℕ) → first_of entry (n + 1) ≡ first_of entry n ++ entry n ∷ []
-first_of-more entry n = map-range_with_len_more entry 0 n n (omega arith)
+pub first_of-more : (birth : ℕ → Birth) (n : ℕ) → first_of birth (n + 1) ≡ first_of birth n ++ entry (birth n) ∷ []
+first_of-more birth n = map-range_with_len_more (λ place. entry (birth place)) 0 n n (omega arith)
 
-pub length-first_of : (entry : ℕ → List ℕ × Animal) (n : ℕ) → length (first_of entry n) ≡ n
-length-first_of entry n = length-map-range_with_len entry 0 n
+pub length-first_of : (birth : ℕ → Birth) (n : ℕ) → length (first_of birth n) ≡ n
+length-first_of birth n = length-map-range_with_len (λ place. entry (birth place)) 0 n
 
 pub keys_of-changed : (book : Book) (number : List ℕ) (change : Animal → Animal) → keys_of (changed book number change) ≡ keys_of book
 keys_of-changed [] number change = refl
@@ -36,17 +38,16 @@ pub corrected-none : (book : Book) → corrected book 0 ≡ book
 unfolding corrected
 corrected-none book = refl
 
-pub corrected-more : (book : Book) (turn : ℕ) → corrected book (turn + 1) ≡ changed (corrected book turn) (nth_number Male (turn % lines_in book * LINE + 1)) (with_parents (if turn / lines_in book % 2 == 0 then Some (nth_number Male 0) else None) None)
+pub corrected-more : (book : Book) (turn : ℕ) → corrected book (turn + 1) ≡ changed (corrected book turn) (number_named (Bull (turn % lines_in book * LINE + 1))) (with_parents (if turn / lines_in book % 2 == 0 then Some (number_named (Bull 0)) else None) None)
 unfolding corrected
 corrected-more book turn = rw (add-one turn) refl
 
 -- a book in which one animal more is registered
-pub first_of-next : (entry : ℕ → List ℕ × Animal) (n : ℕ) (was now : Book) (number : List ℕ) (animal : Animal) → was ≡ first_of entry n → now ≡ was ++ (number, animal) ∷ [] → number ≡ (entry n).0 → animal ≡ (entry n).1 → now ≡ first_of entry (n + 1)
-first_of-next entry n was now number animal old new same_number same_animal =
-    rw first_of-more (rw (new, old, same_number, same_animal) refl)
+pub first_of-next : (birth : ℕ → Birth) (n : ℕ) (was now : Book) (next : Birth) → was ≡ first_of birth n → now ≡ was ++ entry next ∷ [] → next ≡ birth n → now ≡ first_of birth (n + 1)
+first_of-next birth n was now next old new same = rw (first_of-more, new, old, same) refl
 
 -- a book in which one correction more is made
-pub corrected-next : (book was now : Book) (turn lines : ℕ) (head : List ℕ) (sire : Option (List ℕ)) → was ≡ corrected book turn → lines ≡ lines_in book → head ≡ nth_number Male (turn % lines * LINE + 1) → sire ≡ (if turn / lines % 2 == 0 then Some (nth_number Male 0) else None) → now ≡ changed was head (with_parents sire None) → now ≡ corrected book (turn + 1)
+pub corrected-next : (book was now : Book) (turn lines : ℕ) (head : List ℕ) (sire : Option (List ℕ)) → was ≡ corrected book turn → lines ≡ lines_in book → head ≡ number_named (Bull (turn % lines * LINE + 1)) → sire ≡ (if turn / lines % 2 == 0 then Some (number_named (Bull 0)) else None) → now ≡ changed was head (with_parents sire None) → now ≡ corrected book (turn + 1)
 corrected-next book was now turn lines head sire old many first given new =
     new ∙ rw (corrected-more book turn, old, first, given, many) refl
 

@@ -1,6 +1,2 @@
 mod BookFacts
-mod DayFacts
-mod DigitFacts
-mod HerdFacts
-mod NumberFacts
 mod TaskFacts

@@ -2,7 +2,7 @@
 use Rattle.std.specs.Prelude.{◌≡◌, ℕ, ◌<◌, ◌^◌, max, List, slice_get, codes, Some}
 use Rattle.std.specs.Str.Parse.{IsNumeral, digits_value, without_leading_plus}
 use Rattle.herd_pedigree.specs.Book.{Book}
-use Rattle.pedigree_timing.specs.Books.{first_of, paired_entry, lined_entry, corrected}
+use Rattle.pedigree_timing.specs.Books.{first_of, paired_birth, lined_birth, corrected}
 use Rattle.pedigree_timing.specs.declared.task.Task.{Task}
 use Rattle.pedigree_timing.specs.declared.task.Task.TheVariants.{Births, Freeze, Corrections}
 
@@ -26,9 +26,9 @@ AsksFor words (Corrections animals times) =
 
 -- the book in the end
 abbrev pub book_after : Task → Book
-book_after (Births animals) = first_of paired_entry animals
-book_after (Freeze animals) = first_of paired_entry animals
-book_after (Corrections animals times) = corrected (first_of lined_entry (max animals 1)) times
+book_after (Births animals) = first_of paired_birth animals
+book_after (Freeze animals) = first_of paired_birth animals
+book_after (Corrections animals times) = corrected (first_of lined_birth (max animals 1)) times
 
 -- how many animals it has
 abbrev pub animals_after : Task → ℕ

@@ -1,16 +1,16 @@
 //! Books that are filled, and corrected, as a register does it: each change is checked first.
 
-ghost use Rattle.std.specs.Prelude.{◌≡◌, ◌++◌, [], ◌∷◌, length, max, None, IfOk, OnOk, OnErr};
+ghost use Rattle.std.specs.Prelude.{◌≡◌, length, max, None, IfOk, OnOk, OnErr};
 ghost use Rattle.std.specs.Map.{keys_of};
-ghost use Rattle.herd_animal.specs.declared.number.Sex.TheVariants.{Male};
 ghost use Rattle.herd_pedigree.specs.Book.{changed, with_parents};
-ghost use Rattle.pedigree_timing.specs.Animals.{nth_number};
-ghost use Rattle.pedigree_timing.specs.Books.{corrected, first_of, lined_animal, lined_entry, paired_animal, paired_entry, paired_sex};
+ghost use Rattle.pedigree_timing.specs.Books.{corrected, first_of, lined_birth, paired_birth};
 
-use crate::animals::{born_in, calf, female, male};
+use crate::animals::{born_in, calf};
 use anyhow::{Result, bail};
 use herd_animal::AnimalNumber;
-use herd_pedigree::{Animal, MOST_ANIMALS, Pedigree};
+use herd_fixtures::Name::{Bull, Cow};
+use herd_fixtures::{Birth, Pair, file_birth};
+use herd_pedigree::Pedigree;
 use std::alloc::Global;
 
 // How many animals a line has, each the sire of the next. With one sire more before it, it is as long as may be.
@@ -21,62 +21,55 @@ const PAIRS: u32 = 50;
 
 /// A book of a few pairs, and then of their calves in no order of age.
 pub fn calves(alloc: Global, animals: u32) -> Result<Pedigree<Global>>
-    ensures book { IfOk result (λ pedigree. pedigree.book ≡ first_of paired_entry animals) }
+    ensures book { IfOk result (λ pedigree. pedigree.book ≡ first_of paired_birth animals) }
     ensures count { IfOk result (λ pedigree. length pedigree.book ≡ animals) }
 {
     let mut pedigree = Pedigree::new(alloc);
     for place in 0..animals {
-        file_birth(&mut pedigree, paired_number(place), paired(place))?;
+        file_birth(&mut pedigree, paired(place))?;
     }
     Ok(pedigree)
 }
 
-fn paired_number(place: u32) -> AnimalNumber
-    ensures { result ≡ nth_number (paired_sex place) place }
+fn paired(place: u32) -> Birth
+    ensures { result ≡ paired_birth place }
 {
-    if PAIRS <= place && place < 2 * PAIRS {
-        female(place)
-    } else {
-        male(place)
+    if place < PAIRS {
+        return born_in(1900, Bull(place), None);
     }
-}
-
-fn paired(place: u32) -> Animal
-    ensures { result ≡ paired_animal place }
-{
     if place < 2 * PAIRS {
-        return born_in(1900, None);
+        return born_in(1900, Cow(place), None);
     }
     let pair = place % PAIRS;
-    calf(place, male(pair), female(PAIRS + pair))
+    calf(place, Pair::of(Bull(pair), Cow(PAIRS + pair)))
 }
 
 /// A founder, and then one line after the other.
 pub fn lines(alloc: Global, animals: u32) -> Result<Pedigree<Global>>
-    ensures book { IfOk result (λ pedigree. pedigree.book ≡ first_of lined_entry (max animals 1)) }
+    ensures book { IfOk result (λ pedigree. pedigree.book ≡ first_of lined_birth (max animals 1)) }
     ensures count { IfOk result (λ pedigree. length pedigree.book ≡ max animals 1) }
 {
     let mut pedigree = Pedigree::new(alloc);
     for place in 0..animals.max(1) {
-        file_birth(&mut pedigree, male(place), lined(place))?;
+        file_birth(&mut pedigree, lined(place))?;
     }
     Ok(pedigree)
 }
 
-fn lined(place: u32) -> Animal
-    ensures { result ≡ lined_animal place }
+fn lined(place: u32) -> Birth
+    ensures { result ≡ lined_birth place }
 {
     if place == 0 {
-        return born_in(1900, None);
+        return born_in(1900, Bull(0), None);
     }
     let before = place - 1;
     let generation = before % LINE;
     let sire = if generation == 0 {
         None
     } else {
-        Some(male(before))
+        Some(Bull(before))
     };
-    born_in(1910 + generation, sire)
+    born_in(1910 + generation, Bull(place), sire)
 }
 
 /// Gives the first of each line in turn the founder as its sire, and in the next round none. After an error the book
@@ -86,10 +79,10 @@ pub fn correct_heads(pedigree: &mut Pedigree<Global>, times: u32) -> Result<()>
     ensures same { keys_of pedigree.new.book ≡ keys_of pedigree.old.book }
     ensures count { length pedigree.new.book ≡ length pedigree.old.book }
 {
-    let founder = male(0);
+    let founder = Bull(0).number();
     let lines = (pedigree.len() / LINE).max(1);
     for turn in 0..times {
-        let head = male(turn % lines * LINE + 1);
+        let head = Bull(turn % lines * LINE + 1).number();
         let sire = if (turn / lines).is_multiple_of(2) {
             Some(founder)
         } else {
@@ -98,21 +91,6 @@ pub fn correct_heads(pedigree: &mut Pedigree<Global>, times: u32) -> Result<()>
         file_correction(pedigree, head, sire)?;
     }
     Ok(())
-}
-
-fn file_birth(pedigree: &mut Pedigree<Global>, number: AnimalNumber, animal: Animal) -> Result<()>
-    requires since { animal.since ≡ animal.birth }
-    requires left { animal.left ≡ None }
-    ensures filed { OnOk result (pedigree.new.book ≡ pedigree.old.book ++ (number, animal) ∷ []) }
-    ensures err { OnErr result (pedigree.new ≡ pedigree.old) }
-{
-    if pedigree.get(&number).is_some() || pedigree.len() >= MOST_ANIMALS {
-        bail!("no birth of a new animal")
-    }
-    match pedigree.add_if_sound(number, animal)? {
-        None => Ok(()),
-        Some(_) => bail!("a birth is refused"),
-    }
 }
 
 fn file_correction(

@@ -1,13 +1,13 @@
 -- One animal more stands at the end.
-use Rattle.std.proofs.Common.{arith}
-use Rattle.pedigree_timing.specs.Books.{lined_entry}
+use Rattle.std.proofs.Common.{ap, arith}
+use Rattle.pedigree_timing.specs.Books.{lined_birth}
 use Rattle.pedigree_timing.proofs.BookFacts.{first_of-next, length-first_of}
 use Rattle.pedigree_timing.proofs.filling.lines.Goals as goal
 
 pub loop-place-preserved : goal.loop-place-preserved
 loop-place-preserved c =
-    first_of-next lined_entry _ _ _ _ _ c.loop-place.invariant c.in_ok-file_birth.ensures.filed c.male.ensures.number c.lined.ensures
+    first_of-next lined_birth _ _ _ _ c.loop-place.invariant (ap (λ pedigree. pedigree.book) c.in_ok-file_birth.ensures.filed) c.lined.ensures
 
 pub returns-clause-count : goal.returns-clause-count
 returns-clause-count c =
-    rw c.loop-place.invariant (omega (arith, length-first_of lined_entry c.loop-place.place))
+    rw c.loop-place.invariant (omega (arith, length-first_of lined_birth c.loop-place.place))

@@ -1,4 +1,4 @@
-//! What animals contribute to the inverse of the table.
+//! What animals contribute to the elements of the inverse of the numerator relationship matrix.
 
 ghost use Rattle.std.specs.Prelude.{false};
 
@@ -12,7 +12,7 @@ use std::alloc::Global;
 use std::process::Abort;
 use std::test::Fail;
 
-// An entry of the inverse: its places, and the sign, numerator and denominator of its value.
+// A contribution to an element: its places, and the sign, numerator and denominator of its value.
 fn at(row: u32, column: u32, negative: bool, numerator: u128, denominator: u128) -> Contribution {
     Contribution {
         row,
@@ -25,7 +25,7 @@ fn at(row: u32, column: u32, negative: bool, numerator: u128, denominator: u128)
     }
 }
 
-// The animal contributes these entries; what follows them repeats the first.
+// The animal makes these contributions; what follows them repeats the first.
 fn contributes(
     rt: &impl Abort,
     alloc: Global,
@@ -36,13 +36,13 @@ fn contributes(
     let coefficients = coefficients_plain(alloc, frozen)?;
     let place = frozen.place(&animal).ok_or("absent")?;
     let told = contributions(frozen, &coefficients, place);
-    let entries = told.list;
-    let first = entries[0];
+    let list = told.list;
+    let first = list[0];
     assert_eq!(rt; told.count as usize, expected.len());
     assert_eq!(rt; told.alpha, first.value);
-    for (index, entry) in entries.iter().enumerate() {
+    for (index, contribution) in list.iter().enumerate() {
         let right = expected.get(index).copied().unwrap_or(first);
-        assert_eq!(rt; *entry, right, "{index}");
+        assert_eq!(rt; *contribution, right, "{index}");
     }
     Ok(())
 }

@@ -1,0 +1,17 @@
+//! Herds, written short.
+
+ghost use Rattle.std.specs.Prelude.{◌≡◌, ◌≤◌};
+
+use herd_animal::Herd;
+
+/// The herd of a number with one digit.
+pub fn herd_of(number: u8) -> Herd
+    requires { (1 ≤ number) × (number ≤ 9) }
+    ensures { result ≡ number }
+{
+    let Ok(herd) = Herd::parse(&[b'0' + number]) else {
+        unreachable!();
+    };
+    let _bound = herd.number();
+    herd
+}
