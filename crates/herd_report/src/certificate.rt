@@ -58,7 +58,7 @@ pub(crate) fn write_certificate_at<W: Write, A: Allocator, F: Allocator, C: Allo
     let mut output = Output::new(alloc);
     push_animal(
         &mut output,
-        frozen.row(place),
+        &frozen.row(place),
         coefficients.numerator(place),
     )?;
     push_ancestors(&mut output, frozen, place)?;
