@@ -4,6 +4,7 @@ ghost use Rattle.herd_office.specs.Parts.{AreNamed};
 
 use super::commands::founder;
 use super::filing::{closed, limits, not_closed};
+use herd_fixtures::Name::Bull;
 use herd_office::*;
 use std::alloc::Global;
 use std::marker::Brand;
@@ -30,7 +31,7 @@ fn close_thrice<N: OfficeName, R: Wait + Abort>(
     let handed = (office, desks, inspectors);
     let (office, mut desks, inspectors) = not_closed(rt, handed, Cause::DeskMissing);
     let mut desk = desks.pop().expect(rt, "a desk");
-    desk.file(rt, &office, founder(rt, b'M', 1))
+    desk.file(rt, &office, founder(rt, Bull(1)))
         .expect(rt, "filed");
     desks.push(desk).expect(rt, "room");
     desks.push(kept).expect(rt, "room");

@@ -1,65 +1,43 @@
-//! Commands of few animals. Births are on the first day of 2000 unless the day is given, in herd 1.
+//! Commands of few animals. Births of founders are on the first day of 2000, and all are in herd 1.
 
-use herd_animal::{AnimalNumber, Day, Herd};
+use herd_animal::{Day, Herd};
+use herd_fixtures::{Birth, Name, UNKNOWN, herd_of};
 use herd_register::Command;
 use std::process::Abort;
 
-/// The number with this sex letter that ends with these four digits.
-pub(super) fn number(rt: &impl Abort, sex: u8, digits: u16) -> AnimalNumber {
-    let mut text = *b"HOLGBRM000000000000";
-    text[6] = sex;
-    text[15] = digit(digits / 1000);
-    text[16] = digit(digits / 100);
-    text[17] = digit(digits / 10);
-    text[18] = digit(digits);
-    AnimalNumber::parse(&text).expect(rt, "a number")
+pub(super) fn founder(rt: &impl Abort, name: Name) -> Command {
+    birth(rt, Birth(name, *b"2000-01-01", UNKNOWN))
 }
 
-fn digit(value: u16) -> u8 {
-    b'0' + (value % 10) as u8
-}
-
-pub(super) fn founder(rt: &impl Abort, sex: u8, digits: u16) -> Command {
-    birth(rt, number(rt, sex, digits), b"2000-01-01", None)
-}
-
-pub(super) fn birth(
-    rt: &impl Abort,
-    animal: AnimalNumber,
-    on: &[u8],
-    dam: Option<AnimalNumber>,
-) -> Command {
+pub(super) fn birth(rt: &impl Abort, birth: Birth) -> Command {
+    let (number, animal) = birth.entry().expect(rt, "a day");
     Command::Birth {
-        animal,
-        day: day(rt, on),
-        sire: None,
-        dam,
-        herd: herd(rt, b"1"),
-        embryo: false,
+        animal: number,
+        day: animal.birth,
+        sire: animal.sire,
+        dam: animal.dam,
+        herd: animal.herd,
+        embryo: animal.embryo,
     }
 }
 
 /// A transfer from herd 1, in 2001.
-pub(super) fn transfer(rt: &impl Abort, animal: AnimalNumber, taker: &[u8]) -> Command {
+pub(super) fn transfer(rt: &impl Abort, name: Name, taker: Herd) -> Command {
     Command::Transfer {
-        animal,
+        animal: name.number(),
         day: day(rt, b"2001-05-01"),
-        giver: herd(rt, b"1"),
-        taker: herd(rt, taker),
+        giver: herd_of(1),
+        taker,
     }
 }
 
-pub(super) fn exit(rt: &impl Abort, animal: AnimalNumber, on: &[u8]) -> Command {
+pub(super) fn exit(rt: &impl Abort, name: Name, on: &[u8]) -> Command {
     Command::Exit {
-        animal,
+        animal: name.number(),
         day: day(rt, on),
     }
 }
 
 fn day(rt: &impl Abort, text: &[u8]) -> Day {
     Day::parse(text).expect(rt, "a day")
-}
-
-fn herd(rt: &impl Abort, text: &[u8]) -> Herd {
-    Herd::parse(text).expect(rt, "a herd")
 }

@@ -4,6 +4,7 @@ ghost use Rattle.herd_office.specs.Parts.{AreNamed};
 
 use super::commands::founder;
 use super::filing::{closed, limits};
+use herd_fixtures::Name::Bull;
 use herd_office::*;
 use herd_register::{FileFault, Refusal, Reply};
 use std::alloc::Global;
@@ -67,7 +68,7 @@ fn file_births<N: OfficeName, R: Wait + Abort>(
         0
     };
     for k in 0..births {
-        let command = founder(rt, b'M', from.wrapping_add(k));
+        let command = founder(rt, Bull(u32::from(from.wrapping_add(k))));
         ends.count(rt, desk.file(rt, office, command));
     }
     (desk, ends)

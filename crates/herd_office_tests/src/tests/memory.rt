@@ -4,6 +4,7 @@ ghost use Rattle.herd_office.specs.Parts.{AreNamed};
 
 use super::commands::founder;
 use super::filing::{closed, limits};
+use herd_fixtures::Name::Bull;
 use herd_office::*;
 use herd_register::FileFault;
 use linked_list_allocator::LocalHeap;
@@ -128,7 +129,7 @@ fn file_in_time<N: OfficeName, R: Wait + Abort, A: Allocator + Copy>(
     crowd: &mut Crowd<'_>,
 ) -> u32 {
     for refused in 0..TIMES {
-        match desk.file(rt, office, founder(rt, b'M', births)) {
+        match desk.file(rt, office, founder(rt, Bull(u32::from(births)))) {
             Ok(filed) => {
                 assert_eq!(rt; filed.serial, u32::from(births) + 1);
                 return refused;

@@ -4,6 +4,7 @@ ghost use Rattle.herd_office.specs.Parts.{AreNamed};
 
 use super::commands::founder;
 use super::filing::limits;
+use herd_fixtures::Name::Bull;
 use herd_office::*;
 use std::alloc::Global;
 use std::marker::Brand;
@@ -28,12 +29,12 @@ fn outlive<N: OfficeName, R: Wait + Abort>(
     let (office, mut desks, mut inspectors) = Office::<N, &R>::open(alloc, parts)?;
     let mut desk = desks.pop().expect(rt, "a desk");
     let mut inspector = inspectors.pop().expect(rt, "an inspector");
-    desk.file(rt, &office, founder(rt, b'M', 1))
+    desk.file(rt, &office, founder(rt, Bull(1)))
         .expect(rt, "filed");
     let length = inspector.freeze(alloc).map(|frozen| frozen.len());
     assert_eq!(rt; length, Ok(1));
     let second = desk
-        .file(rt, &office, founder(rt, b'M', 2))
+        .file(rt, &office, founder(rt, Bull(2)))
         .expect(rt, "filed");
     drop(office);
     expect_no_reading(rt, alloc, &mut inspector, 1);

@@ -2,8 +2,10 @@
 ghost use Rattle.std.specs.Prelude.{◌≡◌, ◌≤◌};
 ghost use Rattle.herd_office.specs.Parts.{AreNamed};
 
-use super::commands::{birth, exit, founder, number, transfer};
+use super::commands::{birth, exit, founder, transfer};
 use super::filing::{closed, file_both, file_one, limits};
+use herd_fixtures::Name::{Bull, Cow};
+use herd_fixtures::{Birth, Pair, UNKNOWN, herd_of};
 use herd_office::*;
 use herd_register::{Command, FileFault, Refusal, Register, Reply};
 use std::alloc::Global;
@@ -69,7 +71,7 @@ fn ended(register: &Register<Global>) -> Option<(Reply, Reply, u16)> {
 
 #[test]
 fn one_birth_is_accepted_once(rt: HostRuntime) -> Result<(), Fail> {
-    let calf = founder(&rt, b'M', 1);
+    let calf = founder(&rt, Bull(1));
     let register = raced(&rt, rt.alloc(), &[], &calf, &calf)?;
     let there = Reply::Refused(Refusal::AlreadyThere);
     let expected = match ended(&register) {
@@ -86,15 +88,11 @@ fn one_birth_is_accepted_once(rt: HostRuntime) -> Result<(), Fail> {
 
 #[test]
 fn the_later_correction_stands(rt: HostRuntime) -> Result<(), Fail> {
-    let (bull, cow, calf) = (
-        number(&rt, b'M', 1),
-        number(&rt, b'F', 2),
-        number(&rt, b'M', 3),
-    );
+    let (bull, cow, calf) = (Bull(1).number(), Cow(2).number(), Bull(3).number());
     let first = [
-        founder(&rt, b'M', 1),
-        founder(&rt, b'F', 2),
-        birth(&rt, calf, b"2002-01-01", None),
+        founder(&rt, Bull(1)),
+        founder(&rt, Cow(2)),
+        birth(&rt, Birth(Bull(3), *b"2002-01-01", UNKNOWN)),
     ];
     let by_sire = Command::Parents {
         animal: calf,
@@ -121,10 +119,9 @@ fn the_later_correction_stands(rt: HostRuntime) -> Result<(), Fail> {
 
 #[test]
 fn a_cow_leaves_or_calves(rt: HostRuntime) -> Result<(), Fail> {
-    let cow = number(&rt, b'F', 1);
-    let leaves = exit(&rt, cow, b"2003-03-01");
-    let calves = birth(&rt, number(&rt, b'F', 2), b"2003-03-02", Some(cow));
-    let register = raced(&rt, rt.alloc(), &[founder(&rt, b'F', 1)], &leaves, &calves)?;
+    let leaves = exit(&rt, Cow(1), b"2003-03-01");
+    let calves = birth(&rt, Birth(Cow(2), *b"2003-03-02", Pair::of_dam(Cow(1))));
+    let register = raced(&rt, rt.alloc(), &[founder(&rt, Cow(1))], &leaves, &calves)?;
     let (left, right, last) = ended(&register).ok_or("no steps")?;
     let expected = if last == 2 {
         (Reply::Accepted, Reply::Refused(Refusal::DamGone))
@@ -137,12 +134,12 @@ fn a_cow_leaves_or_calves(rt: HostRuntime) -> Result<(), Fail> {
 
 #[test]
 fn one_herd_gets_the_bull(rt: HostRuntime) -> Result<(), Fail> {
-    let bull = number(&rt, b'M', 1);
-    let (to_two, to_three) = (transfer(&rt, bull, b"2"), transfer(&rt, bull, b"3"));
+    let to_two = transfer(&rt, Bull(1), herd_of(2));
+    let to_three = transfer(&rt, Bull(1), herd_of(3));
     let register = raced(
         &rt,
         rt.alloc(),
-        &[founder(&rt, b'M', 1)],
+        &[founder(&rt, Bull(1))],
         &to_two,
         &to_three,
     )?;

@@ -2,8 +2,10 @@
 ghost use Rattle.std.specs.Prelude.{◌≡◌};
 ghost use Rattle.herd_office.specs.Parts.{AreNamed};
 
-use super::commands::{founder, number};
+use super::commands::founder;
 use super::filing::{closed, file_one, limits};
+use herd_fixtures::Name;
+use herd_fixtures::Name::Bull;
 use herd_office::*;
 use herd_pedigree::Frozen;
 use herd_register::{Refusal, Reply};
@@ -14,11 +16,10 @@ use std::sync::Wait;
 use std::test::*;
 use std::thread::{Threads, join};
 
-// Whether the bulls of these digits are there.
-fn has_all(rt: &impl Abort, frozen: &Frozen<Global>, bulls: &[u16]) -> bool {
-    for digits in bulls {
-        let bull = number(rt, b'M', *digits);
-        if frozen.place(&bull).is_none() {
+// Whether these animals are there.
+fn has_all(frozen: &Frozen<Global>, names: &[Name]) -> bool {
+    for name in names {
+        if frozen.place(&name.number()).is_none() {
             return false;
         }
     }
@@ -59,10 +60,10 @@ fn see_unlearnt<N: OfficeName + Send + Sync, R: Threads + Wait + Abort + Sync>(
     desk: Desk<N>,
     inspector: &mut Inspector<N>,
 ) -> (Desk<N>, Slip<N>) {
-    let birth = &founder(rt, b'M', 1);
+    let birth = &founder(rt, Bull(1));
     let ((desk, filed), ()) = join(rt, move || file_one(rt, office, desk, birth), || ());
     let frozen = inspector.freeze(alloc).expect(rt, "frozen");
-    assert!(rt; has_all(rt, &frozen, &[1]));
+    assert!(rt; has_all(&frozen, &[Bull(1)]));
     let Filed {
         serial: _,
         reply: _,
@@ -81,14 +82,15 @@ fn see_learnt<N: OfficeName, R: Wait + Abort>(
     inspector: &mut Inspector<N>,
     first: &Slip<N>,
 ) -> Desk<N> {
-    let birth = founder(rt, b'M', 2);
+    let birth = founder(rt, Bull(2));
     let second = desk.file(rt, office, birth).expect(rt, "filed");
     inspector.learn(&second.slip);
     inspector.learn(first);
     assert_eq!(rt; inspector.steps_seen(), 2);
+    let both = [Bull(1), Bull(2)];
     let once = inspector.freeze(alloc).expect(rt, "frozen");
     let twice = inspector.freeze(alloc).expect(rt, "frozen");
-    assert!(rt; has_all(rt, &once, &[1, 2]) && has_all(rt, &twice, &[1, 2]));
+    assert!(rt; has_all(&once, &both) && has_all(&twice, &both));
     assert_eq!(rt; inspector.steps_seen(), 2);
     desk
 }
@@ -101,7 +103,7 @@ fn see_refused<N: OfficeName, R: Wait + Abort>(
     desk: &mut Desk<N>,
     inspector: &mut Inspector<N>,
 ) {
-    let again = founder(rt, b'M', 1);
+    let again = founder(rt, Bull(1));
     let filed = desk.file(rt, office, again).expect(rt, "filed");
     let there = Reply::Refused(Refusal::AlreadyThere);
     assert_eq!(rt; (filed.serial, filed.reply), (3, there));
@@ -155,7 +157,7 @@ fn file_many<N: OfficeName, R: Wait + Abort>(
 ) -> Option<Slip<N>> {
     let mut last = None;
     for k in 0..500_u16 {
-        let birth = founder(rt, b'M', from.wrapping_add(k));
+        let birth = founder(rt, Bull(u32::from(from.wrapping_add(k))));
         let filed = desk.file(rt, office, birth).expect(rt, "filed");
         assert_eq!(rt; filed.reply, Reply::Accepted);
         last = Some(filed.slip);
