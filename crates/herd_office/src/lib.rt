@@ -34,6 +34,17 @@
 //!
 //! Everything of an office has a parameter `N` that names it, so a desk, an inspector or a slip can't be used with another office. The parts
 //! are made first; a program then calls a function over `N` with std's `Brand`, and tells there that `N` names these parts.
+//!
+//! # Where it stands
+//!
+//! | | definition (`specs/`) | code (`src/`) | proof (`proofs/`) |
+//! |---|---|---|---|
+//! | a name's parts; what lies under the lock; opening, closing | `Parts`, `Closing` | `name`, `office` | `Counting`, `Stored` |
+//! | a desk's call, and the slip that it gives | `Filing`, `Histories` | `desk` | `Stored`, `Counting` |
+//! | the history: its rule, claims, beginnings of it | `Keeping` | `history`, `keeper` | `Claiming`, `Fronts` |
+//! | the readers' copies: their rule, what is sent to them | `Copies`, `Shelves` | `copies`, `copy_update`, `shown` | `Sides` |
+//! | reading a copy with no lock | `Copies`, `Keeping` | `inspector` | `Sides`, `Stored` |
+//! | why an office isn't opened, or a copy not frozen; the limits | | `faults`, `limits` | |
 #![tactic(auto)]
 
 mod copies;

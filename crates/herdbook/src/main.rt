@@ -1,4 +1,18 @@
 //! The herd book of a breed society, as a program over standard input and output.
+//!
+//! The words of the command line are read first. They ask for help or the version, for a run of `herd_report`, or for `clerks`: the
+//! commands of a file, filed at the desks of an office by clerks side by side. How the program ends is a value, made from what was
+//! asked and what came of it (`Ending`); only `main` prints it, or tells it on standard error.
+//!
+//! | | definition (`specs/`) | code (`src/`) | proof (`proofs/`) |
+//! |---|---|---|---|
+//! | the words, and what they ask for | `CommandLine`, `Words`, `Request` | `arguments` | `CommandFacts`, `WordsFacts` |
+//! | the texts of help and of the version | | `help` | |
+//! | what the program does for its words | `Program` | `program` | `ProgramFacts` |
+//! | how it ends, and what is told on standard error | `Ending`, `FaultText` | `ending`, `faults` | |
+//! | clerks: the desk of each command, their threads, one clerk's turns | `Clerks` | `desks`, `crew`, `clerk` | |
+//! | how clerks end early | `Clerks` | `clerk_fault` | |
+//! | what each desk answered, as text | `Summary` | `summary` | `SummaryFacts` |
 #![tactic(auto)]
 
 mod arguments;
