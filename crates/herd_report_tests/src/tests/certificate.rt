@@ -1,7 +1,9 @@
 use super::assert_writes::{assert_memory_or, assert_writes};
-use super::books::{animal, frozen_of, full_sibs, registered};
+use super::books::registered;
 use super::stops_after::{StopsAfter, Then};
-use herd_animal::{AnimalNumber, Day, Herd};
+use herd_animal::{AnimalNumber, Day};
+use herd_fixtures::Name::{Bull, Cow};
+use herd_fixtures::{frozen_of, full_sibs, herd_of};
 use herd_kinship::coefficients_plain;
 use herd_pedigree::Frozen;
 use herd_register::Command;
@@ -51,7 +53,7 @@ fn write<A: Allocator, W: Write>(
 #[test]
 fn writes_the_animal_and_its_ancestors(rt: HostRuntime) -> Result<(), Fail> {
     let frozen = frozen_of(rt.alloc(), &full_sibs())?;
-    let number = animal(rt.alloc(), 'M', 5)?;
+    let number = Bull(5).number();
     assert_writes!(
         rt,
         certificate(),
@@ -63,7 +65,7 @@ fn writes_the_animal_and_its_ancestors(rt: HostRuntime) -> Result<(), Fail> {
 #[test]
 fn answers_memory_or_all(rt: HostRuntime) -> Result<(), Fail> {
     let frozen = frozen_of(rt.alloc(), &full_sibs())?;
-    let number = animal(rt.alloc(), 'M', 5)?;
+    let number = Bull(5).number();
     assert_memory_or!(
         rt,
         certificate(),
@@ -78,8 +80,8 @@ fn sold_and_gone(alloc: Global, number: AnimalNumber) -> Result<Frozen<Global>, 
     let sale = Command::Transfer {
         animal: number,
         day: Day::parse(b"2004-06-01")?,
-        giver: Herd::parse(b"1")?,
-        taker: Herd::parse(b"2")?,
+        giver: herd_of(1),
+        taker: herd_of(2),
     };
     register.file(0, sale)?;
     let exit = Command::Exit {
@@ -92,7 +94,7 @@ fn sold_and_gone(alloc: Global, number: AnimalNumber) -> Result<Frozen<Global>, 
 
 #[test]
 fn tells_the_owner_and_the_exit(rt: HostRuntime) -> Result<(), Fail> {
-    let number = animal(rt.alloc(), 'M', 5)?;
+    let number = Bull(5).number();
     let frozen = sold_and_gone(rt.alloc(), number)?;
     let mut text = Vec::new(rt.alloc());
     write(rt.alloc(), &frozen, number, rt.alloc(), &mut text)?;
@@ -104,7 +106,7 @@ fn tells_the_owner_and_the_exit(rt: HostRuntime) -> Result<(), Fail> {
 #[test]
 fn writes_nothing_of_an_absent_number(rt: HostRuntime) -> Result<(), Fail> {
     let frozen = frozen_of(rt.alloc(), &full_sibs())?;
-    let number = animal(rt.alloc(), 'F', 9)?;
+    let number = Cow(9).number();
     let mut writer = StopsAfter::new(rt.alloc(), 0, Then::Fails);
     let answer = write(rt.alloc(), &frozen, number, rt.alloc(), &mut writer);
     assert_eq!(rt; answer, Err(CertificateFault::NotRegistered));

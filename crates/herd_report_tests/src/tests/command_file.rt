@@ -1,6 +1,8 @@
 use super::books::TRANSFERS;
 use super::breaks_after::BreaksAfter;
-use herd_animal::{AnimalNumber, Day, Herd};
+use herd_animal::Day;
+use herd_fixtures::Name::{Bull, Cow};
+use herd_fixtures::{Name, herd_of};
 use herd_register::Command;
 use herd_report::{Commands, LineCause, LineFault, read_commands};
 use std::io;
@@ -14,25 +16,17 @@ const NEW_HEADER: &[u8] = b"kind,animal,day,sire,dam,from,to,embryo\n";
 
 const BIRTH: &[u8] = b"birth,HOLGBRM000000000001,2000-01-01,0,0,,1\n";
 
-fn number(rt: &impl Abort, text: &[u8]) -> AnimalNumber {
-    AnimalNumber::parse(text).expect(rt, "an animal number")
-}
-
 fn day(rt: &impl Abort, text: &[u8]) -> Day {
     Day::parse(text).expect(rt, "a day")
 }
 
-fn herd(rt: &impl Abort, text: &[u8]) -> Herd {
-    Herd::parse(text).expect(rt, "a herd")
-}
-
-fn founder(rt: &impl Abort, animal: &[u8], embryo: bool) -> Command {
+fn founder(rt: &impl Abort, name: Name, embryo: bool) -> Command {
     Command::Birth {
-        animal: number(rt, animal),
+        animal: name.number(),
         day: day(rt, b"2000-01-01"),
         sire: None,
         dam: None,
-        herd: herd(rt, b"1"),
+        herd: herd_of(1),
         embryo,
     }
 }
@@ -52,26 +46,26 @@ fn reads_each_kind(rt: HostRuntime) {
         parents,HOLGBRM000000000003,,0,HOLGBRF000000000002,,\n\
         transfer,HOLGBRM000000000003,2002-02-01,,,7,8\n\
         exit,HOLGBRM000000000003,2002-03-01,,,,";
-    let animal = number(&rt, b"HOLGBRM000000000003");
+    let animal = Bull(3).number();
     let list = [
         Command::Birth {
             animal,
             day: day(&rt, b"2002-01-01"),
-            sire: Some(number(&rt, b"HOLGBRM000000000001")),
+            sire: Some(Bull(1).number()),
             dam: None,
-            herd: herd(&rt, b"7"),
+            herd: herd_of(7),
             embryo: false,
         },
         Command::Parents {
             animal,
             sire: None,
-            dam: Some(number(&rt, b"HOLGBRF000000000002")),
+            dam: Some(Cow(2).number()),
         },
         Command::Transfer {
             animal,
             day: day(&rt, b"2002-02-01"),
-            giver: herd(&rt, b"7"),
-            taker: herd(&rt, b"8"),
+            giver: herd_of(7),
+            taker: herd_of(8),
         },
         Command::Exit {
             animal,
@@ -89,10 +83,7 @@ fn reads_births_from_embryos(rt: HostRuntime) {
     let file = b"kind,animal,day,sire,dam,from,to,embryo\n\
         birth,HOLGBRM000000000001,2000-01-01,0,0,,1,\n\
         birth,HOLGBRM000000000002,2000-01-01,0,0,,1,1\n";
-    let list = [
-        founder(&rt, b"HOLGBRM000000000001", false),
-        founder(&rt, b"HOLGBRM000000000002", true),
-    ];
+    let list = [founder(&rt, Bull(1), false), founder(&rt, Bull(2), true)];
     let answer = read_commands(rt.alloc(), file.as_slice(), 9);
     expect(&rt, &answer, &list, None);
 }
@@ -102,7 +93,7 @@ fn reads_quoted_fields(rt: HostRuntime) {
     let file = b"\"kind\",\"animal\",\"day\",\"sire\",\"dam\",\"from\",\"to\"\r\n\
         \"birth\",\"HOLGBRM000000000001\",\"2000-01-01\",\"0\",\"0\",\"\",\"1\"\r\n";
     let answer = read_commands(rt.alloc(), file.as_slice(), 9);
-    let list = [founder(&rt, b"HOLGBRM000000000001", false)];
+    let list = [founder(&rt, Bull(1), false)];
     expect(&rt, &answer, &list, None);
 }
 
@@ -144,7 +135,7 @@ fn tells_the_first_fault(rt: HostRuntime) {
     for (record, cause) in faults {
         let file = HEADER.chain(BIRTH).chain(record).chain(BIRTH);
         let answer = read_commands(rt.alloc(), file, 9);
-        let list = [founder(&rt, b"HOLGBRM000000000001", false)];
+        let list = [founder(&rt, Bull(1), false)];
         expect(&rt, &answer, &list, Some((2, cause)));
     }
 }
@@ -173,7 +164,7 @@ fn tells_a_long_animal(rt: HostRuntime) {
 
 #[test]
 fn stops_after_so_many_commands(rt: HostRuntime) {
-    let births = [founder(&rt, b"HOLGBRM000000000001", false); 3];
+    let births = [founder(&rt, Bull(1), false); 3];
     let file = HEADER.chain(BIRTH).chain(BIRTH).chain(BIRTH);
     let answer = read_commands(rt.alloc(), file, 2);
     expect(&rt, &answer, &births[..2], Some((3, 12)));
@@ -187,7 +178,7 @@ fn stops_after_so_many_commands(rt: HostRuntime) {
 fn reads_no_record_after_too_many(rt: HostRuntime) {
     let file = HEADER.chain(BIRTH).chain(BIRTH).chain(BIRTH);
     let answer = read_commands(rt.alloc(), file.chain(BreaksAfter::new(b"", 0)), 2);
-    let births = [founder(&rt, b"HOLGBRM000000000001", false); 2];
+    let births = [founder(&rt, Bull(1), false); 2];
     expect(&rt, &answer, &births, Some((3, 12)));
 }
 

@@ -1,6 +1,6 @@
 use super::assert_writes::{assert_memory_or, assert_writes};
-use super::books::{frozen_of, full_sibs};
 use super::stops_after::{StopsAfter, Then};
+use herd_fixtures::{frozen_of, full_sibs};
 use herd_kinship::coefficients_plain;
 use herd_pedigree::Frozen;
 use herd_report::{ReportFault, write_inbreeding};

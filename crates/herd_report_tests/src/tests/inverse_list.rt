@@ -1,6 +1,6 @@
 use super::assert_writes::{assert_memory_or, assert_writes};
-use super::books::{Birth, frozen_of, full_sibs};
 use super::stops_after::{StopsAfter, Then};
+use herd_fixtures::{descendants_of_full_sibs, founders, frozen_of, full_sibs};
 use herd_kinship::coefficients_plain;
 use herd_pedigree::Frozen;
 use herd_report::{ReportFault, write_inverse};
@@ -10,19 +10,6 @@ use std::io::Write;
 use std::test::Fail;
 
 const LINE: &[u8] = b"HOLGBRM000000000001,HOLGBRM000000000001,HOLGBRM000000000001,1\n";
-
-fn founder() -> [Birth; 1] {
-    [('M', 1, "2000-01-01", None, None)]
-}
-
-// With the full sibs: a cow, her calf of an inbred bull, and a calf whose dam is unknown.
-fn more() -> [Birth; 3] {
-    [
-        ('F', 7, "2000-01-02", None, None),
-        ('M', 8, "2006-01-01", Some(5), Some(7)),
-        ('F', 9, "2006-01-02", Some(1), None),
-    ]
-}
 
 fn last_lines() -> &'static [u8] {
     b"HOLGBRM000000000008,HOLGBRM000000000008,HOLGBRM000000000008,16/7
@@ -50,7 +37,7 @@ fn write<A: Allocator, W: Write>(
 
 #[test]
 fn writes_a_founder(rt: HostRuntime) -> Result<(), Fail> {
-    let frozen = frozen_of(rt.alloc(), &founder())?;
+    let frozen = founders(rt.alloc(), 1)?;
     assert_writes!(
         rt,
         LINE,
@@ -61,7 +48,7 @@ fn writes_a_founder(rt: HostRuntime) -> Result<(), Fail> {
 
 #[test]
 fn answers_memory_or_all(rt: HostRuntime) -> Result<(), Fail> {
-    let frozen = frozen_of(rt.alloc(), &founder())?;
+    let frozen = founders(rt.alloc(), 1)?;
     assert_memory_or!(
         rt,
         LINE,
@@ -73,7 +60,7 @@ fn answers_memory_or_all(rt: HostRuntime) -> Result<(), Fail> {
 #[test]
 fn writes_what_offspring_contribute(rt: HostRuntime) -> Result<(), Fail> {
     let mut births = Vec::from_slice(rt.alloc(), &full_sibs())?;
-    births.extend_from_slice(&more())?;
+    births.extend_from_slice(&descendants_of_full_sibs())?;
     let frozen = frozen_of(rt.alloc(), births.as_slice())?;
     let mut text = Vec::new(rt.alloc());
     write(rt.alloc(), &frozen, rt.alloc(), &mut text)?;

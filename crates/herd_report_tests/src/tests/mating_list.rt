@@ -1,7 +1,8 @@
 use super::assert_writes::{assert_memory_or, assert_writes};
-use super::books::{animal, frozen_of, full_sibs};
 use super::stops_after::{StopsAfter, Then};
 use herd_animal::AnimalNumber;
+use herd_fixtures::Name::{Bull, Cow};
+use herd_fixtures::{frozen_of, full_sibs};
 use herd_kinship::coefficients_plain;
 use herd_pedigree::Frozen;
 use herd_report::{ReportFault, write_mating};
@@ -41,21 +42,21 @@ fn write<A: Allocator + Clone, W: Write>(
 }
 
 // Three bulls, a cow, and a bull that isn't there.
-fn sires(alloc: Global) -> Result<[AnimalNumber; 5], Fail> {
-    Ok([
-        animal(alloc, 'M', 3)?,
-        animal(alloc, 'M', 1)?,
-        animal(alloc, 'M', 5)?,
-        animal(alloc, 'F', 4)?,
-        animal(alloc, 'M', 99)?,
-    ])
+fn sires() -> [AnimalNumber; 5] {
+    [
+        Bull(3).number(),
+        Bull(1).number(),
+        Bull(5).number(),
+        Cow(4).number(),
+        Bull(99).number(),
+    ]
 }
 
 #[test]
 fn writes_a_line_for_each_sire(rt: HostRuntime) -> Result<(), Fail> {
     let frozen = frozen_of(rt.alloc(), &full_sibs())?;
-    let dam = animal(rt.alloc(), 'F', 4)?;
-    let sires = sires(rt.alloc())?;
+    let dam = Cow(4).number();
+    let sires = sires();
     assert_writes!(
         rt,
         advice(),
@@ -67,8 +68,8 @@ fn writes_a_line_for_each_sire(rt: HostRuntime) -> Result<(), Fail> {
 #[test]
 fn answers_memory_or_all(rt: HostRuntime) -> Result<(), Fail> {
     let frozen = frozen_of(rt.alloc(), &full_sibs())?;
-    let dam = animal(rt.alloc(), 'F', 4)?;
-    let sires = sires(rt.alloc())?;
+    let dam = Cow(4).number();
+    let sires = sires();
     assert_memory_or!(
         rt,
         advice(),
@@ -80,13 +81,13 @@ fn answers_memory_or_all(rt: HostRuntime) -> Result<(), Fail> {
 #[test]
 fn tells_why_there_is_no_advice(rt: HostRuntime) -> Result<(), Fail> {
     let frozen = frozen_of(rt.alloc(), &full_sibs())?;
-    let first = animal(rt.alloc(), 'M', 1)?;
-    let son = animal(rt.alloc(), 'M', 3)?;
+    let first = Bull(1).number();
+    let son = Bull(3).number();
     let mut text = Vec::new(rt.alloc());
-    for dam in [animal(rt.alloc(), 'F', 99)?, first] {
+    for dam in [Cow(99).number(), first] {
         write(rt.alloc(), &frozen, dam, &[son], rt.alloc(), &mut text)?;
     }
-    let dam = animal(rt.alloc(), 'F', 2)?;
+    let dam = Cow(2).number();
     write(
         rt.alloc(),
         &frozen,

@@ -5,6 +5,7 @@ use super::books::{FULL_SIBS, TRANSFERS};
 use super::breaks_after::BreaksAfter;
 use super::stops_after::{StopsAfter, Then};
 use herd_animal::AnimalNumber;
+use herd_fixtures::Name::{Bull, Cow};
 use herd_register::Limits;
 use herd_report::{LineCause, LineFault, Order, RunFault, run};
 use std::io::{Read, Write};
@@ -17,10 +18,6 @@ const LIMITS: Limits = Limits {
     animals: 10,
     steps: 9,
 };
-
-const SIRE: &[u8] = b"HOLGBRM000000000003";
-
-const DAM: &[u8] = b"HOLGBRF000000000004";
 
 // The replies to the file of transfers.
 const REPLIES: [&[u8]; 9] = [
@@ -195,14 +192,14 @@ fn stops_writing_shared_coefficients(rt: HostRuntime) -> Result<(), Fail> {
 
 #[test]
 fn stops_writing_a_certificate(rt: HostRuntime) -> Result<(), Fail> {
-    let number = AnimalNumber::parse(b"HOLGBRM000000000005")?;
+    let number = Bull(5).number();
     assert_stops!(rt, |writer| certificate(&rt, number, writer));
     Ok(())
 }
 
 #[test]
 fn stops_writing_advice(rt: HostRuntime) -> Result<(), Fail> {
-    let pair = [AnimalNumber::parse(SIRE)?, AnimalNumber::parse(DAM)?];
+    let pair = [Bull(3).number(), Cow(4).number()];
     assert_stops!(rt, |writer| advice(&rt, pair, writer));
     Ok(())
 }
@@ -216,8 +213,8 @@ fn stops_writing_the_inverse(rt: HostRuntime) -> Result<(), Fail> {
 // Where a growth is refused (`rt try --test --fail-alloc N`), that is told.
 #[test]
 fn tells_memory_or_writes_all(rt: HostRuntime) -> Result<(), Fail> {
-    let number = AnimalNumber::parse(b"HOLGBRM000000000005")?;
-    let pair = [AnimalNumber::parse(SIRE)?, AnimalNumber::parse(DAM)?];
+    let number = Bull(5).number();
+    let pair = [Bull(3).number(), Cow(4).number()];
     let mut text = Vec::new(rt.alloc());
     assert!(rt; ended_or_ran_out(replies(&rt, &mut text)));
     assert!(rt; ended_or_ran_out(coefficients(&rt, 1, &mut text)));
@@ -231,7 +228,7 @@ fn tells_memory_or_writes_all(rt: HostRuntime) -> Result<(), Fail> {
 // Where the animal isn't registered, the writer isn't asked to take anything.
 #[test]
 fn writes_nothing_of_an_unknown_animal(rt: HostRuntime) -> Result<(), Fail> {
-    let number = AnimalNumber::parse(b"HOLGBRM000000000009")?;
+    let number = Bull(9).number();
     let mut writer = StopsAfter::new(rt.alloc(), 0, Then::Fails);
     let outcome = certificate(&rt, number, &mut writer);
     assert_eq!(rt; outcome, Err(RunFault::NotRegistered));

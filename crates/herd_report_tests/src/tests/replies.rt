@@ -1,5 +1,6 @@
 use super::stops_after::{StopsAfter, Then};
-use herd_animal::{AnimalNumber, Day};
+use herd_animal::Day;
+use herd_fixtures::Name::Bull;
 use herd_register::{Command, Refusal, Reply, Step};
 use herd_report::{ReportFault, write_replies};
 use linked_list_allocator::LocalHeap;
@@ -10,7 +11,7 @@ const TEXT: &[u8] = b"1,accepted\n2,refused,12\n";
 // The steps of two exits of one animal, the second of which is refused.
 fn steps() -> Result<[Step; 2], Fail> {
     let command = Command::Exit {
-        animal: AnimalNumber::parse(b"HOLGBRM000000000001")?,
+        animal: Bull(1).number(),
         day: Day::parse(b"2002-01-01")?,
     };
     let accepted = Step {

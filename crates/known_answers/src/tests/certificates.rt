@@ -1,7 +1,8 @@
 //! Certificates.
 
 use super::books::six_and;
-use super::support::{certificate, expect, expect_fault, number};
+use super::support::{certificate, expect, expect_fault};
+use herd_fixtures::Name::{Bull, Cow};
 use herd_report::RunFault;
 use std::process::Abort;
 use std::sync::Wait;
@@ -41,7 +42,7 @@ fn expect_certificate<R: Abort + AllocGlobal + Threads + Wait + Sync>(
     for line in ANCESTORS {
         wanted.push(line)?;
     }
-    let animal = number(rt, "M5")?;
+    let animal = Bull(5).number();
     expect(
         rt,
         certificate(rt, animal, six_and(rt.alloc(), records)?.as_bytes()),
@@ -65,7 +66,7 @@ fn an_animal_that_was_sold_and_left(rt: HostRuntime) -> Result<(), Fail> {
 
 #[test]
 fn an_animal_that_is_not_there(rt: HostRuntime) -> Result<(), Fail> {
-    let animal = number(&rt, "F9")?;
+    let animal = Cow(9).number();
     let text = six_and(rt.alloc(), &[])?;
     expect_fault(
         &rt,

@@ -1,7 +1,8 @@
 //! Books at the limit of depth.
 
 use super::books::pairs_and;
-use super::support::{advice, certificate, coefficients, expect, expect_last, number, replies};
+use super::support::{advice, certificate, coefficients, expect, expect_last, replies};
+use herd_fixtures::Name::{Bull, Cow};
 use std::test::Fail;
 
 const OLDER: [&str; 2] = ["birth,M101,1990-01-01,0,0,,1", "parents,M1,,M101,0,,"];
@@ -13,7 +14,7 @@ fn twenty_nine_generations(rt: HostRuntime) -> Result<(), Fail> {
     let text = pairs_and(rt.alloc(), 29, &[])?;
     let last = ["F58,33450427/33554432,99.69", "M57,33450427/33554432,99.69"];
     expect_last(&rt, coefficients(&rt, text.as_bytes()), &last)?;
-    let (dam, sires) = (number(&rt, "F58")?, [number(&rt, "M57")?]);
+    let (dam, sires) = (Cow(58).number(), [Bull(57).number()]);
     expect(
         &rt,
         advice(&rt, dam, &sires, text.as_bytes()),
@@ -60,13 +61,13 @@ fn an_older_founder_of_sixty_one_generations_is_too_deep(rt: HostRuntime) -> Res
         replies(&rt, text.as_bytes()),
         &["123,accepted", "124,refused,10"],
     )?;
-    let (dam, sires) = (number(&rt, "F122")?, [number(&rt, "M121")?]);
+    let (dam, sires) = (Cow(122).number(), [Bull(121).number()]);
     expect(
         &rt,
         advice(&rt, dam, &sires, text.as_bytes()),
         &["M121,refused,5"],
     )?;
-    let animal = number(&rt, "M1")?;
+    let animal = Bull(1).number();
     expect_last(
         &rt,
         certificate(&rt, animal, text.as_bytes()),
@@ -82,7 +83,7 @@ fn an_older_founder_of_sixty_generations_just_fits(rt: HostRuntime) -> Result<()
         replies(&rt, text.as_bytes()),
         &["121,accepted", "122,accepted"],
     )?;
-    let (dam, sires) = (number(&rt, "F118")?, [number(&rt, "M119")?]);
+    let (dam, sires) = (Cow(118).number(), [Bull(119).number()]);
     expect(
         &rt,
         advice(&rt, dam, &sires, text.as_bytes()),

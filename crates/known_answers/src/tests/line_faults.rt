@@ -1,8 +1,9 @@
 //! Files with a fault: the replies before it, and the fault.
 
 use super::support::{
-    Header, advice, certificate, coefficients, expect, expect_fault, file, inverse, number, replies,
+    Header, advice, certificate, coefficients, expect, expect_fault, file, inverse, replies,
 };
+use herd_fixtures::Name::{Bull, Cow};
 use herd_report::{LineCause, LineFault, RunFault};
 use std::test::Fail;
 
@@ -112,10 +113,10 @@ fn quoted_fields_and_other_line_ends(rt: HostRuntime) -> Result<(), Fail> {
 fn other_orders_write_nothing_for_a_file_with_a_fault(rt: HostRuntime) -> Result<(), Fail> {
     let records = ["birth,M1,2000-01-01,0,0,,1", "birth,M2,2023-02-29,0,0,,1"];
     let text = file(rt.alloc(), Header::Plain, &records)?;
-    let (dam, sires) = (number(&rt, "F2")?, [number(&rt, "M1")?]);
+    let (dam, sires) = (Cow(2).number(), [Bull(1).number()]);
     let fault = line(2, LineCause::Day);
     expect_fault(&rt, coefficients(&rt, text.as_bytes()), &[], fault)?;
-    let animal = number(&rt, "M1")?;
+    let animal = Bull(1).number();
     expect_fault(&rt, certificate(&rt, animal, text.as_bytes()), &[], fault)?;
     expect_fault(&rt, advice(&rt, dam, &sires, text.as_bytes()), &[], fault)?;
     expect_fault(&rt, inverse(&rt, text.as_bytes()), &[], fault)

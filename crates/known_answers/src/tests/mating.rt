@@ -1,7 +1,9 @@
 //! Mating advice.
 
 use super::books::six_and;
-use super::support::{advice, expect, number};
+use super::support::{advice, expect};
+use herd_fixtures::Name;
+use herd_fixtures::Name::{Bull, Cow};
 use std::process::Abort;
 use std::sync::Wait;
 use std::test::Fail;
@@ -9,44 +11,45 @@ use std::thread::Threads;
 
 fn expect_advice<R: Abort + AllocGlobal + Threads + Wait + Sync>(
     rt: &R,
-    dam: &str,
-    expected: &[(&str, &str)],
+    dam: Name,
+    expected: &[(Name, &str)],
 ) -> Result<(), Fail> {
     let mut sires = Vec::new(rt.alloc());
     let mut wanted = Vec::new(rt.alloc());
     for (sire, line) in expected {
-        sires
-            .push(number(rt, sire)?)
-            .map_err(|_| Fail::from("memory"))?;
+        sires.push(sire.number()).map_err(|_| Fail::from("memory"))?;
         wanted.push(*line)?;
     }
-    let dam = number(rt, dam)?;
     let text = six_and(rt.alloc(), &[])?;
-    let ran = advice(rt, dam, sires.as_slice(), text.as_bytes());
+    let ran = advice(rt, dam.number(), sires.as_slice(), text.as_bytes());
     expect(rt, ran, wanted.as_slice())
 }
 
 #[test]
 fn each_sire_with_a_dam(rt: HostRuntime) -> Result<(), Fail> {
     let expected = [
-        ("M3", "M3,1/4,25.00"),
-        ("M1", "M1,1/4,25.00"),
-        ("M5", "M5,3/8,37.50"),
-        ("F4", "F4,refused,3"),
-        ("M99", "M99,refused,1"),
+        (Bull(3), "M3,1/4,25.00"),
+        (Bull(1), "M1,1/4,25.00"),
+        (Bull(5), "M5,3/8,37.50"),
+        (Cow(4), "F4,refused,3"),
+        (Bull(99), "M99,refused,1"),
     ];
-    expect_advice(&rt, "F4", &expected)
+    expect_advice(&rt, Cow(4), &expected)
 }
 
 #[test]
 fn a_dam_that_is_none(rt: HostRuntime) -> Result<(), Fail> {
-    expect_advice(&rt, "F99", &[("M3", "M3,refused,2")])?;
-    expect_advice(&rt, "M1", &[("M3", "M3,refused,4")])
+    expect_advice(&rt, Cow(99), &[(Bull(3), "M3,refused,2")])?;
+    expect_advice(&rt, Bull(1), &[(Bull(3), "M3,refused,4")])
 }
 
 #[test]
 fn more_pairs(rt: HostRuntime) -> Result<(), Fail> {
-    expect_advice(&rt, "F6", &[("M5", "M5,5/16,31.25")])?;
-    expect_advice(&rt, "F2", &[("M1", "M1,0,0.00"), ("M1", "M1,0,0.00")])?;
-    expect_advice(&rt, "F2", &[])
+    expect_advice(&rt, Cow(6), &[(Bull(5), "M5,5/16,31.25")])?;
+    expect_advice(
+        &rt,
+        Cow(2),
+        &[(Bull(1), "M1,0,0.00"), (Bull(1), "M1,0,0.00")],
+    )?;
+    expect_advice(&rt, Cow(2), &[])
 }

@@ -1,6 +1,7 @@
 //! What the tests have in common: command files and texts in which numbers are written short.
 
 use herd_animal::AnimalNumber;
+use herd_fixtures::Name;
 use herd_pedigree::MOST_ANIMALS;
 use herd_register::{Limits, MOST_STEPS};
 use herd_report::{Order, RunFault};
@@ -59,25 +60,10 @@ fn push_line(text: &mut String, line: &str) -> Result<(), AllocError> {
 }
 
 fn push_field(text: &mut String, field: &str) -> Result<(), AllocError> {
-    let short = field.strip_prefix('M').or(field.strip_prefix('F'));
-    match short {
-        Some(digits) if digits.len() < 4 => {
-            text.push_str("HOLGBR")?;
-            text.push(if field.starts_with('M') { 'M' } else { 'F' })?;
-            for _ in digits.len()..12 {
-                text.push('0')?;
-            }
-            text.push_str(digits)
-        }
-        _ => text.push_str(field),
+    match Name::parse(field) {
+        Some(name) => write!(text, "{}", name.number()),
+        None => text.push_str(field),
     }
-}
-
-/// The number that is written short.
-pub(super) fn number<R: AllocGlobal>(rt: &R, short: &str) -> Result<AnimalNumber, Fail> {
-    let mut text = String::new(rt.alloc());
-    push_field(&mut text, short)?;
-    Ok(AnimalNumber::parse(text.as_bytes())?)
 }
 
 /// What a run came to: its outcome, and what it wrote.
