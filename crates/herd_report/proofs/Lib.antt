@@ -6,7 +6,6 @@ mod UpcomingFacts
 pub mod OutputFacts
 pub mod ReplyLines
 pub mod Pieces
-pub mod WideDecimal
 pub mod CoefficientFacts
 pub mod AncestorFacts
 pub mod CertificateFacts

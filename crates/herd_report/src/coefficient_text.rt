@@ -58,10 +58,10 @@ pub(crate) fn push_fraction<A: Allocator>(
     if fraction.negative {
         output.push(b"-")?;
     }
-    output.push_wide_number(fraction.numerator)?;
+    output.push_number(fraction.numerator)?;
     if fraction.denominator != 1 {
         output.push(b"/")?;
-        output.push_wide_number(fraction.denominator)?;
+        output.push_number(fraction.denominator)?;
     }
     Ok(())
 }

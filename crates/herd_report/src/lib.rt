@@ -16,7 +16,7 @@
 //! | a command file, and where it goes wrong | `CommandFile`, `LineCause` | `command_file`, `line_fault` | |
 //! | its commands, one at a time | `CommandReader` | `command_reader` | `CommandReaderFacts` |
 //! | filing them | `Run` (`HasFiled`) | `command_filing` | `RunFacts` |
-//! | how a text goes to a writer | `Output` | `output` | `OutputFacts`, `Pieces`, `WideDecimal` |
+//! | how a text goes to a writer | `Output` | `output` | `OutputFacts`, `Pieces` |
 //! | replies | `Replies` | `replies` | `ReplyLines` |
 //! | fractions and percentages | `CoefficientText` | `coefficient_text` | `CoefficientFacts` |
 //! | the list of coefficients | `InbreedingList` | `inbreeding_list` | `CoefficientFacts` |

@@ -1,4 +1,4 @@
-ghost use Rattle.std.specs.Prelude.{◌≡◌, ◌+◌, ◌<◌, [], ◌++◌, decimal, drop, IfErr, OnErr, OnOk};
+ghost use Rattle.std.specs.Prelude.{◌≡◌, [], ◌++◌, IfErr, OnErr, OnOk};
 ghost use Rattle.std.specs.Io.KnownBytes.{Appends};
 ghost use Rattle.herd_report.specs.Output.{AppendsFront, PassesOn};
 
@@ -10,9 +10,6 @@ use std::marker::Model;
 
 // What waits is written once it has so many bytes.
 const PART: usize = 65_536;
-
-// Wide numbers are written in two parts, the second of eighteen digits.
-const SPLIT: u128 = 1_000_000_000_000_000_000;
 
 /// The end of a text that still waits to be written.
 #[derive(Drop)]
@@ -64,28 +61,6 @@ impl<A: Allocator> Output<A> {
         ensures { OnOk result (self.new ≡ self.old ++ N.text number) }
     {
         self.push(Buffer::new().format(number).as_bytes())
-    }
-
-    /// Adds a number at the end, in decimal, one that may be wide.
-    pub(crate) fn push_wide_number(&mut self, number: u128) -> Result<(), AllocError>
-        ensures { OnOk result (self.new ≡ self.old ++ decimal number) }
-    {
-        if number < SPLIT {
-            return self.push_number(number as u64);
-        }
-        let high = number / SPLIT;
-        self.push_number(high)?;
-        self.push_low_digits((number - high * SPLIT) as u64)
-    }
-
-    // Adds eighteen digits. They are written after a one, so that no zero before them is left out.
-    fn push_low_digits(&mut self, low: u64) -> Result<(), AllocError>
-        requires { low < SPLIT }
-        ensures { OnOk result (self.new ≡ self.old ++ drop 1 (decimal (SPLIT + low))) }
-    {
-        let mut buffer = Buffer::new();
-        let (_, digits) = buffer.format(low + SPLIT as u64).as_bytes().split_at(1);
-        self.push(digits)
     }
 
     /// Writes what waits, where it is long enough for a write of its own.
