@@ -1,7 +1,7 @@
 //! Books of births.
 
 ghost use Rattle.std.specs.Prelude.{◌≡◌, [], ◌++◌, ◌∷◌, map, IfOk, OnErr, OnOk};
-ghost use Rattle.herd_pedigree.specs.Frozen.{IsFrozenFrom};
+ghost use Rattle.herd_pedigree.specs.freezing.Frozen.{IsFrozenFrom};
 ghost use Rattle.herd_pedigree.specs.Pedigree.{changed_to};
 ghost use Rattle.herd_pedigree.specs.declared.TheConstants.{DEPTH_LIMIT, MOST_ANIMALS};
 ghost use Rattle.herd_fixtures.specs.Birth.{entry};

@@ -18,11 +18,11 @@ use Rattle.std.proofs.lemmas.List.Sums.{sum_by-cons}
 use Rattle.std.proofs.lemmas.Map.Text.{is_eq-slice_cmp}
 use Rattle.std.proofs.lemmas.Map.Views.{Contains-keys_from_lookup, IsSome-lookup_from_Contains}
 use Rattle.std.proofs.lemmas.Slice.Eq.{bytes_eq-Decides}
-use Rattle.herd_pedigree.specs.declared.animal.Animal.{Animal}
-use Rattle.herd_pedigree.specs.Book.{Book, record_of, is_there, sire_of, dam_of, parentage_of, IsDepthOf}
-use Rattle.herd_pedigree.specs.Frozen.{age_cmp}
-use Rattle.herd_pedigree.specs.Lawful.{IsLawful as IsLawfulBook}
-use Rattle.herd_pedigree.specs.Lines.{has_line}
+use Rattle.herd_pedigree.specs.declared.rules.animal.Animal.{Animal}
+use Rattle.herd_pedigree.specs.rules.Book.{Book, record_of, is_there, sire_of, dam_of, parentage_of, IsDepthOf}
+use Rattle.herd_pedigree.specs.freezing.Frozen.{age_cmp}
+use Rattle.herd_pedigree.specs.rules.Lawful.{IsLawful as IsLawfulBook}
+use Rattle.herd_pedigree.specs.rules.Lines.{has_line}
 use Rattle.herd_kinship.specs.FrozenAncestry.{is_before, book_ancestry}
 use Rattle.herd_kinship.proofs.LawfulAncestry.{IsLawful, Line, IsDepth, IsShallow}
 

@@ -3,8 +3,8 @@ use Rattle.std.proofs.Common.{ℕ, ◌+◌, ◌<◌, ◌≤◌, ◌≡◌, ◌�
 use Rattle.std.proofs.lemmas.Bool.{cases_lt, cases_eq}
 use Rattle.std.proofs.lemmas.List.{get_or-set_same, get_or-set_other, length-set, get_or_read}
 use Rattle.std.proofs.lemmas.Option.{slice_get_within}
-use Rattle.herd_pedigree.specs.declared.frozen.Parents.{Parents}
-use Rattle.herd_pedigree.specs.declared.frozen.Row.{Row}
+use Rattle.herd_pedigree.specs.declared.freezing.frozen.Parents.{Parents}
+use Rattle.herd_pedigree.specs.declared.freezing.frozen.Row.{Row}
 use Rattle.herd_kinship.specs.CalfLinks.{IsCalf, IsLink, AreLinked}
 use Rattle.herd_kinship.specs.Places.{AreParentsAt, sire_place}
 use Rattle.herd_kinship.proofs.Brought.{option_cases}

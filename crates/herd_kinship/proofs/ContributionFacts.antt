@@ -6,8 +6,8 @@ use Rattle.std.proofs.Math.Nat.{pow-succ'}
 use Rattle.std.proofs.Math.Pow.{pow-lt}
 use Rattle.std.proofs.lemmas.Bool.{cases_lt}
 use Rattle.std.proofs.lemmas.List.Elements.{All-cons, All-nil}
-use Rattle.herd_pedigree.specs.declared.frozen.Row.{Row}
-use Rattle.herd_pedigree.specs.Frozen.{IsFrozen}
+use Rattle.herd_pedigree.specs.declared.freezing.frozen.Row.{Row}
+use Rattle.herd_pedigree.specs.freezing.Frozen.{IsFrozen}
 use Rattle.herd_kinship.specs.declared.contribution.Contributions.{Contributions}
 use Rattle.herd_kinship.specs.declared.contribution.Contribution.{Contribution}
 use Rattle.herd_kinship.specs.declared.fractions.Fraction.{Fraction}

@@ -2,9 +2,9 @@
 use Rattle.std.proofs.Common.{ℕ, zero, suc, ◌+◌, ◌<◌, ◌≤◌, ◌≡◌, inl, inr, ⊎_elim, List, length, map, slice_get, Some, None, Option, arith, refl, sym, ap, subst, ◌∙◌}
 use Rattle.std.specs.Option.{option_map}
 use Rattle.std.proofs.lemmas.Option.{slice_get-map, get_or_from_slice_get}
-use Rattle.herd_pedigree.specs.declared.frozen.Row.{Row}
-use Rattle.herd_pedigree.specs.Book.{IsDepthOf}
-use Rattle.herd_pedigree.specs.Frozen.{IsFrozen, book_of, depth_at}
+use Rattle.herd_pedigree.specs.declared.freezing.frozen.Row.{Row}
+use Rattle.herd_pedigree.specs.rules.Book.{IsDepthOf}
+use Rattle.herd_pedigree.specs.freezing.Frozen.{IsFrozen, book_of, depth_at}
 use Rattle.herd_kinship.specs.Ancestry.{Ancestry, IsParentIn, LineTo}
 use Rattle.herd_kinship.specs.FrozenAncestry.{ancestry_of, number_of_row}
 use Rattle.herd_kinship.specs.Places.{placed}

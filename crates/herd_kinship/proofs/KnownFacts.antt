@@ -1,7 +1,7 @@
 -- What follows where the coefficients at an animal's ancestors are known.
 use Rattle.std.proofs.Common.{ℕ, suc, ◌+◌, ◌*◌, ◌-◌, ◌/◌, ◌^◌, ◌<◌, ◌≤◌, ◌≡◌, ◌⊎◌, ⊎_elim, inl, inr, List, length, slice_get, get_or, set, min, Option, Some, None, is_some, ◌&&◌, false, arith, sym, ◌∙◌, ap, subst, refl}
-use Rattle.herd_pedigree.specs.declared.frozen.Row.{Row}
-use Rattle.herd_pedigree.specs.Frozen.{IsFrozen, depth_at}
+use Rattle.herd_pedigree.specs.declared.freezing.frozen.Row.{Row}
+use Rattle.herd_pedigree.specs.freezing.Frozen.{IsFrozen, depth_at}
 use Rattle.herd_kinship.specs.Ancestry.{IsAncestor, IsParentIn, LineTo}
 use Rattle.herd_kinship.specs.Table.{coefficient, entry, mendelian}
 use Rattle.herd_kinship.specs.Shares.{share}

@@ -1,7 +1,7 @@
 -- The laws of the numerator relationship matrix hold in each frozen book.
 use Rattle.std.proofs.Common.{ℕ, suc, ◌+◌, ◌<◌, ◌≡◌, List, length, Some, arith}
-use Rattle.herd_pedigree.specs.declared.frozen.Row.{Row}
-use Rattle.herd_pedigree.specs.Frozen.{IsFrozen, book_of}
+use Rattle.herd_pedigree.specs.declared.freezing.frozen.Row.{Row}
+use Rattle.herd_pedigree.specs.freezing.Frozen.{IsFrozen, book_of}
 use Rattle.herd_kinship.specs.FrozenAncestry.{ancestry_of, number_of_row}
 use Rattle.herd_kinship.specs.Laws.{KeepsHalves, IsBounded, IsDecomposed, IsDiagonalised}
 use Rattle.herd_kinship.proofs.BookFacts.{depth_from_book}

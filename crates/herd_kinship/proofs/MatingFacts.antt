@@ -4,10 +4,10 @@ use Rattle.std.proofs.lemmas.Bool.{false_from_ne_true}
 use Rattle.std.proofs.lemmas.Option.{get_or_from_slice_get, slice_get_within}
 use Rattle.herd_animal.specs.Sex.{is_male}
 use Rattle.herd_pedigree.specs.declared.TheConstants.{MOST_ANIMALS}
-use Rattle.herd_pedigree.specs.declared.frozen.Row.{Row}
-use Rattle.herd_pedigree.specs.Book.{Book, is_there, parentage_of, record_of, IsDepthOf}
-use Rattle.herd_pedigree.specs.Frozen.{IsFrozen, book_of, depth_at, numbers_of}
-use Rattle.herd_pedigree.specs.Lines.{has_line}
+use Rattle.herd_pedigree.specs.declared.freezing.frozen.Row.{Row}
+use Rattle.herd_pedigree.specs.rules.Book.{Book, is_there, parentage_of, record_of, IsDepthOf}
+use Rattle.herd_pedigree.specs.freezing.Frozen.{IsFrozen, book_of, depth_at, numbers_of}
+use Rattle.herd_pedigree.specs.rules.Lines.{has_line}
 use Rattle.herd_kinship.specs.FrozenAncestry.{ancestry_of, number_of_row}
 use Rattle.herd_kinship.specs.Mating.{ArePair, is_deepest, mating_fault}
 use Rattle.herd_kinship.specs.declared.mating_advice.MatingFault.TheVariants.{SireMissing, DamMissing, SireNotMale, DamNotFemale, TooDeep}

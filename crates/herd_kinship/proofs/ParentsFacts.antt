@@ -1,9 +1,9 @@
 -- What the parents and the depth of a row say of its place.
 use Rattle.std.proofs.Common.{ℕ, ◌<◌, ◌≤◌, ◌≡◌, List, length, refl, sym, ◌∙◌, ap, subst}
 use Rattle.std.proofs.lemmas.Option.{slice_get_within}
-use Rattle.herd_pedigree.specs.declared.frozen.Parents.{Parents}
-use Rattle.herd_pedigree.specs.declared.frozen.Row.{Row}
-use Rattle.herd_pedigree.specs.Frozen.{IsFrozen, depth_at}
+use Rattle.herd_pedigree.specs.declared.freezing.frozen.Parents.{Parents}
+use Rattle.herd_pedigree.specs.declared.freezing.frozen.Row.{Row}
+use Rattle.herd_pedigree.specs.freezing.Frozen.{IsFrozen, depth_at}
 use Rattle.herd_kinship.specs.Places.{AreParentsAt, sire_place, dam_place}
 use Rattle.herd_kinship.proofs.FrozenDepths.{depth_at-row, depth-at_most}
 

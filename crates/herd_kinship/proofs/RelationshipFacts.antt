@@ -3,9 +3,9 @@ use Rattle.std.proofs.Common.{ℕ, ◌*◌, ◌-◌, ◌/◌, ◌<◌, ◌≡◌
 use Rattle.std.proofs.lemmas.List.{take_all, take-append-le}
 use Rattle.std.proofs.lemmas.Option.{slice_get-get_or}
 use Rattle.herd_pedigree.specs.declared.TheConstants.{MOST_ANIMALS}
-use Rattle.herd_pedigree.specs.declared.frozen.Row.{Row}
-use Rattle.herd_pedigree.specs.Book.{is_there}
-use Rattle.herd_pedigree.specs.Frozen.{IsFrozen, book_of, numbers_of}
+use Rattle.herd_pedigree.specs.declared.freezing.frozen.Row.{Row}
+use Rattle.herd_pedigree.specs.rules.Book.{is_there}
+use Rattle.herd_pedigree.specs.freezing.Frozen.{IsFrozen, book_of, numbers_of}
 use Rattle.herd_kinship.specs.Columns.{related, AreRelationships}
 use Rattle.herd_kinship.specs.FrozenAncestry.{ancestry_of, number_of_row}
 use Rattle.herd_kinship.specs.Mating.{ArePair, AreRelationshipsOf}

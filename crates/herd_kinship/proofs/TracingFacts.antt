@@ -4,10 +4,10 @@ use Rattle.std.proofs.Math.Nat.{mod-eq_of_lt, mul-le-mul_left}
 use Rattle.std.proofs.Math.Pow.{pow_pos}
 use Rattle.std.proofs.lemmas.Bool.{cases_eq}
 use Rattle.std.proofs.lemmas.List.{get_or-set_same, get_or-set_other, length-set}
-use Rattle.herd_pedigree.specs.declared.frozen.Parents.{Parents}
-use Rattle.herd_pedigree.specs.declared.frozen.Row.{Row}
+use Rattle.herd_pedigree.specs.declared.freezing.frozen.Parents.{Parents}
+use Rattle.herd_pedigree.specs.declared.freezing.frozen.Row.{Row}
 use Rattle.herd_pedigree.specs.declared.TheConstants.{MOST_ANIMALS}
-use Rattle.herd_pedigree.specs.Frozen.{IsFrozen, depth_at}
+use Rattle.herd_pedigree.specs.freezing.Frozen.{IsFrozen, depth_at}
 use Rattle.herd_kinship.specs.Ancestry.{LineTo}
 use Rattle.herd_kinship.specs.Shares.{share}
 use Rattle.herd_kinship.specs.Places.{AreParentsAt, sire_place, dam_place, placed}

@@ -6,9 +6,9 @@ use Rattle.std.proofs.lemmas.Bool.{cases_eq, cases_lt}
 use Rattle.std.proofs.lemmas.Nat.Bits.{bit_at-lt}
 use Rattle.std.proofs.lemmas.List.{get_or-replicate, get_or-set_same, get_or-set_other, get_or_past, length-replicate, length-set}
 use Rattle.herd_pedigree.specs.declared.TheConstants.{MOST_ANIMALS}
-use Rattle.herd_pedigree.specs.declared.frozen.Parents.{Parents}
-use Rattle.herd_pedigree.specs.declared.frozen.Row.{Row}
-use Rattle.herd_pedigree.specs.Frozen.{IsFrozen, depth_at, parents_of}
+use Rattle.herd_pedigree.specs.declared.freezing.frozen.Parents.{Parents}
+use Rattle.herd_pedigree.specs.declared.freezing.frozen.Row.{Row}
+use Rattle.herd_pedigree.specs.freezing.Frozen.{IsFrozen, depth_at, parents_of}
 use Rattle.herd_kinship.specs.Pending.{mark, Marks}
 use Rattle.herd_kinship.specs.Places.{AreParentsAt, placed}
 use Rattle.herd_kinship.specs.Shares.{share}

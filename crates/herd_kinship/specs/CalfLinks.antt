@@ -1,7 +1,7 @@
 -- The calves of each sire of which the dam is known too, linked from the youngest to the oldest. Animals are named
 -- by their places.
 use Rattle.std.specs.Prelude.{◌≡◌, ℕ, ◌<◌, ◌≤◌, List, length, slice_index_or, Option, None, Some}
-use Rattle.herd_pedigree.specs.declared.frozen.Row.{Row}
+use Rattle.herd_pedigree.specs.declared.freezing.frozen.Row.{Row}
 use Rattle.herd_kinship.specs.Places.{sire_place, dam_place}
 
 -- x is a calf of s and of a known dam

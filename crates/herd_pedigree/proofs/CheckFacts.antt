@@ -9,26 +9,26 @@ use Rattle.std.proofs.lemmas.Option.{slice_get_within, same_Some}
 use Rattle.std.proofs.lemmas.List.{get_or-set_same, get_or-set_other, length-set}
 use Rattle.std.proofs.lemmas.List.Folds.{list_any_none}
 use Rattle.indexmap.specs.IndexMap.{set_value_at}
-use Rattle.herd_pedigree.specs.declared.animal.Animal.{Animal}
-use Rattle.herd_pedigree.specs.declared.parent_fault.ParentFault.{ParentFault}
-use Rattle.herd_pedigree.specs.declared.parent_fault.ParentFault.TheVariants.{TooDeep}
-use Rattle.herd_pedigree.specs.Lines.{Parentage, has_line}
-use Rattle.herd_pedigree.specs.Book.{Book, record_of, parentage_of, changed, with_parents}
-use Rattle.herd_pedigree.specs.ParentFault.{parent_fault, first_that_holds, record_faults, record_named, is_too_deep}
-use Rattle.herd_pedigree.specs.Depths.{IsParent, AreDepths, depth_from}
-use Rattle.herd_pedigree.specs.Places.{parent_at, parentage_at, IsPlaceIn, AreParents}
-use Rattle.herd_pedigree.specs.Kept.{IsKept}
-use Rattle.herd_pedigree.specs.Carry.{IsSettled}
-use Rattle.herd_pedigree.proofs.LineFacts.{Line, line-from_test, test-from_line, line-at_most, line-there, below_from, depths-fall, depths-line, depths-shallow}
-use Rattle.herd_pedigree.proofs.BookFacts.{entry_from_key, lookup_at, length-keys, there}
-use Rattle.herd_pedigree.proofs.FaultFacts.{fault-split}
-use Rattle.herd_pedigree.proofs.PlaceFacts.{line_by_place, line_by_number, place_from_there, number_from_there, number_from_place}
-use Rattle.herd_pedigree.proofs.DepthFacts.{IsLeafSet, depths-leaf, from-most}
-use Rattle.herd_pedigree.proofs.ProgenyFacts.{parent-within}
-use Rattle.herd_pedigree.proofs.CarryFacts.{settled-but}
+use Rattle.herd_pedigree.specs.declared.rules.animal.Animal.{Animal}
+use Rattle.herd_pedigree.specs.declared.rules.parent_fault.ParentFault.{ParentFault}
+use Rattle.herd_pedigree.specs.declared.rules.parent_fault.ParentFault.TheVariants.{TooDeep}
+use Rattle.herd_pedigree.specs.rules.Lines.{Parentage, has_line}
+use Rattle.herd_pedigree.specs.rules.Book.{Book, record_of, parentage_of, changed, with_parents}
+use Rattle.herd_pedigree.specs.rules.ParentFault.{parent_fault, first_that_holds, record_faults, record_named, is_too_deep}
+use Rattle.herd_pedigree.specs.rules.Depths.{IsParent, AreDepths, depth_from}
+use Rattle.herd_pedigree.specs.store.Places.{parent_at, parentage_at, IsPlaceIn, AreParents}
+use Rattle.herd_pedigree.specs.store.Kept.{IsKept}
+use Rattle.herd_pedigree.specs.store.Carry.{IsSettled}
+use Rattle.herd_pedigree.proofs.lemmas.rules.LineFacts.{Line, line-from_test, test-from_line, line-at_most, line-there, below_from, depths-fall, depths-line, depths-shallow}
+use Rattle.herd_pedigree.proofs.lemmas.rules.BookFacts.{entry_from_key, lookup_at, length-keys, there}
+use Rattle.herd_pedigree.proofs.lemmas.rules.FaultFacts.{fault-split}
+use Rattle.herd_pedigree.proofs.lemmas.store.PlaceFacts.{line_by_place, line_by_number, place_from_there, number_from_there, number_from_place}
+use Rattle.herd_pedigree.proofs.lemmas.store.DepthFacts.{IsLeafSet, depths-leaf, from-most}
+use Rattle.herd_pedigree.proofs.lemmas.store.ProgenyFacts.{parent-within}
+use Rattle.herd_pedigree.proofs.lemmas.store.CarryFacts.{settled-but}
 use Rattle.herd_pedigree.proofs.KeptFacts.{too_deep-birth}
-use Rattle.herd_pedigree.proofs.WrittenFacts.{written-changed, too_deep-written}
-use Rattle.herd_pedigree.proofs.SetFacts.{keys-set, set-changed, AreParents-set}
+use Rattle.herd_pedigree.proofs.lemmas.rules.WrittenFacts.{written-changed, too_deep-written}
+use Rattle.herd_pedigree.proofs.lemmas.store.SetFacts.{keys-set, set-changed, AreParents-set}
 
 -- a named parent's place is within the book
 named-within : (numbers : List (List ℕ)) (o : Option ℕ) (n : Option (List ℕ)) (p : ℕ) → IsPlaceIn numbers o n → o ≡ Some p → p < length numbers

@@ -9,48 +9,38 @@
 //!     let fault = pedigree.add_if_sound(number, animal)?;
 //!     let frozen = pedigree.freeze(alloc)?;
 //!
-//! The rules stand in `specs/`: `Lawful` and `ParentFault` say what may be, `Lines` what a depth is, `Frozen` what age
-//! order is. The crate `library_example` has whole calls.
+//! Three folders stand under `Pedigree`, by the same names in `src/` and `specs/`, with their lemmas in `proofs/lemmas/`.
+//!
+//! - **`rules`**: what may be. `Lawful` and `ParentFault` say it, `Lines` says what a depth is.
+//! - **`store`**: how the book is kept, changed and taken back, by places. It names no fault of parents.
+//! - **`freezing`**: the book in age order. `Frozen` says what that is.
+//!
+//! The crate `library_example` has whole calls.
 #![tactic(auto)]
 
-mod age_order;
-mod animal;
-mod correction;
-mod depth;
-mod freeze;
-mod frozen;
-mod levels;
-mod links;
-mod listed;
-mod named;
-mod number_index;
-mod packed_place;
-mod parent_fault;
+mod freezing;
 mod pedigree;
-mod progeny;
-mod records;
-mod registered;
-mod rows;
-mod undo;
+mod rules;
+mod store;
 
-pub use animal::Animal;
-pub use freeze::freeze_list;
-pub use frozen::{Frozen, Parents, Row};
-pub use parent_fault::ParentFault;
+pub use freezing::freeze::freeze_list;
+pub use freezing::frozen::{Frozen, Parents, Row};
 pub use pedigree::Pedigree;
+pub use rules::animal::Animal;
+pub use rules::parent_fault::ParentFault;
 // A crate can name a pedigree or a frozen book in a contract only if the types of its fields are exported.
 #[doc(hidden)]
-pub use number_index::NumberIndex;
+pub use freezing::number_index::NumberIndex;
 #[doc(hidden)]
-pub use packed_place::PackedPlace;
+pub use freezing::rows::{PackedParents, RowRecord, Rows};
 #[doc(hidden)]
-pub use progeny::{Family, Progeny};
+pub use store::packed_place::PackedPlace;
 #[doc(hidden)]
-pub use records::{Records, StoredRecord};
+pub use store::progeny::{Family, Progeny};
 #[doc(hidden)]
-pub use rows::{PackedParents, RowRecord, Rows};
+pub use store::records::{Records, StoredRecord};
 #[doc(hidden)]
-pub use undo::Undo;
+pub use store::undo::Undo;
 
 /// The number of steps that the longest line of known parents may have.
 ///

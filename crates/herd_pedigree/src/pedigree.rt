@@ -1,24 +1,24 @@
 ghost use Rattle.std.specs.Prelude.{◌≡◌, ◌==◌, ◌<◌, ◌≤◌, [], ◌++◌, ◌∷◌, ℕ, List, length, Option, None, Some, IfNone, IfOk, IfSome, OnOk, OnErr, IsSome, is_some};
 ghost use Rattle.std.specs.Map.{keys_of};
-ghost use Rattle.herd_pedigree.specs.Book.{IsDepthOf, changed, has_calved_after, record_of, with_left, with_owner, with_parents};
-ghost use Rattle.herd_pedigree.specs.Frozen.{IsFrozenFrom};
-ghost use Rattle.herd_pedigree.specs.Lawful.{IsLawful};
-ghost use Rattle.herd_pedigree.specs.ParentFault.{is_too_deep, parent_fault};
-ghost use Rattle.herd_pedigree.specs.Places.{IsPlaceIn};
+ghost use Rattle.herd_pedigree.specs.rules.Book.{IsDepthOf, changed, has_calved_after, record_of, with_left, with_owner, with_parents};
+ghost use Rattle.herd_pedigree.specs.freezing.Frozen.{IsFrozenFrom};
+ghost use Rattle.herd_pedigree.specs.rules.Lawful.{IsLawful};
+ghost use Rattle.herd_pedigree.specs.rules.ParentFault.{is_too_deep, parent_fault};
+ghost use Rattle.herd_pedigree.specs.store.Places.{IsPlaceIn};
 ghost use Rattle.herd_pedigree.specs.Pedigree.{IsBirth, IsCorrection, IsExit, IsNewborn, IsPresentOn, changed_to};
 ghost use Rattle.herd_pedigree.specs.declared.TheConstants.{DEPTH_LIMIT, MOST_ANIMALS};
 
 use crate::DEPTH_LIMIT;
-use crate::animal::Animal;
-use crate::correction::Correction;
-use crate::depth::{depth_with, undo_writes};
-use crate::freeze::frozen_from;
-use crate::frozen::Frozen;
-use crate::named::{find, record_fault};
-use crate::parent_fault::ParentFault;
-use crate::progeny::Progeny;
-use crate::records::Records;
-use crate::undo::Undo;
+use crate::freezing::freeze::frozen_from;
+use crate::freezing::frozen::Frozen;
+use crate::rules::animal::Animal;
+use crate::rules::named::{find, record_fault};
+use crate::rules::parent_fault::ParentFault;
+use crate::store::correction::Correction;
+use crate::store::depth::{depth_with, undo_writes};
+use crate::store::progeny::Progeny;
+use crate::store::records::Records;
+use crate::store::undo::Undo;
 use herd_animal::{AnimalNumber, Day, Herd};
 use std::alloc::{AllocError, Allocator};
 use std::marker::Model;
@@ -38,7 +38,7 @@ pub struct Pedigree<A: Allocator> {
 
 impl<A: Allocator> Model for Pedigree<A> {
     ghost use Rattle.herd_pedigree.specs.Pedigree.{Pedigree};
-    ghost use Rattle.herd_pedigree.specs.Undo.{IsHeld, undone_book};
+    ghost use Rattle.herd_pedigree.specs.store.Undo.{IsHeld, undone_book};
     ghost use Rattle.herd_pedigree.specs.declared.TheConstants.{DEPTH_LIMIT, MOST_ANIMALS};
 
     ghost Value = { Pedigree };

@@ -1,7 +1,7 @@
 -- What is known of an animal once all animals of less depth have their coefficients.
 use Rattle.std.proofs.Common.{◌≡◌, ℕ, ◌-◌, ◌*◌, ◌^◌, ◌<◌, List, length, min, arith}
-use Rattle.herd_pedigree.specs.declared.frozen.Row.{Row}
-use Rattle.herd_pedigree.specs.Frozen.{IsFrozen}
+use Rattle.herd_pedigree.specs.declared.freezing.frozen.Row.{Row}
+use Rattle.herd_pedigree.specs.freezing.Frozen.{IsFrozen}
 use Rattle.herd_kinship.specs.Coefficients.{KnowsAncestors, own_relationship}
 use Rattle.herd_kinship.proofs.KnownFacts.{frozen-inbred_value, known-from_levels}
 use Rattle.herd_pool.specs.Levels.{KnowsBelow, coefficient_at}

@@ -2,8 +2,8 @@
 use Rattle.std.specs.Prelude.{◌≡◌, ℕ, ◌*◌, ◌<◌, ◌⊎◌, List, length, map, take, drop, slice_index}
 use Rattle.std.specs.List.{All}
 use Rattle.std.specs.Int.{div_ceil}
-use Rattle.herd_pedigree.specs.declared.frozen.Row.{Row}
-use Rattle.herd_pedigree.specs.Frozen.{IsFrozen, depth_at, level_of}
+use Rattle.herd_pedigree.specs.declared.freezing.frozen.Row.{Row}
+use Rattle.herd_pedigree.specs.freezing.Frozen.{IsFrozen, depth_at, level_of}
 use Rattle.herd_kinship.specs.FrozenAncestry.{ancestry_of, number_of_row}
 use Rattle.herd_kinship.specs.Table.{coefficient}
 use Rattle.herd_pool.specs.Blocks.{once_below, times}

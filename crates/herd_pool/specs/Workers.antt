@@ -4,7 +4,7 @@ use Rattle.std.specs.List.{All}
 use Rattle.crossbeam_deque.specs.Handles.{Pass, view, IsPassOf, stealer_deque, worker_flavor, worker_port, worker_view}
 use Rattle.crossbeam_deque.specs.declared.handles.Stealer.{Stealer}
 use Rattle.crossbeam_deque.specs.declared.handles.Worker.{Worker}
-use Rattle.herd_pedigree.specs.declared.frozen.Row.{Row}
+use Rattle.herd_pedigree.specs.declared.freezing.frozen.Row.{Row}
 use Rattle.herd_pool.specs.Blocks.{pass_view}
 use Rattle.herd_pool.specs.Levels.{IsComputed, numbers}
 use Rattle.herd_pool.specs.declared.queue.PassView.{PassView}

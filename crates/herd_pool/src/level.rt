@@ -1,7 +1,7 @@
 //! A level of the book and its blocks.
 ghost use Rattle.std.specs.Prelude.{◌≡◌, ◌<◌, length, IfOk};
 ghost use Rattle.std.specs.Int.{div_ceil};
-ghost use Rattle.herd_pedigree.specs.Frozen.{IsFrozen, level_of};
+ghost use Rattle.herd_pedigree.specs.freezing.Frozen.{IsFrozen, level_of};
 ghost use Rattle.herd_pedigree.specs.declared.TheConstants.{DEPTH_LIMIT, MOST_ANIMALS};
 ghost use Rattle.herd_pool.specs.Levels.{block_of, IsComputed, KnowsBelow};
 

@@ -1,6 +1,6 @@
 //! The blocks of a level, written into the list of all numerators.
 ghost use Rattle.std.specs.Prelude.{◌≡◌, ℕ, ◌<◌, All, length, map};
-ghost use Rattle.herd_pedigree.specs.Frozen.{level_of};
+ghost use Rattle.herd_pedigree.specs.freezing.Frozen.{level_of};
 ghost use Rattle.herd_pedigree.specs.declared.TheConstants.{DEPTH_LIMIT};
 ghost use Rattle.herd_pool.specs.Levels.{block_of, coefficient_at, HasAt, IsComputed, Keeps};
 

@@ -1,6 +1,6 @@
 ghost use Rattle.std.specs.Prelude.{◌≡◌, ◌≤◌, [], IfOk, length};
-ghost use Rattle.herd_pedigree.specs.Frozen.{IsFrozenFrom};
-ghost use Rattle.herd_pedigree.specs.Lawful.{IsLawful};
+ghost use Rattle.herd_pedigree.specs.freezing.Frozen.{IsFrozenFrom};
+ghost use Rattle.herd_pedigree.specs.rules.Lawful.{IsLawful};
 ghost use Rattle.herd_pedigree.specs.declared.TheConstants.{DEPTH_LIMIT, MOST_ANIMALS};
 ghost use Rattle.herd_register.specs.Copybook.{copybook_of, set_in, taken_over};
 ghost use Rattle.herd_register.specs.CopiedRecords.{records_of};

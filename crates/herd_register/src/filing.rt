@@ -1,7 +1,7 @@
 //! What a command asks of the pedigree, and what it changes in it.
 ghost use Rattle.std.specs.Prelude.{◌≡◌, ◌≤◌, IfNone, IfOk, IsSome, OnOk, OnErr};
-ghost use Rattle.herd_pedigree.specs.Book.{changed, with_left, with_owner, with_parents};
-ghost use Rattle.herd_pedigree.specs.ParentFault.{first_that_holds};
+ghost use Rattle.herd_pedigree.specs.rules.Book.{changed, with_left, with_owner, with_parents};
+ghost use Rattle.herd_pedigree.specs.rules.ParentFault.{first_that_holds};
 ghost use Rattle.herd_pedigree.specs.Pedigree.{changed_to};
 ghost use Rattle.herd_pedigree.specs.declared.TheConstants.{MOST_ANIMALS};
 ghost use Rattle.herd_register.specs.Run.{answer, birth_refusals, correction_refusals, exit_refusals, next, transfer_refusals, with_record};

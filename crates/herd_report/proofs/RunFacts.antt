@@ -3,11 +3,11 @@ use Rattle.std.proofs.Common.{◌≡◌, ◌≢◌, ◌↔◌, inl, inr, ℕ, su
 use Rattle.std.proofs.lemmas.List.Sorted.{IsPermutation-sym}
 use Rattle.std.specs.Prelude.{Bool, is_some}
 use Rattle.std.specs.Io.KnownBytes.{Appends}
-use Rattle.herd_pedigree.specs.Book.{Book, is_there}
-use Rattle.herd_pedigree.specs.Frozen.{IsFrozenFrom, book_of}
+use Rattle.herd_pedigree.specs.rules.Book.{Book, is_there}
+use Rattle.herd_pedigree.specs.freezing.Frozen.{IsFrozenFrom, book_of}
 use Rattle.herd_pedigree.specs.declared.TheConstants.{DEPTH_LIMIT, MOST_ANIMALS}
-use Rattle.herd_pedigree.specs.declared.frozen.Row.{Row}
-use Rattle.herd_pedigree.proofs.PermutedFacts.{record_of-permuted}
+use Rattle.herd_pedigree.specs.declared.freezing.frozen.Row.{Row}
+use Rattle.herd_pedigree.proofs.lemmas.rules.PermutedFacts.{record_of-permuted}
 use Rattle.herd_register.specs.Register.{Register, with_step}
 use Rattle.herd_register.specs.Register.{register_book}
 use Rattle.herd_register.specs.Run.{answer, next, step_of, book_after, commands_of, run_book}
@@ -16,22 +16,22 @@ use Rattle.herd_register.specs.declared.limits.Limits.{Limits}
 use Rattle.herd_register.specs.declared.step.Step.{Step}
 use Rattle.herd_pool.specs.declared.pool_fault.PoolFault.{PoolFault}
 use Rattle.herd_pool.specs.declared.pool_fault.PoolFault.TheVariants as pool
-use Rattle.herd_report.specs.CommandFile.{CommandFile, IsRead, IsReadBefore, commands, commands_from}
-use Rattle.herd_report.specs.LineCause.{is_interruption}
-use Rattle.herd_report.specs.Output.{AppendsFront}
-use Rattle.herd_report.specs.Replies.{reply_line, reply_lines_from, replies_text}
+use Rattle.herd_report.specs.reading.CommandFile.{CommandFile, IsRead, IsReadBefore, commands, commands_from}
+use Rattle.herd_report.specs.reading.LineCause.{is_interruption}
+use Rattle.herd_report.specs.writing.Output.{AppendsFront}
+use Rattle.herd_report.specs.writing.Replies.{reply_line, reply_lines_from, replies_text}
 use Rattle.herd_report.specs.Run.{EndsBy, HasFiled, IsAnswered, IsFiledFile, IsFrozenFile, IsReport, IsThere, NeedsMemory, StopsWriting, filed_from, replies_to, wanted}
 use Rattle.herd_report.specs.RunFault.{EndsListing, EndsReport, run_fault_of, run_fault_of_certificate, run_fault_of_pool}
-use Rattle.herd_report.specs.declared.certificate_fault.CertificateFault.{CertificateFault}
-use Rattle.herd_report.specs.declared.certificate_fault.CertificateFault.TheVariants as certificate
-use Rattle.herd_report.specs.declared.line_fault.LineFault.{LineFault}
-use Rattle.herd_report.specs.declared.report_fault.ReportFault.{ReportFault}
-use Rattle.herd_report.specs.declared.report_fault.ReportFault.TheVariants as report
+use Rattle.herd_report.specs.declared.writing.certificate_fault.CertificateFault.{CertificateFault}
+use Rattle.herd_report.specs.declared.writing.certificate_fault.CertificateFault.TheVariants as certificate
+use Rattle.herd_report.specs.declared.reading.line_fault.LineFault.{LineFault}
+use Rattle.herd_report.specs.declared.writing.report_fault.ReportFault.{ReportFault}
+use Rattle.herd_report.specs.declared.writing.report_fault.ReportFault.TheVariants as report
 use Rattle.herd_report.specs.declared.orders.Order.{Order}
 use Rattle.herd_report.specs.declared.orders.Order.TheVariants.{File, Inbreeding, Certificate}
 use Rattle.herd_report.specs.declared.run_fault.RunFault.{RunFault}
 use Rattle.herd_report.specs.declared.run_fault.RunFault.TheVariants.{Line, NotRegistered, NoThread, Memory, Write}
-use Rattle.herd_report.proofs.OutputFacts.{passes_before, some_before}
+use Rattle.herd_report.proofs.lemmas.writing.OutputFacts.{passes_before, some_before}
 
 -- the steps of more commands come after those of the first ones
 pub filed_from-append : (limits : Limits) (book : Book) (first rest : List Command) →

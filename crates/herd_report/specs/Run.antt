@@ -1,10 +1,10 @@
 -- What a run writes for a command file, and how it may end.
 use Rattle.std.specs.Prelude.{◌≡◌, ◌≢◌, ◌⊎◌, ◌<◌, ◌≤◌, ℕ, List, [], ◌∷◌, ⊤, Option, Some, None, true, false, length}
 use Rattle.std.specs.Io.KnownBytes.{Appends}
-use Rattle.herd_pedigree.specs.Book.{Book, is_there}
-use Rattle.herd_pedigree.specs.Frozen.{IsFrozenFrom, book_of}
+use Rattle.herd_pedigree.specs.rules.Book.{Book, is_there}
+use Rattle.herd_pedigree.specs.freezing.Frozen.{IsFrozenFrom, book_of}
 use Rattle.herd_pedigree.specs.declared.TheConstants.{DEPTH_LIMIT, MOST_ANIMALS}
-use Rattle.herd_pedigree.specs.declared.frozen.Row.{Row}
+use Rattle.herd_pedigree.specs.declared.freezing.frozen.Row.{Row}
 use Rattle.herd_register.specs.Register.{Register}
 use Rattle.herd_register.specs.Run.{answer, next, run_book, step_of}
 use Rattle.herd_register.specs.declared.command.Command.{Command}
@@ -13,14 +13,14 @@ use Rattle.herd_register.specs.declared.step.Step.{Step}
 use Rattle.herd_kinship.specs.FrozenAncestry.{ancestry_of}
 use Rattle.herd_kinship.specs.Table.{coefficient}
 use Rattle.herd_pool.specs.declared.limits.TheConstants.{MOST_WORKERS}
-use Rattle.herd_report.specs.Certificate.{certificate_of}
-use Rattle.herd_report.specs.CommandFile.{CommandFile, IsRead}
-use Rattle.herd_report.specs.InbreedingList.{inbreeding_text}
-use Rattle.herd_report.specs.InverseList.{inverse_text}
-use Rattle.herd_report.specs.MatingList.{mating_text}
-use Rattle.herd_report.specs.Output.{AppendsFront}
-use Rattle.herd_report.specs.Replies.{replies_text}
-use Rattle.herd_report.specs.declared.line_fault.LineFault.{LineFault}
+use Rattle.herd_report.specs.writing.Certificate.{certificate_of}
+use Rattle.herd_report.specs.reading.CommandFile.{CommandFile, IsRead}
+use Rattle.herd_report.specs.writing.InbreedingList.{inbreeding_text}
+use Rattle.herd_report.specs.writing.InverseList.{inverse_text}
+use Rattle.herd_report.specs.writing.MatingList.{mating_text}
+use Rattle.herd_report.specs.writing.Output.{AppendsFront}
+use Rattle.herd_report.specs.writing.Replies.{replies_text}
+use Rattle.herd_report.specs.declared.reading.line_fault.LineFault.{LineFault}
 use Rattle.herd_report.specs.declared.orders.Order.{Order}
 use Rattle.herd_report.specs.declared.orders.Order.TheVariants.{File, Inbreeding, Certificate, Mating, Inverse}
 use Rattle.herd_report.specs.declared.run_fault.RunFault.{RunFault}

@@ -3,13 +3,13 @@ use Rattle.std.specs.Prelude.{◌≡◌, ◌⊎◌, ℕ, ◌<◌, List, ⊤, Opt
 use Rattle.herd_pool.specs.declared.pool_fault.PoolFault.{PoolFault}
 use Rattle.herd_pool.specs.declared.pool_fault.PoolFault.TheVariants as pool
 use Rattle.herd_register.specs.declared.limits.Limits.{Limits}
-use Rattle.herd_report.specs.CommandFile.{CommandFile, IsReadUpTo}
-use Rattle.herd_report.specs.Output.{AppendsFront}
-use Rattle.herd_report.specs.declared.certificate_fault.CertificateFault.{CertificateFault}
-use Rattle.herd_report.specs.declared.certificate_fault.CertificateFault.TheVariants as certificate
-use Rattle.herd_report.specs.declared.line_fault.LineFault.{LineFault}
-use Rattle.herd_report.specs.declared.report_fault.ReportFault.{ReportFault}
-use Rattle.herd_report.specs.declared.report_fault.ReportFault.TheVariants as report
+use Rattle.herd_report.specs.reading.CommandFile.{CommandFile, IsReadUpTo}
+use Rattle.herd_report.specs.writing.Output.{AppendsFront}
+use Rattle.herd_report.specs.declared.writing.certificate_fault.CertificateFault.{CertificateFault}
+use Rattle.herd_report.specs.declared.writing.certificate_fault.CertificateFault.TheVariants as certificate
+use Rattle.herd_report.specs.declared.reading.line_fault.LineFault.{LineFault}
+use Rattle.herd_report.specs.declared.writing.report_fault.ReportFault.{ReportFault}
+use Rattle.herd_report.specs.declared.writing.report_fault.ReportFault.TheVariants as report
 use Rattle.herd_report.specs.declared.run_fault.RunFault.{RunFault}
 use Rattle.herd_report.specs.declared.run_fault.RunFault.TheVariants.{Line, NotRegistered, NoThread, Memory, Write}
 

@@ -9,6 +9,9 @@
 //! text. Each text is also written by a call of its own (`write_replies` and the others), from a journal or a frozen
 //! book. What is written is the whole text, or where memory is refused or a write fails a front of it.
 //!
+//! Two folders have the same names in `src/`, `specs/` and `proofs/lemmas/`. **`reading`** has what the first four rows
+//! name, **`writing`** what the rows on texts name; filing and `run` stand at the top.
+//!
 //! | | definition (`specs/`) | code (`src/`) | proof (`proofs/`) |
 //! |---|---|---|---|
 //! | the records to come | `Upcoming` | `records` | `UpcomingFacts` |
@@ -27,36 +30,21 @@
 //! | how a text of its own may end | | `report_fault`, `certificate_fault` | |
 #![tactic(auto)]
 
-mod ancestors;
-mod certificate;
-mod certificate_fault;
-mod coefficient_text;
-mod columns;
-mod command_file;
 mod command_filing;
-mod command_reader;
-mod field;
-mod inbreeding_list;
-mod inverse_list;
-mod line_fault;
-mod mating_list;
 mod orders;
-mod output;
-mod records;
-mod replies;
-mod report_fault;
+mod reading;
 mod run_fault;
-mod version;
+mod writing;
 
-pub use certificate::write_certificate;
-pub use certificate_fault::CertificateFault;
-pub use command_file::{Commands, read_commands};
-pub use inbreeding_list::write_inbreeding;
-pub use inverse_list::write_inverse;
-pub use line_fault::{LineCause, LineFault};
-pub use mating_list::write_mating;
 pub use orders::{Order, run};
-pub use replies::write_replies;
-pub use report_fault::ReportFault;
+pub use reading::command_file::{Commands, read_commands};
+pub use reading::line_fault::{LineCause, LineFault};
+pub use reading::version::Version;
 pub use run_fault::RunFault;
-pub use version::Version;
+pub use writing::certificate::write_certificate;
+pub use writing::certificate_fault::CertificateFault;
+pub use writing::inbreeding_list::write_inbreeding;
+pub use writing::inverse_list::write_inverse;
+pub use writing::mating_list::write_mating;
+pub use writing::replies::write_replies;
+pub use writing::report_fault::ReportFault;

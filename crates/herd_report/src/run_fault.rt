@@ -1,8 +1,8 @@
 ghost use Rattle.std.specs.Prelude.{◌≡◌};
 
-use crate::certificate_fault::CertificateFault;
-use crate::line_fault::LineFault;
-use crate::report_fault::ReportFault;
+use crate::reading::line_fault::LineFault;
+use crate::writing::certificate_fault::CertificateFault;
+use crate::writing::report_fault::ReportFault;
 use herd_pool::PoolFault;
 use std::alloc::AllocError;
 use thiserror::Error;

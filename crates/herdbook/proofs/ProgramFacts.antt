@@ -3,7 +3,7 @@ use Rattle.std.proofs.Common.{◌≡◌, ℕ, List, [], inl, Option, Some, None,
 use Rattle.std.specs.Prelude.{IfErr, IfSome, OnOk}
 use Rattle.clap.specs.Words.{fault_of, subcommand_of}
 use Rattle.herd_register.specs.declared.limits.Limits.{Limits}
-use Rattle.herd_report.specs.CommandFile.{commands}
+use Rattle.herd_report.specs.reading.CommandFile.{commands}
 use Rattle.herdbook.specs.CommandLine.{command_line}
 use Rattle.herdbook.specs.Ending.{end_of_task}
 use Rattle.herdbook.specs.Program.{EndsServing, IsEnded, IsServed}

@@ -2,9 +2,9 @@
 use Rattle.std.specs.Prelude.{ℕ, List, ◌++◌, codes, decimal}
 use Rattle.herd_animal.specs.declared.number.NumberFault.{NumberFault}
 use Rattle.herd_animal.specs.declared.number.NumberFault.TheVariants.{Length, Letter, SexLetter, NumberCharacter}
-use Rattle.herd_report.specs.LineCause.{cause_number}
-use Rattle.herd_report.specs.declared.line_fault.LineCause.{LineCause}
-use Rattle.herd_report.specs.declared.line_fault.LineCause.TheVariants.{Header, Fields, Kind, Animal, Day, Sire, Dam, FromHerd, ToHerd, FieldNotUsed, Read, TooMany, Memory as NoMemory, Embryo}
+use Rattle.herd_report.specs.reading.LineCause.{cause_number}
+use Rattle.herd_report.specs.declared.reading.line_fault.LineCause.{LineCause}
+use Rattle.herd_report.specs.declared.reading.line_fault.LineCause.TheVariants.{Header, Fields, Kind, Animal, Day, Sire, Dam, FromHerd, ToHerd, FieldNotUsed, Read, TooMany, Memory as NoMemory, Embryo}
 use Rattle.herd_report.specs.declared.run_fault.RunFault.{RunFault}
 use Rattle.herd_report.specs.declared.run_fault.RunFault.TheVariants.{Line, NotRegistered, NoThread, Memory, Write}
 use Rattle.herdbook.specs.declared.task_fault.TaskFault.{TaskFault}

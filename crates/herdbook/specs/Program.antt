@@ -2,7 +2,7 @@
 use Rattle.std.specs.Prelude.{◌≡◌, ◌⊎◌, ℕ, List, [], Option}
 use Rattle.clap.specs.Words.{fault_of, subcommand_of}
 use Rattle.herd_register.specs.declared.limits.Limits.{Limits}
-use Rattle.herd_report.specs.CommandFile.{CommandFile, commands}
+use Rattle.herd_report.specs.reading.CommandFile.{CommandFile, commands}
 use Rattle.herd_report.specs.Run.{EndsBy, IsAnswered}
 use Rattle.herdbook.specs.Clerks.{EndsClerks, IsFiledBy}
 use Rattle.herdbook.specs.CommandLine.{command_line}

@@ -1,7 +1,7 @@
 //! What the program does, but for printing help and what it tells on standard error.
 
 ghost use Rattle.std.specs.Prelude.{◌≡◌, IfErr, IfSome, OnOk, map, string_bytes};
-ghost use Rattle.herd_report.specs.CommandFile.{commands};
+ghost use Rattle.herd_report.specs.reading.CommandFile.{commands};
 ghost use Rattle.herdbook.specs.Program.{EndsServing, IsEnded, IsServed, IsUntouchedUnlessAsked};
 ghost use Rattle.herdbook.specs.declared.program.TheConstants.{LIMITS};
 

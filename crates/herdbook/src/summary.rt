@@ -1,7 +1,7 @@
 //! What clerks have done, as text.
 ghost use Rattle.std.specs.Prelude.{◌≡◌, IfErr, IfOk, OnErr, OnOk, string_bytes};
 ghost use Rattle.std.specs.Io.KnownBytes.{Appends};
-ghost use Rattle.herd_report.specs.Output.{AppendsFront};
+ghost use Rattle.herd_report.specs.writing.Output.{AppendsFront};
 ghost use Rattle.herdbook.specs.Summary.{desk_lines, summary_text};
 
 use herd_report::RunFault;

@@ -7,8 +7,8 @@ use Rattle.std.proofs.lemmas.Bool.{false≢true}
 use Rattle.std.proofs.lemmas.Bool.Decides.{Decides-and, Decides-int_eq, Decides-like}
 use Rattle.std.proofs.lemmas.Option.{none-some, same_Some}
 use Rattle.std.proofs.lemmas.Slice.Eq.{bytes_eq-Decides}
-use Rattle.herd_pedigree.specs.declared.animal.Animal.{Animal}
-use Rattle.herd_pedigree.specs.contracts.animal.AnimalPartialEq.TheImpl as animal
+use Rattle.herd_pedigree.specs.declared.rules.animal.Animal.{Animal}
+use Rattle.herd_pedigree.specs.contracts.rules.animal.AnimalPartialEq.TheImpl as animal
 
 module _ {A : Type 0} (E : A → A → Bool) (each : (a b : A) → Decides (E a b) (a ≡ b)) where
   pub options_decided : (x y : Option A) → Decides (option_eq E x y) (x ≡ y)

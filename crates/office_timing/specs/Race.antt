@@ -2,8 +2,8 @@
 use Rattle.std.specs.Prelude.{◌≡◌, ℕ, ℤ, List, [], ◌∷◌, ◌++◌, length, Some, None, false}
 use Rattle.std.specs.List.{All}
 use Rattle.herd_office.specs.declared.limits.TheConstants.{MOST_DESKS}
-use Rattle.herd_pedigree.specs.Book.{record_of, with_left, with_owner, with_parents}
-use Rattle.herd_pedigree.specs.declared.animal.Animal.{Animal}
+use Rattle.herd_pedigree.specs.rules.Book.{record_of, with_left, with_owner, with_parents}
+use Rattle.herd_pedigree.specs.declared.rules.animal.Animal.{Animal}
 use Rattle.herd_register.specs.declared.reply.Refusal.TheVariants.{AlreadyThere, DamGone, CalvedLater, NotOwner}
 use Rattle.herd_register.specs.declared.reply.Reply.{Reply}
 use Rattle.herd_register.specs.declared.reply.Reply.TheVariants.{Accepted, Refused}

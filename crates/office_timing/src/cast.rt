@@ -1,7 +1,7 @@
 //! The animals, days and herds of the races.
 
 ghost use Rattle.std.specs.Prelude.{◌≡◌, IfOk, None, false};
-ghost use Rattle.herd_pedigree.specs.Book.{with_owner};
+ghost use Rattle.herd_pedigree.specs.rules.Book.{with_owner};
 ghost use Rattle.herd_register.specs.Run.{newborn};
 ghost use Rattle.office_timing.specs.Cast.{the_cast};
 ghost use Rattle.office_timing.specs.Plan.{birth_of, founder_births};

@@ -1,5 +1,5 @@
 ghost use Rattle.std.specs.Prelude.{IfOk};
-ghost use Rattle.herd_pedigree.specs.Lawful.{IsLawful};
+ghost use Rattle.herd_pedigree.specs.rules.Lawful.{IsLawful};
 ghost use Rattle.herd_pedigree.specs.declared.TheConstants.{DEPTH_LIMIT, MOST_ANIMALS};
 
 use herd_animal::AnimalNumber;

@@ -1,8 +1,8 @@
 use Rattle.std.proofs.Common.{◌≡◌, ◌<◌, ◌≤◌, ◌||◌, ⊎_elim, max, true, arith}
 use Rattle.std.proofs.lemmas.Bool.{cases_lt, or_from, or_left, or_right}
 use Rattle.herd_pedigree.specs.declared.TheConstants.{DEPTH_LIMIT}
-use Rattle.herd_pedigree.specs.Book.{is_there}
-use Rattle.herd_pedigree.specs.Frozen.{book_of, depth_at}
+use Rattle.herd_pedigree.specs.rules.Book.{is_there}
+use Rattle.herd_pedigree.specs.freezing.Frozen.{book_of, depth_at}
 use Rattle.herd_kinship.specs.Mating.{is_deepest}
 use Rattle.herd_kinship.proofs.FrozenDepths.{depth_at-row}
 use Rattle.herd_kinship.proofs.MatingFacts.{sire-missing, dam-missing, sire-not_male, dam-not_female, too-deep, no-fault, place-there, place-within, place-number, deepest-true, deepest-false}

@@ -1,6 +1,6 @@
 use Rattle.std.proofs.Common.{arith, subst}
 use Rattle.std.proofs.lemmas.List.{take_all}
-use Rattle.herd_pedigree.specs.Frozen.{level_of}
+use Rattle.herd_pedigree.specs.freezing.Frozen.{level_of}
 use Rattle.herd_pedigree.specs.declared.TheConstants.{DEPTH_LIMIT}
 use Rattle.herd_pool.specs.Levels.{coefficient_at}
 use Rattle.herd_pool.proofs.LevelFacts.{block_of-places}

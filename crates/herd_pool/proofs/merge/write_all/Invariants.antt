@@ -1,4 +1,4 @@
-use Rattle.herd_pedigree.specs.Frozen.{level_of}
+use Rattle.herd_pedigree.specs.freezing.Frozen.{level_of}
 use Rattle.herd_pedigree.specs.declared.TheConstants.{DEPTH_LIMIT}
 use Rattle.herd_pool.specs.Levels.{coefficient_at}
 use Rattle.herd_pool.proofs.Writes.{HasWritten}

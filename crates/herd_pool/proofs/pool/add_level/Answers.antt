@@ -1,5 +1,5 @@
 use Rattle.std.proofs.Common.{arith, subst}
-use Rattle.herd_pedigree.specs.Frozen.{level_of}
+use Rattle.herd_pedigree.specs.freezing.Frozen.{level_of}
 use Rattle.herd_pedigree.specs.declared.TheConstants.{DEPTH_LIMIT, MOST_ANIMALS}
 use Rattle.herd_pool.specs.Levels.{coefficient_at}
 use Rattle.herd_pool.proofs.Writes.{HasBlocks, level_known}

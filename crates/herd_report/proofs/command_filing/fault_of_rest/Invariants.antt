@@ -1,8 +1,8 @@
 -- What is left is what the reader has still to give.
 use Rattle.std.proofs.Common.{List, ◌-◌}
 use Rattle.herd_register.specs.declared.command.Command.{Command}
-use Rattle.herd_report.specs.CommandFile.{CommandFile}
-use Rattle.herd_report.specs.CommandReader.{HasGiven, IsReady}
+use Rattle.herd_report.specs.reading.CommandFile.{CommandFile}
+use Rattle.herd_report.specs.reading.CommandReader.{HasGiven, IsReady}
 use Rattle.herd_report.proofs.command_filing.fault_of_rest.Given as goal
 
 abbrev pub invariant-loop-fault : goal.invariant-loop-fault

@@ -4,7 +4,7 @@ use Rattle.std.proofs.lemmas.List.{length_push}
 use Rattle.std.proofs.lemmas.Result.{err_from_is_err_and}
 use Rattle.herd_register.specs.Register.{Register}
 use Rattle.herd_register.specs.Run.{commands_of}
-use Rattle.herd_report.proofs.CommandReaderFacts.{some_given}
+use Rattle.herd_report.proofs.lemmas.reading.CommandReaderFacts.{some_given}
 use Rattle.herd_report.proofs.RunFacts.{commands_of-filed, filed-more}
 use Rattle.herd_report.proofs.command_filing.file_each.Goals as goal
 

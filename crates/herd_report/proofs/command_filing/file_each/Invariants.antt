@@ -1,8 +1,8 @@
 -- The commands that the reader gave are filed.
 use Rattle.std.proofs.Common.{◌-◌, [], length}
 use Rattle.herd_register.specs.Run.{commands_of}
-use Rattle.herd_report.specs.CommandFile.{CommandFile}
-use Rattle.herd_report.specs.CommandReader.{HasGiven, IsReady}
+use Rattle.herd_report.specs.reading.CommandFile.{CommandFile}
+use Rattle.herd_report.specs.reading.CommandReader.{HasGiven, IsReady}
 use Rattle.herd_report.specs.Run.{HasFiled}
 use Rattle.herd_report.proofs.command_filing.file_each.Given as goal
 

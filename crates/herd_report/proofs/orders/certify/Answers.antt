@@ -1,11 +1,11 @@
 -- Where there are no coefficients, nothing is written, and the animal is in the book.
 use Rattle.std.proofs.lemmas.Result.{err_from_is_err_and}
-use Rattle.herd_pedigree.specs.Frozen.{book_of}
+use Rattle.herd_pedigree.specs.freezing.Frozen.{book_of}
 use Rattle.herd_pedigree.specs.declared.TheConstants.{DEPTH_LIMIT}
 use Rattle.herd_kinship.specs.FrozenAncestry.{ancestry_of}
 use Rattle.herd_kinship.specs.Table.{coefficient}
-use Rattle.herd_report.proofs.CertificateFacts.{not_absent, number_at_place, some_certificate_text}
-use Rattle.herd_report.proofs.OutputFacts.{front_nothing}
+use Rattle.herd_report.proofs.lemmas.writing.CertificateFacts.{not_absent, number_at_place, some_certificate_text}
+use Rattle.herd_report.proofs.lemmas.writing.OutputFacts.{front_nothing}
 use Rattle.herd_report.proofs.orders.certify.Goals as goal
 
 pub returns-in_err-coefficients-clause-err : goal.returns-in_err-coefficients-clause-err

@@ -2,7 +2,7 @@
 use Rattle.std.proofs.Common.{Err, ap}
 use Rattle.std.proofs.lemmas.Option.{IfSome_then}
 use Rattle.std.proofs.lemmas.Result.{IfErr-weaker, err_from_is_err_and, on_ok_weaker}
-use Rattle.herd_report.specs.CommandFile.{commands}
+use Rattle.herd_report.specs.reading.CommandFile.{commands}
 use Rattle.herd_report.specs.declared.orders.Order.TheVariants.{Inbreeding, Mating, Inverse}
 use Rattle.herd_report.proofs.RunFacts.{certified, err_same, reported, stops_certifying, stops_listing, stops_reporting}
 use Rattle.herd_report.proofs.orders.run.Goals as goal

@@ -2,7 +2,7 @@
 use Rattle.std.proofs.lemmas.Option.{IfSome_then}
 use Rattle.std.proofs.lemmas.Result.{err_from_is_err_and}
 use Rattle.herd_register.specs.Run.{commands_of}
-use Rattle.herd_report.specs.CommandFile.{commands}
+use Rattle.herd_report.specs.reading.CommandFile.{commands}
 use Rattle.herd_report.proofs.RunFacts.{stops_replying}
 use Rattle.herd_report.proofs.orders.write_answers.Goals as goal
 

@@ -1,4 +1,4 @@
-use Rattle.herd_report.proofs.OutputFacts.{passes_count}
+use Rattle.herd_report.proofs.lemmas.writing.OutputFacts.{passes_count}
 use Rattle.herdbook.proofs.summary.write_all.Goals as goal
 
 pub loop-rest-preserved : goal.loop-rest-preserved

@@ -1,5 +1,5 @@
 use Rattle.std.proofs.Common.{length}
-use Rattle.herd_report.specs.Output.{PassesOn}
+use Rattle.herd_report.specs.writing.Output.{PassesOn}
 use Rattle.herdbook.proofs.summary.write_all.Given as goal
 
 abbrev pub invariant-loop-rest : goal.invariant-loop-rest

@@ -1,11 +1,11 @@
 use Rattle.std.proofs.Common.{ap, sym, ◌∙◌, subst}
 use Rattle.std.specs.Map.{keys_of}
-use Rattle.herd_pedigree.specs.Book.{Book}
+use Rattle.herd_pedigree.specs.rules.Book.{Book}
 use Rattle.herd_pedigree.specs.Pedigree.{IsBirth}
-use Rattle.herd_pedigree.specs.Places.{IsPlaceIn}
-use Rattle.herd_pedigree.specs.ParentFault.{is_missing}
+use Rattle.herd_pedigree.specs.store.Places.{IsPlaceIn}
+use Rattle.herd_pedigree.specs.rules.ParentFault.{is_missing}
 use Rattle.herd_pedigree.specs.declared.TheConstants.{DEPTH_LIMIT, MOST_ANIMALS}
-use Rattle.herd_pedigree.proofs.FaultFacts.{no_fault}
+use Rattle.herd_pedigree.proofs.lemmas.rules.FaultFacts.{no_fault}
 use Rattle.herd_pedigree.proofs.pedigree.Pedigree.add.Goals as goal
 
 pub add_below-requires-clause-sire : goal.add_below-requires-clause-sire

@@ -1,12 +1,12 @@
 use Rattle.std.proofs.Common.{rules, sym, ap, ◌∙◌, subst, ◌≡◌, ℕ, List, [], ◌∷◌, ◌++◌, Option, None, slice_index}
 use Rattle.std.specs.Map.{keys_of}
-use Rattle.herd_pedigree.specs.Book.{Book, record_of}
+use Rattle.herd_pedigree.specs.rules.Book.{Book, record_of}
 use Rattle.herd_pedigree.specs.Pedigree.{IsBirth}
-use Rattle.herd_pedigree.specs.Depths.{depth_from}
-use Rattle.herd_pedigree.specs.Places.{IsPlaceIn}
+use Rattle.herd_pedigree.specs.rules.Depths.{depth_from}
+use Rattle.herd_pedigree.specs.store.Places.{IsPlaceIn}
 use Rattle.herd_pedigree.specs.declared.TheConstants.{DEPTH_LIMIT, MOST_ANIMALS}
 use Rattle.herd_pedigree.proofs.KeptFacts.{IsHeld-push}
-use Rattle.herd_pedigree.proofs.UndoFacts.{birth-view}
+use Rattle.herd_pedigree.proofs.lemmas.store.UndoFacts.{birth-view}
 use Rattle.herd_pedigree.proofs.pedigree.Pedigree.add_below.Goals as goal
 
 pub invariant_of-self-2 : goal.invariant_of-self-2

@@ -1,14 +1,14 @@
 use Rattle.std.proofs.Common.{sym, ap, ◌∙◌, subst, arith, ◌≡◌, ℕ, List, Option, Some, None, true, false, slice_index}
 use Rattle.std.specs.Map.{keys_of}
 use Rattle.std.proofs.lemmas.Bool.{lt-ltb, le-ltb}
-use Rattle.herd_pedigree.specs.Book.{Book, record_of}
-use Rattle.herd_pedigree.specs.Depths.{depth_from}
-use Rattle.herd_pedigree.specs.ParentFault.{first_that_holds, is_missing, parent_fault, record_faults, record_named}
-use Rattle.herd_pedigree.specs.Places.{IsPlaceIn}
-use Rattle.herd_pedigree.specs.declared.parent_fault.ParentFault.TheVariants.{TooDeep}
+use Rattle.herd_pedigree.specs.rules.Book.{Book, record_of}
+use Rattle.herd_pedigree.specs.rules.Depths.{depth_from}
+use Rattle.herd_pedigree.specs.rules.ParentFault.{first_that_holds, is_missing, parent_fault, record_faults, record_named}
+use Rattle.herd_pedigree.specs.store.Places.{IsPlaceIn}
+use Rattle.herd_pedigree.specs.declared.rules.parent_fault.ParentFault.TheVariants.{TooDeep}
 use Rattle.herd_pedigree.specs.declared.TheConstants.{DEPTH_LIMIT, MOST_ANIMALS}
 use Rattle.herd_pedigree.proofs.CheckFacts.{fault-first, found_none, newborn-fault}
-use Rattle.herd_pedigree.proofs.FaultFacts.{no_record_fault}
+use Rattle.herd_pedigree.proofs.lemmas.rules.FaultFacts.{no_record_fault}
 use Rattle.herd_pedigree.proofs.pedigree.Pedigree.add_if_sound.Goals as goal
 
 pub returns-in-Some-clause-fault : goal.returns-in-Some-clause-fault

@@ -1,8 +1,8 @@
 -- What is left are her calves, and those before don't count.
 use Rattle.std.proofs.Common.{◌≡◌, ◌⊎◌, ℕ, List, Contains, false, Some, slice_get}
-use Rattle.herd_pedigree.specs.declared.animal.Animal.{Animal}
-use Rattle.herd_pedigree.specs.Places.{parent_at}
-use Rattle.herd_pedigree.proofs.CalvedFacts.{counts}
+use Rattle.herd_pedigree.specs.declared.rules.animal.Animal.{Animal}
+use Rattle.herd_pedigree.specs.store.Places.{parent_at}
+use Rattle.herd_pedigree.proofs.lemmas.store.CalvedFacts.{counts}
 use Rattle.herd_pedigree.proofs.pedigree.Pedigree.calved_after.Given as goal
 
 abbrev pub invariant-loop-calf : goal.invariant-loop-calf

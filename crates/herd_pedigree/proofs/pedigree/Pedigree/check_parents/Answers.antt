@@ -1,11 +1,11 @@
 use Rattle.std.proofs.Common.{sym, ap, ◌∙◌, subst, ◌≡◌, Some, None, true, false}
 use Rattle.std.specs.Map.{keys_of}
-use Rattle.herd_pedigree.specs.Book.{Book}
-use Rattle.herd_pedigree.specs.ParentFault.{first_that_holds, is_missing, is_too_deep, parent_fault, record_faults, record_named}
-use Rattle.herd_pedigree.specs.Places.{IsPlaceIn}
+use Rattle.herd_pedigree.specs.rules.Book.{Book}
+use Rattle.herd_pedigree.specs.rules.ParentFault.{first_that_holds, is_missing, is_too_deep, parent_fault, record_faults, record_named}
+use Rattle.herd_pedigree.specs.store.Places.{IsPlaceIn}
 use Rattle.herd_pedigree.specs.declared.TheConstants.{DEPTH_LIMIT}
 use Rattle.herd_pedigree.proofs.CheckFacts.{fault-first, fault-rest, found_none}
-use Rattle.herd_pedigree.proofs.FaultFacts.{no_record_fault}
+use Rattle.herd_pedigree.proofs.lemmas.rules.FaultFacts.{no_record_fault}
 use Rattle.herd_pedigree.proofs.pedigree.Pedigree.check_parents.Goals as goal
 
 pub returns-in-Some : goal.returns-in-Some

@@ -2,15 +2,15 @@ use Rattle.std.proofs.Common.{◌+◌, sym, ap, ◌∙◌, subst, arith, ◌≡�
 use Rattle.std.proofs.lemmas.Bool.{lt-ltb}
 use Rattle.std.proofs.lemmas.List.{get_or_default}
 use Rattle.std.specs.Map.{keys_of}
-use Rattle.herd_pedigree.specs.Lines.{has_line}
-use Rattle.herd_pedigree.specs.Book.{Book, record_of}
-use Rattle.herd_pedigree.specs.ParentFault.{is_too_deep}
-use Rattle.herd_pedigree.specs.Depths.{depth_from}
-use Rattle.herd_pedigree.specs.Places.{IsPlaceIn, parentage_at}
-use Rattle.herd_pedigree.specs.Carry.{IsSettled}
+use Rattle.herd_pedigree.specs.rules.Lines.{has_line}
+use Rattle.herd_pedigree.specs.rules.Book.{Book, record_of}
+use Rattle.herd_pedigree.specs.rules.ParentFault.{is_too_deep}
+use Rattle.herd_pedigree.specs.rules.Depths.{depth_from}
+use Rattle.herd_pedigree.specs.store.Places.{IsPlaceIn, parentage_at}
+use Rattle.herd_pedigree.specs.store.Carry.{IsSettled}
 use Rattle.herd_pedigree.specs.declared.TheConstants.{DEPTH_LIMIT, MOST_ANIMALS}
-use Rattle.herd_pedigree.proofs.BookFacts.{at_position, none_if}
-use Rattle.herd_pedigree.proofs.CorrectionFacts.{parent_in, IfOk-both}
+use Rattle.herd_pedigree.proofs.lemmas.rules.BookFacts.{at_position, none_if}
+use Rattle.herd_pedigree.proofs.lemmas.store.CorrectionFacts.{parent_in, IfOk-both}
 use Rattle.herd_pedigree.proofs.CheckFacts.{too_deep-absent, not_deep-lower, too_deep-leaf, too_deep-told_by, closed-exchange, settled-exchange}
 use Rattle.herd_pedigree.proofs.pedigree.Pedigree.is_too_deep.Goals as goal
 

@@ -1,16 +1,16 @@
 use Rattle.std.proofs.Common.{sym, ap, ◌∙◌, subst, refl, ◌≡◌, ℕ, List, Option, Some, slice_get}
 use Rattle.std.specs.Map.{keys_of}
 use Rattle.indexmap.specs.IndexMap.{set_value_at}
-use Rattle.herd_pedigree.specs.declared.animal.Animal.{Animal}
-use Rattle.herd_pedigree.specs.declared.undo.Undo.TheVariants.{Record}
-use Rattle.herd_pedigree.specs.Book.{Book, with_left, changed}
+use Rattle.herd_pedigree.specs.declared.rules.animal.Animal.{Animal}
+use Rattle.herd_pedigree.specs.declared.store.undo.Undo.TheVariants.{Record}
+use Rattle.herd_pedigree.specs.rules.Book.{Book, with_left, changed}
 use Rattle.herd_pedigree.specs.Pedigree.{IsExit, changed_to}
-use Rattle.herd_pedigree.specs.Places.{IsPlaceIn}
-use Rattle.herd_pedigree.specs.Undo.{IsHeld}
+use Rattle.herd_pedigree.specs.store.Places.{IsPlaceIn}
+use Rattle.herd_pedigree.specs.store.Undo.{IsHeld}
 use Rattle.herd_pedigree.specs.declared.TheConstants.{DEPTH_LIMIT, MOST_ANIMALS}
-use Rattle.herd_pedigree.proofs.BookFacts.{at_position, entry_from_both}
-use Rattle.herd_pedigree.proofs.LawfulChanges.{lawful-exit}
-use Rattle.herd_pedigree.proofs.SetFacts.{IsHeld-same, record-view}
+use Rattle.herd_pedigree.proofs.lemmas.rules.BookFacts.{at_position, entry_from_both}
+use Rattle.herd_pedigree.proofs.lemmas.rules.LawfulChanges.{lawful-exit}
+use Rattle.herd_pedigree.proofs.lemmas.store.SetFacts.{IsHeld-same, record-view}
 use Rattle.herd_pedigree.proofs.pedigree.Pedigree.set_left.Goals as goal
 
 pub set-requires-clause-sire : goal.set-requires-clause-sire

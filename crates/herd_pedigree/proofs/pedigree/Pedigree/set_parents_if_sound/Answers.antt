@@ -4,22 +4,22 @@ use Rattle.std.specs.Vec.{with_items}
 use Rattle.std.proofs.lemmas.List.{with_items_is}
 use Rattle.std.proofs.lemmas.Bool.{false≢true, true≢false}
 use Rattle.indexmap.specs.IndexMap.{set_value_at}
-use Rattle.herd_pedigree.specs.declared.animal.Animal.{Animal}
-use Rattle.herd_pedigree.specs.declared.undo.Undo.TheVariants.{Record}
-use Rattle.herd_pedigree.specs.Lines.{has_line}
-use Rattle.herd_pedigree.specs.Book.{Book, changed, record_of, with_parents}
+use Rattle.herd_pedigree.specs.declared.rules.animal.Animal.{Animal}
+use Rattle.herd_pedigree.specs.declared.store.undo.Undo.TheVariants.{Record}
+use Rattle.herd_pedigree.specs.rules.Lines.{has_line}
+use Rattle.herd_pedigree.specs.rules.Book.{Book, changed, record_of, with_parents}
 use Rattle.herd_pedigree.specs.Pedigree.{IsCorrection, changed_to}
-use Rattle.herd_pedigree.specs.Depths.{IsParent}
-use Rattle.herd_pedigree.specs.Places.{IsPlaceIn, parentage_at}
-use Rattle.herd_pedigree.specs.ParentFault.{first_that_holds, is_missing, is_too_deep, parent_fault, record_faults, record_named}
-use Rattle.herd_pedigree.specs.declared.parent_fault.ParentFault.TheVariants.{TooDeep}
-use Rattle.herd_pedigree.specs.Carry.{IsSettled}
-use Rattle.herd_pedigree.specs.Undo.{IsHeld}
+use Rattle.herd_pedigree.specs.rules.Depths.{IsParent}
+use Rattle.herd_pedigree.specs.store.Places.{IsPlaceIn, parentage_at}
+use Rattle.herd_pedigree.specs.rules.ParentFault.{first_that_holds, is_missing, is_too_deep, parent_fault, record_faults, record_named}
+use Rattle.herd_pedigree.specs.declared.rules.parent_fault.ParentFault.TheVariants.{TooDeep}
+use Rattle.herd_pedigree.specs.store.Carry.{IsSettled}
+use Rattle.herd_pedigree.specs.store.Undo.{IsHeld}
 use Rattle.herd_pedigree.specs.declared.TheConstants.{DEPTH_LIMIT, MOST_ANIMALS}
-use Rattle.herd_pedigree.proofs.BookFacts.{at_position, entry_from_both, lookup_at}
-use Rattle.herd_pedigree.proofs.SetFacts.{record-view}
+use Rattle.herd_pedigree.proofs.lemmas.rules.BookFacts.{at_position, entry_from_both, lookup_at}
+use Rattle.herd_pedigree.proofs.lemmas.store.SetFacts.{record-view}
 use Rattle.herd_pedigree.proofs.CheckFacts.{closed-after, fault-first, fault-rest, found_none, settled-exchange, too_deep-told_by}
-use Rattle.herd_pedigree.proofs.FaultFacts.{no_record_fault}
+use Rattle.herd_pedigree.proofs.lemmas.rules.FaultFacts.{no_record_fault}
 use Rattle.herd_pedigree.proofs.HeldFacts.{IsHeld-corrected}
 use Rattle.herd_pedigree.proofs.pedigree.Pedigree.set_parents_if_sound.Goals as goal
 

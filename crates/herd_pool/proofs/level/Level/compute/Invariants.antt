@@ -1,5 +1,5 @@
 use Rattle.std.proofs.Common.{◌≡◌, map, take}
-use Rattle.herd_pedigree.specs.Frozen.{level_of}
+use Rattle.herd_pedigree.specs.freezing.Frozen.{level_of}
 use Rattle.herd_pedigree.specs.declared.TheConstants.{DEPTH_LIMIT}
 use Rattle.herd_pool.specs.Levels.{block_of, coefficient_at}
 use Rattle.herd_pool.proofs.level.Level.compute.Given as goal

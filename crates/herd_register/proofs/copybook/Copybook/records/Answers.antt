@@ -1,5 +1,5 @@
 use Rattle.std.proofs.Common.{◌≡◌, ◌∙◌, sym, subst}
-use Rattle.herd_pedigree.specs.Lawful.{IsLawful}
+use Rattle.herd_pedigree.specs.rules.Lawful.{IsLawful}
 use Rattle.herd_pedigree.specs.declared.TheConstants.{DEPTH_LIMIT, MOST_ANIMALS}
 use Rattle.herd_register.specs.Copybook.{Copybook, copybook_of}
 use Rattle.herd_register.specs.Run.{commands_of, IsLegal, run_book}

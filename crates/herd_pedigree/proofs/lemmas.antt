@@ -1,0 +1,3 @@
+pub mod freezing
+pub mod rules
+pub mod store

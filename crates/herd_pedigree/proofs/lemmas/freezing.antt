@@ -1,0 +1,11 @@
+-- How the rows, the levels and the index of a frozen book grow.
+pub mod FrozenDepthFacts
+pub mod FrozenFacts
+pub mod IndexFacts
+pub mod AgeOrderFacts
+pub mod RankFacts
+pub mod RowsFacts
+pub mod NextRowFacts
+pub mod LevelFacts
+pub mod FreezeFacts
+pub mod LinkFacts

@@ -1,0 +1,123 @@
+-- An index of numbers grows place by place, and a bucket is followed down to its first place.
+use Rattle.std.proofs.Common.{ℕ, ◌+◌, ◌<◌, ◌≤◌, ◌≡◌, ◌≢◌, ⊎_elim, arith, refl, sym, ap, ◌∙◌, subst, true, false, List, [], ◌∷◌, ◌++◌, Some, length, slice_get, set}
+use Rattle.std.specs.Prelude.{slice_index}
+use Rattle.std.specs.Str.{bytes_eq}
+use Rattle.std.proofs.lemmas.Bool.{cases_lt, cases_eq}
+use Rattle.std.proofs.lemmas.List.{length-set, get_or-set_same, get_or-set_other, get_or_push, get_or_append_left, length_push}
+use Rattle.std.proofs.lemmas.Option.{same_Some, slice_get_within}
+use Rattle.herd_pedigree.specs.freezing.NumberIndex.{IsAfterLast, IsIndexOf, bucket_of}
+use Rattle.herd_pedigree.proofs.lemmas.rules.BookFacts.{bytes_itself}
+
+-- no place is in the buckets
+pub index-empty : (numbers : List (List ℕ)) (lasts : List ℕ) → length lasts ≡ length numbers + 1 → ((bucket : ℕ) → bucket < length numbers + 1 → slice_index lasts bucket ≡ 0) → IsIndexOf numbers 0 lasts []
+index-empty numbers lasts wide none = record {
+  wide = wide;
+  long = refl;
+  lasts_are = λ bucket h.
+      let z = none bucket h in
+      record {
+        within = omega (arith, z);
+        here = λ place number e at. absurd (omega (arith, z, e));
+        last = λ place number before at same. absurd (omega (arith, before));
+      };
+  earlier_are = λ place number before at. absurd (omega (arith, before));
+}
+
+module _ (numbers : List (List ℕ)) (i : ℕ) (number : List ℕ) (at : slice_get numbers i ≡ Some number) where
+  -- the last place of its bucket
+  after-this : IsAfterLast numbers (length numbers + 1) (i + 1) (bucket_of (length numbers + 1) number) (i + 1)
+  after-this = record {
+    within = omega arith;
+    here = λ place x e there.
+        let same_place : place ≡ i = omega (arith, e) in
+        let same : x ≡ number = same_Some x number (sym there ∙ ap (λ p. slice_get numbers p) same_place ∙ at) in
+        ap (λ y. bucket_of (length numbers + 1) y) same;
+    last = λ place x before there same. before;
+  }
+
+  -- another bucket
+  after-other : (bucket after : ℕ) → bucket ≢ bucket_of (length numbers + 1) number → IsAfterLast numbers (length numbers + 1) i bucket after → IsAfterLast numbers (length numbers + 1) (i + 1) bucket after
+  after-other bucket after other old = record {
+    within = let w = old.within in omega (arith, w);
+    here = old.here;
+    last = λ place x before there same.
+        ⊎_elim
+        (λ (earlier : place < i). old.last place x earlier there same)
+        (λ (late : i ≤ place).
+        let same_place : place ≡ i = omega (arith, before, late) in
+        let is : x ≡ number = same_Some x number (sym there ∙ ap (λ p. slice_get numbers p) same_place ∙ at) in
+        absurd (other (sym same ∙ ap (λ y. bucket_of (length numbers + 1) y) is)))
+        (cases_lt place i);
+  }
+
+  -- one more place
+  pub index-more : (lasts earlier : List ℕ) (bucket : ℕ) → bucket ≡ bucket_of (length numbers + 1) number → bucket < length numbers + 1 → IsIndexOf numbers i lasts earlier →
+      IsIndexOf numbers (i + 1) (set lasts bucket (i + 1)) (earlier ++ slice_index lasts bucket ∷ [])
+  index-more lasts earlier bucket is within old = record {
+    wide = length-set lasts bucket (i + 1) ∙ old.wide;
+    long = length_push earlier (slice_index lasts bucket) ∙ ap (λ n. n + 1) old.long;
+    lasts_are = λ b h.
+        ⊎_elim
+        (λ (e : b ≡ bucket).
+        let in_lasts : bucket < length lasts = let w = old.wide in omega (arith, w, within) in
+        let written : slice_index (set lasts bucket (i + 1)) b ≡ i + 1 = ap (λ p. slice_index (set lasts bucket (i + 1)) p) e ∙ get_or-set_same lasts bucket (i + 1) 0 in_lasts in
+        rw (written, e, is) after-this)
+        (λ (other : b ≢ bucket).
+        let kept : slice_index (set lasts bucket (i + 1)) b ≡ slice_index lasts b = get_or-set_other lasts bucket b (i + 1) 0 other in
+        rw kept (after-other b (slice_index lasts b) (λ e. other (e ∙ sym is)) (old.lasts_are b h)))
+        (cases_eq b bucket);
+    earlier_are = λ place x before there.
+        ⊎_elim
+        (λ (low : place < i).
+        let in_earlier : place < length earlier = let l = old.long in omega (arith, l, low) in
+        let kept : slice_index (earlier ++ slice_index lasts bucket ∷ []) place ≡ slice_index earlier place = get_or_append_left earlier (slice_index lasts bucket ∷ []) 0 place in_earlier in
+        rw kept (old.earlier_are place x low there))
+        (λ (late : i ≤ place).
+        let same_place : place ≡ i = omega (arith, before, late) in
+        let same : x ≡ number = same_Some x number (sym there ∙ ap (λ p. slice_get numbers p) same_place ∙ at) in
+        let pushed : slice_index (earlier ++ slice_index lasts bucket ∷ []) place ≡ slice_index lasts bucket = get_or_push earlier (slice_index lasts bucket) 0 place (old.long ∙ sym same_place) in
+        rw (pushed, same, same_place, ← is) (old.lasts_are bucket within))
+        (cases_lt place i);
+  }
+
+-- all places of the number are before this one of its bucket
+pub record IsFollowed (numbers : List (List ℕ)) (number : List ℕ) (after : ℕ) : Type 0 where
+  pub within : after ≤ length numbers
+  pub here : (place : ℕ) (x : List ℕ) → after ≡ place + 1 → slice_get numbers place ≡ Some x → bucket_of (length numbers + 1) x ≡ bucket_of (length numbers + 1) number
+  pub rest : (place : ℕ) → slice_get numbers place ≡ Some number → place < after
+
+module _ (numbers : List (List ℕ)) (n : ℕ) (all : n ≡ length numbers) (lasts earlier : List ℕ) (index : IsIndexOf numbers n lasts earlier) (number : List ℕ) where
+  pub follow-start : (bucket : ℕ) → bucket ≡ bucket_of (length numbers + 1) number → bucket < length numbers + 1 → IsFollowed numbers number (slice_index lasts bucket)
+  follow-start bucket is within =
+      let after = index.lasts_are bucket within in
+      record {
+        within = let w = after.within in omega (arith, w, all);
+        here = λ place x e there. after.here place x e there ∙ is;
+        rest = λ place there. let h = slice_get_within numbers place number there in after.last place number (omega (arith, h, all)) there (sym is);
+      }
+
+  pub follow-next : (after place : ℕ) (x : List ℕ) → after ≡ place + 1 → slice_get numbers place ≡ Some x → x ≢ number → IsFollowed numbers number after → IsFollowed numbers number (slice_index earlier place)
+  follow-next after place x e at other followed =
+      let within = slice_get_within numbers place x at in
+      let next = index.earlier_are place x (omega (arith, within, all)) at in
+      let same = followed.here place x e at in
+      record {
+        within = let w = next.within in omega (arith, w, within);
+        here = λ q y f there. next.here q y f there ∙ same;
+        rest = λ q there.
+            let before = followed.rest q there in
+            ⊎_elim
+            (λ (low : q < place). next.last q number low there (sym same))
+            (λ (late : place ≤ q).
+            let same_place : q ≡ place = omega (arith, before, late, e) in
+            absurd (other (same_Some x number (sym at ∙ ap (λ p. slice_get numbers p) (sym same_place) ∙ there))))
+            (cases_lt q place);
+      }
+
+  -- the next one stands before it
+  pub follow-smaller : (place : ℕ) (x : List ℕ) → slice_get numbers place ≡ Some x → slice_index earlier place ≤ place
+  follow-smaller place x at = let within = slice_get_within numbers place x at in (index.earlier_are place x (omega (arith, within, all)) at).within
+
+-- numbers that compare unequal
+pub apart : (x y : List ℕ) → bytes_eq x y ≡ false → x ≢ y
+apart x y unequal same = let t : bytes_eq x y ≡ true = subst (λ v. bytes_eq v y ≡ true) (sym same) (bytes_itself y) in absurd (cc)

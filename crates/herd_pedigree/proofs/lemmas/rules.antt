@@ -1,0 +1,7 @@
+-- What follows from what a book may be.
+pub mod LineFacts
+pub mod BookFacts
+pub mod PermutedFacts
+pub mod FaultFacts
+pub mod WrittenFacts
+pub mod LawfulChanges

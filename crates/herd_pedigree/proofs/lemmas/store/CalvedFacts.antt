@@ -1,0 +1,98 @@
+-- Whether an animal is the dam of one born after a day, by her calves alone.
+use Rattle.std.proofs.Common.{ℕ, ℤ, zero, suc, ◌≡◌, ⊎_elim, refl, sym, ap, ◌∙◌, subst, Bool, true, false, not, ◌&&◌, ◌||◌, int_lt, List, [], ◌∷◌, Option, Some, None, slice_get, get_or}
+use Rattle.std.specs.Str.{bytes_eq}
+use Rattle.std.specs.List.{IsDistinct, list_any}
+use Rattle.std.specs.Map.{keys_of, values_of}
+use Rattle.std.specs.Option.{option_map_or}
+use Rattle.std.proofs.lemmas.Bool.{cases_Bool, false_from_ne_true, and_parts, or_left}
+use Rattle.std.proofs.lemmas.Option.{same_Some, slice_get-get_or}
+use Rattle.std.proofs.lemmas.List.Folds.{list_any_none}
+use Rattle.herd_pedigree.specs.declared.rules.animal.Animal.{Animal}
+use Rattle.herd_pedigree.specs.rules.Book.{Book, record_of, has_calved_after, is_calf_after}
+use Rattle.herd_pedigree.specs.store.Places.{parent_at, IsPlaceIn, AreParents}
+use Rattle.herd_pedigree.proofs.lemmas.rules.BookFacts.{same_bytes, bytes_itself, stands_once, entry_from_key, value_at}
+
+-- the calf counts: it is from no stored embryo, and born after the day
+abbrev pub counts : ℤ → Animal → Bool
+counts day animal = not animal.embryo && int_lt day animal.birth
+
+named : (number : List ℕ) (dam : Option (List ℕ)) → option_map_or (bytes_eq number) dam false ≡ true → dam ≡ Some number
+named number None h = absurd (cc)
+named number (Some d) h = ap Some (sym (same_bytes number d h))
+
+any_found : {X : Type 0} (test : X → Bool) (xs : List X) (k : ℕ) (x : X) → slice_get xs k ≡ Some x → test x ≡ true → list_any test xs ≡ true
+any_found test [] k x at t = absurd (cc)
+any_found test (y ∷ ys) zero x at t = let e : y ≡ x = same_Some _ _ at in or_left (test y) (list_any test ys) (ap test e ∙ t)
+any_found test (y ∷ ys) (suc k) x at t = later (test y) (list_any test ys) (any_found test ys k x at t)
+  where
+    later : (a b : Bool) → b ≡ true → (a || b) ≡ true
+    later true b h = refl
+    later false b h = h
+
+-- who stands in the book has a record
+no_record : (es : Book) (q : ℕ) (x : List ℕ) (animal : Animal) → slice_get es q ≡ Some (x, animal) → record_of es x ≡ None → ⊥
+no_record [] q x animal e none = absurd (cc)
+no_record (f ∷ es) zero x animal e none =
+    let k : f ≡ (x, animal) = same_Some _ _ e in
+    let t : bytes_eq x f.0 ≡ true = subst (λ v. bytes_eq x v ≡ true) (sym (ap (λ p. p.0) k)) (bytes_itself x) in
+    let bad : Some f.1 ≡ None = rw t at none in absurd (cc)
+no_record (f ∷ es) (suc q) x animal e none =
+    ⊎_elim
+    (λ (t : bytes_eq x f.0 ≡ true). let bad : Some f.1 ≡ None = rw t at none in absurd (cc))
+    (λ (t : bytes_eq x f.0 ≡ false). no_record es q x animal e (rw t at none))
+    (cases_Bool (bytes_eq x f.0))
+
+module _ (book : Book) (dams : List (Option ℕ)) (a : AreParents book (λ animal. animal.dam) dams) (number : List ℕ) (day : ℤ) where
+  -- nobody has a dam that isn't in the book
+  pub none_calved : record_of book number ≡ None → has_calved_after book number day ≡ false
+  none_calved absent =
+      list_any_none (λ entry. is_calf_after number day entry.1) book
+      (λ k d h.
+      false_from_ne_true (is_calf_after number day (get_or book k d).1)
+      (λ t.
+      let dam = named number (get_or book k d).1.dam (and_parts (option_map_or (bytes_eq number) (get_or book k d).1.dam false) (counts day (get_or book k d).1) t).0 in
+      let is : IsPlaceIn (keys_of book) (parent_at dams k) (Some number) = subst (λ o. IsPlaceIn (keys_of book) (parent_at dams k) o) dam (a.each k (get_or book k d) (slice_get-get_or book k d h)) in
+      no_place (parent_at dams k) is))
+    where
+      no_place : (o : Option ℕ) → IsPlaceIn (keys_of book) o (Some number) → ⊥
+      no_place None is = is
+      no_place (Some q) is = let entry = entry_from_key book q number is in no_record book q number entry.0 entry.1 absent
+
+  module _ (once : IsDistinct bytes_eq (keys_of book)) (place : ℕ) (at : slice_get (keys_of book) place ≡ Some number) where
+    -- one of her calves counts
+    pub calf_found : (calf : ℕ) (animal : Animal) → parent_at dams calf ≡ Some place → slice_get (values_of book) calf ≡ Some animal → counts day animal ≡ true → has_calved_after book number day ≡ true
+    calf_found calf animal is read t =
+        let d : List ℕ × Animal = (number, animal) in
+        let v = value_at book calf animal d read in
+        let entry : List ℕ × Animal = get_or book calf d in
+        let there : slice_get book calf ≡ Some (get_or book calf d) = slice_get-get_or book calf d v.0 in
+        let dam : (get_or book calf d).1.dam ≡ Some number = by (parent_at dams calf) (get_or book calf d).1.dam (a.each calf (get_or book calf d) there) is in
+        let counts_too : counts day (get_or book calf d).1 ≡ true = ap (λ x. counts day x) v.1 ∙ t in
+        let names : option_map_or (bytes_eq number) (get_or book calf d).1.dam false ≡ true = ap (λ o. option_map_or (bytes_eq number) o false) dam ∙ bytes_itself number in
+        any_found (λ entry. is_calf_after number day entry.1) book calf (get_or book calf d) there (λ i. both names counts_too i)
+      where
+        by : (o : Option ℕ) (n : Option (List ℕ)) → IsPlaceIn (keys_of book) o n → o ≡ Some place → n ≡ Some number
+        by None n is e = absurd (cc)
+        by (Some q) None is e = absurd is
+        by (Some q) (Some x) is e = let k : q ≡ place = same_Some _ _ e in sym is ∙ ap (λ v. slice_get (keys_of book) v) k ∙ at
+
+        both : {x y : Bool} → x ≡ true → y ≡ true → (x && y) ≡ true
+        both {x} {y} e f = (λ i. e i && f i)
+
+    -- none of them does
+    pub calf_missing : ((calf : ℕ) → parent_at dams calf ≡ Some place → (entry : List ℕ × Animal) → slice_get book calf ≡ Some entry → counts day entry.1 ≡ false) → has_calved_after book number day ≡ false
+    calf_missing none =
+        list_any_none (λ entry. is_calf_after number day entry.1) book
+        (λ k d h.
+        false_from_ne_true (is_calf_after number day (get_or book k d).1)
+        (λ t.
+        let parts = and_parts (option_map_or (bytes_eq number) (get_or book k d).1.dam false) (counts day (get_or book k d).1) t in
+        let dam = named number (get_or book k d).1.dam parts.0 in
+        let there : slice_get book k ≡ Some (get_or book k d) = slice_get-get_or book k d h in
+        let of_her : parent_at dams k ≡ Some place = by (parent_at dams k) (subst (λ o. IsPlaceIn (keys_of book) (parent_at dams k) o) dam (a.each k (get_or book k d) there)) in
+        let f : counts day (get_or book k d).1 ≡ false = none k of_her (get_or book k d) there in
+        let u : counts day (get_or book k d).1 ≡ true = parts.1 in absurd (cc)))
+      where
+        by : (o : Option ℕ) → IsPlaceIn (keys_of book) o (Some number) → o ≡ Some place
+        by None is = absurd is
+        by (Some q) is = ap Some (stands_once (keys_of book) once q place number is at)

@@ -1,0 +1,262 @@
+-- Entries with the places of parents, and the book of them.
+use Rattle.std.proofs.Common.{ℕ, zero, suc, ◌+◌, ◌<◌, ◌≤◌, ◌≡◌, ⊎_elim, arith, refl, sym, ap, ◌∙◌, subst, Bool, true, false, List, [], ◌∷◌, ◌++◌, is_some, Option, Some, None, IfSome, IsSome, length, slice_get, option_to_list}
+use Rattle.std.specs.List.{IsDistinct}
+use Rattle.std.specs.Map.{keys_of, values_of, lookup}
+use Rattle.std.specs.Option.{option_map}
+use Rattle.std.specs.Str.{bytes_eq}
+use Rattle.std.proofs.lemmas.Bool.{cases_Bool, false≢true}
+use Rattle.std.proofs.lemmas.List.{append-nil, length-map, length_push, map_push}
+use Rattle.std.proofs.lemmas.Option.{same_Some, slice_get_within}
+use Rattle.indexmap.specs.IndexMap.{set_value_at}
+use Rattle.herd_pedigree.specs.declared.rules.animal.Animal.{Animal}
+use Rattle.herd_pedigree.specs.declared.store.records.StoredRecord.{StoredRecord}
+use Rattle.herd_pedigree.specs.store.Links.{IsLinkAt}
+use Rattle.herd_pedigree.specs.store.Places.{IsPlaceIn}
+use Rattle.herd_pedigree.specs.store.Records.{AreClosed, NamesItsOwn, StandAmong, stored_book, book_with, named, number_at}
+use Rattle.herd_pedigree.specs.store.Undo.{without_last}
+use Rattle.herd_pedigree.proofs.lemmas.rules.BookFacts.{is_some_with, keys-push, length-keys, none_if, push_cases, push_keeps, stands_once, there}
+use Rattle.herd_pedigree.proofs.lemmas.store.SetFacts.{keys-set, length-set-at, set_value-cases}
+use Rattle.herd_pedigree.proofs.lemmas.store.UndoFacts.{without_last-push}
+
+module _ (numbers : List (List ℕ)) where
+  pub keys-book_with : (es : List (List ℕ × StoredRecord)) → keys_of (book_with numbers es) ≡ keys_of es
+  keys-book_with [] = refl
+  keys-book_with (e ∷ es) = ap (λ ks. e.0 ∷ ks) (keys-book_with es)
+
+  -- the record at a place
+  pub value-book_with : (es : List (List ℕ × StoredRecord)) (i : ℕ) (e : StoredRecord) → slice_get (values_of es) i ≡ Some e → slice_get (values_of (book_with numbers es)) i ≡ Some (named numbers e)
+  value-book_with [] i e at = absurd (cc)
+  value-book_with (first ∷ es) zero e at = ap (λ v. Some (named numbers v)) (same_Some _ _ at)
+  value-book_with (first ∷ es) (suc i) e at = value-book_with es i e at
+
+  -- the number and the record at a place
+  pub entry-book_with : (es : List (List ℕ × StoredRecord)) (i : ℕ) → slice_get (book_with numbers es) i ≡ option_map (λ e. (e.0, named numbers e.1)) (slice_get es i)
+  entry-book_with [] i = refl
+  entry-book_with (e ∷ es) zero = refl
+  entry-book_with (e ∷ es) (suc i) = entry-book_with es i
+
+  -- the record of a number
+  pub lookup-book_with : (test : List ℕ → Bool) (es : List (List ℕ × StoredRecord)) → lookup test (book_with numbers es) ≡ option_map (named numbers) (lookup test es)
+  lookup-book_with test [] = refl
+  lookup-book_with test (e ∷ es) =
+      ⊎_elim
+      (λ (t : test e.0 ≡ true). rw t refl)
+      (λ (t : test e.0 ≡ false). rw t (lookup-book_with test es))
+      (cases_Bool (test e.0))
+
+  pub set-book_with : (es : List (List ℕ × StoredRecord)) (i : ℕ) (e : StoredRecord) → book_with numbers (set_value_at es i e) ≡ set_value_at (book_with numbers es) i (named numbers e)
+  set-book_with [] i e = refl
+  set-book_with (first ∷ es) zero e = refl
+  set-book_with (first ∷ es) (suc i) e = ap (λ book. (first.0, named numbers first.1) ∷ book) (set-book_with es i e)
+
+  -- one number more changes none of those before it
+  pub number_at-push : (x : List ℕ) (o : Option ℕ) → IfSome o (λ p. p < length numbers) → number_at (numbers ++ x ∷ []) o ≡ number_at numbers o
+  number_at-push x None h = refl
+  number_at-push x (Some p) h = let n = there numbers p h in push_keeps numbers x n.0 p n.1 ∙ sym n.1
+
+  pub named-push : (x : List ℕ) (e : StoredRecord) → IfSome e.sire (λ p. p < length numbers) → IfSome e.dam (λ p. p < length numbers) → named (numbers ++ x ∷ []) e ≡ named numbers e
+  named-push x e s d = λ i. record (named numbers e) { sire = number_at-push x e.sire s i; dam = number_at-push x e.dam d i }
+
+  pub book_with-push : (x : List ℕ) (es : List (List ℕ × StoredRecord)) → StandAmong (length numbers) es → book_with (numbers ++ x ∷ []) es ≡ book_with numbers es
+  book_with-push x [] h = refl
+  book_with-push x (e ∷ es) h =
+      let first = h 0 e refl in
+      let same : named (numbers ++ x ∷ []) e.1 ≡ named numbers e.1 = named-push x e.1 first.0 first.1 in
+      let rest : book_with (numbers ++ x ∷ []) es ≡ book_with numbers es = book_with-push x es (λ place entry at. h (suc place) entry at) in
+      λ i. (e.0, same i) ∷ rest i
+
+  -- the number at a place that is a parent's
+  pub number_at-place : (o : Option ℕ) (n : Option (List ℕ)) → IsPlaceIn numbers o n → number_at numbers o ≡ n
+  number_at-place None None h = refl
+  number_at-place None (Some x) h = absurd h
+  number_at-place (Some p) None h = absurd h
+  number_at-place (Some p) (Some x) h = h
+
+  pub place-within : (o : Option ℕ) (n : Option (List ℕ)) → IsPlaceIn numbers o n → IfSome o (λ p. p < length numbers)
+  place-within None n h = tt
+  place-within (Some p) None h = absurd h
+  place-within (Some p) (Some x) h = slice_get_within numbers p x h
+
+-- a place among some is among more
+pub further : {m n : ℕ} (o : Option ℕ) → m ≤ n → IfSome o (λ p. p < m) → IfSome o (λ p. p < n)
+further None more h = tt
+further (Some p) more h = omega (arith, more, h)
+
+pub key_at : {X : Type 0} (es : List (List ℕ × X)) (i : ℕ) → slice_get (keys_of es) i ≡ option_map (λ e. e.0) (slice_get es i)
+key_at [] i = refl
+key_at (e ∷ es) zero = refl
+key_at (e ∷ es) (suc i) = key_at es i
+
+pub is_some-map : {X Y : Type 0} (f : X → Y) (o : Option X) → is_some (option_map f o) ≡ is_some o
+is_some-map f None = refl
+is_some-map f (Some x) = refl
+
+-- a number that has no record has no entry
+pub absent-among : (es : List (List ℕ × StoredRecord)) (number : List ℕ) → lookup (bytes_eq number) (stored_book es) ≡ None → lookup (bytes_eq number) es ≡ None
+absent-among es number none =
+    none_if (lookup (bytes_eq number) es)
+    (sym (is_some-map (named (keys_of es)) (lookup (bytes_eq number) es)) ∙ ap (λ o. is_some o) (sym (lookup-book_with (keys_of es) (bytes_eq number) es) ∙ none))
+
+-- the record at the place where a number is found is its own
+pub value-found : (es : List (List ℕ × StoredRecord)) (number : List ℕ) (place : Option ℕ) → is_some place ≡ is_some (lookup (bytes_eq number) es)
+    → IfSome place (λ p. slice_get (values_of es) p ≡ lookup (bytes_eq number) es) → IfSome place (λ p. slice_get (values_of (stored_book es)) p ≡ lookup (bytes_eq number) (stored_book es))
+value-found es number None some is = tt
+value-found es number (Some p) some is =
+    let found = is_some_with (lookup (bytes_eq number) es) (sym some) in
+    value-book_with (keys_of es) es p found.0 (is ∙ found.1)
+    ∙ sym (lookup-book_with (keys_of es) (bytes_eq number) es ∙ ap (λ o. option_map (named (keys_of es)) o) found.1)
+
+-- what is kept of an animal is its record
+pub named-is : (numbers : List (List ℕ)) (entry : StoredRecord) (animal : Animal) → IsPlaceIn numbers entry.sire animal.sire → IsPlaceIn numbers entry.dam animal.dam
+    → entry.birth ≡ animal.birth → entry.embryo ≡ animal.embryo → entry.herd ≡ animal.herd → entry.since ≡ animal.since → entry.left ≡ animal.left → named numbers entry ≡ animal
+named-is numbers entry animal sire dam birth embryo herd since left =
+    λ i. record {
+      birth = birth i;
+      sire = number_at-place numbers entry.sire animal.sire sire i;
+      dam = number_at-place numbers entry.dam animal.dam dam i;
+      embryo = embryo i;
+      herd = herd i;
+      since = since i;
+      left = left i;
+    }
+
+module _ (es : List (List ℕ × StoredRecord)) where
+  pub length-stored_book : length (stored_book es) ≡ length es
+  length-stored_book = length-map es (λ entry. (entry.0, named (keys_of es) entry.1))
+
+  pub keys-stored_book : keys_of (stored_book es) ≡ keys_of es
+  keys-stored_book = keys-book_with (keys_of es) es
+
+  closed_by_keys : AreClosed es → StandAmong (length (keys_of es)) es
+  closed_by_keys h = subst (λ n. StandAmong n es) (sym (length-keys es)) h
+
+  module _ (h : AreClosed es) (x : List ℕ) (e : StoredRecord) (s : IfSome e.sire (λ p. p < length (keys_of es))) (d : IfSome e.dam (λ p. p < length (keys_of es))) where
+    -- the book after a push
+    pub stored_book-push : stored_book (es ++ (x, e) ∷ []) ≡ stored_book es ++ (x, named (keys_of es) e) ∷ []
+    stored_book-push =
+        ap (λ ks. book_with ks (es ++ (x, e) ∷ [])) (keys-push es x e)
+        ∙ map_push (λ entry. (entry.0, named (keys_of es ++ x ∷ []) entry.1)) es (x, e)
+        ∙ (λ i. book_with-push (keys_of es) x es (closed_by_keys h) i ++ (x, named-push (keys_of es) x e s d i) ∷ [])
+
+    -- which leaves the parents among the entries
+    pub closed-push : AreClosed (es ++ (x, e) ∷ [])
+    closed-push place entry at =
+        let more : length (es ++ (x, e) ∷ []) ≡ length es + 1 = length_push es (x, e) in
+        let long = length-keys es in
+        ⊎_elim
+        (λ old. let parents = h place entry old in (further entry.1.sire (omega (arith, more)) parents.0, further entry.1.dam (omega (arith, more)) parents.1))
+        (λ new.
+        let same : entry.1 ≡ e = ap (λ p. p.1) (sym new.1) in (
+          further entry.1.sire (omega (arith, more, long)) (subst (λ v. IfSome v.sire (λ p. p < length (keys_of es))) (sym same) s),
+          further entry.1.dam (omega (arith, more, long)) (subst (λ v. IfSome v.dam (λ p. p < length (keys_of es))) (sym same) d),
+        ))
+        (push_cases es (x, e) entry place at)
+
+  -- and after a write
+  pub stored_book-set : (i : ℕ) (e : StoredRecord) → stored_book (set_value_at es i e) ≡ set_value_at (stored_book es) i (named (keys_of es) e)
+  stored_book-set i e = ap (λ ks. book_with ks (set_value_at es i e)) (keys-set es i e) ∙ set-book_with (keys_of es) es i e
+
+  pub closed-set : AreClosed es → (i : ℕ) (e : StoredRecord) → IfSome e.sire (λ p. p < length es) → IfSome e.dam (λ p. p < length es) → AreClosed (set_value_at es i e)
+  closed-set h i e s d place entry at =
+      let same : length (set_value_at es i e) ≡ length es = length-set-at es i e in
+      ⊎_elim
+      (λ new. (
+        further entry.1.sire (omega (arith, same)) (subst (λ v. IfSome v.sire (λ p. p < length es)) new.1 s),
+        further entry.1.dam (omega (arith, same)) (subst (λ v. IfSome v.dam (λ p. p < length es)) new.1 d),
+      ))
+      (λ old. let parents = h place entry old.1 in (further entry.1.sire (omega (arith, same)) parents.0, further entry.1.dam (omega (arith, same)) parents.1))
+      (set_value-cases es i place e entry at)
+
+-- a place that is kept is that of the number it gives
+place-named : (numbers : List (List ℕ)) (o : Option ℕ) → IfSome o (λ p. p < length numbers) → IsPlaceIn numbers o (number_at numbers o)
+place-named numbers None h = tt
+place-named numbers (Some p) h = let n = there numbers p h in subst (λ o. IsPlaceIn numbers (Some p) o) (sym n.1) n.1
+
+entry_with : (es : List (List ℕ × StoredRecord)) (i : ℕ) (e : StoredRecord) → slice_get (values_of es) i ≡ Some e → (x : List ℕ) × (slice_get es i ≡ Some (x, e))
+entry_with [] i e at = absurd (cc)
+entry_with (first ∷ es) zero e at = (first.0, ap (λ v. Some (first.0, v)) (same_Some _ _ at))
+entry_with (first ∷ es) (suc i) e at = entry_with es i e at
+
+-- the places that an entry keeps are those of its record's parents
+pub link-kept : (es : List (List ℕ × StoredRecord)) (i : ℕ) (e : StoredRecord) → slice_get (values_of es) i ≡ Some e → AreClosed es → IsLinkAt (stored_book es) i (record { sire = e.sire; dam = e.dam })
+link-kept es i e at closed =
+    let numbers : List (List ℕ) = keys_of es in
+    let its = entry_with es i e at in
+    let parents = closed i (its.0, e) its.1 in
+    let here : slice_get (stored_book es) i ≡ Some (its.0, named numbers e) = entry-book_with numbers es i ∙ ap (λ o. option_map (λ (k : List ℕ × StoredRecord). (k.0, named numbers k.1)) o) its.1 in
+    let told : (o : Option ℕ) → IfSome o (λ p. p < length es) → IsPlaceIn (keys_of (stored_book es)) o (number_at numbers o) = λ o h.
+    subst (λ l. IsPlaceIn l o (number_at numbers o)) (sym (keys-stored_book es)) (place-named numbers o (subst (λ n. IfSome o (λ p. p < n)) (sym (length-keys es)) h)) in
+    let same : (entry : List ℕ × Animal) → slice_get (stored_book es) i ≡ Some entry → named numbers e ≡ entry.1 = λ entry stands. ap (λ (p : List ℕ × Animal). p.1) (same_Some (its.0, named numbers e) entry (sym here ∙ stands)) in
+    record {
+      sire = λ entry stands. subst (λ (a : Animal). IsPlaceIn (keys_of (stored_book es)) e.sire a.sire) (same entry stands) (told e.sire parents.0);
+      dam = λ entry stands. subst (λ (a : Animal). IsPlaceIn (keys_of (stored_book es)) e.dam a.dam) (same entry stands) (told e.dam parents.1);
+    }
+
+-- where a place gives a number that stands among the first, it is one of the first
+among_first : (numbers : List (List ℕ)) (x : List ℕ) → IsDistinct bytes_eq (numbers ++ x ∷ []) → (o : Option ℕ) → IfSome o (λ p. p < length (numbers ++ x ∷ []))
+    → (first : Option ℕ) → IsPlaceIn numbers first (number_at (numbers ++ x ∷ []) o) → IfSome o (λ p. p < length numbers)
+among_first numbers x once None h first is = tt
+among_first numbers x once (Some p) h first is =
+    let n = there (numbers ++ x ∷ []) p h in
+    let named : IsPlaceIn numbers first (Some n.0) = subst (λ o. IsPlaceIn numbers first o) n.1 is in
+    by first n.0 n.1 named
+  where
+    by : (first : Option ℕ) (y : List ℕ) → slice_get (numbers ++ x ∷ []) p ≡ Some y → IsPlaceIn numbers first (Some y) → p < length numbers
+    by None y at is = absurd is
+    by (Some q) y at is =
+        let same : p ≡ q = stands_once (numbers ++ x ∷ []) once p q y at (push_keeps numbers x y q is) in
+        let within : q < length numbers = slice_get_within numbers q y is in
+        omega (arith, same, within)
+
+module _ (es : List (List ℕ × StoredRecord)) (x : List ℕ) (e : StoredRecord) (h : AreClosed (es ++ (x, e) ∷ [])) (once : IsDistinct bytes_eq (keys_of (stored_book (es ++ (x, e) ∷ [])))) (childless : NamesItsOwn (without_last (stored_book (es ++ (x, e) ∷ [])))) where
+  -- the last entry is nobody's parent
+  pub closed-pop : AreClosed es
+  closed-pop place entry at =
+      let ks : keys_of (es ++ (x, e) ∷ []) ≡ keys_of es ++ x ∷ [] = keys-push es x e in
+      let long : length (keys_of es) ≡ length es = length-keys es in
+      let all : length (keys_of es ++ x ∷ []) ≡ length (es ++ (x, e) ∷ []) = sym (ap length ks) ∙ length-keys (es ++ (x, e) ∷ []) in
+      let distinct : IsDistinct bytes_eq (keys_of es ++ x ∷ []) = subst (λ l. IsDistinct bytes_eq l) (keys-stored_book (es ++ (x, e) ∷ []) ∙ ks) once in
+      let first : without_last (stored_book (es ++ (x, e) ∷ [])) ≡ book_with (keys_of es ++ x ∷ []) es =
+      ap (λ l. without_last (book_with l (es ++ (x, e) ∷ []))) ks
+      ∙ ap (λ l. without_last l) (map_push (λ entry. (entry.0, named (keys_of es ++ x ∷ []) entry.1)) es (x, e))
+      ∙ without_last-push (book_with (keys_of es ++ x ∷ []) es) (x, named (keys_of es ++ x ∷ []) e) in
+      let own : NamesItsOwn (book_with (keys_of es ++ x ∷ []) es) = subst (λ book. NamesItsOwn book) first childless in
+      let stands : slice_get (book_with (keys_of es ++ x ∷ []) es) place ≡ Some (entry.0, named (keys_of es ++ x ∷ []) entry.1) =
+      entry-book_with (keys_of es ++ x ∷ []) es place ∙ ap (λ o. option_map (λ e. (e.0, named (keys_of es ++ x ∷ []) e.1)) o) at in
+      let parents = own place (entry.0, named (keys_of es ++ x ∷ []) entry.1) stands in
+      let numbers : keys_of (book_with (keys_of es ++ x ∷ []) es) ≡ keys_of es = keys-book_with (keys_of es ++ x ∷ []) es in
+      let within = h place entry (push_keeps es (x, e) entry place at) in
+      let sire = among_first (keys_of es) x distinct entry.1.sire (further entry.1.sire (omega (arith, all)) within.0) parents.0.0
+      (subst (λ l. IsPlaceIn l parents.0.0 (number_at (keys_of es ++ x ∷ []) entry.1.sire)) numbers parents.0.1) in
+      let dam = among_first (keys_of es) x distinct entry.1.dam (further entry.1.dam (omega (arith, all)) within.1) parents.1.0
+      (subst (λ l. IsPlaceIn l parents.1.0 (number_at (keys_of es ++ x ∷ []) entry.1.dam)) numbers parents.1.1) in
+      (further entry.1.sire (omega (arith, long)) sire, further entry.1.dam (omega (arith, long)) dam)
+
+  pub stored_book-pop : stored_book es ≡ without_last (stored_book (es ++ (x, e) ∷ []))
+  stored_book-pop =
+      sym (book_with-push (keys_of es) x es (closed_by_keys es closed-pop))
+      ∙ sym (without_last-push (book_with (keys_of es ++ x ∷ []) es) (x, named (keys_of es ++ x ∷ []) e))
+      ∙ sym (ap (λ l. without_last l) (map_push (λ entry. (entry.0, named (keys_of es ++ x ∷ []) entry.1)) es (x, e)))
+      ∙ sym (ap (λ l. without_last (book_with l (es ++ (x, e) ∷ []))) (keys-push es x e))
+
+nil_unless : {X : Type 0} (xs : List X) → (0 < length xs → ⊥) → xs ≡ []
+nil_unless [] never = refl
+nil_unless (x ∷ xs) never = absurd (never (omega arith))
+
+-- the entries that are left once the last was taken away
+pub popped-closed : (old new : List (List ℕ × StoredRecord)) (popped : Option (List ℕ × StoredRecord)) → old ≡ new ++ option_to_list popped → AreClosed old
+    → IsDistinct bytes_eq (keys_of (stored_book old)) → NamesItsOwn (without_last (stored_book old)) → AreClosed new
+popped-closed old new None is closed once childless = subst (λ es. AreClosed es) (is ∙ append-nil new) closed
+popped-closed old new (Some (x, e)) is closed once childless =
+    closed-pop new x e (subst (λ es. AreClosed es) is closed) (subst (λ es. IsDistinct bytes_eq (keys_of (stored_book es))) is once) (subst (λ es. NamesItsOwn (without_last (stored_book es))) is childless)
+
+-- and their book
+pub popped-book : (old new : List (List ℕ × StoredRecord)) (popped : Option (List ℕ × StoredRecord)) → old ≡ new ++ option_to_list popped → (0 < length old → IsSome popped) → AreClosed old
+    → IsDistinct bytes_eq (keys_of (stored_book old)) → NamesItsOwn (without_last (stored_book old)) → stored_book new ≡ without_last (stored_book old)
+popped-book old new None is some closed once childless =
+    let none : old ≡ [] = nil_unless old (λ more. false≢true (some more)) in
+    let left : new ≡ [] = sym (append-nil new) ∙ sym is ∙ none in
+    ap (λ es. stored_book es) left ∙ sym (ap (λ es. without_last (stored_book es)) none)
+popped-book old new (Some (x, e)) is some closed once childless =
+    stored_book-pop new x e (subst (λ es. AreClosed es) is closed) (subst (λ es. IsDistinct bytes_eq (keys_of (stored_book es))) is once) (subst (λ es. NamesItsOwn (without_last (stored_book es))) is childless)
+    ∙ sym (ap (λ es. without_last (stored_book es)) is)

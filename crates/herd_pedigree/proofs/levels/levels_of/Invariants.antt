@@ -1,8 +1,0 @@
--- The levels of the rows so far.
-use Rattle.std.proofs.Common.{◌≡◌, map, take}
-use Rattle.herd_pedigree.specs.Frozen.{levels_of}
-use Rattle.herd_pedigree.specs.declared.TheConstants.{DEPTH_LIMIT}
-use Rattle.herd_pedigree.proofs.levels.levels_of.Given as goal
-
-abbrev pub invariant-loop-place : goal.invariant-loop-place
-invariant-loop-place g l = map (λ level. level.items) l.levels.items ≡ levels_of DEPTH_LIMIT (take l.place l.rows)

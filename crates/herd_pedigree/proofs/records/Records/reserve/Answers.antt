@@ -1,6 +1,0 @@
-use Rattle.std.proofs.Common.{sym, subst}
-use Rattle.herd_pedigree.specs.Records.{AreClosed}
-use Rattle.herd_pedigree.proofs.records.Records.reserve.Goals as goal
-
-pub invariant_of-self : goal.invariant_of-self
-invariant_of-self g c = subst (λ es. AreClosed es) (sym c.reserve.ensures.entries) c.self.invariant

@@ -1,0 +1,45 @@
+use Rattle.std.proofs.Common.{All, sym, ap, ◌∙◌, subst, arith, ℕ, List, Option, [], ◌≡◌, ◌<◌, ◌≤◌, IsTrue, length, slice_index, slice_set}
+use Rattle.std.proofs.lemmas.Bool.{lt-ltb, ltb-true}
+use Rattle.std.proofs.lemmas.List.{length-set, with_items_is}
+use Rattle.herd_pedigree.specs.store.Correction.{corrected}
+use Rattle.herd_pedigree.specs.rules.Depths.{IsParent}
+use Rattle.herd_pedigree.specs.store.Carry.{IsSettled}
+use Rattle.herd_pedigree.specs.store.Undo.{undone_writes}
+use Rattle.herd_pedigree.specs.declared.TheConstants.{DEPTH_LIMIT}
+use Rattle.herd_pedigree.proofs.lemmas.store.CarryFacts.{settled-deep, settled-shallow}
+use Rattle.herd_pedigree.proofs.lemmas.store.UndoFacts.{written-most}
+use Rattle.herd_pedigree.proofs.store.correction.Correction.is_too_deep.Goals as goal
+
+pub returns : goal.returns
+returns g c =
+    let x = c.args.self.now in
+    let sires : List (Option ℕ) = slice_set x.sires.now.parents x.place x.sire in
+    let n : length sires ≡ length x.sires.now.parents = length-set x.sires.now.parents x.place x.sire in
+    let depths : List ℕ = c.carry.new.depths in
+    let same : length depths ≡ c.in_ok-depths.depths.len = c.carry.auto.depths ∙ c.deref_mut.ensures.len in
+    let read : c.deref.result.now ≡ depths = c.deref.ensures.value ∙ with_items_is c.in_ok-depths.depths depths same in
+    let long : length depths ≡ length sires = same ∙ c.in_ok-depths.ensures.len ∙ c.requires.long ∙ sym n in
+    let closed : (p y : ℕ) → IsTrue ((corrected x).is_there y) → IsParent (corrected x) p y → IsTrue ((corrected x).is_there p) =
+    λ p y there is. lt-ltb p (length sires) (let w = c.requires.sound.closed p y is in omega (arith, w, n)) in
+    let settled : IsSettled DEPTH_LIMIT (corrected x) (slice_index depths) [] = c.in_ok-carry.ensures.settled c.if-not-branch.false in
+    record {
+      deep = λ t.
+          let high = c.has_greater.ensures.greater t in (
+            high.0,
+            settled-deep DEPTH_LIMIT (corrected x) (slice_index depths) closed settled high.0
+                (lt-ltb high.0 (length sires) (let w = high.1 in let e = ap (λ ds. length ds) read in omega (arith, w, e, long)))
+                (subst (λ ds. DEPTH_LIMIT < slice_index ds high.0) read high.2),
+          );
+      shallow = λ no.
+          settled-shallow DEPTH_LIMIT (corrected x) (slice_index depths) closed settled
+          (λ y there.
+          let written : All (λ write. slice_index depths write.0 ≤ DEPTH_LIMIT) c.carry.new.log.items =
+          subst (λ log. All (λ write. slice_index depths write.0 ≤ DEPTH_LIMIT) log) c.deref-2.ensures.value
+          (subst (λ ds. All (λ write. slice_index ds write.0 ≤ DEPTH_LIMIT) c.deref-2.result.now) read (c.has_greater.ensures.most no)) in
+          let old : undone_writes c.carry.new.log.items depths ≡ c.args.depths.now =
+          c.carry.ensures.undone ∙ ap (λ log. undone_writes log c.deref_mut.result.now) c.new-log.ensures.items
+          ∙ c.deref_mut.ensures.value ∙ c.in_ok-depths.ensures.items in
+          let within : y < length sires = ltb-true y (length sires) there in
+          let before : slice_index c.args.depths.now y ≤ DEPTH_LIMIT = c.requires.shallow y (let l = c.requires.long in omega (arith, within, n, l)) in
+          written-most DEPTH_LIMIT c.carry.new.log.items depths written y (subst (λ ds. slice_index ds y ≤ DEPTH_LIMIT) (sym old) before));
+    }

@@ -1,0 +1,35 @@
+use Rattle.std.proofs.Common.{rules, subst, ℕ, List, [], ◌++◌, ◌∷◌, ◌≡◌, ◌+◌, ◌<◌, All, IsTrue, get_or, drop, slice_index}
+use Rattle.std.proofs.Common.{◌∙◌}
+use Rattle.std.proofs.lemmas.List.{drop_more, drop_all}
+use Rattle.std.proofs.lemmas.List.Elements.{All-get_or}
+use Rattle.herd_pedigree.specs.store.Correction.{corrected}
+use Rattle.herd_pedigree.specs.rules.Lines.{has_line}
+use Rattle.herd_pedigree.specs.store.Carry.{IsSettled}
+use Rattle.herd_pedigree.specs.declared.TheConstants.{DEPTH_LIMIT}
+use Rattle.herd_pedigree.proofs.store.correction.Correction.settle_all.Goals as goal
+
+pub loop-place-preserved : goal.loop-place-preserved
+loop-place-preserved g c =
+    let i : ℕ = c.loop-place.place-index in
+    let places : List ℕ = c.args.places.now in
+    let place : ℕ = get_or places i 0 in
+    let x = c.args.self.now in
+    let old = c.loop-place.invariant in
+    let more : drop i places ≡ place ∷ drop (i + 1) places = drop_more places i 0 c.loop-place-test.true in
+    record {
+      long = c.settle.auto.depths ∙ old.long;
+      logged = subst (λ n. All (λ (write : ℕ × ℕ). write.0 < n) c.settle.new.log.items) old.long c.settle.ensures.logged;
+      undone = c.settle.ensures.undone ∙ old.undone;
+      settled = λ s.
+          let before : IsSettled DEPTH_LIMIT (corrected x) (slice_index c.loop-place.depths) (place ∷ (drop (i + 1) places ++ c.loop-place.pending.items)) =
+          subst (λ xs. IsSettled DEPTH_LIMIT (corrected x) (slice_index c.loop-place.depths) (xs ++ c.loop-place.pending.items)) more (old.settled s) in
+          c.in_ok-settle.ensures.settled (drop (i + 1) places) before;
+      lines = λ n lines have.
+          c.in_ok-settle.ensures.lines n (All-get_or (λ (p : ℕ). IsTrue (has_line (corrected x) n p)) places i 0 c.loop-place-test.true lines) (old.lines n lines have);
+    }
+
+pub returns-clause-settled : goal.returns-clause-settled
+returns-clause-settled g c =
+    λ s.
+    let end : drop c.loop-place.place-index c.args.places.now ≡ [] = drop_all c.loop-place.place-index c.args.places.now (search rules) in
+    subst (λ xs. IsSettled DEPTH_LIMIT (corrected c.args.self.now) (slice_index c.loop-place.depths) (xs ++ c.loop-place.pending.items)) end (c.loop-place.invariant.settled s)

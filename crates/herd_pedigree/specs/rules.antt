@@ -1,0 +1,6 @@
+-- What a book is and may be.
+pub mod Lines
+pub mod Book
+pub mod ParentFault
+pub mod Lawful
+pub mod Depths

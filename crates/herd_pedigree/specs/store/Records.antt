@@ -1,0 +1,50 @@
+-- The records of a book by place, each with the places of its parents.
+use Rattle.std.specs.Prelude.{◌≡◌, ℕ, ◌<◌, List, map, length, slice_get, IfSome, Option, Some}
+use Rattle.std.specs.Map.{keys_of}
+use Rattle.std.specs.Option.{option_and_then}
+use Rattle.herd_pedigree.specs.declared.rules.animal.Animal.{Animal}
+use Rattle.herd_pedigree.specs.declared.store.records.StoredRecord.{StoredRecord}
+use Rattle.herd_pedigree.specs.rules.Book.{Book}
+use Rattle.herd_pedigree.specs.store.Places.{IsPlaceIn}
+
+-- a book, and for how many more animals there is room
+pub record Records : Type 0 where
+  pub book : Book
+  pub room : ℕ
+
+-- the number that stands at a place
+abbrev pub number_at : List (List ℕ) → Option ℕ → Option (List ℕ)
+number_at numbers place = option_and_then (slice_get numbers) place
+
+-- the record of an entry, with the numbers of the parents for their places
+abbrev pub named : List (List ℕ) → StoredRecord → Animal
+named numbers entry = record {
+  birth = entry.birth;
+  sire = number_at numbers entry.sire;
+  dam = number_at numbers entry.dam;
+  embryo = entry.embryo;
+  herd = entry.herd;
+  since = entry.since;
+  left = entry.left;
+}
+
+-- the book of entries, with the numbers of all animals
+abbrev pub book_with : List (List ℕ) → List (List ℕ × StoredRecord) → Book
+book_with numbers entries = map (λ entry. (entry.0, named numbers entry.1)) entries
+
+-- the book of all entries
+abbrev pub stored_book : List (List ℕ × StoredRecord) → Book
+stored_book entries = book_with (keys_of entries) entries
+
+-- the parents of entries stand among n animals
+abbrev pub StandAmong : ℕ → List (List ℕ × StoredRecord) → Type 0
+StandAmong n entries = (place : ℕ) (entry : List ℕ × StoredRecord) → slice_get entries place ≡ Some entry → IfSome entry.1.sire (λ p. p < n) × IfSome entry.1.dam (λ p. p < n)
+
+-- and they stand among the entries
+abbrev pub AreClosed : List (List ℕ × StoredRecord) → Type 0
+AreClosed entries = StandAmong (length entries) entries
+
+-- each parent that a book names stands in it
+abbrev pub NamesItsOwn : Book → Type 0
+NamesItsOwn book = (place : ℕ) (entry : List ℕ × Animal) → slice_get book place ≡ Some entry →
+    ((sire : Option ℕ) × IsPlaceIn (keys_of book) sire entry.1.sire) × ((dam : Option ℕ) × IsPlaceIn (keys_of book) dam entry.1.dam)

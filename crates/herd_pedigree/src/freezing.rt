@@ -1,0 +1,10 @@
+//! The book in age order, with parents as places.
+
+pub(crate) mod age_order;
+pub(crate) mod freeze;
+pub(crate) mod frozen;
+pub(crate) mod levels;
+pub(crate) mod listed;
+pub(crate) mod number_index;
+pub(crate) mod registered;
+pub(crate) mod rows;

@@ -1,0 +1,192 @@
+//! The rows of a frozen book, which keep the places of the parents for their numbers.
+ghost use Rattle.std.specs.Prelude.{◌≡◌, ◌<◌, [], ◌++◌, ◌∷◌, length, map, slice_get, Some, IfOk, IfSome, OnOk};
+ghost use Rattle.herd_pedigree.specs.freezing.Frozen.{depth_at, numbers_of, parents_of};
+ghost use Rattle.herd_pedigree.specs.store.PackedPlace.{nowhere};
+ghost use Rattle.herd_pedigree.specs.store.Places.{IsPlaceIn};
+ghost use Rattle.herd_pedigree.specs.store.Records.{number_at};
+ghost use Rattle.herd_pedigree.specs.freezing.Rows.{packed_parents, record_of_row};
+
+use crate::freezing::frozen::{Parents, Row};
+use crate::rules::animal::Animal;
+use crate::store::packed_place::PackedPlace;
+use herd_animal::{AnimalNumber, Day, Herd};
+use std::alloc::{AllocError, Allocator};
+use std::marker::Model;
+
+/// What is kept of a row beside its parents and its depth, in forty bytes.
+#[derive(Clone, Copy)]
+pub struct RowRecord {
+    number: AnimalNumber,
+    embryo: bool,
+    birth: Day,
+    herd: Herd,
+    since: Day,
+    left: Option<Day>,
+}
+
+/// What is kept of a row's parents, in twelve bytes.
+#[derive(Clone, Copy)]
+pub struct PackedParents {
+    sire: PackedPlace,
+    dam: PackedPlace,
+    depth: u8,
+}
+
+/// Rows by place, which counts from 0.
+#[derive(Drop)]
+pub struct Rows<A: Allocator> {
+    records: Vec<RowRecord, A>,
+    parents: Vec<PackedParents, A>,
+}
+
+impl<A: Allocator> Model for Rows<A> {
+    ghost use Rattle.std.specs.Prelude.{List};
+    ghost use Rattle.herd_pedigree.specs.declared.freezing.frozen.Row.{Row};
+    ghost use Rattle.herd_pedigree.specs.freezing.Rows.{AreKept, rows_kept};
+
+    ghost Value = { List Row };
+
+    ghost view = { λ r. rows_kept r.records.items r.parents.items };
+
+    ghost invariant = { λ r. AreKept r.records.items r.parents.items };
+}
+
+impl RowRecord {
+    // What is kept of a row beside its parents.
+    #[inline(always)]
+    fn of(row: &Row) -> RowRecord
+        ensures { result ≡ record_of_row row.now }
+    {
+        RowRecord {
+            number: row.number,
+            embryo: row.animal.embryo,
+            birth: row.animal.birth,
+            herd: row.animal.herd,
+            since: row.animal.since,
+            left: row.animal.left,
+        }
+    }
+}
+
+impl PackedParents {
+    // What is kept of a row's parents.
+    #[inline(always)]
+    fn of(row: &Row) -> PackedParents
+        requires sire { IfSome row.now.sire (λ place. place < nowhere) }
+        requires dam { IfSome row.now.dam (λ place. place < nowhere) }
+        ensures { result ≡ packed_parents row.now }
+    {
+        PackedParents {
+            sire: PackedPlace::of(row.sire),
+            dam: PackedPlace::of(row.dam),
+            depth: row.depth,
+        }
+    }
+}
+
+impl<A: Allocator + Clone> Rows<A> {
+    /// No rows, with room for so many.
+    pub fn with_capacity(alloc: A, rows: usize) -> Result<Rows<A>, AllocError>
+        ensures { IfOk result (λ made. made ≡ []) }
+    {
+        Ok(Rows {
+            records: Vec::with_capacity(alloc.clone()?, rows)?,
+            parents: Vec::with_capacity(alloc, rows)?,
+        })
+    }
+}
+
+// Look-ups are inlined: a caller reads no more of a row, and of the numbers of its parents, than it uses.
+impl<A: Allocator> Rows<A> {
+    /// How many rows there are.
+    #[inline(always)]
+    pub fn len(&self) -> usize
+        ensures { result ≡ length self.now }
+    {
+        self.records.len()
+    }
+
+    /// The number of the row at a place.
+    #[inline(always)]
+    pub fn number(&self, place: u32) -> &AnimalNumber
+        requires { place < length self.now }
+        ensures { slice_get (numbers_of self.now) place ≡ Some result.now }
+    {
+        &self.records[place as usize].number
+    }
+
+    /// The parents and the depth of the row at a place.
+    #[inline(always)]
+    pub fn parents(&self, place: u32) -> Parents
+        requires { place < length self.now }
+        ensures { slice_get (map parents_of self.now) place ≡ Some result }
+    {
+        let packed = &self.parents[place as usize];
+        Parents {
+            sire: packed.sire.get(),
+            dam: packed.dam.get(),
+            depth: packed.depth,
+        }
+    }
+
+    /// The depth of the row at a place.
+    #[inline(always)]
+    pub fn depth(&self, place: u32) -> u8
+        requires { place < length self.now }
+        ensures { result ≡ depth_at self.now place }
+    {
+        self.parents[place as usize].depth
+    }
+
+    /// The row at a place.
+    #[inline(always)]
+    pub fn row(&self, place: u32) -> Row
+        requires { place < length self.now }
+        ensures { slice_get self.now place ≡ Some result }
+    {
+        let kept = &self.records[place as usize];
+        let parents = self.parents(place);
+        Row {
+            number: kept.number,
+            animal: Animal {
+                birth: kept.birth,
+                sire: self.number_at(parents.sire),
+                dam: self.number_at(parents.dam),
+                embryo: kept.embryo,
+                herd: kept.herd,
+                since: kept.since,
+                left: kept.left,
+            },
+            sire: parents.sire,
+            dam: parents.dam,
+            depth: parents.depth,
+        }
+    }
+
+    // The number of the row at a place.
+    #[inline(always)]
+    fn number_at(&self, place: Option<u32>) -> Option<AnimalNumber>
+        ensures { result ≡ number_at (numbers_of self.now) place }
+    {
+        let kept = self.records.get(place? as usize)?;
+        Some(kept.number)
+    }
+
+    /// Adds a row whose parents stand among those before it.
+    #[inline(always)]
+    pub fn push(&mut self, row: Row) -> Result<(), AllocError>
+        requires few { length self.old < nowhere }
+        requires sire { IsPlaceIn (numbers_of self.old) row.sire row.animal.sire }
+        requires dam { IsPlaceIn (numbers_of self.old) row.dam row.animal.dam }
+        ensures { OnOk result (self.new ≡ self.old ++ row ∷ []) }
+    {
+        self.records.reserve(1)?;
+        self.parents.reserve(1)?;
+        let record = RowRecord::of(&row);
+        let parents = PackedParents::of(&row);
+        if self.records.push(record).is_err() || self.parents.push(parents).is_err() {
+            unreachable!();
+        }
+        Ok(())
+    }
+}

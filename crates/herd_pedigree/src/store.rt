@@ -1,0 +1,9 @@
+//! How a pedigree keeps its book, changes it, and takes a change back.
+
+pub(crate) mod correction;
+pub(crate) mod depth;
+pub(crate) mod links;
+pub(crate) mod packed_place;
+pub(crate) mod progeny;
+pub(crate) mod records;
+pub(crate) mod undo;

@@ -1,0 +1,41 @@
+//! The depth of an animal by the depths of its parents.
+ghost use Rattle.std.specs.Prelude.{◌≡◌, ◌<◌, ◌≤◌, [], All, IfSome, length, slice_index};
+ghost use Rattle.herd_pedigree.specs.rules.Depths.{depth_above, depth_from};
+ghost use Rattle.herd_pedigree.specs.store.Undo.{undone_writes};
+
+use std::alloc::Allocator;
+
+// One more than the depth of a parent, 0 where it is unknown.
+fn depth_above_parent(depths: &[u8], parent: Option<u32>) -> u16
+    requires { IfSome parent (λ place. place < length depths.now) }
+    ensures depth { result ≡ depth_above (slice_index depths.now) parent }
+    ensures bound { result ≤ 256 }
+{
+    match parent {
+        Some(place) => u16::from(depths[place as usize]) + 1,
+        None => 0,
+    }
+}
+
+/// The depth that an animal with these parents has.
+pub fn depth_with(depths: &[u8], sire: Option<u32>, dam: Option<u32>) -> u16
+    requires sire { IfSome sire (λ place. place < length depths.now) }
+    requires dam { IfSome dam (λ place. place < length depths.now) }
+    ensures depth { result ≡ depth_from (slice_index depths.now) sire dam }
+    ensures bound { result ≤ 256 }
+{
+    let by_sire = depth_above_parent(depths, sire);
+    let by_dam = depth_above_parent(depths, dam);
+    by_sire.max(by_dam)
+}
+
+/// Takes back the writes that are logged, each with its place and the depth that it wrote over.
+pub fn undo_writes<A: Allocator>(depths: &mut [u8], log: &mut Vec<(u32, u8), A>)
+    requires { All (λ write. write.0 < length depths.old) log.old.items }
+    ensures undone { depths.new ≡ undone_writes log.old.items depths.old }
+    ensures emptied { log.new.items ≡ [] }
+{
+    while let Some((place, depth)) = log.pop() {
+        depths[place as usize] = depth;
+    }
+}

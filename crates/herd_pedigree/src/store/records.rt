@@ -1,0 +1,229 @@
+//! The records of a book, which keep the places of the parents for their numbers.
+ghost use Rattle.std.specs.Prelude.{◌≡◌, ◌<◌, ◌^◌, [], ◌++◌, ◌∷◌, length, position, slice_get, None, IfSome, OnOk, is_some};
+ghost use Rattle.std.specs.List.{IsDistinct};
+ghost use Rattle.std.specs.Map.{keys_of, values_of};
+ghost use Rattle.std.specs.Str.{bytes_eq};
+ghost use Rattle.indexmap.specs.IndexMap.{set_value_at};
+ghost use Rattle.herd_pedigree.specs.rules.Book.{is_there, record_of};
+ghost use Rattle.herd_pedigree.specs.store.Links.{IsLinkAt};
+ghost use Rattle.herd_pedigree.specs.store.PackedPlace.{nowhere};
+ghost use Rattle.herd_pedigree.specs.store.Places.{IsPlaceIn};
+ghost use Rattle.herd_pedigree.specs.store.Records.{NamesItsOwn, named, number_at};
+ghost use Rattle.herd_pedigree.specs.store.Undo.{without_last};
+
+use crate::rules::animal::Animal;
+use crate::store::links::Link;
+use crate::store::packed_place::PackedPlace;
+use herd_animal::{AnimalNumber, Day, Herd};
+use indexmap::IndexMap;
+use std::alloc::{AllocError, Allocator};
+use std::hash::{BuildHasherDefault, FoldHasher};
+use std::marker::Model;
+
+/// What is kept of an animal under its number: its record, with the places of the parents that are known.
+#[derive(Clone, Copy)]
+pub struct StoredRecord {
+    birth: Day,
+    sire: PackedPlace,
+    dam: PackedPlace,
+    embryo: bool,
+    herd: Herd,
+    since: Day,
+    left: Option<Day>,
+}
+
+/// The records in the order of registration, found by their numbers. A place counts from 0 in this order.
+#[derive(Drop)]
+pub struct Records<A: Allocator> {
+    entries: IndexMap<AnimalNumber, StoredRecord, BuildHasherDefault<FoldHasher>, A>,
+}
+
+impl<A: Allocator> Model for Records<A> {
+    ghost use Rattle.indexmap.specs.IndexMap.{spare};
+    ghost use Rattle.herd_pedigree.specs.store.Records.{AreClosed, Records, stored_book};
+
+    ghost Value = { Records };
+
+    ghost view = { λ r. record { book = stored_book r.entries.entries; room = spare r.entries } };
+
+    ghost invariant = { λ r. AreClosed r.entries.entries };
+}
+
+impl StoredRecord {
+    // What is kept of an animal whose parents stand at these places.
+    fn new(animal: Animal, sire: Option<u32>, dam: Option<u32>) -> StoredRecord
+        requires sire { IfSome sire (λ place. place < nowhere) }
+        requires dam { IfSome dam (λ place. place < nowhere) }
+        ensures sire { result.sire ≡ sire }
+        ensures dam { result.dam ≡ dam }
+        ensures birth { result.birth ≡ animal.birth }
+        ensures embryo { result.embryo ≡ animal.embryo }
+        ensures herd { result.herd ≡ animal.herd }
+        ensures since { result.since ≡ animal.since }
+        ensures left { result.left ≡ animal.left }
+    {
+        StoredRecord {
+            birth: animal.birth,
+            sire: PackedPlace::of(sire),
+            dam: PackedPlace::of(dam),
+            embryo: animal.embryo,
+            herd: animal.herd,
+            since: animal.since,
+            left: animal.left,
+        }
+    }
+}
+
+impl<A: Allocator + Copy> Records<A> {
+    /// No records. It takes no memory.
+    pub fn new(alloc: A) -> Self
+        ensures { result.book ≡ [] }
+    {
+        Records {
+            entries: IndexMap::new(alloc),
+        }
+    }
+}
+
+// Look-ups are inlined: a caller reads no more of a record, and of the numbers of its parents, than it uses.
+impl<A: Allocator> Records<A> {
+    pub fn allocator(&self) -> &A {
+        self.entries.allocator()
+    }
+
+    pub fn len(&self) -> usize
+        ensures { result ≡ length self.now.book }
+    {
+        self.entries.len()
+    }
+
+    /// The place of an animal.
+    #[inline(always)]
+    pub fn place_of(&self, number: &AnimalNumber) -> Option<usize>
+        ensures index { result ≡ position (bytes_eq number.now) (keys_of self.now.book) }
+        ensures found { is_some result ≡ is_there self.now.book number.now }
+        ensures within { IfSome result (λ place. place < length self.now.book) }
+        ensures value { IfSome result (λ place. slice_get (values_of self.now.book) place ≡ record_of self.now.book number.now) }
+    {
+        self.entries.get_index_of(number)
+    }
+
+    /// The record at a place.
+    #[inline(always)]
+    pub fn animal_at(&self, place: usize) -> Animal
+        requires { place < length self.now.book }
+        ensures { slice_get (values_of self.now.book) place ≡ Some result }
+    {
+        self.named(&self.entries[place])
+    }
+
+    /// The record of an animal.
+    #[inline(always)]
+    pub fn get(&self, number: &AnimalNumber) -> Option<Animal>
+        ensures { result ≡ record_of self.now.book number.now }
+    {
+        let entry = self.entries.get(number)?;
+        Some(self.named(entry))
+    }
+
+    /// The number and the record at a place, where there are so many.
+    #[inline(always)]
+    pub fn entry_at(&self, place: usize) -> Option<(AnimalNumber, Animal)>
+        ensures { result ≡ slice_get self.now.book place }
+    {
+        let (number, entry) = self.entries.get_index(place)?;
+        let animal = self.named(entry);
+        Some((*number, animal))
+    }
+
+    /// The places of the parents of the animal at a place.
+    #[inline(always)]
+    pub(crate) fn parents_at(&self, place: usize) -> Link
+        requires { place < length self.now.book }
+        ensures { IsLinkAt self.now.book place result }
+    {
+        let entry = &self.entries[place];
+        Link {
+            sire: entry.sire.get(),
+            dam: entry.dam.get(),
+        }
+    }
+
+    // The record that an entry is of.
+    #[inline(always)]
+    fn named(&self, entry: &StoredRecord) -> Animal
+        ensures { result ≡ named (keys_of self.now.book) entry.now }
+    {
+        Animal {
+            birth: entry.birth,
+            sire: self.number_at(entry.sire.get()),
+            dam: self.number_at(entry.dam.get()),
+            embryo: entry.embryo,
+            herd: entry.herd,
+            since: entry.since,
+            left: entry.left,
+        }
+    }
+
+    // The number of the animal at a place.
+    #[inline(always)]
+    fn number_at(&self, place: Option<u32>) -> Option<AnimalNumber>
+        ensures { result ≡ number_at (keys_of self.now.book) place }
+    {
+        let place = place?;
+        let (number, _) = self.entries.get_index(place as usize)?;
+        Some(*number)
+    }
+
+    /// Makes room for one more animal.
+    pub fn reserve(&mut self) -> Result<(), AllocError>
+        ensures book { self.new.book ≡ self.old.book }
+        ensures room { OnOk result (0 < self.new.room) }
+    {
+        self.entries.reserve(1)
+    }
+
+    /// Adds an animal whose parents stand at these places. It takes no memory.
+    pub fn push(
+        &mut self,
+        number: AnimalNumber,
+        animal: Animal,
+        sire: Option<u32>,
+        dam: Option<u32>,
+    )
+        requires absent { record_of self.old.book number ≡ None }
+        requires few { length self.old.book < 2 ^ 32 }
+        requires sire { IsPlaceIn (keys_of self.old.book) sire animal.sire }
+        requires dam { IsPlaceIn (keys_of self.old.book) dam animal.dam }
+        requires room { 0 < self.old.room }
+        ensures { self.new.book ≡ self.old.book ++ (number, animal) ∷ [] }
+    {
+        if self
+            .entries
+            .insert(number, StoredRecord::new(animal, sire, dam))
+            .is_err()
+        {
+            unreachable!();
+        }
+    }
+
+    /// Sets the record at a place, to that of an animal whose parents stand at these places. It takes no memory.
+    pub fn set(&mut self, place: usize, animal: Animal, sire: Option<u32>, dam: Option<u32>)
+        requires within { place < length self.old.book }
+        requires few { length self.old.book < 2 ^ 32 }
+        requires sire { IsPlaceIn (keys_of self.old.book) sire animal.sire }
+        requires dam { IsPlaceIn (keys_of self.old.book) dam animal.dam }
+        ensures { self.new.book ≡ set_value_at self.old.book place animal }
+    {
+        self.entries[place] = StoredRecord::new(animal, sire, dam);
+    }
+
+    /// Takes the last animal away, which is nobody's parent. It takes no memory.
+    pub fn pop(&mut self)
+        requires once { IsDistinct bytes_eq (keys_of self.old.book) }
+        requires childless { NamesItsOwn (without_last self.old.book) }
+        ensures { self.new.book ≡ without_last self.old.book }
+    {
+        let _ = self.entries.pop();
+    }
+}

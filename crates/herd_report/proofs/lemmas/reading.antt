@@ -1,0 +1,6 @@
+-- How a command file is read.
+pub mod CommandReaderFacts
+pub mod FieldFacts
+pub mod HeaderFacts
+pub mod HerdFacts
+pub mod UpcomingFacts

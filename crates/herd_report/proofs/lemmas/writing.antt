@@ -1,0 +1,9 @@
+-- How a text is made and written, piece by piece.
+pub mod OutputFacts
+pub mod ReplyLines
+pub mod Pieces
+pub mod CoefficientFacts
+pub mod AncestorFacts
+pub mod CertificateFacts
+pub mod MatingFacts
+pub mod ContributionFacts

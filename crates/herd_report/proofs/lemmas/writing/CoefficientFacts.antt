@@ -1,0 +1,24 @@
+-- The numerators of a frozen book's coefficients.
+use Rattle.std.proofs.Common.{◌≡◌, ◌∙◌, ℕ, ◌<◌, List, ◌++◌, length, slice_index, slice_get, Some, ap, arith}
+use Rattle.std.specs.Prelude.{codes}
+use Rattle.std.proofs.lemmas.Option.{slice_get_within}
+use Rattle.herd_pedigree.specs.declared.freezing.frozen.Row.{Row}
+use Rattle.herd_kinship.specs.Coefficients.{AreCoefficients}
+use Rattle.herd_kinship.specs.FrozenAncestry.{ancestry_of}
+use Rattle.herd_kinship.specs.Table.{coefficient}
+use Rattle.herd_kinship.proofs.FrozenFacts.{number_of_row-is}
+use Rattle.herd_report.proofs.lemmas.writing.OutputFacts.{some_after}
+use Rattle.herd_report.specs.writing.CoefficientText.{coefficient_line, coefficient_text}
+
+-- the numerator at a place is the coefficient of the row there
+pub numerator_is : (l : ℕ) (rows : List Row) (numerators : List ℕ) → AreCoefficients l rows numerators
+    → (place : ℕ) (row : Row) → slice_get rows place ≡ Some row
+    → slice_index numerators place ≡ coefficient (ancestry_of rows) l row.number
+numerator_is l rows numerators are place row there =
+    are.right place (slice_get_within rows place row there)
+    ∙ ap (coefficient (ancestry_of rows) l) (number_of_row-is rows place row there)
+
+-- a line isn't empty
+pub some_coefficient_line : (number : List ℕ) (numerator : ℕ) → 0 < length (coefficient_line number numerator)
+some_coefficient_line number numerator =
+    some_after (number ++ codes "," ++ coefficient_text (codes ",") numerator) (codes "\n") (omega arith)

@@ -1,0 +1,104 @@
+-- The elements that an animal contributes.
+use Rattle.std.proofs.Common.{◌≡◌, ℕ, ◌<◌, ◌≤◌, List, [], ◌∷◌, ◌++◌, length, map, take, max, min, Option, Some, None, All, refl, arith}
+use Rattle.std.specs.Prelude.{codes}
+use Rattle.std.specs.List.{flat_map}
+use Rattle.std.proofs.lemmas.List.Elements.{All-cons, All-nil}
+use Rattle.herd_pedigree.specs.declared.TheConstants.{DEPTH_LIMIT, MOST_ANIMALS}
+use Rattle.herd_pedigree.specs.declared.freezing.frozen.Row.{Row}
+use Rattle.herd_pedigree.specs.freezing.Frozen.{IsFrozen}
+use Rattle.herd_kinship.specs.declared.contribution.Contribution.{Contribution}
+use Rattle.herd_kinship.specs.Contributions.{contribution_at, contributions_of, filled, pairs_of}
+use Rattle.herd_kinship.specs.Places.{sire_place, dam_place}
+use Rattle.herd_kinship.proofs.FrozenFacts.{sire_at, dam_at}
+use Rattle.herd_kinship.specs.FrozenAncestry.{number_of_row}
+use Rattle.herd_report.specs.writing.CoefficientText.{fraction_text}
+use Rattle.herd_report.proofs.lemmas.writing.OutputFacts.{some_after, some_before}
+use Rattle.herd_report.specs.writing.InverseList.{IsWithin, contribution_line, contributions_text}
+
+-- of the six elements the first ones are those that count
+take-filled : (f : ℕ × ℕ → Contribution) (i : ℕ) (s d : Option ℕ)
+    → take (length (map f (pairs_of i s d))) (filled (map f (pairs_of i s d))) ≡ map f (pairs_of i s d)
+take-filled f i None None = refl
+take-filled f i (Some s) None = refl
+take-filled f i None (Some d) = refl
+take-filled f i (Some s) (Some d) = refl
+
+pub take-filled-contributions : (rows : List Row) (place : ℕ)
+    → take (length (contributions_of DEPTH_LIMIT rows place)) (filled (contributions_of DEPTH_LIMIT rows place)) ≡ contributions_of DEPTH_LIMIT rows place
+unfolding contributions_of
+take-filled-contributions rows place = take-filled (contribution_at DEPTH_LIMIT rows place) place (sire_place rows place) (dam_place rows place)
+
+-- there are at most six
+at_most_six : (f : ℕ × ℕ → Contribution) (i : ℕ) (s d : Option ℕ) → length (map f (pairs_of i s d)) ≤ 6
+at_most_six f i None None = omega arith
+at_most_six f i (Some s) None = omega arith
+at_most_six f i None (Some d) = omega arith
+at_most_six f i (Some s) (Some d) = omega arith
+
+pub length-contributions-le : (rows : List Row) (place : ℕ) → length (contributions_of DEPTH_LIMIT rows place) ≤ 6
+unfolding contributions_of
+length-contributions-le rows place = at_most_six (contribution_at DEPTH_LIMIT rows place) place (sire_place rows place) (dam_place rows place)
+
+-- an element at two places of the book
+within_at : (rows : List Row) (i p q : ℕ) → p < length rows → q < length rows → IsWithin rows (contribution_at DEPTH_LIMIT rows i (p, q))
+within_at rows i p q first second = record { row = first; column = second }
+
+-- the elements of an animal and of known parents of the book are within it
+module _ (rows : List Row) (i : ℕ) (own : i < length rows) where
+  abbrev value : ℕ × ℕ → Contribution
+  value = contribution_at DEPTH_LIMIT rows i
+
+  one_within : (element : Contribution) (rest : List Contribution) → IsWithin rows element → All (IsWithin rows) rest → All (IsWithin rows) (element ∷ rest)
+  one_within element rest first later = All-cons (IsWithin rows) element rest first later
+
+  all_within : (s d : Option ℕ) → ((p : ℕ) → s ≡ Some p → p < length rows) → ((p : ℕ) → d ≡ Some p → p < length rows)
+      → All (IsWithin rows) (map (contribution_at DEPTH_LIMIT rows i) (pairs_of i s d))
+  all_within None None sire dam = one_within (value (i, i)) [] (within_at rows i i i own own) (All-nil (IsWithin rows))
+  all_within (Some s) None sire dam =
+      let known = sire s refl in
+      one_within (value (i, i)) (value (i, s) ∷ value (s, s) ∷ []) (within_at rows i i i own own)
+      (one_within (value (i, s)) (value (s, s) ∷ []) (within_at rows i i s own known)
+      (one_within (value (s, s)) [] (within_at rows i s s known known) (All-nil (IsWithin rows))))
+  all_within None (Some d) sire dam =
+      let known = dam d refl in
+      one_within (value (i, i)) (value (i, d) ∷ value (d, d) ∷ []) (within_at rows i i i own own)
+      (one_within (value (i, d)) (value (d, d) ∷ []) (within_at rows i i d own known)
+      (one_within (value (d, d)) [] (within_at rows i d d known known) (All-nil (IsWithin rows))))
+  all_within (Some s) (Some d) sire dam =
+      let first = sire s refl in
+      let second = dam d refl in
+      let later : max s d < length rows = omega arith in
+      let earlier : min s d < length rows = omega arith in
+      let between = value (max s d, min s d) in
+      one_within (value (i, i)) (value (i, s) ∷ value (i, d) ∷ value (s, s) ∷ value (d, d) ∷ between ∷ []) (within_at rows i i i own own)
+      (one_within (value (i, s)) (value (i, d) ∷ value (s, s) ∷ value (d, d) ∷ between ∷ []) (within_at rows i i s own first)
+      (one_within (value (i, d)) (value (s, s) ∷ value (d, d) ∷ between ∷ []) (within_at rows i i d own second)
+      (one_within (value (s, s)) (value (d, d) ∷ between ∷ []) (within_at rows i s s first first)
+      (one_within (value (d, d)) (between ∷ []) (within_at rows i d d second second)
+      (one_within between [] (within_at rows i (max s d) (min s d) later earlier) (All-nil (IsWithin rows)))))))
+
+pub contributions_within : (rows : List Row) → IsFrozen DEPTH_LIMIT MOST_ANIMALS rows → (place : ℕ) → place < length rows
+    → All (IsWithin rows) (contributions_of DEPTH_LIMIT rows place)
+unfolding contributions_of
+contributions_within rows frozen place within =
+    all_within rows place within (sire_place rows place) (dam_place rows place)
+    (sire_at DEPTH_LIMIT MOST_ANIMALS rows frozen place within).within
+    (dam_at DEPTH_LIMIT MOST_ANIMALS rows frozen place within).within
+
+some_line : (rows : List Row) (place : ℕ) (element : Contribution) → 0 < length (contribution_line rows place element)
+some_line rows place element =
+    some_after
+    (number_of_row rows place ++ codes "," ++ number_of_row rows element.row ++ codes "," ++ number_of_row rows element.column ++ codes "," ++ fraction_text element.value)
+    (codes "\n") (omega arith)
+
+some_lines : (rows : List Row) (place : ℕ) (f : ℕ × ℕ → Contribution) (s d : Option ℕ)
+    → 0 < length (flat_map (contribution_line rows place) (map f (pairs_of place s d)))
+some_lines rows place f None None = some_before (contribution_line rows place (f (place, place))) _ (some_line rows place (f (place, place)))
+some_lines rows place f (Some s) None = some_before (contribution_line rows place (f (place, place))) _ (some_line rows place (f (place, place)))
+some_lines rows place f None (Some d) = some_before (contribution_line rows place (f (place, place))) _ (some_line rows place (f (place, place)))
+some_lines rows place f (Some s) (Some d) = some_before (contribution_line rows place (f (place, place))) _ (some_line rows place (f (place, place)))
+
+-- an animal contributes some lines
+pub some_contributions_text : (rows : List Row) (place : ℕ) → 0 < length (contributions_text rows place)
+unfolding contributions_of
+some_contributions_text rows place = some_lines rows place (contribution_at DEPTH_LIMIT rows place) (sire_place rows place) (dam_place rows place)

@@ -1,0 +1,43 @@
+use Rattle.std.proofs.Common.{◌<◌, ◌≤◌, length, arith}
+use Rattle.std.specs.List.{range_with_len}
+use Rattle.std.proofs.lemmas.List.{drop_all}
+use Rattle.std.proofs.lemmas.List.FromFn.{length-range_with_len}
+use Rattle.std.proofs.lemmas.Result.{err_from_is_err_and, on_err_weaker, on_ok_weaker}
+use Rattle.herd_report.proofs.lemmas.writing.OutputFacts.{appends_waiting, front_passed, front_waiting, holds_passed}
+use Rattle.herd_report.proofs.lemmas.writing.Pieces.{holds_element, slice_get-range, some_left}
+use Rattle.herd_report.proofs.lemmas.writing.ContributionFacts.{some_contributions_text}
+use Rattle.herd_report.specs.writing.InverseList.{contributions_text}
+use Rattle.herd_report.proofs.writing.inverse_list.write_inverse.Goals as goal
+
+pub returns-in_err-pass_on-clause-err : goal.returns-in_err-pass_on-clause-err
+returns-in_err-pass_on-clause-err g c =
+    let exit = err_from_is_err_and c.from_residual.result c.from_residual.ensures.1 in
+    rw exit.1 (front_waiting c.loop-place.invariant c.in_err-pass_on.ensures.err)
+
+pub returns-in_err-push_contributions-clause-err : goal.returns-in_err-push_contributions-clause-err
+returns-in_err-push_contributions-clause-err g c =
+    let exit = err_from_is_err_and c.from_residual-in_err-push_contributions.result c.from_residual-in_err-push_contributions.ensures.1 in
+    let rows = c.args.frozen.now in
+    let place = c.loop-place.place in
+    let within : place < length rows = omega arith in
+    let some = some_left (contributions_text rows) (range_with_len 0 (length rows)) place place (slice_get-range (length rows) place within) (some_contributions_text rows place) in
+    rw exit.1 (front_passed (holds_passed c.loop-place.invariant c.in_ok-pass_on.ensures.ok) some)
+
+pub loop-place-preserved : goal.loop-place-preserved
+loop-place-preserved g c =
+    let rows = c.args.frozen.now in
+    let place = c.loop-place.place in
+    let within : place < length rows = omega arith in
+    holds_element (contributions_text rows) (range_with_len 0 (length rows)) place place
+    (holds_passed c.loop-place.invariant c.in_ok-pass_on.ensures.ok) (slice_get-range (length rows) place within) c.in_ok-push_contributions.ensures
+
+pub returns-clause-err : goal.returns-clause-err
+returns-clause-err g c = on_err_weaker c.finish.result (front_waiting c.loop-place.invariant) c.finish.ensures.err
+
+pub returns-clause-ok : goal.returns-clause-ok
+returns-clause-ok g c =
+    let rows = c.args.frozen.now in
+    let place = c.loop-place.place in
+    let past : length (range_with_len 0 (length rows)) ≤ place = rw (length-range_with_len 0 (length rows)) (omega arith) in
+    let held = rw (drop_all place (range_with_len 0 (length rows)) past) at c.loop-place.invariant in
+    on_ok_weaker c.finish.result (λ written. appends_waiting (g.W.Write.contents c.finish.new.writer) held written) c.finish.ensures.ok

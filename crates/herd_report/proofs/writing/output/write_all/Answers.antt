@@ -1,0 +1,5 @@
+use Rattle.herd_report.proofs.lemmas.writing.OutputFacts.{passes_count}
+use Rattle.herd_report.proofs.writing.output.write_all.Goals as goal
+
+pub loop-rest-preserved : goal.loop-rest-preserved
+loop-rest-preserved g c = passes_count c.in-Ok.count c.in-Ok.ensures.bound c.loop-rest.invariant c.in-Ok.ensures.bytes

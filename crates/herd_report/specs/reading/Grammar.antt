@@ -1,0 +1,141 @@
+-- What one record of a command file means.
+use Rattle.std.specs.Prelude.{ℕ, List, [], ◌∷◌, ◌++◌, length, unwrap_or, codes, Bool, ◌==◌, if◌then◌else◌, Option, Some, None, Result, Ok, Err}
+use Rattle.std.specs.Option.{option_map_or}
+use Rattle.std.specs.Str.{bytes_eq}
+use Rattle.std.specs.Cmp.Lexicographic.{pointwise}
+use Rattle.csv.specs.Records.{field_at}
+use Rattle.herd_register.specs.declared.command.Command.{Command}
+use Rattle.herd_register.specs.declared.command.Command.TheVariants as command
+use Rattle.herd_report.specs.reading.Field.{day_in, herd_in, is_animal_number, is_day, is_embryo, is_embryo_flag, is_empty, is_herd, is_parent, parent_in}
+use Rattle.herd_report.specs.declared.reading.columns.Kind.{Kind}
+use Rattle.herd_report.specs.declared.reading.columns.Kind.TheVariants.{Birth, Parents, Transfer, Exit}
+use Rattle.herd_report.specs.declared.reading.line_fault.LineCause.{LineCause}
+use Rattle.herd_report.specs.declared.reading.line_fault.LineCause.TheVariants as cause
+use Rattle.herd_report.specs.declared.reading.version.Version.{Version}
+use Rattle.herd_report.specs.declared.reading.version.Version.TheVariants.{One, Two}
+
+-- the fields of a record, as bytes
+abbrev pub Fields : Type 0
+Fields = List (List ℕ)
+
+-- the columns of version 1
+abbrev pub first_columns : Fields
+first_columns =
+    codes "kind" ∷ codes "animal" ∷ codes "day" ∷ codes "sire" ∷ codes "dam" ∷ codes "from" ∷ codes "to" ∷ []
+
+-- the header of a version: version 2 has one more column
+abbrev pub header : Version → Fields
+header One = first_columns
+header Two = first_columns ++ codes "embryo" ∷ []
+
+-- whether a record is the header of a version
+abbrev pub is_header : Version → Fields → Bool
+is_header version fields = pointwise bytes_eq fields (header version)
+
+-- the version whose header a record is
+unfoldable pub version_of : Fields → Option Version
+version_of fields = if is_header One fields then Some One else if is_header Two fields then Some Two else None
+
+-- the kind that a text names
+abbrev pub kind_of : List ℕ → Option Kind
+kind_of text =
+    if bytes_eq text (codes "birth") then Some Birth
+    else if bytes_eq text (codes "parents") then Some Parents
+    else if bytes_eq text (codes "transfer") then Some Transfer
+    else if bytes_eq text (codes "exit") then Some Exit
+    else None
+
+-- what may stand in a column, and the cause where another text does
+pub record Rule : Type 0 where
+  pub accepts : List ℕ → Bool
+  pub cause : LineCause
+
+abbrev pub animal : Rule
+animal = record { accepts = is_animal_number; cause = cause.Animal }
+
+abbrev pub day : Rule
+day = record { accepts = is_day; cause = cause.Day }
+
+abbrev pub sire : Rule
+sire = record { accepts = is_parent; cause = cause.Sire }
+
+abbrev pub dam : Rule
+dam = record { accepts = is_parent; cause = cause.Dam }
+
+abbrev pub from : Rule
+from = record { accepts = is_herd; cause = cause.FromHerd }
+
+abbrev pub to : Rule
+to = record { accepts = is_herd; cause = cause.ToHerd }
+
+abbrev pub embryo : Rule
+embryo = record { accepts = is_embryo_flag; cause = cause.Embryo }
+
+abbrev pub unused : Rule
+unused = record { accepts = is_empty; cause = cause.FieldNotUsed }
+
+-- the rules of the columns animal, day, sire, dam, from, to and embryo
+abbrev pub rules : Kind → List Rule
+rules Birth = animal ∷ day ∷ sire ∷ dam ∷ unused ∷ to ∷ embryo ∷ []
+rules Parents = animal ∷ unused ∷ sire ∷ dam ∷ unused ∷ unused ∷ unused ∷ []
+rules Transfer = animal ∷ day ∷ unused ∷ unused ∷ from ∷ to ∷ unused ∷ []
+rules Exit = animal ∷ day ∷ unused ∷ unused ∷ unused ∷ unused ∷ unused ∷ []
+
+-- the cause of the first field that its column doesn't accept
+abbrev pub first_fault : List Rule → Fields → Option LineCause
+first_fault [] fields = None
+first_fault (rule ∷ rules) [] = None
+first_fault (rule ∷ rules) (field ∷ fields) = if rule.accepts field then first_fault rules fields else Some rule.cause
+
+-- the fields of a record by their columns
+pub record Texts : Type 0 where
+  pub kind : List ℕ
+  pub animal : List ℕ
+  pub day : List ℕ
+  pub sire : List ℕ
+  pub dam : List ℕ
+  pub from : List ℕ
+  pub to : List ℕ
+  pub embryo : List ℕ
+
+-- the field at a place, and the empty one where the record has fewer
+abbrev pub field : ℕ → Fields → List ℕ
+field place fields = unwrap_or (field_at fields place) []
+
+-- the columns of a record; version 1 has no embryo column, which is read as empty
+abbrev pub columns_of : Fields → Texts
+columns_of fields = record {
+  kind = field 0 fields;
+  animal = field 1 fields;
+  day = field 2 fields;
+  sire = field 3 fields;
+  dam = field 4 fields;
+  from = field 5 fields;
+  to = field 6 fields;
+  embryo = field 7 fields;
+}
+
+-- the fields that have rules
+abbrev pub ruled : Texts → Fields
+ruled c = c.animal ∷ c.day ∷ c.sire ∷ c.dam ∷ c.from ∷ c.to ∷ c.embryo ∷ []
+
+-- the command of a kind in columns that accept their fields
+abbrev pub command_in : Kind → Texts → Command
+command_in Birth c =
+    command.Birth c.animal (day_in c.day) (parent_in c.sire) (parent_in c.dam) (herd_in c.to) (is_embryo c.embryo)
+command_in Parents c = command.Parents c.animal (parent_in c.sire) (parent_in c.dam)
+command_in Transfer c = command.Transfer c.animal (day_in c.day) (herd_in c.from) (herd_in c.to)
+command_in Exit c = command.Exit c.animal (day_in c.day)
+
+-- the command of a kind in its columns, or the first fault
+abbrev pub command_or_fault : Kind → Texts → Result Command LineCause
+command_or_fault kind c = option_map_or Err (first_fault (rules kind) (ruled c)) (Ok (command_in kind c))
+
+-- the command in the columns of a record, or its fault
+abbrev pub command_in_columns : Texts → Result Command LineCause
+command_in_columns c = option_map_or (λ kind. command_or_fault kind c) (kind_of c.kind) (Err cause.Kind)
+
+-- the command of a record under the header of a version, or its fault
+unfoldable pub command_of : Version → Fields → Result Command LineCause
+command_of version fields =
+    if length fields == length (header version) then command_in_columns (columns_of fields) else Err cause.Fields

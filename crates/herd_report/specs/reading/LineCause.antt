@@ -1,0 +1,49 @@
+-- The causes of line faults.
+use Rattle.std.specs.Prelude.{ℕ, Bool, true, false}
+use Rattle.herd_report.specs.declared.reading.line_fault.LineCause.{LineCause}
+use Rattle.csv.specs.declared.error.ErrorKind.{ErrorKind}
+use Rattle.csv.specs.declared.error.ErrorKind.TheVariants as error
+use Rattle.herd_report.specs.declared.reading.line_fault.LineCause.TheVariants.{Header, Fields, Kind, Animal, Day, Sire, Dam, FromHerd, ToHerd, FieldNotUsed, Read, TooMany, Memory, Embryo}
+
+-- the number that the program prints
+abbrev pub cause_number : LineCause → ℕ
+cause_number Header = 1
+cause_number Fields = 2
+cause_number Kind = 3
+cause_number Animal = 4
+cause_number Day = 5
+cause_number Sire = 6
+cause_number Dam = 7
+cause_number FromHerd = 8
+cause_number ToHerd = 9
+cause_number FieldNotUsed = 10
+cause_number Read = 11
+cause_number TooMany = 12
+cause_number Memory = 13
+cause_number Embryo = 14
+
+-- a cause that the bytes don't show: the reader failed, or memory ran out
+abbrev pub is_interruption : LineCause → Bool
+is_interruption Header = false
+is_interruption Fields = false
+is_interruption Kind = false
+is_interruption Animal = false
+is_interruption Day = false
+is_interruption Sire = false
+is_interruption Dam = false
+is_interruption FromHerd = false
+is_interruption ToHerd = false
+is_interruption FieldNotUsed = false
+is_interruption Read = true
+is_interruption TooMany = false
+is_interruption Memory = true
+is_interruption Embryo = false
+
+-- the interruption that an error of `csv` tells: memory that it was refused, or else a fault of reading
+abbrev pub interruption_of : ErrorKind → LineCause
+interruption_of error.OutOfMemory = Memory
+interruption_of (error.Io fault) = Read
+interruption_of (error.Utf8 place fault) = Read
+interruption_of (error.UnequalLengths place expected length) = Read
+interruption_of (error.Serialize text) = Read
+interruption_of (error.Deserialize place fault) = Read

@@ -1,0 +1,9 @@
+-- What is printed, as text.
+pub mod Output
+pub mod Replies
+pub mod CoefficientText
+pub mod InbreedingList
+pub mod Ancestors
+pub mod Certificate
+pub mod MatingList
+pub mod InverseList

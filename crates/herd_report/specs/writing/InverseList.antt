@@ -1,0 +1,28 @@
+-- The contributions to the inverse of A, the numerator relationship matrix, as text.
+use Rattle.std.specs.Prelude.{ℕ, ◌<◌, List, ◌++◌, length, codes}
+use Rattle.std.specs.List.{flat_map, range_with_len}
+use Rattle.herd_pedigree.specs.declared.TheConstants.{DEPTH_LIMIT}
+use Rattle.herd_pedigree.specs.declared.freezing.frozen.Row.{Row}
+use Rattle.herd_kinship.specs.declared.contribution.Contribution.{Contribution}
+use Rattle.herd_kinship.specs.Contributions.{contributions_of}
+use Rattle.herd_kinship.specs.FrozenAncestry.{number_of_row}
+use Rattle.herd_report.specs.writing.CoefficientText.{fraction_text}
+
+-- the line of one element: the animal at the place, those of the row and of the column, and the value
+abbrev pub contribution_line : List Row → ℕ → Contribution → List ℕ
+contribution_line rows place element =
+    number_of_row rows place ++ codes "," ++ number_of_row rows element.row ++ codes "," ++ number_of_row rows element.column ++ codes ","
+    ++ fraction_text element.value ++ codes "\n"
+
+-- the lines of what the animal at a place contributes
+abbrev pub contributions_text : List Row → ℕ → List ℕ
+contributions_text rows place = flat_map (contribution_line rows place) (contributions_of DEPTH_LIMIT rows place)
+
+-- the lines of the animals of a frozen book in age order
+abbrev pub inverse_text : List Row → List ℕ
+inverse_text rows = flat_map (contributions_text rows) (range_with_len 0 (length rows))
+
+-- the row and the column of an element are places of the book
+pub record IsWithin (rows : List Row) (element : Contribution) : Type 0 where
+  pub row : element.row < length rows
+  pub column : element.column < length rows

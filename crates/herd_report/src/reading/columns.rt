@@ -1,0 +1,190 @@
+// The columns of a record, and the command that they give.
+ghost use Rattle.std.specs.Prelude.{◌≡◌, IfErr, false};
+ghost use Rattle.csv.specs.Records.{fields_of};
+ghost use Rattle.herd_report.specs.reading.Grammar.{columns_of, command_of, field};
+ghost use Rattle.herd_report.specs.reading.LineCause.{is_interruption};
+
+use crate::reading::field::{animal, day, embryo, herd, parent, unused};
+use crate::reading::line_fault::LineCause;
+use crate::reading::version::Version;
+use csv::ByteRecord;
+use herd_register::Command;
+
+#[derive(Clone, Copy)]
+enum Kind {
+    Birth,
+    Parents,
+    Transfer,
+    Exit,
+}
+
+impl Kind {
+    ghost use Rattle.herd_report.specs.reading.Grammar.{kind_of};
+
+    fn parse(text: &[u8]) -> Option<Kind>
+        ensures { result ≡ kind_of text.now }
+    {
+        if text == b"birth".as_slice() {
+            Some(Kind::Birth)
+        } else if text == b"parents".as_slice() {
+            Some(Kind::Parents)
+        } else if text == b"transfer".as_slice() {
+            Some(Kind::Transfer)
+        } else if text == b"exit".as_slice() {
+            Some(Kind::Exit)
+        } else {
+            None
+        }
+    }
+}
+
+/// The fields of a record. In version 1 the embryo column is empty.
+#[derive(Clone, Copy)]
+pub struct Columns<'a> {
+    pub kind: &'a [u8],
+    pub animal: &'a [u8],
+    pub day: &'a [u8],
+    pub sire: &'a [u8],
+    pub dam: &'a [u8],
+    pub from: &'a [u8],
+    pub to: &'a [u8],
+    pub embryo: &'a [u8],
+}
+
+impl<'a> Columns<'a> {
+    ghost use Rattle.herd_report.specs.reading.Columns.{are_names, texts_of};
+    ghost use Rattle.herd_report.specs.reading.Grammar.{command_in_columns, command_or_fault};
+    ghost use Rattle.herd_report.specs.declared.reading.columns.Kind.TheVariants as kind;
+
+    /// The fields by their places, each empty where the record has fewer.
+    pub fn of(row: &'a ByteRecord) -> Columns<'a>
+        ensures { texts_of result ≡ columns_of (fields_of row.now) }
+    {
+        Columns {
+            kind: column(row, 0),
+            animal: column(row, 1),
+            day: column(row, 2),
+            sire: column(row, 3),
+            dam: column(row, 4),
+            from: column(row, 5),
+            to: column(row, 6),
+            embryo: column(row, 7),
+        }
+    }
+
+    // None of the four is inlined: a command is written at once where it is wanted, and not moved in pieces.
+    #[inline(never)]
+    fn birth(&self) -> Result<Command, LineCause>
+        ensures { result ≡ command_or_fault kind.Birth (texts_of self.now) }
+    {
+        let animal = animal(self.animal, LineCause::Animal)?;
+        let day = day(self.day, LineCause::Day)?;
+        let sire = parent(self.sire, LineCause::Sire)?;
+        let dam = parent(self.dam, LineCause::Dam)?;
+        unused(self.from)?;
+        let herd = herd(self.to, LineCause::ToHerd)?;
+        let embryo = embryo(self.embryo, LineCause::Embryo)?;
+        Ok(Command::Birth {
+            animal,
+            day,
+            sire,
+            dam,
+            herd,
+            embryo,
+        })
+    }
+
+    #[inline(never)]
+    fn parents(&self) -> Result<Command, LineCause>
+        ensures { result ≡ command_or_fault kind.Parents (texts_of self.now) }
+    {
+        let animal = animal(self.animal, LineCause::Animal)?;
+        unused(self.day)?;
+        let sire = parent(self.sire, LineCause::Sire)?;
+        let dam = parent(self.dam, LineCause::Dam)?;
+        unused(self.from)?;
+        unused(self.to)?;
+        unused(self.embryo)?;
+        Ok(Command::Parents { animal, sire, dam })
+    }
+
+    #[inline(never)]
+    fn transfer(&self) -> Result<Command, LineCause>
+        ensures { result ≡ command_or_fault kind.Transfer (texts_of self.now) }
+    {
+        let animal = animal(self.animal, LineCause::Animal)?;
+        let day = day(self.day, LineCause::Day)?;
+        unused(self.sire)?;
+        unused(self.dam)?;
+        let giver = herd(self.from, LineCause::FromHerd)?;
+        let taker = herd(self.to, LineCause::ToHerd)?;
+        unused(self.embryo)?;
+        Ok(Command::Transfer {
+            animal,
+            day,
+            giver,
+            taker,
+        })
+    }
+
+    #[inline(never)]
+    fn exit(&self) -> Result<Command, LineCause>
+        ensures { result ≡ command_or_fault kind.Exit (texts_of self.now) }
+    {
+        let animal = animal(self.animal, LineCause::Animal)?;
+        let day = day(self.day, LineCause::Day)?;
+        unused(self.sire)?;
+        unused(self.dam)?;
+        unused(self.from)?;
+        unused(self.to)?;
+        unused(self.embryo)?;
+        Ok(Command::Exit { animal, day })
+    }
+
+    /// The command, or the first fault.
+    #[inline(always)]
+    pub fn command(&self) -> Result<Command, LineCause>
+        ensures { result ≡ command_in_columns (texts_of self.now) }
+    {
+        match Kind::parse(self.kind) {
+            Some(Kind::Birth) => self.birth(),
+            Some(Kind::Parents) => self.parents(),
+            Some(Kind::Transfer) => self.transfer(),
+            Some(Kind::Exit) => self.exit(),
+            None => Err(LineCause::Kind),
+        }
+    }
+
+    /// Whether these are the names of the columns, that of the embryo column apart.
+    pub fn are_names(&self) -> bool
+        ensures { result ≡ are_names (texts_of self.now) }
+    {
+        self.kind == b"kind".as_slice()
+            && self.animal == b"animal".as_slice()
+            && self.day == b"day".as_slice()
+            && self.sire == b"sire".as_slice()
+            && self.dam == b"dam".as_slice()
+            && self.from == b"from".as_slice()
+            && self.to == b"to".as_slice()
+    }
+}
+
+/// The command of a record, or its fault. No such fault is an interruption.
+#[inline(always)]
+#[tactic(auto, unfolding(crate::specs::Grammar::command_of))]
+pub fn parse_command(version: Version, row: &ByteRecord) -> Result<Command, LineCause>
+    ensures command { result ≡ command_of version (fields_of row.now) }
+    ensures known { IfErr result (λ cause. is_interruption cause ≡ false) }
+{
+    if row.len() != version.columns() {
+        return Err(LineCause::Fields);
+    }
+    Columns::of(row).command()
+}
+
+// The field at a place, and an empty one where the record has fewer.
+fn column(row: &ByteRecord, place: usize) -> &[u8]
+    ensures { result.now ≡ field place (fields_of row.now) }
+{
+    row.get(place).unwrap_or(&[])
+}

@@ -1,0 +1,12 @@
+//! The texts of replies, lists, certificates and advice.
+
+pub(crate) mod ancestors;
+pub(crate) mod certificate;
+pub(crate) mod certificate_fault;
+pub(crate) mod coefficient_text;
+pub(crate) mod inbreeding_list;
+pub(crate) mod inverse_list;
+pub(crate) mod mating_list;
+pub(crate) mod output;
+pub(crate) mod replies;
+pub(crate) mod report_fault;

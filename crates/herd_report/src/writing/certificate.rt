@@ -1,0 +1,132 @@
+ghost use Rattle.std.specs.Prelude.{◌≡◌, ◌↔◌, ◌<◌, ◌*◌, ◌^◌, ◌++◌, false, true, codes, length, Err, OnErr, OnOk};
+ghost use Rattle.std.specs.Io.KnownBytes.{Appends};
+ghost use Rattle.herd_pedigree.specs.rules.Book.{is_there};
+ghost use Rattle.herd_pedigree.specs.freezing.Frozen.{book_of};
+ghost use Rattle.herd_pedigree.specs.declared.TheConstants.{DEPTH_LIMIT};
+ghost use Rattle.herd_kinship.specs.Coefficients.{AreCoefficients};
+ghost use Rattle.herd_kinship.specs.FrozenAncestry.{number_of_row};
+ghost use Rattle.herd_report.specs.writing.Certificate.{animal_text, certificate_of, entry_line, left_text, sex_text};
+ghost use Rattle.herd_report.specs.writing.CoefficientText.{coefficient_text};
+ghost use Rattle.herd_report.specs.writing.Output.{AppendsFront};
+
+use crate::writing::ancestors::push_ancestors;
+use crate::writing::certificate_fault::CertificateFault;
+use crate::writing::coefficient_text::push_coefficient;
+use crate::writing::output::Output;
+use crate::writing::report_fault::ReportFault;
+use herd_animal::{AnimalNumber, Day, Sex};
+use herd_kinship::Coefficients;
+use herd_pedigree::{Frozen, Row};
+use itoa::Buffer;
+use std::alloc::{AllocError, Allocator};
+use std::io::Write;
+
+/// Writes the certificate of an animal: its record, its coefficient, and its ancestors up to three parents away.
+pub fn write_certificate<W: Write, A: Allocator, F: Allocator, C: Allocator>(
+    alloc: A,
+    frozen: &Frozen<F>,
+    coefficients: &Coefficients<C>,
+    number: AnimalNumber,
+    writer: &mut W,
+) -> Result<(), CertificateFault>
+    requires { AreCoefficients DEPTH_LIMIT frozen.now coefficients.now }
+    ensures ok { OnOk result (Appends (W.contents writer.old) (W.contents writer.new) (certificate_of frozen.now number)) }
+    ensures err { is_there (book_of frozen.now) number ≡ true → OnErr result (AppendsFront (W.contents writer.old) (W.contents writer.new) (certificate_of frozen.now number)) }
+    ensures absent { (result ≡ Err CertificateFault.NotRegistered) ↔ (is_there (book_of frozen.now) number ≡ false) }
+    ensures untouched { is_there (book_of frozen.now) number ≡ false → writer.new ≡ writer.old }
+{
+    let Some(place) = frozen.place(&number) else {
+        return Err(CertificateFault::NotRegistered);
+    };
+    Ok(write_certificate_at(alloc, frozen, coefficients, place, writer)?)
+}
+
+/// Writes the certificate of the animal at a place.
+pub(crate) fn write_certificate_at<W: Write, A: Allocator, F: Allocator, C: Allocator>(
+    alloc: A,
+    frozen: &Frozen<F>,
+    coefficients: &Coefficients<C>,
+    place: u32,
+    writer: &mut W,
+) -> Result<(), ReportFault>
+    requires place { place < length frozen.now }
+    requires coefficients { AreCoefficients DEPTH_LIMIT frozen.now coefficients.now }
+    ensures ok { OnOk result (Appends (W.contents writer.old) (W.contents writer.new) (certificate_of frozen.now (number_of_row frozen.now place))) }
+    ensures err { OnErr result (AppendsFront (W.contents writer.old) (W.contents writer.new) (certificate_of frozen.now (number_of_row frozen.now place))) }
+{
+    prove!(place < frozen.len());
+    let mut output = Output::new(alloc);
+    push_animal(
+        &mut output,
+        &frozen.row(place),
+        coefficients.numerator(place),
+    )?;
+    push_ancestors(&mut output, frozen, place)?;
+    output.finish(writer)
+}
+
+// Adds the lines on the animal itself.
+#[tactic(auto, using(std::proofs::Common::append_assoc))]
+fn push_animal<A: Allocator>(
+    output: &mut Output<A>,
+    row: &Row,
+    numerator: u128,
+) -> Result<(), AllocError>
+    requires { numerator < 2 ^ (2 * DEPTH_LIMIT) }
+    ensures { OnOk result (output.new ≡ output.old ++ animal_text row.now.number row.now.animal numerator) }
+{
+    let animal = row.animal;
+    push_entry(output, b"animal", &row.number.bytes())?;
+    push_entry(output, b"sex", sex_word(row.number.sex()))?;
+    push_entry(output, b"born", &animal.birth.text())?;
+    push_entry(
+        output,
+        b"herd",
+        Buffer::new().format(animal.herd.number()).as_bytes(),
+    )?;
+    push_entry(output, b"since", &animal.since.text())?;
+    push_left(output, animal.left)?;
+    push_inbreeding(output, numerator)
+}
+
+fn push_left<A: Allocator>(output: &mut Output<A>, left: Option<Day>) -> Result<(), AllocError>
+    ensures { OnOk result (output.new ≡ output.old ++ entry_line (codes "left") (left_text left)) }
+{
+    match left {
+        Some(day) => push_entry(output, b"left", &day.text()),
+        None => push_entry(output, b"left", b"-"),
+    }
+}
+
+fn push_inbreeding<A: Allocator>(output: &mut Output<A>, numerator: u128) -> Result<(), AllocError>
+    requires { numerator < 2 ^ (2 * DEPTH_LIMIT) }
+    ensures { OnOk result (output.new ≡ output.old ++ entry_line (codes "inbreeding") (coefficient_text (codes " ") numerator)) }
+{
+    output.push(b"inbreeding ")?;
+    push_coefficient(output, numerator, b" ")?;
+    output.push(b"\n")
+}
+
+fn sex_word(sex: Sex) -> &'static [u8]
+    ensures { result.now ≡ sex_text sex }
+{
+    match sex {
+        Sex::Male => b"male",
+        Sex::Female => b"female",
+    }
+}
+
+// Adds a line of a name and a value.
+#[tactic(auto, unfolding(crate::specs::Certificate::entry_line))]
+fn push_entry<A: Allocator>(
+    output: &mut Output<A>,
+    name: &[u8],
+    value: &[u8],
+) -> Result<(), AllocError>
+    ensures { OnOk result (output.new ≡ output.old ++ entry_line name.now value.now) }
+{
+    output.push(name)?;
+    output.push(b" ")?;
+    output.push(value)?;
+    output.push(b"\n")
+}

@@ -1,0 +1,76 @@
+ghost use Rattle.std.specs.Prelude.{◌≡◌, ◌<◌, ◌*◌, ◌^◌, ◌++◌, codes, OnOk};
+ghost use Rattle.herd_pedigree.specs.declared.TheConstants.{DEPTH_LIMIT};
+ghost use Rattle.herd_report.specs.writing.CoefficientText.{coefficient_line, coefficient_line_end, coefficient_text, fraction_text, percentage_text};
+
+use crate::writing::output::Output;
+use herd_animal::AnimalNumber;
+use herd_kinship::{Fraction, fraction, hundredths};
+use std::alloc::{AllocError, Allocator};
+
+/// Adds the line of an animal and its coefficient.
+pub(crate) fn push_coefficient_line<A: Allocator>(
+    output: &mut Output<A>,
+    number: AnimalNumber,
+    numerator: u128,
+) -> Result<(), AllocError>
+    requires { numerator < 2 ^ (2 * DEPTH_LIMIT) }
+    ensures { OnOk result (output.new ≡ output.old ++ coefficient_line number numerator) }
+{
+    output.push(&number.bytes())?;
+    push_line_end(output, numerator)
+}
+
+/// Adds what follows the number in the line of an animal.
+pub(crate) fn push_line_end<A: Allocator>(
+    output: &mut Output<A>,
+    numerator: u128,
+) -> Result<(), AllocError>
+    requires { numerator < 2 ^ (2 * DEPTH_LIMIT) }
+    ensures { OnOk result (output.new ≡ output.old ++ coefficient_line_end numerator) }
+{
+    output.push(b",")?;
+    push_coefficient(output, numerator, b",")?;
+    output.push(b"\n")
+}
+
+/// Adds a coefficient: the fraction, a separator, and the percentage.
+#[tactic(auto, unfolding(crate::specs::CoefficientText::coefficient_text))]
+pub(crate) fn push_coefficient<A: Allocator>(
+    output: &mut Output<A>,
+    numerator: u128,
+    separator: &[u8],
+) -> Result<(), AllocError>
+    requires { numerator < 2 ^ (2 * DEPTH_LIMIT) }
+    ensures { OnOk result (output.new ≡ output.old ++ coefficient_text separator.now numerator) }
+{
+    push_fraction(output, fraction(numerator))?;
+    output.push(separator)?;
+    push_percentage(output, hundredths(numerator))
+}
+
+/// Adds a fraction that is in lowest terms.
+pub(crate) fn push_fraction<A: Allocator>(
+    output: &mut Output<A>,
+    fraction: Fraction,
+) -> Result<(), AllocError>
+    ensures { OnOk result (output.new ≡ output.old ++ fraction_text fraction) }
+{
+    if fraction.negative {
+        output.push(b"-")?;
+    }
+    output.push_number(fraction.numerator)?;
+    if fraction.denominator != 1 {
+        output.push(b"/")?;
+        output.push_number(fraction.denominator)?;
+    }
+    Ok(())
+}
+
+// Adds hundredths of a percent.
+fn push_percentage<A: Allocator>(output: &mut Output<A>, hundredths: u32) -> Result<(), AllocError>
+    ensures { OnOk result (output.new ≡ output.old ++ percentage_text hundredths) }
+{
+    let part = (hundredths % 100) as u8;
+    output.push_number(hundredths / 100)?;
+    output.push(&[b'.', b'0' + part / 10, b'0' + part % 10])
+}

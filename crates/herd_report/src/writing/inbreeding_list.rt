@@ -1,0 +1,84 @@
+ghost use Rattle.std.specs.Prelude.{◌≡◌, ◌<◌, ◌*◌, ◌^◌, ◌++◌, IfSome, OnErr, OnOk};
+ghost use Rattle.std.specs.Io.KnownBytes.{Appends};
+ghost use Rattle.herd_pedigree.specs.declared.TheConstants.{DEPTH_LIMIT};
+ghost use Rattle.herd_kinship.specs.Coefficients.{AreCoefficients};
+ghost use Rattle.herd_kinship.specs.FrozenAncestry.{ancestry_of};
+ghost use Rattle.herd_kinship.specs.Table.{coefficient};
+ghost use Rattle.herd_report.specs.writing.CoefficientText.{coefficient_line, coefficient_line_end};
+ghost use Rattle.herd_report.specs.writing.InbreedingList.{inbreeding_text};
+ghost use Rattle.herd_report.specs.writing.Output.{AppendsFront};
+
+use crate::writing::coefficient_text::push_line_end;
+use crate::writing::output::Output;
+use crate::writing::report_fault::ReportFault;
+use herd_animal::AnimalNumber;
+use herd_kinship::Coefficients;
+use herd_pedigree::Frozen;
+use std::alloc::{AllocError, Allocator};
+use std::io::Write;
+
+/// Writes the coefficient of inbreeding of each animal of a book, in age order.
+pub fn write_inbreeding<W: Write, A: Allocator, F: Allocator, C: Allocator>(
+    alloc: A,
+    frozen: &Frozen<F>,
+    coefficients: &Coefficients<C>,
+    writer: &mut W,
+) -> Result<(), ReportFault>
+    requires { AreCoefficients DEPTH_LIMIT frozen.now coefficients.now }
+    ensures ok { OnOk result (Appends (W.contents writer.old) (W.contents writer.new)
+        (inbreeding_text (coefficient (ancestry_of frozen.now) DEPTH_LIMIT) frozen.now)) }
+    ensures err { OnErr result (AppendsFront (W.contents writer.old) (W.contents writer.new)
+        (inbreeding_text (coefficient (ancestry_of frozen.now) DEPTH_LIMIT) frozen.now)) }
+{
+    let mut output = Output::new(&alloc);
+    let mut end = Output::new(&alloc);
+    let mut made = None;
+    for place in 0..frozen.len() {
+        output.pass_on(writer)?;
+        let numerator = coefficients.numerator(place);
+        push_line(
+            &mut output,
+            &mut end,
+            made,
+            frozen.row(place).number,
+            numerator,
+        )?;
+        made = Some(numerator);
+    }
+    output.finish(writer)
+}
+
+// Adds the line of an animal. Of equal coefficients that follow one another the end of the line is made once.
+fn push_line<A: Allocator>(
+    output: &mut Output<A>,
+    end: &mut Output<A>,
+    made: Option<u128>,
+    number: AnimalNumber,
+    numerator: u128,
+) -> Result<(), AllocError>
+    requires numerator { numerator < 2 ^ (2 * DEPTH_LIMIT) }
+    requires made { IfSome made (λ last. end.old ≡ coefficient_line_end last) }
+    ensures line { OnOk result (output.new ≡ output.old ++ coefficient_line number numerator) }
+    ensures made { OnOk result (end.new ≡ coefficient_line_end numerator) }
+{
+    make_end(end, made, numerator)?;
+    output.push(&number.bytes())?;
+    output.push(end.bytes())
+}
+
+// Makes the end of the line of an animal, where the end that is there isn't of an equal coefficient.
+fn make_end<A: Allocator>(
+    end: &mut Output<A>,
+    made: Option<u128>,
+    numerator: u128,
+) -> Result<(), AllocError>
+    requires numerator { numerator < 2 ^ (2 * DEPTH_LIMIT) }
+    requires made { IfSome made (λ last. end.old ≡ coefficient_line_end last) }
+    ensures { OnOk result (end.new ≡ coefficient_line_end numerator) }
+{
+    if made == Some(numerator) {
+        return Ok(());
+    }
+    end.clear();
+    push_line_end(end, numerator)
+}

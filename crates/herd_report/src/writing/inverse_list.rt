@@ -1,0 +1,135 @@
+ghost use Rattle.std.specs.Prelude.{◌≡◌, ◌<◌, ◌++◌, All, codes, length, IfSome, OnErr, OnOk};
+ghost use Rattle.std.specs.Io.KnownBytes.{Appends};
+ghost use Rattle.std.specs.List.{flat_map};
+ghost use Rattle.herd_pedigree.specs.declared.TheConstants.{DEPTH_LIMIT, MOST_ANIMALS};
+ghost use Rattle.herd_pedigree.specs.freezing.Frozen.{IsFrozen};
+ghost use Rattle.herd_kinship.specs.Coefficients.{AreCoefficients};
+ghost use Rattle.herd_kinship.specs.FrozenAncestry.{number_of_row};
+ghost use Rattle.herd_report.specs.writing.CoefficientText.{fraction_text};
+ghost use Rattle.herd_report.specs.writing.InverseList.{contribution_line, contributions_text, inverse_text, IsWithin};
+ghost use Rattle.herd_report.specs.writing.Output.{AppendsFront};
+
+use crate::writing::coefficient_text::push_fraction;
+use crate::writing::output::Output;
+use crate::writing::report_fault::ReportFault;
+use herd_animal::AnimalNumber;
+use herd_kinship::{Coefficients, Contribution, Fraction, contributions};
+use herd_pedigree::Frozen;
+use std::alloc::{AllocError, Allocator};
+use std::io::Write;
+
+/// Writes what each animal of a book contributes to the inverse of A, the numerator relationship matrix, in age order.
+pub fn write_inverse<W: Write, A: Allocator, F: Allocator, C: Allocator>(
+    alloc: A,
+    frozen: &Frozen<F>,
+    coefficients: &Coefficients<C>,
+    writer: &mut W,
+) -> Result<(), ReportFault>
+    requires { AreCoefficients DEPTH_LIMIT frozen.now coefficients.now }
+    ensures ok { OnOk result (Appends (W.contents writer.old) (W.contents writer.new) (inverse_text frozen.now)) }
+    ensures err { OnErr result (AppendsFront (W.contents writer.old) (W.contents writer.new) (inverse_text frozen.now)) }
+{
+    let mut output = Output::new(&alloc);
+    let mut end = Output::new(&alloc);
+    for place in 0..frozen.len() {
+        output.pass_on(writer)?;
+        push_contributions(&mut output, &mut end, frozen, coefficients, place)?;
+    }
+    output.finish(writer)
+}
+
+// Adds the lines of what the animal at a place contributes.
+fn push_contributions<A: Allocator, F: Allocator, C: Allocator>(
+    output: &mut Output<A>,
+    end: &mut Output<A>,
+    frozen: &Frozen<F>,
+    coefficients: &Coefficients<C>,
+    place: u32,
+) -> Result<(), AllocError>
+    requires frozen { IsFrozen DEPTH_LIMIT MOST_ANIMALS frozen.now }
+    requires place { place < length frozen.now }
+    requires coefficients { AreCoefficients DEPTH_LIMIT frozen.now coefficients.now }
+    ensures { OnOk result (output.new ≡ output.old ++ contributions_text frozen.now place) }
+{
+    let listed = contributions(frozen, coefficients, place);
+    let elements = &listed.list[..listed.count as usize];
+    push_elements(output, end, frozen, place, elements)
+}
+
+// Adds the lines of some elements of the animal at a place. Of equal values that follow one another the end of the line
+// is made once.
+fn push_elements<A: Allocator, F: Allocator>(
+    output: &mut Output<A>,
+    end: &mut Output<A>,
+    frozen: &Frozen<F>,
+    place: u32,
+    elements: &[Contribution],
+) -> Result<(), AllocError>
+    requires place { place < length frozen.now }
+    requires elements { All (IsWithin frozen.now) elements.now }
+    ensures { OnOk result (output.new ≡ output.old ++ flat_map (contribution_line frozen.now place) elements.now) }
+{
+    let mut made = None;
+    for element in elements {
+        make_end(end, made, element.value)?;
+        made = Some(element.value);
+        push_element(output, frozen, place, *element, end.bytes())?;
+    }
+    Ok(())
+}
+
+// Makes the end of the line of an element, where the end that is there isn't of an equal value.
+fn make_end<A: Allocator>(
+    end: &mut Output<A>,
+    made: Option<Fraction>,
+    value: Fraction,
+) -> Result<(), AllocError>
+    requires { IfSome made (λ last. end.old ≡ fraction_text last ++ codes "\n") }
+    ensures { OnOk result (end.new ≡ fraction_text value ++ codes "\n") }
+{
+    if made == Some(value) {
+        return Ok(());
+    }
+    end.clear();
+    push_fraction(end, value)?;
+    end.push(b"\n")
+}
+
+fn push_element<A: Allocator, F: Allocator>(
+    output: &mut Output<A>,
+    frozen: &Frozen<F>,
+    place: u32,
+    element: Contribution,
+    end: &[u8],
+) -> Result<(), AllocError>
+    requires place { place < length frozen.now }
+    requires element { IsWithin frozen.now element }
+    requires end { end.now ≡ fraction_text element.value ++ codes "\n" }
+    ensures { OnOk result (output.new ≡ output.old ++ contribution_line frozen.now place element) }
+{
+    push_number_at(output, frozen, place)?;
+    push_number_at(output, frozen, element.row)?;
+    push_number_at(output, frozen, element.column)?;
+    output.push(end)
+}
+
+// Adds the number of the animal at a place, and a comma.
+fn push_number_at<A: Allocator, F: Allocator>(
+    output: &mut Output<A>,
+    frozen: &Frozen<F>,
+    place: u32,
+) -> Result<(), AllocError>
+    requires { place < length frozen.now }
+    ensures { OnOk result (output.new ≡ output.old ++ number_of_row frozen.now place ++ codes ",") }
+{
+    output.push(&with_comma(frozen.row(place).number))
+}
+
+// A number and a comma.
+fn with_comma(number: AnimalNumber) -> [u8; 20]
+    ensures { result ≡ number ++ codes "," }
+{
+    let mut text = [b','; 20];
+    text[..19].copy_from_slice(&number.bytes());
+    text
+}

@@ -1,0 +1,74 @@
+ghost use Rattle.std.specs.Prelude.{◌≡◌, ◌++◌, OnErr, OnOk};
+ghost use Rattle.std.specs.Io.KnownBytes.{Appends};
+ghost use Rattle.herd_pedigree.specs.declared.TheConstants.{DEPTH_LIMIT};
+ghost use Rattle.herd_pedigree.specs.freezing.Frozen.{book_of};
+ghost use Rattle.herd_kinship.specs.Coefficients.{AreCoefficients};
+ghost use Rattle.herd_kinship.specs.Mating.{AreRelationshipsOf};
+ghost use Rattle.herd_report.specs.writing.MatingList.{mating_line, mating_text, refused_line};
+ghost use Rattle.herd_report.specs.writing.Output.{AppendsFront};
+
+use crate::writing::coefficient_text::push_coefficient_line;
+use crate::writing::output::Output;
+use crate::writing::report_fault::ReportFault;
+use herd_animal::AnimalNumber;
+use herd_kinship::{Coefficients, MatingFault, Relationships, mating_by};
+use herd_pedigree::Frozen;
+use std::alloc::{AllocError, Allocator};
+use std::io::Write;
+
+/// Writes for each sire the coefficient that a calf of it and the dam would have, or why there is none.
+///
+/// The dam's relationships with all animals are computed once for all sires, by one tracing and one pass over the book.
+pub fn write_mating<W: Write, A: Allocator + Clone, F: Allocator, C: Allocator>(
+    alloc: A,
+    frozen: &Frozen<F>,
+    coefficients: &Coefficients<C>,
+    dam: AnimalNumber,
+    sires: &[AnimalNumber],
+    writer: &mut W,
+) -> Result<(), ReportFault>
+    requires { AreCoefficients DEPTH_LIMIT frozen.now coefficients.now }
+    ensures ok { OnOk result (Appends (W.contents writer.old) (W.contents writer.new) (mating_text (book_of frozen.now) dam sires.now)) }
+    ensures err { OnErr result (AppendsFront (W.contents writer.old) (W.contents writer.new) (mating_text (book_of frozen.now) dam sires.now)) }
+{
+    let Some(_first) = sires.first() else {
+        return Ok(());
+    };
+    let relationships = Relationships::of_number(alloc.clone()?, frozen, coefficients, &dam)?;
+    let mut output = Output::new(&alloc);
+    for sire in sires {
+        output.pass_on(writer)?;
+        push_advice(&mut output, frozen, &relationships, *sire, dam)?;
+    }
+    output.finish(writer)
+}
+
+// Adds the line of a sire.
+fn push_advice<A: Allocator, F: Allocator, R: Allocator>(
+    output: &mut Output<A>,
+    frozen: &Frozen<F>,
+    relationships: &Relationships<R>,
+    sire: AnimalNumber,
+    dam: AnimalNumber,
+) -> Result<(), AllocError>
+    requires { AreRelationshipsOf DEPTH_LIMIT frozen.now dam relationships.now }
+    ensures { OnOk result (output.new ≡ output.old ++ mating_line (book_of frozen.now) dam sire) }
+{
+    match mating_by(frozen, relationships, &sire, &dam) {
+        Ok(numerator) => push_coefficient_line(output, sire, numerator),
+        Err(fault) => push_refused(output, sire, fault),
+    }
+}
+
+fn push_refused<A: Allocator>(
+    output: &mut Output<A>,
+    sire: AnimalNumber,
+    fault: MatingFault,
+) -> Result<(), AllocError>
+    ensures { OnOk result (output.new ≡ output.old ++ refused_line sire fault) }
+{
+    output.push(&sire.bytes())?;
+    output.push(b",refused,")?;
+    output.push_number(fault.number())?;
+    output.push(b"\n")
+}

@@ -1,0 +1,45 @@
+ghost use Rattle.std.specs.Prelude.{◌≡◌, ◌++◌, OnErr, OnOk};
+ghost use Rattle.std.specs.Io.KnownBytes.{Appends};
+ghost use Rattle.herd_report.specs.writing.Output.{AppendsFront};
+ghost use Rattle.herd_report.specs.writing.Replies.{reply_line, replies_text};
+
+use crate::writing::output::Output;
+use crate::writing::report_fault::ReportFault;
+use herd_register::{Reply, Step};
+use std::alloc::{AllocError, Allocator};
+use std::io::Write;
+
+/// Writes a line for each step of a journal, numbered from 1.
+pub fn write_replies<W: Write, A: Allocator>(
+    alloc: A,
+    steps: &[Step],
+    writer: &mut W,
+) -> Result<(), ReportFault>
+    ensures ok { OnOk result (Appends (W.contents writer.old) (W.contents writer.new) (replies_text steps.now)) }
+    ensures err { OnErr result (AppendsFront (W.contents writer.old) (W.contents writer.new) (replies_text steps.now)) }
+{
+    let mut output = Output::new(alloc);
+    for (place, step) in steps.iter().enumerate() {
+        output.pass_on(writer)?;
+        push_reply(&mut output, place + 1, step.reply)?;
+    }
+    output.finish(writer)
+}
+
+fn push_reply<A: Allocator>(
+    output: &mut Output<A>,
+    serial: usize,
+    reply: Reply,
+) -> Result<(), AllocError>
+    ensures { OnOk result (output.new ≡ output.old ++ reply_line serial reply) }
+{
+    output.push_number(serial)?;
+    match reply {
+        Reply::Accepted => output.push(b",accepted\n"),
+        Reply::Refused(refusal) => {
+            output.push(b",refused,")?;
+            output.push_number(refusal.number())?;
+            output.push(b"\n")
+        }
+    }
+}
