@@ -9,7 +9,7 @@
 //! | the words, and what they ask for | `CommandLine`, `Words`, `Request` | `arguments` | `CommandFacts`, `WordsFacts` |
 //! | the texts of help and of the version | | `help` | |
 //! | what the program does for its words | `Program` | `program` | `ProgramFacts` |
-//! | how it ends, and what is told on standard error | `Ending`, `FaultText` | `ending`, `faults` | |
+//! | how it ends, and what is told on standard error | `Ending`, `FaultText` | `ending`, `task_fault`, `faults` | |
 //! | clerks: the desk of each command, their threads, one clerk's turns | `Clerks` | `desks`, `crew`, `clerk` | |
 //! | how clerks end early | `Clerks` | `clerk_fault` | |
 //! | what each desk answered, as text | `Summary` | `summary` | `SummaryFacts` |
