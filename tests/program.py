@@ -48,7 +48,7 @@ RACES = [
 
 # The texts of the README's table, and the check that provokes each here.
 TEXTS = {
-    "herdbook: record ENTRY: fault CAUSE NAME": "line_faults",
+    "herdbook: record NUMBER: fault CAUSE NAME": "line_faults",
     "herdbook: not registered": "other_statuses",
     "herdbook: no thread": "refused_threads",
     "herdbook: no reader's place": "none: no call from outside brings it about",
