@@ -247,7 +247,7 @@ class Checks:
         inverse = self.run(["inverse"], book).out.decode()
         (room / "inverse.csv").write_text(inverse)
         highest = max(rows, key=lambda row: float(row[2]))
-        last = inverse_entry(inverse, rows[-1][0], rows[-1][0])
+        last = inverse_element(inverse, rows[-1][0], rows[-1][0])
         with_highest = lambda out: highest[0] in out and len(out.splitlines()) == 6
         with_last = lambda out: rows[-1][0] in out and f"{float(last):.3f}"[:5] in out
         if importlib.util.find_spec("pandas"):
@@ -599,8 +599,8 @@ class Checks:
                 self.count(right or b"libc" in done.err or done.status < 0 and kilobytes < 4_000, f"{kilobytes} kB: {words}: {done}")
 
 
-def inverse_entry(text, row, column):
-    """An entry of the inverse: what the animals add to it, summed up."""
+def inverse_element(text, row, column):
+    """An element of the inverse: what the animals add to it, summed up."""
     parts = (line.split(",") for line in text.splitlines())
     return sum(fractions.Fraction(value) for _, r, c, value in parts if {r, c} == {row, column})
 

@@ -16,7 +16,7 @@ pub enum ClerkFault {
     NoThread,
     /// A growth of memory was refused.
     Memory,
-    /// An office lacks a reader's place, or gives no reading.
+    /// An office lacks a reader's place, gives no reading, isn't closed, or has other steps than the file has commands.
     NoPlace,
 }
 

@@ -24,7 +24,7 @@ pub enum Ending {
     NotText,
     /// A word is no animal number.
     Number(NumberFault),
-    /// What was asked for ended early.
+    /// What was asked for ended early, or the words couldn't be read or answered for want of memory or a failed write.
     Early(TaskFault),
 }
 

@@ -171,7 +171,7 @@ impl<'a> Columns<'a> {
 
 /// The command of a record, or its fault. No such fault is an interruption.
 #[inline(always)]
-#[tactic(auto, unfolding(crate::specs::Grammar::command_of))]
+#[tactic(auto, unfolding(crate::specs::reading::Grammar::command_of))]
 pub fn parse_command(version: Version, row: &ByteRecord) -> Result<Command, LineCause>
     ensures command { result ≡ command_of version (fields_of row.now) }
     ensures known { IfErr result (λ cause. is_interruption cause ≡ false) }

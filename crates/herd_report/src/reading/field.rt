@@ -26,7 +26,7 @@ pub fn herd(text: &[u8], cause: LineCause) -> Result<Herd, LineCause>
     Herd::parse(text).or(Err(cause))
 }
 
-#[tactic(auto, unfolding(crate::specs::Field::is_unknown))]
+#[tactic(auto, unfolding(crate::specs::reading::Field::is_unknown))]
 fn is_unknown(text: &[u8]) -> bool
     ensures { result ≡ is_unknown text.now }
 {
@@ -34,7 +34,7 @@ fn is_unknown(text: &[u8]) -> bool
 }
 
 /// The parent that a field names: none where it's empty or `0`.
-#[tactic(auto, unfolding(crate::specs::Field::is_parent, crate::specs::Field::parent_in))]
+#[tactic(auto, unfolding(crate::specs::reading::Field::is_parent, crate::specs::reading::Field::parent_in))]
 pub fn parent(text: &[u8], cause: LineCause) -> Result<Option<AnimalNumber>, LineCause>
     ensures { result ≡ (if is_parent text.now then Ok (parent_in text.now) else Err cause) }
 {
@@ -46,7 +46,7 @@ pub fn parent(text: &[u8], cause: LineCause) -> Result<Option<AnimalNumber>, Lin
 }
 
 /// Whether a birth is of an embryo: `1`, or empty where it isn't.
-#[tactic(auto, unfolding(crate::specs::Field::is_embryo, crate::specs::Field::is_embryo_flag))]
+#[tactic(auto, unfolding(crate::specs::reading::Field::is_embryo, crate::specs::reading::Field::is_embryo_flag))]
 pub fn embryo(text: &[u8], cause: LineCause) -> Result<bool, LineCause>
     ensures { result ≡ (if is_embryo_flag text.now then Ok (is_embryo text.now) else Err cause) }
 {

@@ -17,7 +17,7 @@ impl Version {
     ghost use Rattle.herd_report.specs.reading.Grammar.{header, is_header, version_of};
 
     // The version of a file that begins with the record, where that is a header.
-    #[tactic(auto, unfolding(crate::specs::Grammar::version_of))]
+    #[tactic(auto, unfolding(crate::specs::reading::Grammar::version_of))]
     pub(crate) fn of(row: &ByteRecord) -> Option<Version>
         ensures { result ≡ version_of (fields_of row.now) }
     {

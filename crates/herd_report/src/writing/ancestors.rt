@@ -60,7 +60,7 @@ impl Parent {
 }
 
 /// Adds the lines of the ancestors of the animal at a place, up to three parents away.
-#[tactic(auto, unfolding(crate::specs::Certificate::ancestors_text))]
+#[tactic(auto, unfolding(crate::specs::writing::Certificate::ancestors_text))]
 pub(crate) fn push_ancestors<A: Allocator, F: Allocator>(
     output: &mut Output<A>,
     frozen: &Frozen<F>,
@@ -91,7 +91,7 @@ fn push_lines<A: Allocator, F: Allocator>(
     Ok(())
 }
 
-#[tactic(auto, unfolding(crate::specs::Certificate::entry_line))]
+#[tactic(auto, unfolding(crate::specs::writing::Certificate::entry_line))]
 fn push_ancestor<A: Allocator, F: Allocator>(
     output: &mut Output<A>,
     frozen: &Frozen<F>,

@@ -34,7 +34,7 @@ pub(crate) fn push_line_end<A: Allocator>(
 }
 
 /// Adds a coefficient: the fraction, a separator, and the percentage.
-#[tactic(auto, unfolding(crate::specs::CoefficientText::coefficient_text))]
+#[tactic(auto, unfolding(crate::specs::writing::CoefficientText::coefficient_text))]
 pub(crate) fn push_coefficient<A: Allocator>(
     output: &mut Output<A>,
     numerator: u128,

@@ -7,8 +7,14 @@ macro_rules! assert_writes {
         for most in [text.len(), text.len() / 2] {
             let mut taker = StopsAfter::new($rt.alloc(), most, Then::Fails);
             let $writer = &mut taker;
-            let answer = $call;
-            assert_eq!($rt; answer.is_ok(), most == text.len());
+            match $call {
+                Ok(()) => assert_eq!($rt; most, text.len()),
+                Err(fault) => {
+                    let fault = herd_report::CertificateFault::from(fault);
+                    assert_eq!($rt; fault, herd_report::ReportFault::Write.into());
+                    assert!($rt; most < text.len());
+                }
+            }
             assert_eq!($rt; taker.taken.as_slice(), &text[..most]);
         }
     };

@@ -80,6 +80,6 @@ fn parents_that_are_not_inbred(rt: HostRuntime) -> Result<(), Fail> {
         .as_slice()
         .windows(wanted.len().max(1))
         .any(|part| part == wanted.as_bytes());
-    assert!(rt; found, "the six entries of M3 stand together");
+    assert!(rt; found, "the six elements of M3 stand together");
     Ok(())
 }
