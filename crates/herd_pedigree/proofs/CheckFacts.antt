@@ -1,5 +1,5 @@
 -- The first fault, and when it is that a line is too long.
-use Rattle.std.proofs.Common.{ℕ, zero, suc, ◌||◌, ℤ, pos, ◌+◌, ◌<◌, ◌≤◌, ◌≡◌, ◌≢◌, ⊎_elim, inl, inr, arith, refl, sym, ap, ◌∙◌, subst, Bool, true, false, nat_lt, if◌then◌else◌, IsTrue, IsFalse, List, [], ◌∷◌, Option, Some, None, length, slice_get, slice_index, slice_set, get_or}
+use Rattle.std.proofs.Common.{ℕ, zero, suc, ◌||◌, ℤ, pos, ◌+◌, ◌<◌, ◌≤◌, ◌≡◌, ◌≢◌, ⊎_elim, inl, inr, arith, refl, sym, ap, ◌∙◌, subst, Bool, true, false, nat_lt, if◌then◌else◌, IsTrue, IsFalse, List, [], ◌∷◌, Option, Some, None, IfSome, length, slice_get, slice_index, slice_set, get_or}
 use Rattle.std.specs.Str.{bytes_eq}
 use Rattle.std.specs.List.{IsDistinct, list_any}
 use Rattle.std.specs.Map.{keys_of}
@@ -14,7 +14,7 @@ use Rattle.herd_pedigree.specs.declared.rules.parent_fault.ParentFault.{ParentFa
 use Rattle.herd_pedigree.specs.declared.rules.parent_fault.ParentFault.TheVariants.{TooDeep}
 use Rattle.herd_pedigree.specs.rules.Lines.{Parentage, has_line}
 use Rattle.herd_pedigree.specs.rules.Book.{Book, record_of, parentage_of, changed, with_parents}
-use Rattle.herd_pedigree.specs.rules.ParentFault.{parent_fault, first_that_holds, record_faults, record_named, is_too_deep}
+use Rattle.herd_pedigree.specs.rules.ParentFault.{parent_fault, fault_by_records, is_too_deep}
 use Rattle.herd_pedigree.specs.rules.Depths.{IsParent, AreDepths, depth_from}
 use Rattle.herd_pedigree.specs.store.Places.{parent_at, parentage_at, IsPlaceIn, AreParents}
 use Rattle.herd_pedigree.specs.store.Kept.{IsKept}
@@ -26,6 +26,7 @@ use Rattle.herd_pedigree.proofs.lemmas.store.PlaceFacts.{line_by_place, line_by_
 use Rattle.herd_pedigree.proofs.lemmas.store.DepthFacts.{IsLeafSet, depths-leaf, from-most}
 use Rattle.herd_pedigree.proofs.lemmas.store.ProgenyFacts.{parent-within}
 use Rattle.herd_pedigree.proofs.lemmas.store.CarryFacts.{settled-but}
+use Rattle.herd_pedigree.proofs.lemmas.store.CorrectionFacts.{parent_in}
 use Rattle.herd_pedigree.proofs.KeptFacts.{too_deep-birth}
 use Rattle.herd_pedigree.proofs.lemmas.rules.WrittenFacts.{written-changed, too_deep-written}
 use Rattle.herd_pedigree.proofs.lemmas.store.SetFacts.{keys-set, set-changed, AreParents-set}
@@ -139,30 +140,31 @@ module _ (l most : ℕ) (book : Book) (sires dams : List (Option ℕ)) (depths :
 
 -- the first fault of the records is the first
 pub fault-first : (l : ℕ) (book : Book) (number : List ℕ) (birth : ℤ) (sire dam : Option (List ℕ)) (embryo : Bool) (fault : ParentFault) →
-    first_that_holds (record_faults birth sire (record_named book sire) dam (record_named book dam) embryo) ≡ Some fault → Some fault ≡ parent_fault l book number birth sire dam embryo
+    fault_by_records book birth sire dam embryo ≡ Some fault → Some fault ≡ parent_fault l book number birth sire dam embryo
 fault-first l book number birth sire dam embryo fault e =
     sym (fault-split l book number birth sire dam embryo ∙ ap (λ o. option_or o (if is_too_deep l book number sire dam then Some TooDeep else None)) e)
 
 -- and where there is none, a line that is too long is
 pub fault-rest : (l : ℕ) (book : Book) (number : List ℕ) (birth : ℤ) (sire dam : Option (List ℕ)) (embryo deep : Bool) →
-    first_that_holds (record_faults birth sire (record_named book sire) dam (record_named book dam) embryo) ≡ None → deep ≡ is_too_deep l book number sire dam → (if deep then Some TooDeep else None) ≡ parent_fault l book number birth sire dam embryo
+    fault_by_records book birth sire dam embryo ≡ None → deep ≡ is_too_deep l book number sire dam → (if deep then Some TooDeep else None) ≡ parent_fault l book number birth sire dam embryo
 fault-rest l book number birth sire dam embryo deep e told =
     ap (λ t. if t then Some TooDeep else None) told ∙ sym (fault-split l book number birth sire dam embryo ∙ ap (λ o. option_or o (if is_too_deep l book number sire dam then Some TooDeep else None)) e)
 
 -- an animal that isn't in the book, whose parents' records show no fault, has the one that its depth shows, or none
 pub newborn-fault : (l most : ℕ) (book : Book) (sires dams : List (Option ℕ)) (depths : List ℕ) → IsKept l most book sires dams depths → (number : List ℕ) → record_of book number ≡ None →
-    (birth : ℤ) (s d : Option (List ℕ)) (embryo : Bool) (sire dam : Option ℕ) → first_that_holds (record_faults birth s (record_named book s) d (record_named book d) embryo) ≡ None →
+    (birth : ℤ) (s d : Option (List ℕ)) (embryo : Bool) (sire dam : Option ℕ) → fault_by_records book birth s d embryo ≡ None →
     IsPlaceIn (keys_of book) sire s → IsPlaceIn (keys_of book) dam d → (deep : Bool) → nat_lt l (depth_from (slice_index depths) sire dam) ≡ deep →
     (if deep then Some TooDeep else None) ≡ parent_fault l book number birth s d embryo
 newborn-fault l most book sires dams depths k number absent birth s d embryo sire dam told si di deep e =
     fault-rest l book number birth s d embryo deep told (sym e ∙ too_deep-absent l most book sires dams depths k number absent sire dam s d si di)
 
-pub found_none : (birth : ℤ) (book : Book) (sire dam s d : Option (List ℕ)) (sire_found dam_found : Option Animal) (embryo : Bool) → s ≡ sire → sire_found ≡ record_named book sire → d ≡ dam → dam_found ≡ record_named book dam →
-    first_that_holds (record_faults birth s sire_found d dam_found embryo) ≡ first_that_holds (record_faults birth sire (record_named book sire) dam (record_named book dam) embryo)
-found_none birth book sire dam s d sire_found dam_found embryo a b e f = λ i. first_that_holds (record_faults birth (a i) (b i) (e i) (f i) embryo)
+-- the fault that is told of an animal of the book
+pub told-there : (l : ℕ) (book : Book) → IsDistinct bytes_eq (keys_of book) → (place : ℕ) (number : List ℕ) (a : Animal) → slice_get book place ≡ Some (number, a) → (s d : Option (List ℕ)) (told : Option ParentFault) → told ≡ parent_fault l book number a.birth s d a.embryo →
+    IfSome (record_of book number) (λ animal. told ≡ parent_fault l book number animal.birth s d animal.embryo)
+told-there l book once place number a entry s d told is = rw (lookup_at book once place number a entry) is
 
 -- a new parent is there, where those that are exchanged are
-pub closed-exchange : (l most : ℕ) (book : Book) (sires dams : List (Option ℕ)) (depths : List ℕ) → IsKept l most book sires dams depths → (a : ℕ) (sire dam : Option ℕ) → a < length sires →
+closed-exchange : (l most : ℕ) (book : Book) (sires dams : List (Option ℕ)) (depths : List ℕ) → IsKept l most book sires dams depths → (a : ℕ) (sire dam : Option ℕ) → a < length sires →
     ((p : ℕ) → sire ≡ Some p → p < length sires) → ((p : ℕ) → dam ≡ Some p → p < length sires) → (p x : ℕ) → IsParent (parentage_at (slice_set sires a sire) (slice_set dams a dam)) p x → p < length sires
 closed-exchange l most book sires dams depths k a sire dam here sire_in dam_in p x is =
     let wide : length dams ≡ length sires = k.dams_are.long ∙ sym k.sires_are.long in
@@ -179,6 +181,12 @@ closed-exchange l most book sires dams depths k a sire dam here sire_in dam_in p
     (λ (h : parent_at dams x ≡ Some p). let w = parents-within book (λ animal. animal.dam) dams k.dams_are x p h in omega (arith, w, m))
     (parent-elsewhere sires dams a sire dam here wide x p other is))
     (cases_eq x a)
+
+pub closed-within : (l most : ℕ) (book : Book) (sires dams : List (Option ℕ)) (depths : List ℕ) → IsKept l most book sires dams depths → (a : ℕ) (sire dam : Option ℕ) → a < length sires →
+    IfSome sire (λ p. p < length book) → IfSome dam (λ p. p < length book) → (p x : ℕ) → IsParent (parentage_at (slice_set sires a sire) (slice_set dams a dam)) p x → p < length sires
+closed-within l most book sires dams depths k a sire dam here sire_in dam_in =
+    let m = sym k.sires_are.long in
+    closed-exchange l most book sires dams depths k a sire dam here (λ p e. subst (λ n. p < n) m (parent_in sire (length book) p sire_in e)) (λ p e. subst (λ n. p < n) m (parent_in dam (length book) p dam_in e))
 
 -- all but the animal whose parents are exchanged are settled
 pub settled-exchange : (l most : ℕ) (book : Book) (sires dams : List (Option ℕ)) (depths : List ℕ) → IsKept l most book sires dams depths → (a : ℕ) (sire dam : Option ℕ) → a < length sires →

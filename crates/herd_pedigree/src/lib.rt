@@ -1,15 +1,16 @@
 //! The book of a breed society: one record for each number, and what a change of it may be.
 //!
-//! `Pedigree` is the book, and always lawful. A birth and a correction of parents are checked and made by one call, which
-//! tells the first fault of the parents, if they have one; an owner and an exit are set by calls of their own. The last
-//! change can be taken back. `Pedigree::freeze` gives the book in age order as a `Frozen`, whose rows have the places of
-//! the parents, for who reads the whole of it.
+//! `Pedigree` is the book, and always lawful. A birth and a correction of parents are checked and made by one call,
+//! which tells the first fault of the parents, if they have one; an owner and an exit are set by calls of their own.
+//! The last change can be taken back. `Pedigree::freeze` gives the book in age order as a `Frozen`, whose rows have the
+//! places of the parents, for who reads the whole of it.
 //!
 //!     let mut pedigree = Pedigree::new(alloc);
 //!     let fault = pedigree.add_if_sound(number, animal)?;
 //!     let frozen = pedigree.freeze(alloc)?;
 //!
-//! Three folders stand under `Pedigree`, by the same names in `src/` and `specs/`, with their lemmas in `proofs/lemmas/`.
+//! Three folders stand under `Pedigree`, by the same names in `src/` and `specs/`, with their lemmas in
+//! `proofs/lemmas/`.
 //!
 //! - **`rules`**: what may be. `Lawful` and `ParentFault` say it, `Lines` says what a depth is.
 //! - **`store`**: how the book is kept, changed and taken back, by places. It names no fault of parents.
@@ -19,6 +20,7 @@
 #![tactic(auto)]
 
 mod freezing;
+mod named;
 mod pedigree;
 mod rules;
 mod store;
@@ -29,6 +31,7 @@ pub use pedigree::Pedigree;
 pub use rules::animal::Animal;
 pub use rules::parent_fault::ParentFault;
 // A crate can name a pedigree or a frozen book in a contract only if the types of its fields are exported.
+// `PackedPlace` also serves `herd_kinship`.
 #[doc(hidden)]
 pub use freezing::number_index::NumberIndex;
 #[doc(hidden)]

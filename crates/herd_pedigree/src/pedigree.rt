@@ -1,5 +1,6 @@
-ghost use Rattle.std.specs.Prelude.{◌≡◌, ◌==◌, ◌<◌, ◌≤◌, [], ◌++◌, ◌∷◌, ℕ, List, length, Option, None, Some, IfNone, IfOk, IfSome, OnOk, OnErr, IsSome, is_some};
-ghost use Rattle.std.specs.Map.{keys_of};
+ghost use Rattle.std.specs.Prelude.{◌≡◌, ◌==◌, ◌<◌, ◌≤◌, [], ◌++◌, ◌∷◌, ℕ, List, length, Option, None, Some, IfNone, IfOk, IfSome, OnOk, OnErr, IsSome, is_some, slice_get};
+ghost use Rattle.std.specs.Map.{keys_of, values_of};
+ghost use Rattle.indexmap.specs.IndexMap.{set_value_at};
 ghost use Rattle.herd_pedigree.specs.rules.Book.{IsDepthOf, changed, has_calved_after, record_of, with_left, with_owner, with_parents};
 ghost use Rattle.herd_pedigree.specs.freezing.Frozen.{IsFrozenFrom};
 ghost use Rattle.herd_pedigree.specs.rules.Lawful.{IsLawful};
@@ -11,8 +12,8 @@ ghost use Rattle.herd_pedigree.specs.declared.TheConstants.{DEPTH_LIMIT, MOST_AN
 use crate::DEPTH_LIMIT;
 use crate::freezing::freeze::frozen_from;
 use crate::freezing::frozen::Frozen;
+use crate::named::sound_parents;
 use crate::rules::animal::Animal;
-use crate::rules::named::{find, record_fault};
 use crate::rules::parent_fault::ParentFault;
 use crate::store::correction::Correction;
 use crate::store::depth::{depth_with, undo_writes};
@@ -65,7 +66,7 @@ impl<A: Allocator + Copy> Pedigree<A> {
     }
 
     /// The first fault that an animal with this number, birth day and parents would have, whether it is in the
-    /// book or not.
+    /// book or not. The only error is a growth of memory that is refused.
     pub fn check_parents(
         &self,
         number: AnimalNumber,
@@ -76,12 +77,11 @@ impl<A: Allocator + Copy> Pedigree<A> {
     ) -> Result<Option<ParentFault>, AllocError>
         ensures { IfOk result (λ fault. fault ≡ parent_fault DEPTH_LIMIT self.now.book number birth sire dam embryo) }
     {
-        let sire = find(&self.records, &sire);
-        let dam = find(&self.records, &dam);
-        if let Some(fault) = record_fault(birth, &sire, &dam, embryo) {
-            return Ok(Some(fault));
-        }
-        if self.is_too_deep(&number, sire.place, dam.place)? {
+        let parents = match sound_parents(&self.records, birth, &sire, &dam, embryo) {
+            Ok(parents) => parents,
+            Err(fault) => return Ok(Some(fault)),
+        };
+        if self.is_too_deep(&number, parents.sire, parents.dam)? {
             Ok(Some(ParentFault::TooDeep))
         } else {
             Ok(None)
@@ -119,18 +119,21 @@ impl<A: Allocator + Copy> Pedigree<A> {
         correction.is_too_deep(*self.records.allocator(), &self.depths)
     }
 
-    /// Adds an animal that isn't in the book.
+    /// Adds an animal that isn't in the book. The only error is a growth of memory that is refused; then all is as it
+    /// was.
     pub fn add(&mut self, number: AnimalNumber, animal: Animal) -> Result<(), AllocError>
         requires { IsBirth DEPTH_LIMIT MOST_ANIMALS self.old.book number animal }
         ensures added { OnOk result (self.new ≡ changed_to self.old (self.old.book ++ (number, animal) ∷ [])) }
         ensures err { OnErr result (self.new ≡ self.old) }
     {
-        let sire = find(&self.records, &animal.sire).place;
-        let dam = find(&self.records, &animal.dam).place;
-        self.add_below(number, animal, sire, dam)
+        match self.add_if_sound(number, animal)? {
+            None => Ok(()),
+            Some(_) => unreachable!(),
+        }
     }
 
     /// Adds an animal that isn't in the book, unless its parents have a fault: the first that `check_parents` tells.
+    /// The only error is a growth of memory that is refused; then all is as it was.
     pub fn add_if_sound(
         &mut self,
         number: AnimalNumber,
@@ -142,16 +145,20 @@ impl<A: Allocator + Copy> Pedigree<A> {
         ensures refused { IfOk result (λ fault. IsSome fault → self.new ≡ self.old) }
         ensures err { OnErr result (self.new ≡ self.old) }
     {
-        let sire = find(&self.records, &animal.sire);
-        let dam = find(&self.records, &animal.dam);
-        if let Some(fault) = record_fault(animal.birth, &sire, &dam, animal.embryo) {
-            return Ok(Some(fault));
-        }
-        let (sire, dam) = (sire.place, dam.place);
-        if depth_with(&self.depths, sire, dam) > u16::from(DEPTH_LIMIT) {
+        let parents = match sound_parents(
+            &self.records,
+            animal.birth,
+            &animal.sire,
+            &animal.dam,
+            animal.embryo,
+        ) {
+            Ok(parents) => parents,
+            Err(fault) => return Ok(Some(fault)),
+        };
+        if depth_with(&self.depths, parents.sire, parents.dam) > u16::from(DEPTH_LIMIT) {
             return Ok(Some(ParentFault::TooDeep));
         }
-        self.add_below(number, animal, sire, dam)?;
+        self.add_below(number, animal, parents.sire, parents.dam)?;
         Ok(None)
     }
 
@@ -184,7 +191,8 @@ impl<A: Allocator + Copy> Pedigree<A> {
         Ok(())
     }
 
-    /// Sets both parents of an animal, also to unknown, and carries depths on to its descendants.
+    /// Sets both parents of an animal, also to unknown, and carries depths on to its descendants. The only error is a
+    /// growth of memory that is refused; then all is as it was.
     pub fn set_parents(
         &mut self,
         number: AnimalNumber,
@@ -202,7 +210,8 @@ impl<A: Allocator + Copy> Pedigree<A> {
     }
 
     /// Sets both parents of an animal of the book, unless they have a fault: the first that `check_parents` tells,
-    /// asked with the animal's own birth day and embryo flag.
+    /// asked with the animal's own birth day and embryo flag. The only error is a growth of memory that is refused;
+    /// then all is as it was.
     pub fn set_parents_if_sound(
         &mut self,
         number: AnimalNumber,
@@ -220,33 +229,34 @@ impl<A: Allocator + Copy> Pedigree<A> {
         };
         let place = index as u32;
         let animal = self.records.animal_at(index);
-        let sire = find(&self.records, &sire);
-        let dam = find(&self.records, &dam);
-        if let Some(fault) = record_fault(animal.birth, &sire, &dam, animal.embryo) {
-            return Ok(Some(fault));
-        }
+        let Animal { birth, embryo, .. } = animal;
+        let parents = match sound_parents(&self.records, birth, &sire, &dam, embryo) {
+            Ok(parents) => parents,
+            Err(fault) => return Ok(Some(fault)),
+        };
         let correction = Correction {
             sires: &self.sires,
             dams: &self.dams,
             place,
-            sire: sire.place,
-            dam: dam.place,
+            sire: parents.sire,
+            dam: parents.dam,
         };
         let alloc = *self.records.allocator();
         let Some(log) = correction.carry_if_shallow(alloc, &mut self.depths)? else {
             return Ok(Some(ParentFault::TooDeep));
         };
         self.old_depths = log;
-        let corrected = animal.with_parents(sire.number, dam.number);
-        self.records.set(index, corrected, sire.place, dam.place);
+        let corrected = animal.with_parents(sire, dam);
+        self.records
+            .set(index, corrected, parents.sire, parents.dam);
         self.undo = Undo::Record {
             place,
             animal,
             sire: self.sires.parent(place),
             dam: self.dams.parent(place),
         };
-        self.sires.set(place, sire.place);
-        self.dams.set(place, dam.place);
+        self.sires.set(place, parents.sire);
+        self.dams.set(place, parents.dam);
         Ok(None)
     }
 }
@@ -311,17 +321,7 @@ impl<A: Allocator> Pedigree<A> {
             unreachable!();
         };
         let animal = self.records.animal_at(place);
-        let sire = self.sires.parent(place as u32);
-        let dam = self.dams.parent(place as u32);
-        self.records
-            .set(place, animal.with_owner(herd, day), sire, dam);
-        self.undo = Undo::Record {
-            place: place as u32,
-            animal,
-            sire,
-            dam,
-        };
-        self.old_depths.clear();
+        self.set_record(place, animal, animal.with_owner(herd, day));
     }
 
     /// Sets the day on which an animal left. It takes no memory.
@@ -333,12 +333,24 @@ impl<A: Allocator> Pedigree<A> {
             unreachable!();
         };
         let animal = self.records.animal_at(place);
+        self.set_record(place, animal, animal.with_left(day));
+    }
+
+    // Sets the record at a place to another one with the same parents.
+    fn set_record(&mut self, place: usize, was: Animal, becomes: Animal)
+        requires within { place < length self.old.book }
+        requires there { slice_get (values_of self.old.book) place ≡ Some was }
+        requires sire { becomes.sire ≡ was.sire }
+        requires dam { becomes.dam ≡ was.dam }
+        requires lawful { IsLawful DEPTH_LIMIT MOST_ANIMALS (set_value_at self.old.book place becomes) }
+        ensures { self.new ≡ changed_to self.old (set_value_at self.old.book place becomes) }
+    {
         let sire = self.sires.parent(place as u32);
         let dam = self.dams.parent(place as u32);
-        self.records.set(place, animal.with_left(day), sire, dam);
+        self.records.set(place, becomes, sire, dam);
         self.undo = Undo::Record {
             place: place as u32,
-            animal,
+            animal: was,
             sire,
             dam,
         };
@@ -385,7 +397,7 @@ impl<A: Allocator> Pedigree<A> {
         }
     }
 
-    /// The book in age order.
+    /// The book in age order. The only error is a growth of memory that is refused.
     pub fn freeze<B: Allocator + Clone>(&self, alloc: B) -> Result<Frozen<B>, AllocError>
         ensures { IfOk result (IsFrozenFrom DEPTH_LIMIT MOST_ANIMALS self.now.book) }
     {

@@ -1,5 +1,4 @@
-//! What a record is, and why an animal can't have the parents that are named.
+//! What a record is, and why an animal can't have its parents.
 
 pub(crate) mod animal;
-pub(crate) mod named;
 pub(crate) mod parent_fault;

@@ -57,7 +57,7 @@ pub record IsRowOf (book : Book) (keys : List AgeKey) (key : AgeKey) (row : Row)
 
 -- each row is that of its key
 abbrev pub AreRows : Book → List AgeKey → List Row → Type 0
-AreRows book keys rows = (place : ℕ) (key : AgeKey) (row : Row) → slice_get keys place ≡ Some key → slice_get rows place ≡ Some row → IsRowOf book keys key row
+AreRows book keys rows = (rank : ℕ) (key : AgeKey) (row : Row) → slice_get keys rank ≡ Some key → slice_get rows rank ≡ Some row → IsRowOf book keys key row
 
 -- what is found under each number is its place
 abbrev pub FindsPlaces : List (List ℕ) → (List ℕ → Option ℕ) → Type 0

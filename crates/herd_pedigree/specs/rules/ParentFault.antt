@@ -59,6 +59,10 @@ record_faults birth sire sire_found dam dam_found embryo =
     ∷ (not embryo && is_found_gone birth dam_found, DamGone)
     ∷ []
 
+-- the first fault that the book's records of the parents show
+abbrev pub fault_by_records : Book → ℤ → Option (List ℕ) → Option (List ℕ) → Bool → Option ParentFault
+fault_by_records book birth sire dam embryo = first_that_holds (record_faults birth sire (record_named book sire) dam (record_named book dam) embryo)
+
 -- who is in the book and their known parents, once the animal of a number has these
 abbrev pub parentage_with : Book → List ℕ → Option (List ℕ) → Option (List ℕ) → Parentage (List ℕ)
 parentage_with book number sire dam = record {

@@ -16,7 +16,7 @@ use crate::rules::animal::Animal;
 use herd_animal::AnimalNumber;
 use std::alloc::{AllocError, Allocator};
 
-/// The book of a list of records, in age order.
+/// The book of a list of records, in age order. The only error is a growth of memory that is refused.
 pub fn freeze_list<A: Allocator + Clone>(
     alloc: A,
     records: &[(AnimalNumber, Animal)],
@@ -58,12 +58,12 @@ fn rank_of(ranks: &[u32], parent: Option<u32>) -> Option<u32>
 
 // One more than the depth of a parent, and 0 for an unknown one.
 fn above<A: Allocator>(rows: &Rows<A>, parent: Option<u32>) -> u8
-    requires within { IfSome parent (λ place. place < length rows.now) }
+    requires within { IfSome parent (λ rank. rank < length rows.now) }
     requires shallow { All (λ row. row.depth ≤ DEPTH_LIMIT) rows.now }
-    ensures { result ≡ option_map_or (λ place. depth_at rows.now place + 1) parent 0 }
+    ensures { result ≡ option_map_or (λ rank. depth_at rows.now rank + 1) parent 0 }
 {
     match parent {
-        Some(place) => rows.depth(place) + 1,
+        Some(rank) => rows.depth(rank) + 1,
         None => 0,
     }
 }

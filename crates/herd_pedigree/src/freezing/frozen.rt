@@ -14,7 +14,9 @@ use std::marker::Model;
 /// An animal of a frozen book. Places count from 0.
 #[derive(Clone, Copy, Debug, PartialEq, Eq)]
 pub struct Row {
+    /// Its number.
     pub number: AnimalNumber,
+    /// Its record.
     pub animal: Animal,
     /// The place of the sire, where it is known.
     pub sire: Option<u32>,

@@ -6,6 +6,7 @@ use herd_animal::{AnimalNumber, Day, Herd};
 /// What the book keeps of an animal.
 #[derive(Clone, Copy, Debug, PartialEq, Eq)]
 pub struct Animal {
+    /// Its birth day.
     pub birth: Day,
     /// Its number, where the sire is known.
     pub sire: Option<AnimalNumber>,

@@ -87,10 +87,12 @@ impl<A: Allocator + Copy> Records<A> {
 
 // Look-ups are inlined: a caller reads no more of a record, and of the numbers of its parents, than it uses.
 impl<A: Allocator> Records<A> {
+    /// What the records take memory from.
     pub fn allocator(&self) -> &A {
         self.entries.allocator()
     }
 
+    /// How many records there are.
     pub fn len(&self) -> usize
         ensures { result ≡ length self.now.book }
     {

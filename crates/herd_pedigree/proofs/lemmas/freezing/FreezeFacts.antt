@@ -133,10 +133,10 @@ module _ (book : Book) (keys : List AgeKey) (rows : List Row) (order : IsAgeOrde
       (age-from_key (younger.row.number, younger.row.animal) (older.row.number, older.row.animal) younger.key older.key
       younger.is.number (birth-at (k + 1) younger) older.is.number (birth-at k older) keys_sorted)
 
-  row-frozen : IsDistinct bytes_eq (keys_of book) → (place : ℕ) (row : Row) → slice_get rows place ≡ Some row → IsFrozenRow rows row
-  row-frozen once place row row_at =
-      let key = there keys place (subst (λ n. place < n) long (slice_get_within rows place row row_at)) in
-      let is : IsRowOf book keys key.0 row = made place key.0 row key.1 row_at in
+  row-frozen : IsDistinct bytes_eq (keys_of book) → (rank : ℕ) (row : Row) → slice_get rows rank ≡ Some row → IsFrozenRow rows row
+  row-frozen once rank row row_at =
+      let key = there keys rank (subst (λ n. rank < n) long (slice_get_within rows rank row row_at)) in
+      let is : IsRowOf book keys key.0 row = made rank key.0 row key.1 row_at in
       record {
         sire = subst (λ (numbers : List (List ℕ)). IsPlaceIn numbers row.sire row.animal.sire) (sym numbers-made) is.sire;
         dam = subst (λ (numbers : List (List ℕ)). IsPlaceIn numbers row.dam row.animal.dam) (sym numbers-made) is.dam;

@@ -1,5 +1,5 @@
 -- An index of numbers grows place by place, and a bucket is followed down to its first place.
-use Rattle.std.proofs.Common.{ℕ, ◌+◌, ◌<◌, ◌≤◌, ◌≡◌, ◌≢◌, ⊎_elim, arith, refl, sym, ap, ◌∙◌, subst, true, false, List, [], ◌∷◌, ◌++◌, Some, length, slice_get, set}
+use Rattle.std.proofs.Common.{ℕ, ◌+◌, ◌<◌, ◌≤◌, ◌≡◌, ◌≢◌, ⊎_elim, arith, sym, ap, ◌∙◌, subst, true, false, List, [], ◌∷◌, ◌++◌, Some, length, slice_get, set}
 use Rattle.std.specs.Prelude.{slice_index}
 use Rattle.std.specs.Str.{bytes_eq}
 use Rattle.std.proofs.lemmas.Bool.{cases_lt, cases_eq}
@@ -7,21 +7,6 @@ use Rattle.std.proofs.lemmas.List.{length-set, get_or-set_same, get_or-set_other
 use Rattle.std.proofs.lemmas.Option.{same_Some, slice_get_within}
 use Rattle.herd_pedigree.specs.freezing.NumberIndex.{IsAfterLast, IsIndexOf, bucket_of}
 use Rattle.herd_pedigree.proofs.lemmas.rules.BookFacts.{bytes_itself}
-
--- no place is in the buckets
-pub index-empty : (numbers : List (List ℕ)) (lasts : List ℕ) → length lasts ≡ length numbers + 1 → ((bucket : ℕ) → bucket < length numbers + 1 → slice_index lasts bucket ≡ 0) → IsIndexOf numbers 0 lasts []
-index-empty numbers lasts wide none = record {
-  wide = wide;
-  long = refl;
-  lasts_are = λ bucket h.
-      let z = none bucket h in
-      record {
-        within = omega (arith, z);
-        here = λ place number e at. absurd (omega (arith, z, e));
-        last = λ place number before at same. absurd (omega (arith, before));
-      };
-  earlier_are = λ place number before at. absurd (omega (arith, before));
-}
 
 module _ (numbers : List (List ℕ)) (i : ℕ) (number : List ℕ) (at : slice_get numbers i ≡ Some number) where
   -- the last place of its bucket
@@ -87,15 +72,6 @@ pub record IsFollowed (numbers : List (List ℕ)) (number : List ℕ) (after : �
   pub rest : (place : ℕ) → slice_get numbers place ≡ Some number → place < after
 
 module _ (numbers : List (List ℕ)) (n : ℕ) (all : n ≡ length numbers) (lasts earlier : List ℕ) (index : IsIndexOf numbers n lasts earlier) (number : List ℕ) where
-  pub follow-start : (bucket : ℕ) → bucket ≡ bucket_of (length numbers + 1) number → bucket < length numbers + 1 → IsFollowed numbers number (slice_index lasts bucket)
-  follow-start bucket is within =
-      let after = index.lasts_are bucket within in
-      record {
-        within = let w = after.within in omega (arith, w, all);
-        here = λ place x e there. after.here place x e there ∙ is;
-        rest = λ place there. let h = slice_get_within numbers place number there in after.last place number (omega (arith, h, all)) there (sym is);
-      }
-
   pub follow-next : (after place : ℕ) (x : List ℕ) → after ≡ place + 1 → slice_get numbers place ≡ Some x → x ≢ number → IsFollowed numbers number after → IsFollowed numbers number (slice_index earlier place)
   follow-next after place x e at other followed =
       let within = slice_get_within numbers place x at in

@@ -135,17 +135,17 @@ push_cases (z ∷ zs) y x (suc i) at = ⊎_elim (λ h. inl h) (λ last. inr (ap 
 
 -- one more row
 pub rows-more : (book : Book) (keys : List AgeKey) (rows : List Row) (row : Row) → AreRows book keys rows → IfSome (slice_get keys (length rows)) (λ key. IsRowOf book keys key row) → AreRows book keys (rows ++ row ∷ [])
-rows-more book keys rows row made next_made place key other at_key at_row =
+rows-more book keys rows row made next_made rank key other at_key at_row =
     ⊎_elim
-    (λ (before : slice_get rows place ≡ Some other). made place key other at_key before)
+    (λ (before : slice_get rows rank ≡ Some other). made rank key other at_key before)
     (λ last.
     let here : slice_get keys (length rows) ≡ Some key = ap (λ n. slice_get keys n) (sym last.0) ∙ at_key in
     subst (λ r. IsRowOf book keys key r) last.1 (rw here at next_made))
-    (push_cases rows row other place at_row)
+    (push_cases rows row other rank at_row)
 
--- the place of a parent whose row is made is its place among the rows
-pub made-already : (book : Book) (keys : List AgeKey) (rows : List Row) → AreRows book keys rows → length rows ≤ length keys → (place : Option ℕ) (parent : Option (List ℕ))
-    → IsPlaceIn (map (λ k. k.number) keys) place parent → IfSome place (λ p. p < length rows) → IsPlaceIn (numbers_of rows) place parent
+-- the rank of a parent whose row is made is where that row stands
+pub made-already : (book : Book) (keys : List AgeKey) (rows : List Row) → AreRows book keys rows → length rows ≤ length keys → (rank : Option ℕ) (parent : Option (List ℕ))
+    → IsPlaceIn (map (λ k. k.number) keys) rank parent → IfSome rank (λ p. p < length rows) → IsPlaceIn (numbers_of rows) rank parent
 made-already book keys rows made few None None is earlier = tt
 made-already book keys rows made few None (Some x) is earlier = absurd is
 made-already book keys rows made few (Some p) None is earlier = absurd is

@@ -87,6 +87,16 @@ entry_from_both [] i x a k v = absurd (cc)
 entry_from_both (e ∷ es) zero x a k v = let s = same_Some _ _ k in let t = same_Some _ _ v in ap Some (λ j. (s j, t j))
 entry_from_both (e ∷ es) (suc i) x a k v = entry_from_both es i x a k v
 
+-- the record of the number that was looked up
+pub entry_found : (book : Book) (x : List ℕ) (i : ℕ) (a : Animal) → Some i ≡ position (bytes_eq x) (keys_of book) → slice_get (values_of book) i ≡ Some a → slice_get book i ≡ Some (x, a)
+entry_found book x i a found value = entry_from_both book i x a (at_position book x i (sym found)) value
+
+-- a record stands under some number
+pub entry_from_value : {X : Type 0} (es : List (List ℕ × X)) (i : ℕ) (a : X) → slice_get (values_of es) i ≡ Some a → (x : List ℕ) × (slice_get es i ≡ Some (x, a))
+entry_from_value [] i a v = absurd (cc)
+entry_from_value (e ∷ es) zero a v = let t = same_Some _ _ v in (e.0, ap Some (λ j. (e.0, t j)))
+entry_from_value (e ∷ es) (suc i) a v = entry_from_value es i a v
+
 module _ {X : Type 0} where
   -- an element after a push is an earlier one or the pushed
   pub push_cases : (xs : List X) (y z : X) (i : ℕ) → slice_get (xs ++ y ∷ []) i ≡ Some z → (slice_get xs i ≡ Some z) ⊎ ((i ≡ length xs) × (y ≡ z))

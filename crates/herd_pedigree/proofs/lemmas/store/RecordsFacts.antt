@@ -5,7 +5,7 @@ use Rattle.std.specs.Map.{keys_of, values_of, lookup}
 use Rattle.std.specs.Option.{option_map}
 use Rattle.std.specs.Str.{bytes_eq}
 use Rattle.std.proofs.lemmas.Bool.{cases_Bool, false≢true}
-use Rattle.std.proofs.lemmas.List.{append-nil, length-map, length_push, map_push}
+use Rattle.std.proofs.lemmas.List.{append-nil, length_push, map_push}
 use Rattle.std.proofs.lemmas.Option.{same_Some, slice_get_within}
 use Rattle.indexmap.specs.IndexMap.{set_value_at}
 use Rattle.herd_pedigree.specs.declared.rules.animal.Animal.{Animal}
@@ -121,9 +121,6 @@ named-is numbers entry animal sire dam birth embryo herd since left =
     }
 
 module _ (es : List (List ℕ × StoredRecord)) where
-  pub length-stored_book : length (stored_book es) ≡ length es
-  length-stored_book = length-map es (λ entry. (entry.0, named (keys_of es) entry.1))
-
   pub keys-stored_book : keys_of (stored_book es) ≡ keys_of es
   keys-stored_book = keys-book_with (keys_of es) es
 

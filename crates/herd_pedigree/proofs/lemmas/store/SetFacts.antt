@@ -1,8 +1,8 @@
 -- One record set at its place.
-use Rattle.std.proofs.Common.{ℕ, zero, suc, ◌<◌, ◌≡◌, ◌≢◌, ◌⊎◌, ⊎_elim, inl, inr, arith, refl, sym, ap, ◌∙◌, subst, true, false, List, [], ◌∷◌, Option, Some, None, length, slice_get, slice_set, All}
+use Rattle.std.proofs.Common.{ℕ, zero, suc, ◌<◌, ◌≡◌, ◌≢◌, ◌⊎◌, ⊎_elim, inl, inr, arith, refl, sym, ap, ◌∙◌, subst, true, false, List, [], ◌∷◌, Option, Some, None, length, position, slice_get, slice_set, All}
 use Rattle.std.specs.Str.{bytes_eq}
 use Rattle.std.specs.List.{IsDistinct}
-use Rattle.std.specs.Map.{keys_of}
+use Rattle.std.specs.Map.{keys_of, values_of}
 use Rattle.std.proofs.lemmas.Option.{same_Some, slice_get_within}
 use Rattle.std.proofs.lemmas.List.{get_or-set_same, get_or-set_other, length-set, set-get_or}
 use Rattle.std.proofs.lemmas.List.Elements.{All-nil}
@@ -15,7 +15,7 @@ use Rattle.herd_pedigree.specs.Pedigree.{Pedigree, changed_to}
 use Rattle.herd_pedigree.specs.store.Places.{parent_at, IsPlaceIn, AreParents}
 use Rattle.herd_pedigree.specs.store.Kept.{IsKept}
 use Rattle.herd_pedigree.specs.store.Undo.{IsHeld}
-use Rattle.herd_pedigree.proofs.lemmas.rules.BookFacts.{bytes_itself, bytes_turned, apart_at}
+use Rattle.herd_pedigree.proofs.lemmas.rules.BookFacts.{bytes_itself, bytes_turned, apart_at, entry_found}
 
 pub keys-set : {X : Type 0} (es : List (List ℕ × X)) (i : ℕ) (b : X) → keys_of (set_value_at es i b) ≡ keys_of es
 keys-set [] i b = refl
@@ -54,6 +54,10 @@ set-changed (e ∷ es) once (suc i) x a change at =
     let t : bytes_eq x e.0 ≡ false = bytes_turned e.0 x (apart_at e.0 es i x a once.0 at) in
     rw t (ap (λ l. e ∷ l) (set-changed es once.1 i x a change at))
 
+pub set-found : (book : Book) → IsDistinct bytes_eq (keys_of book) → (x : List ℕ) (i : ℕ) (a b : Animal) (change : Animal → Animal) → Some i ≡ position (bytes_eq x) (keys_of book) → slice_get (values_of book) i ≡ Some a → b ≡ change a →
+    set_value_at book i b ≡ changed book x change
+set-found book once x i a b change found value is = ap (λ v. set_value_at book i v) is ∙ set-changed book once i x a change (entry_found book x i a found value)
+
 -- what was there is set back
 pub set-back : (es : Book) (i : ℕ) (x : List ℕ) (a b : Animal) → slice_get es i ≡ Some (x, a) → set_value_at (set_value_at es i b) i a ≡ es
 set-back [] i x a b at = absurd (cc)
@@ -86,33 +90,38 @@ AreParents-same book parent_of parents i x a b k at same =
     subst (λ ps. AreParents (set_value_at book i b) parent_of ps) (set-get_or parents i None)
     (AreParents-set book parent_of parents i b (parent_at parents i) k (slice_get_within book i (x, a) at) (subst (λ n. IsPlaceIn (keys_of book) (parent_at parents i) n) (sym same) (k.each i (x, a) at)))
 
-module _ (l most : ℕ) (book : Book) (sires dams : List (Option ℕ)) (depths : List ℕ) (k : IsKept l most book sires dams depths) (i : ℕ) (x : List ℕ) (a : Animal) (at : slice_get book i ≡ Some (x, a)) (change : Animal → Animal) (sire : (change a).sire ≡ a.sire) (dam : (change a).dam ≡ a.dam) (lawful : IsLawful l most (changed book x change)) where
+module _ (l most : ℕ) (book : Book) (sires dams : List (Option ℕ)) (depths : List ℕ) (k : IsKept l most book sires dams depths) (i : ℕ) (x : List ℕ) (a b : Animal) (at : slice_get book i ≡ Some (x, a)) (sire : b.sire ≡ a.sire) (dam : b.dam ≡ a.dam) (lawful : IsLawful l most (set_value_at book i b)) where
   -- what is kept, where the parents stay
-  IsKept-same : IsKept l most (set_value_at book i (change a)) sires dams depths
+  IsKept-same : IsKept l most (set_value_at book i b) sires dams depths
   IsKept-same = record {
-    lawful = subst (λ es. IsLawful l most es) (sym (set-changed book k.lawful.once i x a change at)) lawful;
-    sires_are = AreParents-same book (λ animal. animal.sire) sires i x a (change a) k.sires_are at sire;
-    dams_are = AreParents-same book (λ animal. animal.dam) dams i x a (change a) k.dams_are at dam;
-    long = k.long ∙ sym (length-set-at book i (change a));
+    lawful = lawful;
+    sires_are = AreParents-same book (λ animal. animal.sire) sires i x a b k.sires_are at sire;
+    dams_are = AreParents-same book (λ animal. animal.dam) dams i x a b k.dams_are at dam;
+    long = k.long ∙ sym (length-set-at book i b);
     depths_are = k.depths_are;
   }
 
   -- and what is held, once the write is noted
-  pub IsHeld-same : (log : List (ℕ × ℕ)) → log ≡ [] → (s d : Option ℕ) → s ≡ parent_at sires i → d ≡ parent_at dams i → IsHeld l most (set_value_at book i (change a)) sires dams depths log (Record i a s d)
+  pub IsHeld-same : (log : List (ℕ × ℕ)) → log ≡ [] → (s d : Option ℕ) → s ≡ parent_at sires i → d ≡ parent_at dams i → IsHeld l most (set_value_at book i b) sires dams depths log (Record i a s d)
   IsHeld-same log empty s d e f = record {
     kept = IsKept-same;
     within = (
-      let w = slice_get_within book i (x, a) at in let n = length-set-at book i (change a) in omega (arith, w, n),
-      subst (λ ws. All (λ write. write.0 < length (set_value_at book i (change a))) ws) (sym empty) (All-nil (λ (write : ℕ × ℕ). write.0 < length (set_value_at book i (change a)))),
+      let w = slice_get_within book i (x, a) at in let n = length-set-at book i b in omega (arith, w, n),
+      subst (λ ws. All (λ write. write.0 < length (set_value_at book i b)) ws) (sym empty) (All-nil (λ (write : ℕ × ℕ). write.0 < length (set_value_at book i b))),
     );
     before = λ old is.
-        let same : book ≡ old = sym (set-back book i x a (change a) at) ∙ same_Some _ _ is in
+        let same : book ≡ old = sym (set-back book i x a b at) ∙ same_Some _ _ is in
         let sires_same : slice_set sires i s ≡ sires = ap (λ o. slice_set sires i o) e ∙ set-get_or sires i None in
         let dams_same : slice_set dams i d ≡ dams = ap (λ o. slice_set dams i o) f ∙ set-get_or dams i None in
         rw (sires_same, dams_same, empty) (subst (λ old. IsKept l most old sires dams depths) same k);
   }
 
--- the view after a record was set
+-- the view after a record was set by its place
+pub set-view : (was : Pedigree) (book : Book) (i : ℕ) (x : List ℕ) (a b : Animal) → slice_get book i ≡ Some (x, a) → book ≡ was.book →
+    record { book = set_value_at book i b; before = Some (set_value_at (set_value_at book i b) i a) } ≡ changed_to was (set_value_at was.book i b)
+set-view was book i x a b at w = λ j. record { book = set_value_at (w j) i b; before = (ap Some (set-back book i x a b at ∙ w)) j }
+
+-- and by its number
 pub record-view : (was : Pedigree) (book : Book) (once : IsDistinct bytes_eq (keys_of book)) (i : ℕ) (x : List ℕ) (a : Animal) (change : Animal → Animal) → slice_get book i ≡ Some (x, a) → book ≡ was.book →
     record { book = set_value_at book i (change a); before = Some (set_value_at (set_value_at book i (change a)) i a) } ≡ changed_to was (changed was.book x change)
 record-view was book once i x a change at w =

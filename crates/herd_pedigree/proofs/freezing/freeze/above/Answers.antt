@@ -5,8 +5,8 @@ use Rattle.herd_pedigree.proofs.freezing.freeze.above.Goals as goal
 
 pub overflow_add-result : goal.overflow_add-result
 overflow_add-result g c =
-    let within : c.in-Some.place < length c.args.rows.now = subst (λ p. IfSome p (λ place. place < length c.args.rows.now)) c.in-Some.is c.requires.within in
-    let r : IsShallowAt DEPTH_LIMIT c.args.rows.now c.in-Some.place = shallow-at DEPTH_LIMIT c.args.rows.now c.in-Some.place within c.requires.shallow in
+    let within : c.in-Some.rank < length c.args.rows.now = subst (λ p. IfSome p (λ rank. rank < length c.args.rows.now)) c.in-Some.is c.requires.within in
+    let r : IsShallowAt DEPTH_LIMIT c.args.rows.now c.in-Some.rank = shallow-at DEPTH_LIMIT c.args.rows.now c.in-Some.rank within c.requires.shallow in
     let depth = c.depth.ensures in
     let same = r.depth in
     let shallow = r.shallow in

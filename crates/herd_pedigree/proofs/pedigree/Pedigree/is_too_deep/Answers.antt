@@ -1,4 +1,4 @@
-use Rattle.std.proofs.Common.{◌+◌, sym, ap, ◌∙◌, subst, arith, ◌≡◌, ◌<◌, ◌≤◌, ℕ, List, [], ◌∷◌, Option, Some, None, Bool, false, nat_lt, IsTrue, IsFalse, length, slice_index, slice_get, slice_set}
+use Rattle.std.proofs.Common.{◌+◌, sym, ap, ◌∙◌, subst, arith, ◌≡◌, ◌<◌, ◌≤◌, ℕ, List, [], ◌∷◌, Option, Some, None, IfSome, Bool, false, nat_lt, IsTrue, IsFalse, length, slice_index, slice_get, slice_set}
 use Rattle.std.proofs.lemmas.Bool.{lt-ltb}
 use Rattle.std.proofs.lemmas.List.{get_or_default}
 use Rattle.std.specs.Map.{keys_of}
@@ -10,8 +10,8 @@ use Rattle.herd_pedigree.specs.store.Places.{IsPlaceIn, parentage_at}
 use Rattle.herd_pedigree.specs.store.Carry.{IsSettled}
 use Rattle.herd_pedigree.specs.declared.TheConstants.{DEPTH_LIMIT, MOST_ANIMALS}
 use Rattle.herd_pedigree.proofs.lemmas.rules.BookFacts.{at_position, none_if}
-use Rattle.herd_pedigree.proofs.lemmas.store.CorrectionFacts.{parent_in, IfOk-both}
-use Rattle.herd_pedigree.proofs.CheckFacts.{too_deep-absent, not_deep-lower, too_deep-leaf, too_deep-told_by, closed-exchange, settled-exchange}
+use Rattle.herd_pedigree.proofs.lemmas.store.CorrectionFacts.{IfOk-both}
+use Rattle.herd_pedigree.proofs.CheckFacts.{too_deep-absent, not_deep-lower, too_deep-leaf, too_deep-told_by, closed-within, settled-exchange}
 use Rattle.herd_pedigree.proofs.pedigree.Pedigree.is_too_deep.Goals as goal
 
 pub returns-in_default : goal.returns-in_default
@@ -49,22 +49,15 @@ returns-then-depth-from g c =
 
 pub has_no_calves-requires : goal.has_no_calves-requires
 has_no_calves-requires g c =
-    let book : Book = c.self.inside.records.book in
-    let number : List ℕ = c.args.number.now in
-    let sires : List (Option ℕ) = c.self.inside.sires.parents in
-    let dams : List (Option ℕ) = c.self.inside.dams.parents in
-    let depths : List ℕ = c.self.inside.depths.items in
     let kept = c.self.invariant.kept in
-    let place : ℕ = c.in-Some.place in
     let m = kept.sires_are.long in
-    let here : place < length sires = let w = c.in-Some.ensures.within in omega (arith, w, m) in
-    let now : length c.args.self.now.book ≡ length sires = ap (λ p. length p.book) (sym c.self.view_is) ∙ sym m in
+    let here : c.in-Some.place < length c.self.inside.sires.parents = let w = c.in-Some.ensures.within in omega (arith, w, m) in
     record {
       here = here;
-      wide = kept.dams_are.long ∙ sym kept.sires_are.long;
-      closed = closed-exchange DEPTH_LIMIT MOST_ANIMALS book sires dams depths kept place c.args.sire c.args.dam here
-          (λ p e. subst (λ n. p < n) now (parent_in c.args.sire (length c.args.self.now.book) p c.requires.sire e))
-          (λ p e. subst (λ n. p < n) now (parent_in c.args.dam (length c.args.self.now.book) p c.requires.dam e));
+      wide = kept.dams_are.long ∙ sym m;
+      closed = closed-within DEPTH_LIMIT MOST_ANIMALS c.self.inside.records.book c.self.inside.sires.parents c.self.inside.dams.parents c.self.inside.depths.items kept c.in-Some.place c.args.sire c.args.dam here
+          (subst (λ p. IfSome c.args.sire (λ place. place < length p.book)) (sym c.self.view_is) c.requires.sire)
+          (subst (λ p. IfSome c.args.dam (λ place. place < length p.book)) (sym c.self.view_is) c.requires.dam);
     }
 
 pub returns-then-has_no_calves : goal.returns-then-has_no_calves
@@ -84,22 +77,15 @@ returns-then-has_no_calves g c =
 
 pub is_too_deep-requires-clause-sound : goal.is_too_deep-requires-clause-sound
 is_too_deep-requires-clause-sound g c =
-    let book : Book = c.self.inside.records.book in
-    let number : List ℕ = c.args.number.now in
-    let sires : List (Option ℕ) = c.self.inside.sires.parents in
-    let dams : List (Option ℕ) = c.self.inside.dams.parents in
-    let depths : List ℕ = c.self.inside.depths.items in
     let kept = c.self.invariant.kept in
-    let place : ℕ = c.in-Some.place in
     let m = kept.sires_are.long in
-    let here : place < length sires = let w = c.in-Some.ensures.within in omega (arith, w, m) in
-    let now : length c.args.self.now.book ≡ length sires = ap (λ p. length p.book) (sym c.self.view_is) ∙ sym m in
+    let here : c.in-Some.place < length c.self.inside.sires.parents = let w = c.in-Some.ensures.within in omega (arith, w, m) in
     record {
       here = here;
-      wide = kept.dams_are.long ∙ sym kept.sires_are.long;
-      closed = closed-exchange DEPTH_LIMIT MOST_ANIMALS book sires dams depths kept place c.args.sire c.args.dam here
-          (λ p e. subst (λ n. p < n) now (parent_in c.args.sire (length c.args.self.now.book) p c.requires.sire e))
-          (λ p e. subst (λ n. p < n) now (parent_in c.args.dam (length c.args.self.now.book) p c.requires.dam e));
+      wide = kept.dams_are.long ∙ sym m;
+      closed = closed-within DEPTH_LIMIT MOST_ANIMALS c.self.inside.records.book c.self.inside.sires.parents c.self.inside.dams.parents c.self.inside.depths.items kept c.in-Some.place c.args.sire c.args.dam here
+          (subst (λ p. IfSome c.args.sire (λ place. place < length p.book)) (sym c.self.view_is) c.requires.sire)
+          (subst (λ p. IfSome c.args.dam (λ place. place < length p.book)) (sym c.self.view_is) c.requires.dam);
     }
 
 pub is_too_deep-requires-clause-settled : goal.is_too_deep-requires-clause-settled
@@ -113,7 +99,6 @@ is_too_deep-requires-clause-settled g c =
     let place : ℕ = c.in-Some.place in
     let m = kept.sires_are.long in
     let here : place < length sires = let w = c.in-Some.ensures.within in omega (arith, w, m) in
-    let now : length c.args.self.now.book ≡ length sires = ap (λ p. length p.book) (sym c.self.view_is) ∙ sym m in
     subst (λ ds. IsSettled DEPTH_LIMIT (parentage_at (slice_set sires place c.args.sire) (slice_set dams place c.args.dam)) (slice_index ds) (place ∷ [])) (sym c.deref-2.ensures.value)
     (settled-exchange DEPTH_LIMIT MOST_ANIMALS book sires dams depths kept place c.args.sire c.args.dam here)
 

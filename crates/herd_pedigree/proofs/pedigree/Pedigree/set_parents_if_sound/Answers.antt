@@ -9,91 +9,51 @@ use Rattle.herd_pedigree.specs.declared.store.undo.Undo.TheVariants.{Record}
 use Rattle.herd_pedigree.specs.rules.Lines.{has_line}
 use Rattle.herd_pedigree.specs.rules.Book.{Book, changed, record_of, with_parents}
 use Rattle.herd_pedigree.specs.Pedigree.{IsCorrection, changed_to}
-use Rattle.herd_pedigree.specs.rules.Depths.{IsParent}
 use Rattle.herd_pedigree.specs.store.Places.{IsPlaceIn, parentage_at}
-use Rattle.herd_pedigree.specs.rules.ParentFault.{first_that_holds, is_missing, is_too_deep, parent_fault, record_faults, record_named}
+use Rattle.herd_pedigree.specs.rules.ParentFault.{is_too_deep, parent_fault}
 use Rattle.herd_pedigree.specs.declared.rules.parent_fault.ParentFault.TheVariants.{TooDeep}
 use Rattle.herd_pedigree.specs.store.Carry.{IsSettled}
 use Rattle.herd_pedigree.specs.store.Undo.{IsHeld}
 use Rattle.herd_pedigree.specs.declared.TheConstants.{DEPTH_LIMIT, MOST_ANIMALS}
-use Rattle.herd_pedigree.proofs.lemmas.rules.BookFacts.{at_position, entry_from_both, lookup_at}
+use Rattle.herd_pedigree.proofs.lemmas.rules.BookFacts.{at_position, entry_found, lookup_at}
 use Rattle.herd_pedigree.proofs.lemmas.store.SetFacts.{record-view}
-use Rattle.herd_pedigree.proofs.CheckFacts.{closed-after, fault-first, fault-rest, found_none, settled-exchange, too_deep-told_by}
-use Rattle.herd_pedigree.proofs.lemmas.rules.FaultFacts.{no_record_fault}
+use Rattle.herd_pedigree.proofs.CheckFacts.{closed-within, fault-first, fault-rest, settled-exchange, told-there, too_deep-told_by}
 use Rattle.herd_pedigree.proofs.HeldFacts.{IsHeld-corrected}
 use Rattle.herd_pedigree.proofs.pedigree.Pedigree.set_parents_if_sound.Goals as goal
 
-pub returns-in-Some-record_fault-clause-fault : goal.returns-in-Some-record_fault-clause-fault
-returns-in-Some-record_fault-clause-fault g c =
+pub returns-in-Err-clause-fault : goal.returns-in-Err-clause-fault
+returns-in-Err-clause-fault g c =
     let book : Book = c.self.inside.records.book in
     let number : List ℕ = c.args.number in
-    let kept = c.self.invariant.kept in
     let place : ℕ = c.in-Some.index in
-    let at : slice_get (keys_of book) place ≡ Some number = at_position book number place (sym c.in-Some.ensures.index) in
     let a : Animal = c.animal_at-animal.result in
-    let entry : slice_get book place ≡ Some (number, a) = entry_from_both book place number a at c.animal_at-animal.ensures in
-    let there : record_of book number ≡ Some a = lookup_at book kept.lawful.once place number a entry in
-    let birth = a.birth in
     let s : Option (List ℕ) = c.args.sire in
     let d : Option (List ℕ) = c.args.dam in
-    let embryo = a.embryo in
-    let told : first_that_holds (record_faults birth s (record_named book s) d (record_named book d) embryo) ≡ Some c.in-Some-record_fault.fault =
-    sym (c.record_fault.ensures ∙ found_none birth book s d _ _ _ _ embryo c.find-sire.ensures.number c.find-sire.ensures.record c.find-dam.ensures.number c.find-dam.ensures.record) ∙ c.in-Some-record_fault.is in
-    let told_by : IfSome (record_of book number) (λ animal. Some c.in-Some-record_fault.fault ≡ parent_fault DEPTH_LIMIT book number animal.birth s d animal.embryo) = rw there (fault-first DEPTH_LIMIT book number birth s d embryo c.in-Some-record_fault.fault told) in
-    subst (λ p. IfSome (record_of p.book number) (λ animal. Some c.in-Some-record_fault.fault ≡ parent_fault DEPTH_LIMIT p.book number animal.birth s d animal.embryo)) c.self.view_is told_by
+    let entry : slice_get book place ≡ Some (number, a) = entry_found book number place a c.in-Some.ensures.index c.animal_at-animal.ensures in
+    subst (λ p. IfSome (record_of p.book number) (λ animal. Some c.in-Err.fault ≡ parent_fault DEPTH_LIMIT p.book number animal.birth s d animal.embryo)) c.self.view_is
+    (told-there DEPTH_LIMIT book c.self.invariant.kept.lawful.once place number a entry s d (Some c.in-Err.fault) (fault-first DEPTH_LIMIT book number a.birth s d a.embryo c.in-Err.fault c.in-Err.ensures.fault))
 
 pub carry_if_shallow-requires-clause-sound : goal.carry_if_shallow-requires-clause-sound
 carry_if_shallow-requires-clause-sound g c =
-    let book : Book = c.self.inside.records.book in
-    let number : List ℕ = c.args.number in
-    let sires : List (Option ℕ) = c.self.inside.sires.parents in
-    let dams : List (Option ℕ) = c.self.inside.dams.parents in
-    let depths : List ℕ = c.self.inside.depths.items in
     let kept = c.self.invariant.kept in
-    let place : ℕ = c.in-Some.index in
-    let sire : Option ℕ = c.find-sire.result.place in
-    let dam : Option ℕ = c.find-dam.result.place in
-    let birth = c.animal_at-animal.result.birth in
-    let s : Option (List ℕ) = c.args.sire in
-    let d : Option (List ℕ) = c.args.dam in
-    let embryo = c.animal_at-animal.result.embryo in
-    let told : first_that_holds (record_faults birth s (record_named book s) d (record_named book d) embryo) ≡ None =
-    sym (c.record_fault.ensures ∙ found_none birth book s d _ _ _ _ embryo c.find-sire.ensures.number c.find-sire.ensures.record c.find-dam.ensures.number c.find-dam.ensures.record) ∙ c.in_default-record_fault.is in
-    let missing = no_record_fault birth s (record_named book s) d (record_named book d) embryo told in
-    let sire_is : IsPlaceIn (keys_of book) sire s = c.find-sire.ensures.place (ap (λ r. is_missing s r) c.find-sire.ensures.record ∙ missing.sire_there) in
-    let dam_is : IsPlaceIn (keys_of book) dam d = c.find-dam.ensures.place (ap (λ r. is_missing d r) c.find-dam.ensures.record ∙ missing.dam_there) in
-    let at : slice_get (keys_of book) place ≡ Some number = at_position book number place (sym c.in-Some.ensures.index) in
     let m = kept.sires_are.long in
-    let here : place < length sires = let w = c.in-Some.ensures.within in omega (arith, w, m) in
-    let closed : (p x : ℕ) → IsParent (parentage_at (slice_set sires place sire) (slice_set dams place dam)) p x → p < length sires = closed-after DEPTH_LIMIT MOST_ANIMALS book sires dams depths kept number place at sire dam c.args.sire c.args.dam sire_is dam_is in
-    record { here = here; wide = kept.dams_are.long ∙ sym m; closed = closed }
+    let here : c.in-Some.index < length c.self.inside.sires.parents = let w = c.in-Some.ensures.within in omega (arith, w, m) in
+    record {
+      here = here;
+      wide = kept.dams_are.long ∙ sym m;
+      closed = closed-within DEPTH_LIMIT MOST_ANIMALS c.self.inside.records.book c.self.inside.sires.parents c.self.inside.dams.parents c.self.inside.depths.items kept c.in-Some.index c.in-Ok.parents.sire c.in-Ok.parents.dam here c.in-Ok.ensures.sire_within c.in-Ok.ensures.dam_within;
+    }
 
 pub carry_if_shallow-requires-clause-settled : goal.carry_if_shallow-requires-clause-settled
 carry_if_shallow-requires-clause-settled g c =
-    let book : Book = c.self.inside.records.book in
-    let number : List ℕ = c.args.number in
     let sires : List (Option ℕ) = c.self.inside.sires.parents in
     let dams : List (Option ℕ) = c.self.inside.dams.parents in
-    let depths : List ℕ = c.self.inside.depths.items in
     let kept = c.self.invariant.kept in
     let place : ℕ = c.in-Some.index in
-    let sire : Option ℕ = c.find-sire.result.place in
-    let dam : Option ℕ = c.find-dam.result.place in
-    let birth = c.animal_at-animal.result.birth in
-    let s : Option (List ℕ) = c.args.sire in
-    let d : Option (List ℕ) = c.args.dam in
-    let embryo = c.animal_at-animal.result.embryo in
-    let told : first_that_holds (record_faults birth s (record_named book s) d (record_named book d) embryo) ≡ None =
-    sym (c.record_fault.ensures ∙ found_none birth book s d _ _ _ _ embryo c.find-sire.ensures.number c.find-sire.ensures.record c.find-dam.ensures.number c.find-dam.ensures.record) ∙ c.in_default-record_fault.is in
-    let missing = no_record_fault birth s (record_named book s) d (record_named book d) embryo told in
-    let sire_is : IsPlaceIn (keys_of book) sire s = c.find-sire.ensures.place (ap (λ r. is_missing s r) c.find-sire.ensures.record ∙ missing.sire_there) in
-    let dam_is : IsPlaceIn (keys_of book) dam d = c.find-dam.ensures.place (ap (λ r. is_missing d r) c.find-dam.ensures.record ∙ missing.dam_there) in
-    let at : slice_get (keys_of book) place ≡ Some number = at_position book number place (sym c.in-Some.ensures.index) in
     let m = kept.sires_are.long in
     let here : place < length sires = let w = c.in-Some.ensures.within in omega (arith, w, m) in
-    let P : List ℕ → Type 0 = λ hs. IsSettled DEPTH_LIMIT (parentage_at (slice_set sires place sire) (slice_set dams place dam)) (slice_index hs) (place ∷ []) in
-    let settled : P depths = settled-exchange DEPTH_LIMIT MOST_ANIMALS book sires dams depths kept place sire dam here in
-    subst P (sym c.deref_mut.ensures.value) settled
+    subst (λ hs. IsSettled DEPTH_LIMIT (parentage_at (slice_set sires place c.in-Ok.parents.sire) (slice_set dams place c.in-Ok.parents.dam)) (slice_index hs) (place ∷ [])) (sym c.deref_mut.ensures.value)
+    (settled-exchange DEPTH_LIMIT MOST_ANIMALS c.self.inside.records.book sires dams c.self.inside.depths.items kept place c.in-Ok.parents.sire c.in-Ok.parents.dam here)
 
 pub invariant_of-self-in_default-2 : goal.invariant_of-self-in_default-2
 invariant_of-self-in_default-2 g c =
@@ -106,58 +66,31 @@ pub returns-in_default-2-clause-fault : goal.returns-in_default-2-clause-fault
 returns-in_default-2-clause-fault g c =
     let book : Book = c.self.inside.records.book in
     let number : List ℕ = c.args.number in
-    let kept = c.self.invariant.kept in
-    let place : ℕ = c.in-Some.index in
-    let at : slice_get (keys_of book) place ≡ Some number = at_position book number place (sym c.in-Some.ensures.index) in
-    let a : Animal = c.animal_at-animal.result in
-    let entry : slice_get book place ≡ Some (number, a) = entry_from_both book place number a at c.animal_at-animal.ensures in
-    let there : record_of book number ≡ Some a = lookup_at book kept.lawful.once place number a entry in
     let sires : List (Option ℕ) = c.self.inside.sires.parents in
     let dams : List (Option ℕ) = c.self.inside.dams.parents in
-    let depths : List ℕ = c.self.inside.depths.items in
-    let sire : Option ℕ = c.find-sire.result.place in
-    let dam : Option ℕ = c.find-dam.result.place in
-    let birth = a.birth in
+    let kept = c.self.invariant.kept in
+    let place : ℕ = c.in-Some.index in
+    let sire : Option ℕ = c.in-Ok.parents.sire in
+    let dam : Option ℕ = c.in-Ok.parents.dam in
+    let a : Animal = c.animal_at-animal.result in
     let s : Option (List ℕ) = c.args.sire in
     let d : Option (List ℕ) = c.args.dam in
-    let embryo = a.embryo in
-    let told : first_that_holds (record_faults birth s (record_named book s) d (record_named book d) embryo) ≡ None =
-    sym (c.record_fault.ensures ∙ found_none birth book s d _ _ _ _ embryo c.find-sire.ensures.number c.find-sire.ensures.record c.find-dam.ensures.number c.find-dam.ensures.record) ∙ c.in_default-record_fault.is in
-    let missing = no_record_fault birth s (record_named book s) d (record_named book d) embryo told in
-    let sire_is : IsPlaceIn (keys_of book) sire s = c.find-sire.ensures.place (ap (λ r. is_missing s r) c.find-sire.ensures.record ∙ missing.sire_there) in
-    let dam_is : IsPlaceIn (keys_of book) dam d = c.find-dam.ensures.place (ap (λ r. is_missing d r) c.find-dam.ensures.record ∙ missing.dam_there) in
+    let entry : slice_get book place ≡ Some (number, a) = entry_found book number place a c.in-Some.ensures.index c.animal_at-animal.ensures in
     let line : (x : ℕ) × IsTrue (has_line (parentage_at (slice_set sires place sire) (slice_set dams place dam)) (DEPTH_LIMIT + 1) x) = rw c.in_default-2.is at c.in_ok-log.ensures.deep in
     let deep : true ≡ is_too_deep DEPTH_LIMIT book number s d =
-    too_deep-told_by DEPTH_LIMIT MOST_ANIMALS book sires dams depths kept number place at sire dam s d sire_is dam_is true (λ _. line) (λ no. absurd (true≢false no)) in
-    let told_by : IfSome (record_of book number) (λ animal. Some TooDeep ≡ parent_fault DEPTH_LIMIT book number animal.birth s d animal.embryo) = rw there (fault-rest DEPTH_LIMIT book number birth s d embryo true told deep) in
-    subst (λ p. IfSome (record_of p.book number) (λ animal. Some TooDeep ≡ parent_fault DEPTH_LIMIT p.book number animal.birth s d animal.embryo)) c.self.view_is told_by
+    too_deep-told_by DEPTH_LIMIT MOST_ANIMALS book sires dams c.self.inside.depths.items kept number place (at_position book number place (sym c.in-Some.ensures.index)) sire dam s d c.in-Ok.ensures.sire c.in-Ok.ensures.dam true (λ _. line) (λ no. absurd (true≢false no)) in
+    subst (λ p. IfSome (record_of p.book number) (λ animal. Some TooDeep ≡ parent_fault DEPTH_LIMIT p.book number animal.birth s d animal.embryo)) c.self.view_is
+    (told-there DEPTH_LIMIT book kept.lawful.once place number a entry s d (Some TooDeep) (fault-rest DEPTH_LIMIT book number a.birth s d a.embryo true c.in-Ok.ensures.sound deep))
 
 pub set-requires-clause-sire : goal.set-requires-clause-sire
 set-requires-clause-sire g c =
-    let book : Book = c.self.inside.records.book in
-    let birth = c.animal_at-animal.result.birth in
-    let s : Option (List ℕ) = c.args.sire in
-    let d : Option (List ℕ) = c.args.dam in
-    let embryo = c.animal_at-animal.result.embryo in
-    let told : first_that_holds (record_faults birth s (record_named book s) d (record_named book d) embryo) ≡ None =
-    sym (c.record_fault.ensures ∙ found_none birth book s d _ _ _ _ embryo c.find-sire.ensures.number c.find-sire.ensures.record c.find-dam.ensures.number c.find-dam.ensures.record) ∙ c.in_default-record_fault.is in
-    let missing = no_record_fault birth s (record_named book s) d (record_named book d) embryo told in
-    let sire_is : IsPlaceIn (keys_of book) c.find-sire.result.place s = c.find-sire.ensures.place (ap (λ r. is_missing s r) c.find-sire.ensures.record ∙ missing.sire_there) in
-    subst (λ o. IsPlaceIn (keys_of book) c.find-sire.result.place o) (sym (ap (λ v. v.sire) c.with_parents-corrected.ensures ∙ c.find-sire.ensures.number)) sire_is
+    subst (λ o. IsPlaceIn (keys_of c.self.inside.records.book) c.in-Ok.parents.sire o) (sym (ap (λ v. v.sire) c.with_parents-corrected.ensures)) c.in-Ok.ensures.sire
 
 pub set-requires-clause-dam : goal.set-requires-clause-dam
 set-requires-clause-dam g c =
-    let book : Book = c.self.inside.records.book in
-    let birth = c.animal_at-animal.result.birth in
-    let s : Option (List ℕ) = c.args.sire in
-    let d : Option (List ℕ) = c.args.dam in
-    let embryo = c.animal_at-animal.result.embryo in
-    let told : first_that_holds (record_faults birth s (record_named book s) d (record_named book d) embryo) ≡ None =
-    sym (c.record_fault.ensures ∙ found_none birth book s d _ _ _ _ embryo c.find-sire.ensures.number c.find-sire.ensures.record c.find-dam.ensures.number c.find-dam.ensures.record) ∙ c.in_default-record_fault.is in
-    let missing = no_record_fault birth s (record_named book s) d (record_named book d) embryo told in
-    let dam_is : IsPlaceIn (keys_of book) c.find-dam.result.place d = c.find-dam.ensures.place (ap (λ r. is_missing d r) c.find-dam.ensures.record ∙ missing.dam_there) in
-    subst (λ o. IsPlaceIn (keys_of book) c.find-dam.result.place o) (sym (ap (λ v. v.dam) c.with_parents-corrected.ensures ∙ c.find-dam.ensures.number)) dam_is
+    subst (λ o. IsPlaceIn (keys_of c.self.inside.records.book) c.in-Ok.parents.dam o) (sym (ap (λ v. v.dam) c.with_parents-corrected.ensures)) c.in-Ok.ensures.dam
 
+-- Depths were carried on to the end, so that the new parents have no fault: the correction is one that the book may take.
 pub invariant_of-self-2 : goal.invariant_of-self-2
 invariant_of-self-2 g c =
     let book : Book = c.self.inside.records.book in
@@ -167,98 +100,67 @@ invariant_of-self-2 g c =
     let depths : List ℕ = c.self.inside.depths.items in
     let kept = c.self.invariant.kept in
     let place : ℕ = c.in-Some.index in
-    let sire : Option ℕ = c.find-sire.result.place in
-    let dam : Option ℕ = c.find-dam.result.place in
-    let birth = c.animal_at-animal.result.birth in
+    let sire : Option ℕ = c.in-Ok.parents.sire in
+    let dam : Option ℕ = c.in-Ok.parents.dam in
+    let sire_is : IsPlaceIn (keys_of book) sire c.args.sire = c.in-Ok.ensures.sire in
+    let dam_is : IsPlaceIn (keys_of book) dam c.args.dam = c.in-Ok.ensures.dam in
+    let a : Animal = c.animal_at-animal.result in
     let s : Option (List ℕ) = c.args.sire in
     let d : Option (List ℕ) = c.args.dam in
-    let embryo = c.animal_at-animal.result.embryo in
-    let told : first_that_holds (record_faults birth s (record_named book s) d (record_named book d) embryo) ≡ None =
-    sym (c.record_fault.ensures ∙ found_none birth book s d _ _ _ _ embryo c.find-sire.ensures.number c.find-sire.ensures.record c.find-dam.ensures.number c.find-dam.ensures.record) ∙ c.in_default-record_fault.is in
-    let missing = no_record_fault birth s (record_named book s) d (record_named book d) embryo told in
-    let sire_is : IsPlaceIn (keys_of book) sire s = c.find-sire.ensures.place (ap (λ r. is_missing s r) c.find-sire.ensures.record ∙ missing.sire_there) in
-    let dam_is : IsPlaceIn (keys_of book) dam d = c.find-dam.ensures.place (ap (λ r. is_missing d r) c.find-dam.ensures.record ∙ missing.dam_there) in
     let at : slice_get (keys_of book) place ≡ Some number = at_position book number place (sym c.in-Some.ensures.index) in
-    let m = kept.sires_are.long in
-    let here : place < length sires = let w = c.in-Some.ensures.within in omega (arith, w, m) in
-    let a : Animal = c.animal_at-animal.result in
-    let entry : slice_get book place ≡ Some (number, a) = entry_from_both book place number a at c.animal_at-animal.ensures in
-    let written : c.set.new.self.book ≡ set_value_at book place (with_parents c.args.sire c.args.dam a) =
-    c.set.ensures ∙ ap (λ v. set_value_at book place v) (c.with_parents-corrected.ensures ∙ (λ i. with_parents (c.find-sire.ensures.number i) (c.find-dam.ensures.number i) a)) in
+    let entry : slice_get book place ≡ Some (number, a) = entry_found book number place a c.in-Some.ensures.index c.animal_at-animal.ensures in
+    let written : c.set.new.self.book ≡ set_value_at book place (with_parents s d a) = c.set.ensures ∙ ap (λ v. set_value_at book place v) c.with_parents-corrected.ensures in
     let there : record_of book number ≡ Some a = lookup_at book kept.lawful.once place number a entry in
     let shallow : (x : ℕ) → IsFalse (has_line (parentage_at (slice_set sires place sire) (slice_set dams place dam)) (DEPTH_LIMIT + 1) x) = rw c.in-Some-2.is at c.in_ok-log.ensures.shallow in
     let fine : false ≡ is_too_deep DEPTH_LIMIT book number s d =
     too_deep-told_by DEPTH_LIMIT MOST_ANIMALS book sires dams depths kept number place at sire dam s d sire_is dam_is false (λ yes. absurd (false≢true yes)) (λ _. shallow) in
-    let no_fault : None ≡ parent_fault DEPTH_LIMIT book number birth s d embryo = fault-rest DEPTH_LIMIT book number birth s d embryo false told fine in
-    let asked : IsCorrection DEPTH_LIMIT book number s d = record { animal = a; there = there; parents = sym no_fault } in
+    let asked : IsCorrection DEPTH_LIMIT book number s d = record { animal = a; there = there; parents = sym (fault-rest DEPTH_LIMIT book number a.birth s d a.embryo false c.in-Ok.ensures.sound fine) } in
     let log : List (ℕ × ℕ) = c.in-Some-2.log.items in
     let after : List ℕ = c.carry_if_shallow.new.depths in
     let len : length c.deref_mut.result.now ≡ length depths = ap (λ hs. length hs) c.deref_mut.ensures.value in
     let long : length after ≡ length depths = c.carry_if_shallow.auto.depths ∙ len in
     let settled : IsSettled DEPTH_LIMIT (parentage_at (slice_set sires place sire) (slice_set dams place dam)) (slice_index after) [] = rw c.in-Some-2.is at c.in_ok-log.ensures.settled in
-    let held : IsHeld DEPTH_LIMIT MOST_ANIMALS (set_value_at book place (with_parents c.args.sire c.args.dam a)) (slice_set sires place sire) (slice_set dams place dam) after log (Record place a c.parent.result c.parent-2.result) =
-    IsHeld-corrected DEPTH_LIMIT MOST_ANIMALS book sires dams depths kept number place at a entry sire dam c.args.sire c.args.dam sire_is dam_is asked after long settled log
+    let held : IsHeld DEPTH_LIMIT MOST_ANIMALS (set_value_at book place (with_parents s d a)) (slice_set sires place sire) (slice_set dams place dam) after log (Record place a c.parent.result c.parent-2.result) =
+    IsHeld-corrected DEPTH_LIMIT MOST_ANIMALS book sires dams depths kept number place at a entry sire dam s d sire_is dam_is asked after long settled log
     (subst (λ n. All (λ (write : ℕ × ℕ). write.0 < n) log) len (rw c.in-Some-2.is at c.in_ok-log.ensures.logged))
     ((rw c.in-Some-2.is at c.in_ok-log.ensures.undone) ∙ c.deref_mut.ensures.value)
     c.parent.result c.parent-2.result c.parent.ensures c.parent-2.ensures in
     let back : (with_items c.self.inside.depths after).items ≡ after = with_items_is c.self.inside.depths after (c.carry_if_shallow.auto.depths ∙ c.deref_mut.ensures.len) in
-    let sires_are : c.set-2.new.self.parents ≡ slice_set sires place sire = c.set-2.ensures in
-    let dams_are : c.set-3.new.self.parents ≡ slice_set dams place dam = c.set-3.ensures in
     let Q : Book → List (Option ℕ) → List (Option ℕ) → List ℕ → Type 0 = λ b ss ds hs. IsHeld DEPTH_LIMIT MOST_ANIMALS b ss ds hs log (Record place a c.parent.result c.parent-2.result) in
     subst (λ b. Q b c.set-2.new.self.parents c.set-3.new.self.parents (with_items c.self.inside.depths after).items) (sym written)
-    (subst (λ ss. Q (set_value_at book place (with_parents c.args.sire c.args.dam a)) ss c.set-3.new.self.parents (with_items c.self.inside.depths after).items) (sym sires_are)
-    (subst (λ ds. Q (set_value_at book place (with_parents c.args.sire c.args.dam a)) (slice_set sires place sire) ds (with_items c.self.inside.depths after).items) (sym dams_are)
-    (subst (λ hs. Q (set_value_at book place (with_parents c.args.sire c.args.dam a)) (slice_set sires place sire) (slice_set dams place dam) hs) (sym back) held)))
+    (subst (λ ss. Q (set_value_at book place (with_parents s d a)) ss c.set-3.new.self.parents (with_items c.self.inside.depths after).items) (sym c.set-2.ensures)
+    (subst (λ ds. Q (set_value_at book place (with_parents s d a)) (slice_set sires place sire) ds (with_items c.self.inside.depths after).items) (sym c.set-3.ensures)
+    (subst (λ hs. Q (set_value_at book place (with_parents s d a)) (slice_set sires place sire) (slice_set dams place dam) hs) (sym back) held)))
 
 pub returns-clause-fault : goal.returns-clause-fault
 returns-clause-fault g c =
     let book : Book = c.self.inside.records.book in
     let number : List ℕ = c.args.number in
-    let kept = c.self.invariant.kept in
-    let place : ℕ = c.in-Some.index in
-    let at : slice_get (keys_of book) place ≡ Some number = at_position book number place (sym c.in-Some.ensures.index) in
-    let a : Animal = c.animal_at-animal.result in
-    let entry : slice_get book place ≡ Some (number, a) = entry_from_both book place number a at c.animal_at-animal.ensures in
-    let there : record_of book number ≡ Some a = lookup_at book kept.lawful.once place number a entry in
     let sires : List (Option ℕ) = c.self.inside.sires.parents in
     let dams : List (Option ℕ) = c.self.inside.dams.parents in
-    let depths : List ℕ = c.self.inside.depths.items in
-    let sire : Option ℕ = c.find-sire.result.place in
-    let dam : Option ℕ = c.find-dam.result.place in
-    let birth = a.birth in
+    let kept = c.self.invariant.kept in
+    let place : ℕ = c.in-Some.index in
+    let sire : Option ℕ = c.in-Ok.parents.sire in
+    let dam : Option ℕ = c.in-Ok.parents.dam in
+    let a : Animal = c.animal_at-animal.result in
     let s : Option (List ℕ) = c.args.sire in
     let d : Option (List ℕ) = c.args.dam in
-    let embryo = a.embryo in
-    let told : first_that_holds (record_faults birth s (record_named book s) d (record_named book d) embryo) ≡ None =
-    sym (c.record_fault.ensures ∙ found_none birth book s d _ _ _ _ embryo c.find-sire.ensures.number c.find-sire.ensures.record c.find-dam.ensures.number c.find-dam.ensures.record) ∙ c.in_default-record_fault.is in
-    let missing = no_record_fault birth s (record_named book s) d (record_named book d) embryo told in
-    let sire_is : IsPlaceIn (keys_of book) sire s = c.find-sire.ensures.place (ap (λ r. is_missing s r) c.find-sire.ensures.record ∙ missing.sire_there) in
-    let dam_is : IsPlaceIn (keys_of book) dam d = c.find-dam.ensures.place (ap (λ r. is_missing d r) c.find-dam.ensures.record ∙ missing.dam_there) in
+    let entry : slice_get book place ≡ Some (number, a) = entry_found book number place a c.in-Some.ensures.index c.animal_at-animal.ensures in
     let shallow : (x : ℕ) → IsFalse (has_line (parentage_at (slice_set sires place sire) (slice_set dams place dam)) (DEPTH_LIMIT + 1) x) = rw c.in-Some-2.is at c.in_ok-log.ensures.shallow in
     let fine : false ≡ is_too_deep DEPTH_LIMIT book number s d =
-    too_deep-told_by DEPTH_LIMIT MOST_ANIMALS book sires dams depths kept number place at sire dam s d sire_is dam_is false (λ yes. absurd (false≢true yes)) (λ _. shallow) in
-    let no_fault : None ≡ parent_fault DEPTH_LIMIT book number birth s d embryo = fault-rest DEPTH_LIMIT book number birth s d embryo false told fine in
-    let told_by : IfSome (record_of book number) (λ animal. None ≡ parent_fault DEPTH_LIMIT book number animal.birth s d animal.embryo) = rw there (no_fault) in
-    subst (λ p. IfSome (record_of p.book number) (λ animal. None ≡ parent_fault DEPTH_LIMIT p.book number animal.birth s d animal.embryo)) c.self.view_is told_by
+    too_deep-told_by DEPTH_LIMIT MOST_ANIMALS book sires dams c.self.inside.depths.items kept number place (at_position book number place (sym c.in-Some.ensures.index)) sire dam s d c.in-Ok.ensures.sire c.in-Ok.ensures.dam false (λ yes. absurd (false≢true yes)) (λ _. shallow) in
+    subst (λ p. IfSome (record_of p.book number) (λ animal. None ≡ parent_fault DEPTH_LIMIT p.book number animal.birth s d animal.embryo)) c.self.view_is
+    (told-there DEPTH_LIMIT book kept.lawful.once place number a entry s d None (fault-rest DEPTH_LIMIT book number a.birth s d a.embryo false c.in-Ok.ensures.sound fine))
 
 pub returns-clause-set : goal.returns-clause-set
 returns-clause-set g c =
     let book : Book = c.self.inside.records.book in
     let number : List ℕ = c.args.number in
-    let sires : List (Option ℕ) = c.self.inside.sires.parents in
-    let dams : List (Option ℕ) = c.self.inside.dams.parents in
-    let depths : List ℕ = c.self.inside.depths.items in
-    let kept = c.self.invariant.kept in
     let place : ℕ = c.in-Some.index in
-    let sire : Option ℕ = c.find-sire.result.place in
-    let dam : Option ℕ = c.find-dam.result.place in
-    let at : slice_get (keys_of book) place ≡ Some number = at_position book number place (sym c.in-Some.ensures.index) in
-    let m = kept.sires_are.long in
-    let here : place < length sires = let w = c.in-Some.ensures.within in omega (arith, w, m) in
     let a : Animal = c.animal_at-animal.result in
-    let entry : slice_get book place ≡ Some (number, a) = entry_from_both book place number a at c.animal_at-animal.ensures in
-    let written : c.set.new.self.book ≡ set_value_at book place (with_parents c.args.sire c.args.dam a) =
-    c.set.ensures ∙ ap (λ v. set_value_at book place v) (c.with_parents-corrected.ensures ∙ (λ i. with_parents (c.find-sire.ensures.number i) (c.find-dam.ensures.number i) a)) in
+    let change : Animal → Animal = with_parents c.args.sire c.args.dam in
+    let entry : slice_get book place ≡ Some (number, a) = entry_found book number place a c.in-Some.ensures.index c.animal_at-animal.ensures in
+    let written : c.set.new.self.book ≡ set_value_at book place (change a) = c.set.ensures ∙ ap (λ v. set_value_at book place v) c.with_parents-corrected.ensures in
     λ _.
-    subst (λ b. record { book = b; before = Some (set_value_at b place a) } ≡ changed_to c.args.self.now (changed c.args.self.now.book number (with_parents c.args.sire c.args.dam))) (sym written)
-    (record-view c.args.self.now book kept.lawful.once place number a (with_parents c.args.sire c.args.dam) entry (ap (λ p. p.book) c.self.view_is))
+    subst (λ b. record { book = b; before = Some (set_value_at b place a) } ≡ changed_to c.args.self.now (changed c.args.self.now.book number change)) (sym written)
+    (record-view c.args.self.now book c.self.invariant.kept.lawful.once place number a change entry (ap (λ p. p.book) c.self.view_is))

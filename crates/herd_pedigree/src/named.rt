@@ -1,28 +1,28 @@
 //! Parents that are named, with what the book has of them, and the faults that this shows.
-ghost use Rattle.std.specs.Prelude.{◌≡◌, ◌<◌, ◌≤◌, false, length, IfSome};
+ghost use Rattle.std.specs.Prelude.{◌≡◌, ◌<◌, ◌≤◌, false, length, IfErr, IfOk, IfSome, None, Some};
 ghost use Rattle.std.specs.Map.{keys_of};
-ghost use Rattle.herd_pedigree.specs.rules.ParentFault.{first_that_holds, has_sex, is_found_gone, is_found_not_older, is_missing, is_named, record_faults, record_named};
+ghost use Rattle.herd_pedigree.specs.rules.ParentFault.{fault_by_records, first_that_holds, has_sex, is_found_gone, is_found_not_older, is_missing, is_named, record_faults, record_named};
 ghost use Rattle.herd_pedigree.specs.store.Places.{IsPlaceIn};
 ghost use Rattle.herd_pedigree.specs.declared.TheConstants.{MOST_ANIMALS};
 
 use crate::rules::animal::Animal;
 use crate::rules::parent_fault::ParentFault;
+use crate::store::links::Link;
 use crate::store::records::Records;
 use herd_animal::{AnimalNumber, Day, Sex};
 use std::alloc::Allocator;
 
-/// A parent that is named, or none, with its place and its record where the book has it.
+// A parent that is named, or none, with its place and its record where the book has it.
 #[derive(Clone, Copy)]
-pub struct Named {
-    pub number: Option<AnimalNumber>,
-    pub place: Option<u32>,
-    pub animal: Option<Animal>,
+struct Named {
+    number: Option<AnimalNumber>,
+    place: Option<u32>,
+    animal: Option<Animal>,
 }
 
-/// What the book has of a parent.
-// Inlined: a caller copies no more of the record than it reads.
+// What the book has of a parent. Inlined: a caller copies no more of the record than it reads.
 #[inline(always)]
-pub fn find<A: Allocator>(records: &Records<A>, parent: &Option<AnimalNumber>) -> Named
+fn find<A: Allocator>(records: &Records<A>, parent: &Option<AnimalNumber>) -> Named
     requires { length records.now.book ≤ MOST_ANIMALS }
     ensures number { result.number ≡ parent.now }
     ensures record { result.animal ≡ record_named records.now.book parent.now }
@@ -85,8 +85,8 @@ impl Named {
     }
 }
 
-/// The first fault of an animal with this birth day and these parents that their records show.
-pub fn record_fault(birth: Day, sire: &Named, dam: &Named, embryo: bool) -> Option<ParentFault>
+// The first fault of an animal with this birth day and these parents that their records show.
+fn record_fault(birth: Day, sire: &Named, dam: &Named, embryo: bool) -> Option<ParentFault>
     ensures { result ≡ first_that_holds (record_faults birth sire.now.number sire.now.animal dam.now.number dam.now.animal embryo) }
 {
     if sire.is_missing() {
@@ -105,5 +105,34 @@ pub fn record_fault(birth: Day, sire: &Named, dam: &Named, embryo: bool) -> Opti
         Some(ParentFault::DamGone)
     } else {
         None
+    }
+}
+
+/// The places of the parents of an animal with this birth day, or the first fault that their records show.
+// Inlined, as `find` is.
+#[inline(always)]
+pub fn sound_parents<A: Allocator>(
+    records: &Records<A>,
+    birth: Day,
+    sire: &Option<AnimalNumber>,
+    dam: &Option<AnimalNumber>,
+    embryo: bool,
+) -> Result<Link, ParentFault>
+    requires { length records.now.book ≤ MOST_ANIMALS }
+    ensures fault { IfErr result (λ fault. fault_by_records records.now.book birth sire.now dam.now embryo ≡ Some fault) }
+    ensures sound { IfOk result (λ _. fault_by_records records.now.book birth sire.now dam.now embryo ≡ None) }
+    ensures sire { IfOk result (λ parents. IsPlaceIn (keys_of records.now.book) parents.sire sire.now) }
+    ensures dam { IfOk result (λ parents. IsPlaceIn (keys_of records.now.book) parents.dam dam.now) }
+    ensures sire_within { IfOk result (λ parents. IfSome parents.sire (λ place. place < length records.now.book)) }
+    ensures dam_within { IfOk result (λ parents. IfSome parents.dam (λ place. place < length records.now.book)) }
+{
+    let sire = find(records, sire);
+    let dam = find(records, dam);
+    match record_fault(birth, &sire, &dam, embryo) {
+        Some(fault) => Err(fault),
+        None => Ok(Link {
+            sire: sire.place,
+            dam: dam.place,
+        }),
     }
 }

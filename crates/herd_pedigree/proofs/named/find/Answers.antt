@@ -1,6 +1,6 @@
 use Rattle.std.proofs.Common.{sym}
 use Rattle.herd_pedigree.proofs.lemmas.rules.BookFacts.{at_position}
-use Rattle.herd_pedigree.proofs.rules.named.find.Goals as goal
+use Rattle.herd_pedigree.proofs.named.find.Goals as goal
 
 pub returns-in-Some-place_of-clause-place : goal.returns-in-Some-place_of-clause-place
 returns-in-Some-place_of-clause-place g c =
