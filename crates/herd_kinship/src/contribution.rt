@@ -1,6 +1,6 @@
 use crate::fractions::Fraction;
 
-/// What one animal adds to one entry of the inverse of the numerator relationship matrix.
+/// What one animal adds to one element of the inverse of the numerator relationship matrix.
 ///
 /// Summed by row and column over all animals, and mirrored, the contributions are the inverse (Henderson 1976).
 #[derive(Clone, Copy, Debug, PartialEq, Eq)]

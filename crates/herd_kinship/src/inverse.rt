@@ -125,6 +125,7 @@ pub fn contributions<F: Allocator, C: Allocator>(
     ensures list { result.list ≡ filled (contributions_of DEPTH_LIMIT frozen.now place) }
     ensures lowest { All (λ one. IsGcd one.value.numerator one.value.denominator 1) result.list }
 {
+    // Taking the length ensures that the rows are those of a frozen book.
     frozen.len();
     let row = frozen.row(place);
     let weights = Weights::of(mendelian(frozen, coefficients.list(), place));

@@ -1,4 +1,4 @@
-ghost use Rattle.std.specs.Prelude.{◌≡◌, ◌+◌, ◌*◌, ◌-◌, ◌<◌, ◌≤◌, length, slice_index, IfOk, IfErr, IfSome, Some, None};
+ghost use Rattle.std.specs.Prelude.{◌≡◌, ◌+◌, ◌*◌, ◌-◌, ◌^◌, ◌<◌, ◌≤◌, length, slice_index, IfOk, IfErr, IfSome, Some, None};
 ghost use Rattle.herd_animal.specs.Sex.{is_male as is_male_number};
 ghost use Rattle.herd_pedigree.specs.declared.TheConstants.{DEPTH_LIMIT};
 ghost use Rattle.herd_pedigree.specs.freezing.Frozen.{book_of};
@@ -22,12 +22,16 @@ pub enum MatingFault {
     SireMissing,
     #[error("the dam isn't in the book")]
     DamMissing,
+    /// By the sex letter of its number.
     #[error("the sire isn't male")]
     SireNotMale,
+    /// By the sex letter of its number.
     #[error("the dam isn't female")]
     DamNotFemale,
+    /// The sire or the dam has a line of `DEPTH_LIMIT` parent steps.
     #[error("a calf would be too deep")]
     TooDeep,
+    /// Only `mating` tells it.
     #[error("no memory")]
     Memory,
 }
@@ -112,6 +116,7 @@ pub fn mating<F: Allocator, C: Allocator, A: Allocator + Clone>(
 ) -> Result<u128, MatingFault>
     requires { AreCoefficients DEPTH_LIMIT frozen.now coefficients.now }
     ensures value { IfOk result (λ value. value ≡ entry (ancestry_of frozen.now) (2 * DEPTH_LIMIT - 1) (Some sire.now) (Some dam.now)) }
+    ensures below_one { IfOk result (λ value. value < 2 ^ (2 * DEPTH_LIMIT)) }
     ensures refused { IfSome (mating_fault DEPTH_LIMIT (book_of frozen.now) sire.now dam.now) (λ fault. result ≡ Err fault) }
     ensures memory { IfErr result (λ fault. mating_fault DEPTH_LIMIT (book_of frozen.now) sire.now dam.now ≡ None → fault ≡ MatingFault.Memory) }
 {
@@ -123,7 +128,7 @@ pub fn mating<F: Allocator, C: Allocator, A: Allocator + Clone>(
 }
 
 /// The coefficient that a calf of the two would have, in units of 2^-120, by the dam's relationships
-/// (`Relationships::of_number`).
+/// (`Relationships::of_number`): below `ONE`.
 ///
 /// It is `mating` for many sires of one dam: it traces nobody and takes no memory, so that `Memory` isn't told.
 pub fn mating_by<F: Allocator, A: Allocator>(
@@ -134,6 +139,7 @@ pub fn mating_by<F: Allocator, A: Allocator>(
 ) -> Result<u128, MatingFault>
     requires { AreRelationshipsOf DEPTH_LIMIT frozen.now dam.now relationships.now }
     ensures value { IfOk result (λ value. value ≡ entry (ancestry_of frozen.now) (2 * DEPTH_LIMIT - 1) (Some sire.now) (Some dam.now)) }
+    ensures below_one { IfOk result (λ value. value < 2 ^ (2 * DEPTH_LIMIT)) }
     ensures allowed { IfOk result (λ _. mating_fault DEPTH_LIMIT (book_of frozen.now) sire.now dam.now ≡ None) }
     ensures refused { IfErr result (λ fault. mating_fault DEPTH_LIMIT (book_of frozen.now) sire.now dam.now ≡ Some fault) }
 {

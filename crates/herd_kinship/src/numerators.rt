@@ -5,9 +5,9 @@ ghost use Rattle.herd_kinship.specs.Fraction.{halved, hundredths_of, IsLowest};
 use crate::ONE;
 use crate::fractions::{Fraction, lowest};
 
-/// A coefficient in units of 2^-120 as a fraction in lowest terms.
+/// So many units of 2^-120 as a fraction in lowest terms: a coefficient, a relationship or a Mendelian sampling
+/// variance.
 pub fn fraction(numerator: u128) -> Fraction
-    requires { numerator < 2 ^ (2 * DEPTH_LIMIT) }
     ensures value { result ≡ halved false numerator (2 ^ (2 * DEPTH_LIMIT)) }
     ensures lowest { IsLowest false numerator (2 ^ (2 * DEPTH_LIMIT)) result }
 {

@@ -146,7 +146,9 @@ fn quarter(known: &[u128], parent: Option<u32>) -> u128
 pub fn mendelian<F: Allocator>(frozen: &Frozen<F>, known: &[u128], place: u32) -> u128
     requires place { place < length frozen.now }
     requires known { KnowsAncestors DEPTH_LIMIT frozen.now known.now place }
-    ensures { result ≡ mendelian_variance (ancestry_of frozen.now) DEPTH_LIMIT (number_of_row frozen.now place) }
+    ensures value { result ≡ mendelian_variance (ancestry_of frozen.now) DEPTH_LIMIT (number_of_row frozen.now place) }
+    ensures positive { 0 < result }
+    ensures at_most_one { result ≤ 2 ^ (2 * DEPTH_LIMIT) }
 {
     prove!(place < frozen.len());
     let parents = parents_at(frozen, place);

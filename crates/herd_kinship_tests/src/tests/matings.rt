@@ -1,4 +1,4 @@
-//! Matings, by tracing and by the dam's relationships.
+//! Matings of one pair, and by the dam's relationships.
 
 use herd_animal::AnimalNumber;
 use herd_fixtures::Name::{Bull, Cow};

@@ -8,7 +8,7 @@ use std::alloc::Global;
 use std::process::Abort;
 use std::test::Fail;
 
-// The table of relationships of all pairs, computed line by line.
+// The numerator relationship matrix, row by row.
 #[derive(Drop)]
 struct Table {
     width: u32,

@@ -1,17 +1,11 @@
-use Rattle.std.proofs.Common.{◌≡◌, ℕ, Option, Some, None, lit<, arith}
+use Rattle.std.proofs.Common.{◌≡◌, ℕ, Option, Some, None, lit<}
 use Rattle.herd_pedigree.specs.declared.TheConstants.{DEPTH_LIMIT, MOST_ANIMALS}
 use Rattle.herd_kinship.specs.declared.contribution.Contributions.{Contributions}
 use Rattle.herd_kinship.specs.Contributions.{Lists, weighted}
 use Rattle.herd_kinship.proofs.ContributionFacts.{AreListed, listed-are}
-use Rattle.herd_kinship.proofs.LawFacts.{frozen-bound}
 use Rattle.herd_kinship.proofs.inverse.contributions.Given.{Over}
 use Rattle.herd_kinship.proofs.inverse.contributions.Goals.{After-of-weights}
 use Rattle.herd_kinship.proofs.inverse.contributions.Goals as goal
-
-pub of-weights-requires : goal.of-weights-requires
-of-weights-requires g c =
-    let positive = (frozen-bound DEPTH_LIMIT MOST_ANIMALS c.args.frozen.now c.len.ensures.frozen c.args.place c.args.place c.requires.place c.requires.place).positive in
-    omega (arith, positive, c.mendelian.ensures)
 
 -- what is listed by the weights, for the two parents of the row
 listed : (g : Over) (c : After-of-weights g) (s d : Option ℕ) → c.row-row.result.sire ≡ s → c.row-row.result.dam ≡ d → (contributions : Contributions) →
@@ -20,7 +14,7 @@ listed : (g : Over) (c : After-of-weights g) (s d : Option ℕ) → c.row-row.re
 listed g c s d =
     let weights = c.of-weights.ensures in
     listed-are DEPTH_LIMIT MOST_ANIMALS c.args.frozen.now c.len.ensures.frozen (lit< tt) (lit< tt) c.args.place c.requires.place c.row-row.result c.row-row.ensures
-    c.mendelian.result c.mendelian.ensures c.mendelian.type_inv c.of-weights.result.alpha c.of-weights.result.minus_half c.of-weights.result.quarter
+    c.mendelian.result c.mendelian.ensures.value c.mendelian.type_inv c.of-weights.result.alpha c.of-weights.result.minus_half c.of-weights.result.quarter
     weights.alpha weights.minus_half weights.quarter s d
 
 pub returns-in-None-None : goal.returns-in-None-None

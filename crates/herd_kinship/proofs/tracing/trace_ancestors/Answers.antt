@@ -50,7 +50,7 @@ met g c =
     let rows = c.args.frozen.now in
     let x : ℕ = c.loop-met.tracing.place in
     added DEPTH_LIMIT MOST_ANIMALS rows c.len.ensures.frozen x c.loop-met.invariant.tracing.tracing.place c.loop-met.tracing.border c.in-Some.met.place c.mendelian.result c.in-Some.met.share c.loop-met.sum
-    c.parents_at-depth.result c.parents_at.result (lit< tt) (lit< tt) (rw c.loop-met.invariant.same c.parents_at-depth.ensures) c.parents_at.ensures c.in-Some.ensures.next c.mendelian.ensures c.loop-met.invariant.summed
+    c.parents_at-depth.result c.parents_at.result (lit< tt) (lit< tt) (rw c.loop-met.invariant.same c.parents_at-depth.ensures) c.parents_at.ensures c.in-Some.ensures.next c.mendelian.ensures.value c.loop-met.invariant.summed
 
 pub term-sum-requires-clause-shift : goal.term-sum-requires-clause-shift
 term-sum-requires-clause-shift g c = (met g (goal.at.term-sum-requires-clause-shift g c).After-mendelian).shift
