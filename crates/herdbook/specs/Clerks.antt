@@ -1,5 +1,5 @@
 -- What clerks write for a command file, and how they may end.
-use Rattle.std.specs.Prelude.{◌≡◌, ℕ, max, List, length, Option, Some, None}
+use Rattle.std.specs.Prelude.{◌≡◌, ℕ, max, ⊤, List, length, Option, Some, None}
 use Rattle.std.specs.Io.KnownBytes.{Appends}
 use Rattle.herd_register.specs.declared.limits.Limits.{Limits}
 use Rattle.herd_register.specs.declared.file_fault.FileFault.{FileFault}
@@ -70,3 +70,12 @@ EndsClerks limits file old new (Run NoThread) = (file.fault ≡ None) × (new �
 EndsClerks limits file old new (Run Memory) = (file.fault ≡ None) × (new ≡ old)
 EndsClerks limits file old new (Run Write) = IsTold limits file (AppendsFront old new)
 EndsClerks limits file old new NoPlace = (file.fault ≡ None) × (new ≡ old)
+
+-- the faults that clerks can end by, whatever is read
+abbrev pub CanEndClerks : TaskFault → Type 0
+CanEndClerks (Run (Line fault)) = ⊤
+CanEndClerks (Run NotRegistered) = ⊥
+CanEndClerks (Run NoThread) = ⊤
+CanEndClerks (Run Memory) = ⊤
+CanEndClerks (Run Write) = ⊤
+CanEndClerks NoPlace = ⊤

@@ -3,8 +3,8 @@ use Rattle.std.specs.Prelude.{◌≡◌, ◌⊎◌, ℕ, List, [], Option}
 use Rattle.clap.specs.Words.{fault_of, subcommand_of}
 use Rattle.herd_register.specs.declared.limits.Limits.{Limits}
 use Rattle.herd_report.specs.reading.CommandFile.{CommandFile, commands}
-use Rattle.herd_report.specs.Run.{EndsBy, IsAnswered}
-use Rattle.herdbook.specs.Clerks.{EndsClerks, IsFiledBy}
+use Rattle.herd_report.specs.Run.{CanEndBy, EndsBy, IsAnswered}
+use Rattle.herdbook.specs.Clerks.{CanEndClerks, EndsClerks, IsFiledBy}
 use Rattle.herdbook.specs.CommandLine.{command_line}
 use Rattle.herdbook.specs.Ending.{Explains}
 use Rattle.herdbook.specs.Request.{IsTaskFor}
@@ -71,3 +71,15 @@ abbrev pub IsUntouchedUnlessAsked : Type 0 → Ending → Type 0
 IsUntouchedUnlessAsked Untouched Done = Unit {0}
 IsUntouchedUnlessAsked Untouched (Early fault) = Unit {0}
 IsUntouchedUnlessAsked Untouched ending = Untouched
+
+-- the faults that a task can end by, whatever is read
+abbrev pub CanEndTask : Task → TaskFault → Type 0
+CanEndTask (task.Run order) (Run fault) = CanEndBy order fault
+CanEndTask (task.Run order) NoPlace = ⊥
+CanEndTask (task.Clerks desks base) fault = CanEndClerks fault
+
+-- the ends that the words leave open, whatever is read
+abbrev pub CanEnd : List (List ℕ) → Ending → Type 0
+CanEnd words Done = Asks words (λ _. Unit {0})
+CanEnd words (Early fault) = Asks words (λ request. HasTask request (λ task. CanEndTask task fault)) ⊎ AsksNothing words (Early fault)
+CanEnd words ending = AsksNothing words ending

@@ -14,17 +14,17 @@ use std::thread::{Promise, PromisedHandle, Scope, Threads};
 
 /// Filing at the desk of a number.
 #[derive(Clone, Copy, Drop)]
-pub struct Task {
+pub struct DeskTask {
     pub number: u16,
 }
 
-impl<N: OfficeName> Promise<Result<Clerk<N>, ClerkFault>> for Task {
+impl<N: OfficeName> Promise<Result<Clerk<N>, ClerkFault>> for DeskTask {
     ghost use Rattle.std.specs.Prelude.{◌≡◌, IfOk};
 
     ghost kept_by = { λ task result. IfOk result (λ clerk. clerk.desk.number ≡ task.number) };
 }
 
-type Started<N> = PromisedHandle<Result<Clerk<N>, ClerkFault>, Task>;
+type Started<N> = PromisedHandle<Result<Clerk<N>, ClerkFault>, DeskTask>;
 
 /// Files the commands at the clerks' desks in turn. When it returns, all threads have ended.
 pub fn file_in_turn<
@@ -92,7 +92,7 @@ fn start<'s, N: OfficeName + Send + Sync, E, H: Wait + Sync, R: Wait + Drop + Se
     requires few { length turn.commands.now ≤ MOST_STEPS }
     ensures number { IfOk result (λ started. started.promise.number ≡ clerk.desk.number) }
 {
-    let task = Task {
+    let task = DeskTask {
         number: clerk.desk.number(),
     };
     let Turn {

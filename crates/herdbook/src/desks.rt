@@ -5,7 +5,7 @@ ghost use Rattle.herd_register.specs.declared.limits.TheConstants.{MOST_STEPS};
 ghost use Rattle.herd_report.specs.reading.CommandFile.{commands};
 ghost use Rattle.herd_office.specs.Parts.{AreNamed};
 ghost use Rattle.herd_office.specs.declared.limits.TheConstants.{MOST_DESKS};
-ghost use Rattle.herdbook.specs.Clerks.{EndsClerks, IsFiledBy, office_limits};
+ghost use Rattle.herdbook.specs.Clerks.{CanEndClerks, EndsClerks, IsFiledBy, office_limits};
 ghost use Rattle.herdbook.specs.Summary.{IsSummaryOf, TellsOf, count_of};
 
 use crate::clerk::{Clerk, Turn};
@@ -42,6 +42,7 @@ pub fn clerks<H: Threads + Wait + Sync, R: Read + Drop, W: Write>(
         (λ bytes. IsFiledBy limits (commands bytes limits.steps) (W.contents writer.old) (W.contents writer.new))) }
     ensures err { IfErr result (λ fault. IfSome (R.remaining reader)
         (λ bytes. EndsClerks limits (commands bytes limits.steps) (W.contents writer.old) (W.contents writer.new) fault)) }
+    ensures fault { IfErr result CanEndClerks }
 {
     let commands = read_commands(alloc, reader, limits.steps);
     if let Some(fault) = commands.fault {

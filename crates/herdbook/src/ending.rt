@@ -4,7 +4,7 @@ ghost use Rattle.std.specs.Prelude.{◌≡◌};
 ghost use Rattle.herdbook.specs.Ending.{Explains, end_of_shown, end_of_task, end_of_unread, status_of};
 
 use crate::arguments::WordsFault;
-use crate::faults::{NumberFaultText, TaskFaultText};
+use crate::fault_text::{NumberFaultText, TaskFaultText};
 use crate::task_fault::TaskFault;
 use clap::error::ErrorKind;
 use herd_animal::NumberFault;

@@ -1,5 +1,5 @@
-//! The texts of help and of the version: what each subcommand reads and writes, an example, and its statuses. No line is
-//! longer than 80 columns.
+//! The texts of help and of the version: what each subcommand reads and writes, an example, and its statuses. No line
+//! is longer than 80 columns.
 
 /// The version of the program, the newest of `CHANGELOG.md`.
 pub const VERSION: &str = "0.3.0";

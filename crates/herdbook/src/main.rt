@@ -1,15 +1,16 @@
 //! The herd book of a breed society, as a program over standard input and output.
 //!
-//! The words of the command line are read first. They ask for help or the version, for a run of `herd_report`, or for `clerks`: the
-//! commands of a file, filed at the desks of an office by clerks side by side. How the program ends is a value, made from what was
-//! asked and what came of it (`Ending`); only `main` prints it, or tells it on standard error.
+//! The words of the command line are read first. They ask for help or the version, for a run of `herd_report`, or for
+//! `clerks`: the commands of a file, filed at the desks of an office by clerks side by side. How the program ends is a
+//! value, made from what was asked and what came of it (`Ending`); only `main` prints it, or tells it on standard
+//! error.
 //!
 //! | | definition (`specs/`) | code (`src/`) | proof (`proofs/`) |
 //! |---|---|---|---|
 //! | the words, and what they ask for | `CommandLine`, `Words`, `Request` | `arguments` | `CommandFacts`, `WordsFacts` |
 //! | the texts of help and of the version | | `help` | |
 //! | what the program does for its words | `Program` | `program` | `ProgramFacts` |
-//! | how it ends, and what is told on standard error | `Ending`, `FaultText` | `ending`, `task_fault`, `faults` | |
+//! | how it ends, and what is told on standard error | `Ending`, `FaultText` | `ending`, `task_fault`, `fault_text` | |
 //! | clerks: the desk of each command, their threads, one clerk's turns | `Clerks` | `desks`, `crew`, `clerk` | |
 //! | how clerks end early | `Clerks` | `clerk_fault` | |
 //! | what each desk answered, as text | `Summary` | `summary` | `SummaryFacts` |
@@ -21,7 +22,7 @@ mod clerk_fault;
 mod crew;
 mod desks;
 mod ending;
-mod faults;
+mod fault_text;
 mod help;
 mod program;
 mod summary;
@@ -51,7 +52,8 @@ fn words<R: Env + Alloc>(rt: &R) -> io::Result<Vec<String<R::A>, R::A>> {
     Ok(std::env::args(rt)?.collect(rt.alloc())?)
 }
 
-// Prints help or the version, or tells on standard error how the program ends. What standard error can't take changes nothing.
+// Prints help or the version, or tells on standard error how the program ends. What standard error can't take changes
+// nothing.
 fn tell<R: Print + Eprint>(rt: &R, ending: Ending) -> ExitCode {
     let ending = match ending {
         Ending::Shown(text) => Ending::of_shown(rt.print(&text).is_ok()),

@@ -2,7 +2,7 @@
 
 ghost use Rattle.std.specs.Prelude.{◌≡◌, IfErr, IfSome, OnOk, map, string_bytes};
 ghost use Rattle.herd_report.specs.reading.CommandFile.{commands};
-ghost use Rattle.herdbook.specs.Program.{EndsServing, IsEnded, IsServed, IsUntouchedUnlessAsked};
+ghost use Rattle.herdbook.specs.Program.{CanEnd, CanEndTask, EndsServing, HasTask, IsEnded, IsServed, IsUntouchedUnlessAsked};
 ghost use Rattle.herdbook.specs.declared.program.TheConstants.{LIMITS};
 
 use crate::arguments::{Request, Task, read_words};
@@ -34,6 +34,7 @@ pub fn carry_out<H: Threads + Wait + Sync, R: Read + Drop, W: Write>(
 ) -> Ending
     ensures ended { IfSome (R.remaining reader)
         (λ bytes. IsEnded LIMITS (map string_bytes words.now) bytes (W.contents writer.old) (W.contents writer.new) result) }
+    ensures possible { CanEnd (map string_bytes words.now) result }
     ensures unasked { IsUntouchedUnlessAsked (writer.new ≡ writer.old) result }
 {
     let request = match read_words(alloc, words) {
@@ -55,6 +56,7 @@ fn served<H: Threads + Wait + Sync, R: Read + Drop, W: Write>(
         (λ bytes. IsServed request.now LIMITS (commands bytes LIMITS.steps) (W.contents writer.old) (W.contents writer.new))) }
     ensures err { IfErr result (λ fault. IfSome (R.remaining reader)
         (λ bytes. EndsServing request.now LIMITS (commands bytes LIMITS.steps) (W.contents writer.old) (W.contents writer.new) fault)) }
+    ensures possible { IfErr result (λ fault. HasTask request.now (λ task. CanEndTask task fault)) }
 {
     match request.task() {
         Task::Run(order) => Ok(run(rt, alloc, LIMITS, order, reader, writer)?),

@@ -9,8 +9,8 @@ use herd_report::RunFault;
 pub enum TaskFault {
     /// As a run may end.
     Run(RunFault),
-    /// The clerks' office lacked a reader's place, gave no reading, or didn't close with a step for each command. Nothing was
-    /// written.
+    /// The clerks' office lacked a reader's place, gave no reading, or didn't close with a step for each command.
+    /// Nothing was written.
     NoPlace,
 }
 

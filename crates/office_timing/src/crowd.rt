@@ -4,9 +4,9 @@ ghost use Rattle.std.specs.Prelude.{◌≡◌, ◌≤◌, IfOk};
 ghost use Rattle.herd_office.specs.Parts.{AreNamed};
 
 use crate::desk_births::{Told, file_births, part, steps_at_close, told_of};
-use crate::filed::{Filed, gathered};
 use crate::founders::Founders;
 use crate::freezing::freeze_until;
+use crate::returned::{Returned, gathered};
 use anyhow::Result;
 use herd_office::{Desk, FreezeFault, Inspector, Office, OfficeName, OfficeParts};
 use std::alloc::Global;
@@ -70,7 +70,7 @@ fn file_part<N: OfficeName, R: Wait>(
     founders: Founders,
     births: u32,
     desks: u16,
-) -> Filed<N> {
+) -> Returned<N> {
     let places = part(births, desk.number().max(1), desks.max(1));
     file_births(rt, office, desk, founders, places)
 }

@@ -10,8 +10,8 @@ use std::sync::atomic::{AtomicBool, Ordering};
 // More than a run freezes.
 const MOST_READINGS: u64 = 1_000_000_000;
 
-/// Freezes until the desks are done, or a thousand million times. The inspector, and whether it froze at all: it holds the history that it held
-/// before, or, where it froze, that one or a longer one.
+/// Freezes until the desks are done, or a thousand million times. The inspector, and whether it froze at all: it holds
+/// the history that it held before, or, where it froze, that one or a longer one.
 pub fn freeze_until<N: OfficeName>(
     alloc: Global,
     mut inspector: Inspector<N>,

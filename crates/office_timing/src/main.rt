@@ -1,6 +1,7 @@
-//! Files births into an office from threads, so that the time and the memory that it takes are measured from outside. It
-//! prints how many births were accepted, and how many steps there are at the end. Or it runs races of desks many times over,
-//! and prints how often each ended in which way; a race that ends as it may not ends the program.
+//! Files births into an office from threads, so that the time and the memory that it takes are measured from outside.
+//! It prints how many births were accepted, and how many steps there are at the end. Or it runs races of desks many
+//! times over, and prints how often each ended in which way; a race which ends in another way than it may ends the
+//! program.
 #![tactic(auto)]
 
 ghost use Rattle.std.specs.Prelude.{◌≡◌, ◌≤◌};
@@ -12,7 +13,6 @@ mod cast;
 mod crowd;
 mod desk_births;
 mod duel;
-mod filed;
 mod founders;
 mod freezing;
 mod plan;

@@ -3,8 +3,8 @@
 ghost use Rattle.std.specs.Prelude.{◌≡◌, ◌+◌, IfOk, length};
 ghost use Rattle.herd_office.specs.Parts.{AreNamed};
 
-use crate::filed::{Filed, gathered};
 use crate::plan::Plan;
+use crate::returned::{Returned, gathered};
 use crate::start::Start;
 use anyhow::{Context, Result, bail};
 use herd_office::{Desk, Inspector, Office, OfficeName, OfficeParts};
@@ -62,15 +62,15 @@ fn race<N: OfficeName + Send + Sync, R: Threads + Wait + Sync>(
     })
 }
 
-// Waits for the other desks, and files what is planned for this one. The desk, and how many of its calls found the journal
-// full.
+// Waits for the other desks, and files what is planned for this one. The desk, and how many of its calls found the
+// journal full.
 fn file_at_once<N: OfficeName, R: Wait>(
     rt: &R,
     office: &Office<N, &R>,
     mut desk: Desk<N>,
     plan: &Plan,
     start: &Start,
-) -> Filed<N> {
+) -> Returned<N> {
     let turn = plan.turn(desk.number());
     let _come = start.wait();
     let full = file_each(rt, office, &mut desk, turn)?;

@@ -97,7 +97,8 @@ fn born_once(raced: &Raced) -> Result<()>
     Ok(())
 }
 
-// Whether the journal is of one step for each desk, the first accepted, and each other refused since the animal is there.
+// Whether the journal is of one step for each desk, the first accepted, and each other refused since the animal is
+// there.
 fn is_born_once(journal: &[Step]) -> bool
     ensures { result ≡ true → IsBornOnce journal.now }
 {
