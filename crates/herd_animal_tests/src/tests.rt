@@ -1,3 +1,5 @@
+//! Numbers, days and herds as bytes: which are read, and the first faults of others.
+
 mod texts;
 
 use herd_animal::*;

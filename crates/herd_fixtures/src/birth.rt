@@ -15,7 +15,9 @@ pub type DayText = [u8; 10];
 /// Parents that are named, or not known.
 #[derive(Clone, Copy, Debug, PartialEq, Eq)]
 pub struct Pair {
+    /// The sire, where he is known.
     pub sire: Option<Name>,
+    /// The dam, where she is known.
     pub dam: Option<Name>,
 }
 

@@ -38,8 +38,11 @@ impl<N: OfficeName> Slip<N> {
 /// The answer to a call.
 #[derive(Drop)]
 pub struct Filed<N: OfficeName> {
+    /// The number of its step in the journal, from 1.
     pub serial: u32,
+    /// What was answered.
     pub reply: Reply,
+    /// The history that ends with its step.
     pub slip: Slip<N>,
 }
 
@@ -214,6 +217,9 @@ impl<N: OfficeName> Desk<N> {
     }
 
     /// Files a command. After a fault the desk is as it was.
+    ///
+    /// `JournalFull` is told where the journal has as many steps as the limits allow, `Memory` where a growth of memory
+    /// is refused, and `NoReading` where `file_on` tells it: no office meets that.
     pub fn file<W: Wait, R: Wait + Drop, A: Allocator + Copy>(
         &mut self,
         rt: &W,

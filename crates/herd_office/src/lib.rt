@@ -1,39 +1,44 @@
-//! An office: one register that clerks at desks file into, each on a thread of its own, and that inspectors read without its lock.
+//! An office: one register that clerks at desks file into, each on a thread of its own, and that inspectors read
+//! without its lock.
 //!
 //! # What lies under the lock
 //!
-//! `Inside` has the register, the total of answered calls, the keeper of the history, and the writer of the readers' copies. Whoever gets
-//! the lock finds that the total is the length of the journal, that the list published last is the journal, and that nothing is pending.
-//! One event of the office is one call of `file_on` under the lock: the journal's end is asked, the step that follows is claimed, the
-//! register files the command, the step is appended for the copies, added to the history and published, and the call is counted.
-//! What may be refused comes before the history grows: where the append is refused, the step is withdrawn.
+//! `Inside` has the register, the total of answered calls, the keeper of the history, and the writer of the readers'
+//! copies. Whoever gets the lock finds that the total is the length of the journal, that the list published last is the
+//! journal, and that nothing is pending. One event of the office is one call of `file_on` under the lock: the journal's
+//! end is asked, the step that follows is claimed, the register files the command, the step is appended for the copies,
+//! added to the history and published, and the call is counted. What may be refused comes before the history grows:
+//! where the append is refused, the step is withdrawn.
 //!
 //! # One history
 //!
-//! The history of an office is kept by `logbook`, as the log of a book with two words: the number of steps, and the number of claims. Each
-//! step that was added spent a claim, and one claim waits at most. So whoever has the claim knows the whole history and alone can add to it.
-//! A `History` is a beginning of it; it takes no bytes but its length and may be copied. Desks, slips and inspectors each hold one. Of two
-//! histories of one office the longer begins with the shorter, which no thread has to be asked for.
+//! The history of an office is kept by `logbook`, as the log of a book with two words: the number of steps, and the
+//! number of claims. Each step that was added spent a claim, and one claim waits at most. So whoever has the claim
+//! knows the whole history and alone can add to it. A `History` is a beginning of it; it takes no bytes but its length
+//! and may be copied. Desks, slips and inspectors each hold one. Of two histories of one office the longer begins with
+//! the shorter, which no thread has to be asked for.
 //!
 //! # Two copies
 //!
-//! Readers take one of two copies of the register's records and journal, which `left_right` keeps, with the history that was told with it.
-//! A copy whose history is as long as its journal has that journal; an inspector reads no other. The rule of the copies ties each seat to
-//! the office. An inspector copies the records out, leaves, and sorts its own copy.
+//! Readers take one of two copies of the register's records and journal, which `left_right` keeps, with the history
+//! that was told with it. A copy whose history is as long as its journal has that journal; an inspector reads no other.
+//! The rule of the copies ties each seat to the office. An inspector copies the records out, leaves, and sorts its own
+//! copy.
 //!
 //! # Who waits for whom
 //!
 //! - A desk waits for the desks that have the lock.
-//! - The desk that publishes waits for those inspectors that still read the copy from before the last step: for one copying of the records,
-//!   never for a sort.
+//! - The desk that publishes waits for those inspectors that still read the copy from before the last step: for one
+//!   copying of the records, never for a sort.
 //! - An inspector waits for nobody. `freeze`, `learn`, `steps_seen` and `steps` take no handle by which they could.
-//! - `close`, and a drop of parts, of an office or of what wasn't closed, wait for inspectors that are reading, and free both copies.
-//!   For the drop the office keeps a handle of its own.
+//! - `close`, and a drop of parts, of an office or of what wasn't closed, wait for inspectors that are reading, and
+//!   free both copies. For the drop the office keeps a handle of its own.
 //!
 //! # Names
 //!
-//! Everything of an office has a parameter `N` that names it, so a desk, an inspector or a slip can't be used with another office. The parts
-//! are made first; a program then calls a function over `N` with std's `Brand`, and tells there that `N` names these parts.
+//! Everything of an office has a parameter `N` that names it, so a desk, an inspector or a slip can't be used with
+//! another office. The parts are made first; a program then calls a function over `N` with std's `Brand`, and tells
+//! there that `N` names these parts.
 //!
 //! # Where it stands
 //!
@@ -44,7 +49,7 @@
 //! | the history: its rule, claims, beginnings of it | `Keeping` | `history`, `keeper` | `Claiming`, `Fronts` |
 //! | the readers' copies: their rule, what is sent to them | `Copies`, `Shelves` | `copies`, `copy_update`, `shown` | `Sides` |
 //! | reading a copy with no lock | `Copies`, `Keeping` | `inspector` | `Sides`, `Stored` |
-//! | why an office isn't opened, or a copy not frozen; the limits | | `faults`, `limits` | |
+//! | why an office isn't opened or closed, or a copy not frozen; the limits | | `faults`, `limits` | |
 #![tactic(auto)]
 
 mod copies;

@@ -54,7 +54,7 @@ impl<R: Wait + Drop> Model for OfficeParts<R> {
 }
 
 impl<R: Wait + Drop> OfficeParts<R> {
-    /// Parts for an office of so many desks and inspectors.
+    /// Parts for an office of so many desks and inspectors. The only error is a growth of memory that is refused.
     pub fn new(
         rt: R,
         alloc: Global,
@@ -87,7 +87,8 @@ impl<R: Wait + Drop> OfficeParts<R> {
 
 /// What lies under the lock: the register, how many calls were answered, the history, and the copies that readers take.
 ///
-/// The register is legal, the total is the length of its journal, the published list is that journal, and nothing is pending.
+/// The register is legal, the total is the length of its journal, the published list is that journal, and nothing is
+/// pending.
 #[derive(Drop)]
 pub struct Inside<N: OfficeName, R: Wait + Drop, A: Allocator = Global> {
     pub(crate) register: Register<A>,
@@ -120,6 +121,9 @@ pub struct Office<N: OfficeName, R: Wait + Drop, A: Allocator = Global> {
 
 impl<N: OfficeName, R: Wait + Drop, A: Allocator + Copy> Office<N, R, A> {
     /// Opens the office that has these parts.
+    ///
+    /// `Memory` is told where a growth of memory is refused, and `NoPlace` where the readers' copies have no place for
+    /// an inspector. They were made with one for each, and no office is known to meet it.
     pub fn open(
         alloc: A,
         parts: OfficeParts<R>,
@@ -165,7 +169,11 @@ impl<N: OfficeName, R: Wait + Drop, A: Allocator + Copy> Office<N, R, A> {
         Ok((office, desks, inspectors))
     }
 
-    /// Gives the register back, once each desk and each inspector is handed in.
+    /// Gives the register back, once each desk and each inspector is handed in. Else it gives back what was handed in.
+    ///
+    /// `DeskMissing` is told exactly where there are fewer desks than were opened, and `InspectorMissing` where there
+    /// are enough desks and fewer inspectors than were opened. `NoReading` is told where a history isn't a beginning of
+    /// the journal, or two desks have one number: no office meets it.
     pub fn close<W: Wait>(
         self,
         rt: &W,
@@ -266,8 +274,12 @@ impl<N: OfficeName, R: Wait + Drop, A: Allocator> Inside<N, R, A> {
 /// An office that was not closed, with all that was handed in.
 #[derive(Drop)]
 pub struct Unclosed<N: OfficeName, R: Wait + Drop, A: Allocator = Global> {
+    /// Why it was not closed.
     pub cause: Cause,
+    /// The office, which is still open.
     pub office: Office<N, R, A>,
+    /// All desks that were handed in.
     pub desks: Vec<Desk<N>, A>,
+    /// All inspectors that were handed in.
     pub inspectors: Vec<Inspector<N>, A>,
 }

@@ -1,3 +1,5 @@
+//! The tests of the office, and what they share.
+
 mod closings;
 mod commands;
 mod crowds;

@@ -16,8 +16,8 @@ pub trait Gate: Sync {
     /// A thread has taken this block of the level, both counted from 0, and begins with it.
     fn enter(&self, level: u8, block: u32);
 
-    /// Traces the animal at a place: its relationship with itself in units of 2^-120, as `herd_kinship::trace`. The only
-    /// error is a growth of memory that is refused.
+    /// Traces the animal at a place: its relationship with itself in units of 2^-120, as `herd_kinship::trace`. The
+    /// only error is a growth of memory that is refused.
     fn trace<F: Allocator, A: Allocator + Clone>(
         &self,
         alloc: A,

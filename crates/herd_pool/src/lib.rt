@@ -5,8 +5,8 @@
 //! traced in any order, on any thread.
 //!
 //! - A **level** is the animals of one depth, cut into **blocks** of so many places (`level`; `specs/Levels`).
-//! - The numbers of the blocks go into one **queue**, from which each thread takes the next. Its rule is that each block
-//!   is taken once (`queue`; `specs/Blocks`, proof in `proofs/Passes`).
+//! - The numbers of the blocks go into one **queue**, from which each thread takes the next. Its rule is that each
+//!   block is taken once (`queue`; `specs/Blocks`, proof in `proofs/Passes`).
 //! - A **worker** computes the blocks that it takes, and brings them back with its pass to the queue (`worker`, `crew`;
 //!   `specs/Workers`). A level of one block starts no thread.
 //! - Once all are back, the blocks are written into one list (`merge`; `proofs/Writes`), and the next level begins

@@ -1,4 +1,4 @@
--- What a register of one thread does: the fault of a command, its step, and the run of commands one after the other.
+-- What a register of one thread does: the refusal of a command, its step, and the run of commands one after the other.
 use Rattle.std.specs.Prelude.{◌≡◌, ℕ, Bool, true, false, List, [], ◌∷◌, ◌++◌, map, length, not, nat_lt, nat_eq, int_lt, is_some, if◌then◌else◌, Option, None, ℤ}
 use Rattle.std.specs.Option.{option_map_or}
 use Rattle.herd_pedigree.specs.rules.Book.{Book, record_of, is_there, changed, with_parents, with_owner, with_left, has_calved_after}

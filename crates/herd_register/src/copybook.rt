@@ -37,7 +37,7 @@ impl<A: Allocator> Model for Copybook<A> {
 }
 
 impl<A: Allocator + Copy> Copybook<A> {
-    /// A copy of a register in which nothing was filed.
+    /// A copy of a register in which nothing was filed. The only error is a growth of memory that is refused.
     pub fn new(alloc: A, limits: Limits) -> Result<Self, AllocError>
         requires { AreLimits limits }
         ensures { IfOk result (λ copybook. copybook ≡ copybook_of limits [] []) }
@@ -83,7 +83,7 @@ impl<A: Allocator> Copybook<A> {
         self.records.as_slice()
     }
 
-    /// The book in age order.
+    /// The book in age order. The only error is a growth of memory that is refused.
     pub fn freeze<B: Allocator + Clone>(&self, alloc: B) -> Result<Frozen<B>, AllocError>
         requires { IsLegal self.now.limits self.now.journal }
         ensures records { self.now.book ≡ run_book self.now.limits (commands_of self.now.journal) }

@@ -8,7 +8,8 @@
 //!     let reply = register.file(desk, command)?;
 //!     let frozen = register.pedigree().freeze(alloc)?;
 //!
-//! `specs/Run` has the refusals of each kind of command, and the run of commands. The crate `library_example` files some.
+//! `specs/Run` has the refusals of each kind of command, and the run of commands. The crate `library_example` files
+//! some.
 #![tactic(auto)]
 
 mod command;

@@ -49,6 +49,9 @@ impl<A: Allocator + Copy> Register<A> {
     }
 
     /// Answers a command, and adds the answer to the journal.
+    ///
+    /// `JournalFull` is told exactly where the journal has as many steps as the limits allow, and `Memory` where a
+    /// growth of memory is refused; `NoReading` never is. A refusal is an answer, and no error.
     pub fn file(&mut self, desk: u16, command: Command) -> Result<Reply, FileFault>
         ensures reply { IfOk result (λ reply. reply ≡ answer self.old.limits (register_book self.old) command) }
         ensures stored { IfOk result (λ reply. self.new ≡ with_step self.old (step_of desk command reply)) }

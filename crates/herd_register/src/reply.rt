@@ -5,10 +5,16 @@ use herd_pedigree::ParentFault;
 use thiserror::Error;
 
 /// Why a command was refused. The first that holds, in the order of the command's kind, is told.
+///
+/// The order is that of the variants, but that `NotRegistered` comes first, and of a transfer `SameHerd` before
+/// `DayTooEarly`. Those from `SireMissing` to `TooDeep` are the faults of parents (`ParentFault`), of a birth or of a
+/// correction of parents.
 #[derive(Clone, Copy, Debug, PartialEq, Eq, Error)]
 pub enum Refusal {
+    /// Of a birth, also where the animal has left.
     #[error("the number is in the book already")]
     AlreadyThere,
+    /// Of a birth.
     #[error("the book has as many animals as the limits allow")]
     BookFull,
     #[error("the sire isn't in the book")]
@@ -27,16 +33,22 @@ pub enum Refusal {
     DamGone,
     #[error("a line would be too long")]
     TooDeep,
+    /// Of any command but a birth.
     #[error("the number isn't in the book")]
     NotRegistered,
+    /// Of a transfer or an exit.
     #[error("the animal has left")]
     Gone,
+    /// Of a transfer.
     #[error("the giver isn't the owner")]
     NotOwner,
+    /// Of a transfer or an exit.
     #[error("the day is before the owner's first")]
     DayTooEarly,
+    /// Of a transfer.
     #[error("giver and taker are the same herd")]
     SameHerd,
+    /// Of an exit. Calves from stored embryos don't count.
     #[error("the animal has a calf born after the day")]
     CalvedLater,
 }

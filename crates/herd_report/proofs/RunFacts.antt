@@ -46,16 +46,6 @@ commands_of-filed_from limits book [] = refl
 commands_of-filed_from limits book (command ∷ commands) =
     ap (λ rest. command ∷ rest) (commands_of-filed_from limits (next limits book command) commands)
 
--- one for each command
-pub length-filed_from : (limits : Limits) (book : Book) (commands : List Command) → length (filed_from limits book commands) ≡ length commands
-length-filed_from limits book [] = refl
-length-filed_from limits book (command ∷ commands) =
-    ap suc (length-filed_from limits (next limits book command) commands)
-
--- as many steps as commands
-pub length-filed : (limits : Limits) (commands : List Command) (register : Register) → HasFiled limits commands register → length register.journal ≡ length commands
-length-filed limits commands register filed = ap length filed.journal_is ∙ length-filed_from limits [] commands
-
 -- the commands of the steps are those that were filed
 pub commands_of-filed : (limits : Limits) (commands : List Command) (register : Register) → HasFiled limits commands register → commands_of register.journal ≡ commands
 commands_of-filed limits commands register filed = ap commands_of filed.journal_is ∙ commands_of-filed_from limits [] commands

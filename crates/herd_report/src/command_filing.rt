@@ -1,4 +1,4 @@
-// Filing commands in a register, one after the other at desk 0.
+//! Filing commands in a register, one after the other at desk 0.
 ghost use Rattle.std.specs.Prelude.{◌≡◌, ◌<◌, ◌+◌, List, [], IfErr, IfOk, IfSome, OnErr, OnOk, length};
 ghost use Rattle.csv.specs.Reading.{has_failed};
 ghost use Rattle.herd_register.specs.Register.{AreLimits, register_book, with_step};

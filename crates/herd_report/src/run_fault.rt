@@ -10,8 +10,8 @@ use thiserror::Error;
 /// Why a run ended early.
 #[derive(Clone, Copy, Debug, PartialEq, Eq, Error)]
 pub enum RunFault {
-    /// The command file has a fault. Of `Order::File` the replies to the commands before it were written, and nothing else;
-    /// of any other order nothing was.
+    /// The command file has a fault. Of `Order::File` the replies to the commands before it were written, and nothing
+    /// else; of any other order nothing was.
     #[error("{0}")]
     Line(LineFault),
     /// The animal that a certificate was asked for isn't in the book. Nothing was written.

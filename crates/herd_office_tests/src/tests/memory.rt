@@ -44,8 +44,8 @@ impl Crowd<'_> {
     }
 }
 
-// Opens an office and uses it, with a block given back each time that memory is refused. How often it was: while the office
-// was made, while births were filed, and while the book was frozen.
+// Opens an office and uses it, with a block given back each time that memory is refused. How often it was: while the
+// office was made, while births were filed, and while the book was frozen.
 fn use_in_time<R: Wait + Abort, A: Allocator + Copy>(
     rt: &R,
     global: Global,
@@ -119,7 +119,8 @@ fn used<N: OfficeName, R: Wait + Abort, A: Allocator + Copy>(
     Ok(Some((filing, freezing)))
 }
 
-// Files a birth after so many, with a block given back each time. A call that was refused leaves no trace. How often it was.
+// Files a birth after so many, with a block given back each time. A call that was refused leaves no trace. How often it
+// was.
 fn file_in_time<N: OfficeName, R: Wait + Abort, A: Allocator + Copy>(
     rt: &R,
     global: Global,

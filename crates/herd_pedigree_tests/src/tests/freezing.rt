@@ -1,3 +1,4 @@
+//! Books that are frozen: their rows, and the places of numbers.
 ghost use Rattle.std.specs.Prelude.{IfOk};
 ghost use Rattle.herd_pedigree.specs.rules.Lawful.{IsLawful};
 ghost use Rattle.herd_pedigree.specs.declared.TheConstants.{DEPTH_LIMIT, MOST_ANIMALS};

@@ -1,4 +1,4 @@
-// The columns of a record, and the command that they give.
+//! The columns of a record, and the command that they give.
 ghost use Rattle.std.specs.Prelude.{◌≡◌, IfErr, false};
 ghost use Rattle.csv.specs.Records.{fields_of};
 ghost use Rattle.herd_report.specs.reading.Grammar.{columns_of, command_of, field};

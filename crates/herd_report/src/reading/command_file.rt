@@ -1,4 +1,4 @@
-// Reading a command file.
+//! Reading a command file.
 ghost use Rattle.std.specs.Prelude.{◌≡◌, ◌≤◌, ◌+◌, [], IfErr, IfSome, length};
 ghost use Rattle.std.specs.Result.{result_err};
 ghost use Rattle.herd_register.specs.declared.limits.TheConstants.{MOST_STEPS};
@@ -13,7 +13,9 @@ use std::io::Read;
 /// The commands of a file before its first fault, and that fault.
 #[derive(Debug, Drop)]
 pub struct Commands {
+    /// In their order: the first is that of record 1.
     pub list: Vec<Command>,
+    /// None where the whole file was read.
     pub fault: Option<LineFault>,
 }
 

@@ -1,4 +1,4 @@
-// The commands of a file, one at a time.
+//! The commands of a file, one at a time.
 ghost use Rattle.std.specs.Prelude.{◌≡◌, ◌<◌, ◌≤◌, ◌+◌, List, [], IfErr, IfOk, IfSome, false, true};
 ghost use Rattle.csv.specs.Reading.{has_failed};
 ghost use Rattle.herd_register.specs.declared.command.Command.{Command};

@@ -1,4 +1,4 @@
-// The records of a command file, one at a time.
+//! The records of a command file, one at a time.
 ghost use Rattle.std.specs.Prelude.{◌≡◌, true, IfOk, IfErr, OnErr, option_map};
 ghost use Rattle.csv.specs.Reading.{default_config, error_kind, has_failed, records, strip_bom};
 ghost use Rattle.csv.specs.Records.{fields_of};

@@ -1,4 +1,4 @@
-// What tests of writers assert.
+//! What tests of writers assert.
 
 /// Asserts that a call writes a text to a writer that takes a byte at a time, and a half of it to one that then fails.
 macro_rules! assert_writes {
@@ -20,7 +20,8 @@ macro_rules! assert_writes {
     };
 }
 
-/// Asserts that a call answers want of memory or writes a text, with heaps of which each is larger than the last.
+/// Asserts that a call answers want of memory with nothing written, or writes a text that is shorter than a part, with
+/// heaps of which each is larger than the last.
 macro_rules! assert_memory_or {
     ($rt:ident, $text:expr, |$alloc:ident, $writer:ident| $call:expr) => {
         let text: &[u8] = $text;
@@ -35,7 +36,7 @@ macro_rules! assert_memory_or {
                 Err(fault) => {
                     let fault = herd_report::CertificateFault::from(fault);
                     assert_eq!($rt; fault, herd_report::ReportFault::Memory.into());
-                    assert!($rt; text.starts_with(written.as_slice()));
+                    assert!($rt; written.is_empty());
                     refused = refused.saturating_add(1);
                 }
             }

@@ -1,4 +1,5 @@
-// Command files for tests, and a register of births.
+//! Command files for tests, and a register of births.
+
 use herd_animal::DayFault;
 use herd_fixtures::Birth;
 use herd_pedigree::MOST_ANIMALS;

@@ -1,4 +1,4 @@
-// A reader for tests that gives its text up to a number of bytes, one byte a read, and then fails.
+//! A reader for tests that gives its text up to a number of bytes, one byte a read, and then fails.
 ghost use Rattle.std.specs.Prelude.{Some};
 
 use std::io;

@@ -1,3 +1,5 @@
+//! Certificates: what is written of an animal, and nothing of an absent number.
+
 use super::assert_writes::{assert_memory_or, assert_writes};
 use super::books::registered;
 use super::stops_after::{StopsAfter, Then};

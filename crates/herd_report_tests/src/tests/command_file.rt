@@ -1,3 +1,5 @@
+//! Command files: what is read of them, and their first faults.
+
 use super::books::TRANSFERS;
 use super::breaks_after::BreaksAfter;
 use herd_animal::Day;

@@ -1,3 +1,5 @@
+//! The contributions to the inverse, as text.
+
 use super::assert_writes::{assert_memory_or, assert_writes};
 use super::stops_after::{StopsAfter, Then};
 use herd_fixtures::{descendants_of_full_sibs, founders, frozen_of, full_sibs};

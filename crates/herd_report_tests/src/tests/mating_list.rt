@@ -1,3 +1,5 @@
+//! Mating advice, as text.
+
 use super::assert_writes::{assert_memory_or, assert_writes};
 use super::stops_after::{StopsAfter, Then};
 use herd_animal::AnimalNumber;

@@ -1,3 +1,4 @@
+//! Whole runs: what each order writes, and where it stops.
 ghost use Rattle.std.specs.Prelude.{◌≤◌};
 ghost use Rattle.herd_pool.specs.declared.limits.TheConstants.{MOST_WORKERS};
 

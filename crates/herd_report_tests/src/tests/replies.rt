@@ -1,3 +1,5 @@
+//! Replies, as text: a line for each step.
+
 use super::stops_after::{StopsAfter, Then};
 use herd_animal::Day;
 use herd_fixtures::Name::Bull;

@@ -1,4 +1,5 @@
-// A writer for tests that takes one byte a write, and stops after some.
+//! A writer for tests that takes one byte a write, and stops after some.
+
 use std::alloc::Global;
 use std::io;
 use std::io::Write;

@@ -69,8 +69,8 @@ fn push_field(text: &mut String, field: &str) -> Result<(), AllocError> {
 /// What a run came to: its outcome, and what it wrote.
 pub type Ran = (Result<(), RunFault>, Vec<u8>);
 
-// Runs an order on the bytes of a command file. It is no function, since one that is given an order gets no proof today;
-// and it names the type of numbers, as `_unknown` does, without which its callers get none.
+// Runs an order on the bytes of a command file. It is no function, since one that is given an order gets no proof
+// today; and it names the type of numbers, as `_unknown` does, without which its callers get none.
 macro_rules! ran {
     ($rt:expr, $order:expr, $bytes:expr) => {{
         let _unknown: Option<herd_animal::AnimalNumber> = None;
