@@ -18,6 +18,7 @@ mod freezing;
 mod plan;
 mod race;
 mod races;
+mod returned;
 mod start;
 mod task;
 
