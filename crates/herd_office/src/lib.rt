@@ -1,6 +1,12 @@
 //! An office: one register that clerks at desks file into, each on a thread of its own, and that inspectors read
 //! without its lock.
 //!
+//!     let (office, mut desks, mut inspectors) = Office::<N, &R>::open(alloc, parts)?;
+//!     let filed = desks[0].file(&rt, &office, command)?;
+//!     inspectors[0].learn(&filed.slip);
+//!     let frozen = inspectors[0].freeze(alloc)?;
+//!     let closed = office.close(&rt, desks, inspectors);
+//!
 //! # What lies under the lock
 //!
 //! `Inside` has the register, the total of answered calls, the keeper of the history, and the writer of the readers'

@@ -1,5 +1,8 @@
 //! The coefficients of a frozen book, by a pool of threads over blocks of each level.
 //!
+//!     let frozen = register.pedigree().freeze(alloc)?;
+//!     let coefficients = herd_pool::coefficients(&rt, alloc, &frozen, 4, 32, &NoGate)?;
+//!
 //! An animal is traced by the coefficients of its ancestors (`herd_kinship::trace`; Meuwissen and Luo 1992), which are
 //! less deep than it. So the levels of depth are gone through from the founders up, and the animals of one level may be
 //! traced in any order, on any thread.

@@ -6,7 +6,11 @@
 //! refused, is an interruption, and told as such.
 //!
 //! `run` carries out an `Order`: it files a command file, freezes the book where the order wants it, and writes one
-//! text. Each text is also written by a call of its own (`write_replies` and the others), from a journal or a frozen
+//! text:
+//!
+//!     run(&rt, alloc, limits, Order::Inverse, reader, &mut writer)?;
+//!
+//! Each text is also written by a call of its own (`write_replies` and the others), from a journal or a frozen
 //! book. What is written is the whole text, or where memory is refused or a write fails a front of it.
 //!
 //! Two folders have the same names in `src/`, `specs/` and `proofs/lemmas/`. **`reading`** has what the first four rows
