@@ -65,18 +65,18 @@ impl Pair {
     pub fn sire_number(self) -> Option<AnimalNumber>
         ensures { result ≡ named self.sire }
     {
-        number_of(self.sire)
+        parent_number(self.sire)
     }
 
     /// The dam's number, where she is known.
     pub fn dam_number(self) -> Option<AnimalNumber>
         ensures { result ≡ named self.dam }
     {
-        number_of(self.dam)
+        parent_number(self.dam)
     }
 }
 
-fn number_of(parent: Option<Name>) -> Option<AnimalNumber>
+fn parent_number(parent: Option<Name>) -> Option<AnimalNumber>
     ensures { result ≡ named parent }
 {
     match parent {

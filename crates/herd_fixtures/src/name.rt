@@ -35,8 +35,8 @@ impl Name {
         ensures sex { sex_of result ≡ sex_named self }
     {
         match self {
-            Name::Bull(serial) => number_of(Sex::Male, serial),
-            Name::Cow(serial) => number_of(Sex::Female, serial),
+            Name::Bull(serial) => animal_number(Sex::Male, serial),
+            Name::Cow(serial) => animal_number(Sex::Female, serial),
         }
     }
 }
@@ -48,7 +48,7 @@ fn serial_of(digits: &str) -> Option<u32>
     digits.parse().ok()
 }
 
-fn number_of(sex: Sex, serial: u32) -> AnimalNumber
+fn animal_number(sex: Sex, serial: u32) -> AnimalNumber
     ensures { result ≡ number_with sex serial }
 {
     let mut text = *b"HOLGBR?000000000000";

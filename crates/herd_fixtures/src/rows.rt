@@ -5,12 +5,12 @@ ghost use Rattle.std.specs.Prelude.{◌≡◌, slice_get};
 use herd_pedigree::{Frozen, Row};
 use std::alloc::Allocator;
 
-/// The row at a place, where there is one.
-pub fn row_at<A: Allocator>(frozen: &Frozen<A>, place: u32) -> Option<Row>
-    ensures { result ≡ slice_get frozen.now place }
+/// The row at a rank, where there is one.
+pub fn row_at<A: Allocator>(frozen: &Frozen<A>, rank: u32) -> Option<Row>
+    ensures { result ≡ slice_get frozen.now rank }
 {
-    if place < frozen.len() {
-        Some(frozen.row(place))
+    if rank < frozen.len() {
+        Some(frozen.row(rank))
     } else {
         None
     }

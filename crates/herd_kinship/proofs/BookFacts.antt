@@ -1,4 +1,4 @@
--- The ancestry of a lawful book is lawful, and its lines are the book's.
+-- The ancestry of a lawful book is lawful, and its paths are the book's.
 use Rattle.std.proofs.Common.{ℕ, zero, suc, ◌+◌, ◌≡◌, ◌⊎◌, inl, inr, ⊎_elim, Bool, true, false, cond, List, [], ◌∷◌, Option, Some, None, IsSome, refl, sym, Contains, subst, ◌∙◌, ap, arith}
 use Rattle.std.specs.Cmp.{IsTotalOrder}
 use Rattle.std.specs.declared.cmp.Ordering.{Ordering}
@@ -22,9 +22,9 @@ use Rattle.herd_pedigree.specs.declared.rules.animal.Animal.{Animal}
 use Rattle.herd_pedigree.specs.rules.Book.{Book, record_of, is_there, sire_of, dam_of, parentage_of, IsDepthOf}
 use Rattle.herd_pedigree.specs.freezing.Frozen.{age_cmp}
 use Rattle.herd_pedigree.specs.rules.Lawful.{IsLawful as IsLawfulBook}
-use Rattle.herd_pedigree.specs.rules.Lines.{has_line}
+use Rattle.herd_pedigree.specs.rules.Paths.{has_path}
 use Rattle.herd_kinship.specs.FrozenAncestry.{is_before, book_ancestry}
-use Rattle.herd_kinship.proofs.LawfulAncestry.{IsLawful, Line, IsDepth, IsShallow}
+use Rattle.herd_kinship.proofs.LawfulAncestry.{IsLawful, Path, IsDepth, IsShallow}
 
 -- equal bytes are one number
 same_bytes : (x y : List ℕ) → bytes_eq x y ≡ true → x ≡ y
@@ -202,49 +202,49 @@ passing : (test : List ℕ → Bool) (o : Option (List ℕ)) → option_map_or t
 passing test None e = absurd (cc)
 passing test (Some p) e = (p, refl, e)
 
-line_from_has_line : (book : Book) (n : ℕ) (x : List ℕ) → has_line (parentage_of book) n x ≡ true → Line (book_ancestry book) n x
-unfolding has_line Line
-line_from_has_line book zero x e =
+path_from_has_path : (book : Book) (n : ℕ) (x : List ℕ) → has_path (parentage_of book) n x ≡ true → Path (book_ancestry book) n x
+unfolding has_path Path
+path_from_has_path book zero x e =
     let a = option_there (record_of book x) e in number_there book x a.0 a.1
-line_from_has_line book (suc n) x e =
+path_from_has_path book (suc n) x e =
     let parts = and_parts (is_there book x) _ e in
     let a = option_there (record_of book x) parts.0 in
     let member = number_there book x a.0 a.1 in
     ⊎_elim
-    (λ s. let q = passing (has_line (parentage_of book) n) (sire_of book x) s in (member, (q.0, inl q.1, line_from_has_line book n q.0 q.2)))
-    (λ d. let q = passing (has_line (parentage_of book) n) (dam_of book x) d in (member, (q.0, inr q.1, line_from_has_line book n q.0 q.2)))
+    (λ s. let q = passing (has_path (parentage_of book) n) (sire_of book x) s in (member, (q.0, inl q.1, path_from_has_path book n q.0 q.2)))
+    (λ d. let q = passing (has_path (parentage_of book) n) (dam_of book x) d in (member, (q.0, inr q.1, path_from_has_path book n q.0 q.2)))
     (or_cases _ _ parts.1)
 
 passes : (test : List ℕ → Bool) (o : Option (List ℕ)) (p : List ℕ) → o ≡ Some p → test p ≡ true → option_map_or test o false ≡ true
 passes test o p e t = rw e t
 
-has_line_from_line : (book : Book) (n : ℕ) (x : List ℕ) → Line (book_ancestry book) n x → has_line (parentage_of book) n x ≡ true
-unfolding has_line Line
-has_line_from_line book zero x line = IsSome-lookup_from_Contains nat_list_eq_equiv x book line
-has_line_from_line book (suc n) x line =
-    let there : is_there book x ≡ true = IsSome-lookup_from_Contains nat_list_eq_equiv x book line.0 in
-    let p = line.1.0 in
-    let rest = has_line_from_line book n p line.1.2 in
+has_path_from_path : (book : Book) (n : ℕ) (x : List ℕ) → Path (book_ancestry book) n x → has_path (parentage_of book) n x ≡ true
+unfolding has_path Path
+has_path_from_path book zero x path = IsSome-lookup_from_Contains nat_list_eq_equiv x book path
+has_path_from_path book (suc n) x path =
+    let there : is_there book x ≡ true = IsSome-lookup_from_Contains nat_list_eq_equiv x book path.0 in
+    let p = path.1.0 in
+    let rest = has_path_from_path book n p path.1.2 in
     and_from (is_there book x) _ there
     (⊎_elim
-    (λ e. or_left _ _ (passes (has_line (parentage_of book) n) (sire_of book x) p e rest))
-    (λ e. or_right _ _ (passes (has_line (parentage_of book) n) (dam_of book x) p e rest))
-    line.1.1)
+    (λ e. or_left _ _ (passes (has_path (parentage_of book) n) (sire_of book x) p e rest))
+    (λ e. or_right _ _ (passes (has_path (parentage_of book) n) (dam_of book x) p e rest))
+    path.1.1)
 
 -- depths are the book's
 pub depth_from_book : (book : Book) (x : List ℕ) (n : ℕ) → IsDepthOf book x n → IsDepth (book_ancestry book) x n
-depth_from_book book x n d = (line_from_has_line book n x d.reached, λ m line. d.longest m (has_line_from_line book m x line))
+depth_from_book book x n d = (path_from_has_path book n x d.reached, λ m path. d.longest m (has_path_from_path book m x path))
 
-line_member : (book : Book) (n : ℕ) (x : List ℕ) → Line (book_ancestry book) n x → Contains (keys_of book) x
-unfolding Line
-line_member book zero x line = line
-line_member book (suc n) x line = line.0
+path_member : (book : Book) (n : ℕ) (x : List ℕ) → Path (book_ancestry book) n x → Contains (keys_of book) x
+unfolding Path
+path_member book zero x path = path
+path_member book (suc n) x path = path.0
 
 pub book-shallow : (l most : ℕ) (book : Book) → IsLawfulBook l most book → IsShallow (book_ancestry book) l
-book-shallow l most book w x line =
-    let c = line_member book (l + 1) x line in
-    let is : has_line (parentage_of book) (l + 1) x ≡ true = has_line_from_line book (l + 1) x line in
-    let none : list_any (has_line (parentage_of book) (l + 1)) (keys_of book) ≡ false = not-true _ w.shallow in
-    let some : list_any (has_line (parentage_of book) (l + 1)) (keys_of book) ≡ true =
-    list_any_at (has_line (parentage_of book) (l + 1)) (keys_of book) c.0 x c.1 (rw c.2 is) in
+book-shallow l most book w x path =
+    let c = path_member book (l + 1) x path in
+    let is : has_path (parentage_of book) (l + 1) x ≡ true = has_path_from_path book (l + 1) x path in
+    let none : list_any (has_path (parentage_of book) (l + 1)) (keys_of book) ≡ false = not-true _ w.shallow in
+    let some : list_any (has_path (parentage_of book) (l + 1)) (keys_of book) ≡ true =
+    list_any_at (has_path (parentage_of book) (l + 1)) (keys_of book) c.0 x c.1 (rw c.2 is) in
     both_ways _ none some

@@ -47,7 +47,7 @@ pub quarter-is : {A : Type 0} (kin : Ancestry A) → IsLawful kin → (l : ℕ) 
 quarter-is kin w zero p b =
     let none = Below-zero kin (Some p) b in absurd (cc)
 quarter-is kin w (suc l) p b =
-    let wide : Below kin (suc (suc l)) (Some p) = λ x i. ((b x i).0, λ m line. let s : m < suc l = (b x i).1 m line in omega arith) in
+    let wide : Below kin (suc (suc l)) (Some p) = λ x i. ((b x i).0, λ m path. let s : m < suc l = (b x i).1 m path in omega arith) in
     let i = entry-itself kin w (suc l) p wide in
     let u1 = unit kin w (2 * l) (Some p) (Some p) (suc l) (suc l) b b (omega arith) in
     let u2 = unit kin w (suc (2 * l)) (Some p) (Some p) (suc l) (suc l) b b (omega arith) in

@@ -1,4 +1,4 @@
--- What pending shares bring: sums over the places below a border, and a tracing's step at the youngest of them.
+-- What pending shares bring: sums over the ranks below a border, and a tracing's step at the youngest of them.
 use Rattle.std.proofs.Common.{ℕ, zero, suc, ◌+◌, ◌*◌, ◌/◌, ◌^◌, ◌<◌, ◌≤◌, ◌≡◌, ◌⊎◌, ◌++◌, ◌∷◌, [], inl, inr, ⊎_elim, false, ltb, Option, Some, None, IsTrue, arith, refl, sym, Contains, ◌∙◌, ap, subst}
 use Rattle.std.specs.List.{range_with_len, sum_by}
 use Rattle.std.proofs.Math.Nat.{mul-div_cancel_left}
@@ -9,13 +9,13 @@ use Rattle.std.proofs.lemmas.List.FromFn.{map-range_with_len_more}
 use Rattle.std.proofs.lemmas.List.Sums.{sum_by_push}
 use Rattle.herd_kinship.specs.Ancestry.{Ancestry}
 use Rattle.herd_kinship.specs.Shares.{share}
-use Rattle.herd_kinship.specs.Places.{places}
+use Rattle.herd_kinship.specs.Ranks.{ranks}
 use Rattle.herd_kinship.specs.Tracing.{brought}
 use Rattle.herd_kinship.proofs.LawfulAncestry.{IsLawful, IsShallow}
 use Rattle.herd_kinship.proofs.Depth.{Below, Below-shallow, known_some}
 use Rattle.herd_kinship.proofs.Shares.{share-none, share-itself, share-halved, share-later}
 use Rattle.herd_kinship.proofs.Exact.{share-even}
-use Rattle.herd_kinship.proofs.Places.{ArePlaced, places-are_lawful, place-in}
+use Rattle.herd_kinship.proofs.Ranks.{AreRanked, ranks-are_lawful, rank-in}
 
 -- the numbers below n + 1 are those below n, and n
 range-more : (n : ℕ) → range_with_len 0 (n + 1) ≡ range_with_len 0 n ++ n ∷ []
@@ -52,7 +52,7 @@ brought-none shares (suc b) has none =
 times_more : (a c n : ℕ) → (a + c) * n ≡ a * n + c * n
 times_more a c n = omega arith
 
--- a share that is added at one place brings that much more
+-- a share that is added at one rank brings that much more
 pub brought-add : (shares shares' : ℕ → ℕ) (b q more : ℕ) (has : ℕ → ℕ) → q < b → shares' q ≡ shares q + more →
     ((p : ℕ) → p < b → (p ≡ q → ⊥) → shares' p ≡ shares p) → brought shares' b has ≡ brought shares b has + more * has q
 brought-add shares shares' zero q more has low at others = absurd (omega arith)
@@ -126,38 +126,38 @@ of_known-share : (kin : Ancestry ℕ) (l : ℕ) (o : Option ℕ) (j : ℕ) → o
 of_known-share kin l None j = sym (share-none kin l j)
 of_known-share kin l (Some p) j = refl
 
-module _ (n : ℕ) (sire dam : ℕ → Option ℕ) (placed : ArePlaced n sire dam) (l : ℕ) (shallow : IsShallow (places n sire dam) l) where
+module _ (n : ℕ) (sire dam : ℕ → Option ℕ) (ranked : AreRanked n sire dam) (l : ℕ) (shallow : IsShallow (ranks n sire dam) l) where
   -- to each animal below the border the pending shares bring just what x has of it
   abbrev pub BringsAll : ℕ → ℕ → (ℕ → ℕ) → Type 0
   BringsAll x b shares = (j : ℕ) → j < b →
-      brought shares b (λ p. share (places n sire dam) l (Some p) j) ≡ 2 ^ l * share (places n sire dam) l (Some x) j
+      brought shares b (λ p. share (ranks n sire dam) l (Some p) j) ≡ 2 ^ l * share (ranks n sire dam) l (Some x) j
 
-  lawful : IsLawful (places n sire dam)
-  lawful = places-are_lawful n sire dam placed
+  lawful : IsLawful (ranks n sire dam)
+  lawful = ranks-are_lawful n sire dam ranked
 
   -- an animal has no share of a later one
-  pub later_none : (p j : ℕ) → p < j → j < n → share (places n sire dam) l (Some p) j ≡ 0
+  pub later_none : (p j : ℕ) → p < j → j < n → share (ranks n sire dam) l (Some p) j ≡ 0
   later_none p j b lj =
-      share-later (places n sire dam) lawful l (Some p) j (λ z e.
+      share-later (ranks n sire dam) lawful l (Some p) j (λ z e.
       let same : p ≡ z = cc in
-      subst (λ v. Contains (range_with_len 0 n) v × IsTrue (ltb v j)) same (place-in n p (omega arith), lt-ltb p j b))
+      subst (λ v. Contains (range_with_len 0 n) v × IsTrue (ltb v j)) same (rank-in n p (omega arith), lt-ltb p j b))
 
   -- the youngest pending share is all that x has of that animal
-  pub own-share : (x y : ℕ) (shares : ℕ → ℕ) → y < n → BringsAll x (y + 1) shares → shares y ≡ share (places n sire dam) l (Some x) y
+  pub own-share : (x y : ℕ) (shares : ℕ → ℕ) → y < n → BringsAll x (y + 1) shares → shares y ≡ share (ranks n sire dam) l (Some x) y
   own-share x y shares ly brings =
-      let has : ℕ → ℕ = λ p. share (places n sire dam) l (Some p) y in
+      let has : ℕ → ℕ = λ p. share (ranks n sire dam) l (Some p) y in
       let older = brought-none shares y has (λ p low. let z : has p ≡ 0 = later_none p y low ly in rw z (omega arith)) in
-      let own : has y ≡ 2 ^ l = share-itself (places n sire dam) lawful l y in
+      let own : has y ≡ 2 ^ l = share-itself (ranks n sire dam) lawful l y in
       let more = brought-more shares y has in
       let all = brings y (omega arith) in
-      let e : 2 ^ l * shares y ≡ 2 ^ l * share (places n sire dam) l (Some x) y =
+      let e : 2 ^ l * shares y ≡ 2 ^ l * share (ranks n sire dam) l (Some x) y =
       (let f : 2 ^ l * shares y ≡ brought shares (y + 1) has = (let g : shares y * has y ≡ 2 ^ l * shares y = rw own (omega arith) in omega (arith, more, older, g)) in f) ∙ all in
-      cancel (2 ^ l) (shares y) (share (places n sire dam) l (Some x) y) (pow_pos l) e
+      cancel (2 ^ l) (shares y) (share (ranks n sire dam) l (Some x) y) (pow_pos l) e
 
   -- where it is 0 the border may go down
   pub lowered : (x y : ℕ) (shares : ℕ → ℕ) → shares y ≡ 0 → BringsAll x (y + 1) shares → BringsAll x y shares
   lowered x y shares none brings j lj =
-      let has : ℕ → ℕ = λ p. share (places n sire dam) l (Some p) j in
+      let has : ℕ → ℕ = λ p. share (ranks n sire dam) l (Some p) j in
       let more = brought-more shares y has in
       let zero : shares y * has y ≡ 0 = rw none (omega arith) in
       let all = brings j (omega arith) in
@@ -168,11 +168,11 @@ module _ (n : ℕ) (sire dam : ℕ → Option ℕ) (placed : ArePlaced n sire da
       ((has : ℕ → ℕ) → brought shares' y has ≡ brought shares y has + (shares y / 2 * of_known has (sire y) + shares y / 2 * of_known has (dam y))) →
       BringsAll x y shares'
   passed_on x y shares shares' lx ly brings grown j lj =
-      let kin = places n sire dam in
+      let kin = ranks n sire dam in
       let has : ℕ → ℕ = λ p. share kin l (Some p) j in
       let own = own-share x y shares ly brings in
-      let bx = Below-shallow kin lawful l shallow (Some x) (known_some kin x (place-in n x lx)) in
-      let by' = Below-shallow kin lawful l shallow (Some y) (known_some kin y (place-in n y ly)) in
+      let bx = Below-shallow kin lawful l shallow (Some x) (known_some kin x (rank-in n x lx)) in
+      let by' = Below-shallow kin lawful l shallow (Some y) (known_some kin y (rank-in n y ly)) in
       let key = expanded kin lawful l (Some x) y j bx by' (ne_eqb y j (λ q. omega arith)) in
       let key' : shares y * has y ≡ shares y / 2 * share kin l (sire y) j + shares y / 2 * share kin l (dam y) j =
       subst (λ v. v * has y ≡ v / 2 * share kin l (sire y) j + v / 2 * share kin l (dam y) j) (sym own) key in

@@ -6,7 +6,7 @@ use Rattle.std.proofs.lemmas.Option.{slice_get_within}
 use Rattle.herd_pedigree.specs.declared.freezing.frozen.Parents.{Parents}
 use Rattle.herd_pedigree.specs.declared.freezing.frozen.Row.{Row}
 use Rattle.herd_kinship.specs.CalfLinks.{IsCalf, IsLink, AreLinked}
-use Rattle.herd_kinship.specs.Places.{AreParentsAt, sire_place}
+use Rattle.herd_kinship.specs.Ranks.{AreParentsAt, sire_rank}
 use Rattle.herd_kinship.proofs.Brought.{option_cases}
 use Rattle.herd_kinship.proofs.ParentsFacts.{parents-sire, parents-dam}
 
@@ -74,7 +74,7 @@ linked-calf rows i p latest earlier li lp c are =
           (cases_lt x i);
     }
 
--- how many places a link may still lead through
+-- how many ranks a link may still lead through
 abbrev pub left_from : Option ℕ → ℕ
 left_from None = 0
 left_from (Some y) = y + 1
@@ -87,7 +87,7 @@ pub record IsWalked (rows : List Row) (s : ℕ) (link : Option ℕ) (P : ℕ →
 pub calf-within : (rows : List Row) (s x : ℕ) → IsCalf rows s x → x < length rows
 calf-within rows s x c =
     ⊎_elim
-    (λ none. let unknown : sire_place rows x ≡ None = rw none refl in let known = c.0 in absurd (cc))
+    (λ none. let unknown : sire_rank rows x ≡ None = rw none refl in let known = c.0 in absurd (cc))
     (λ there. slice_get_within rows x there.0 there.1)
     (option_cases (slice_get rows x))
 
@@ -121,7 +121,7 @@ walked-next rows s z link P Q is kept here so_far = record {
       (cases_lt x z);
 }
 
--- fewer places are left behind the next link
+-- fewer ranks are left behind the next link
 pub left-smaller : (rows : List Row) (s z : ℕ) (link : Option ℕ) → IsLink rows s z link → left_from link < z + 1
 left-smaller rows s z None is = omega arith
 left-smaller rows s z (Some y) is = let at = is.calf y refl in let low : y < z = at.0 in omega arith

@@ -16,7 +16,7 @@ use Rattle.herd_kinship.specs.Contributions.{contribution_at, contributions_of, 
 use Rattle.herd_kinship.specs.Fraction.{halved}
 use Rattle.herd_kinship.specs.FrozenAncestry.{ancestry_of, number_of_row}
 use Rattle.herd_kinship.specs.InverseRows.{half_row}
-use Rattle.herd_kinship.specs.Places.{sire_place, dam_place}
+use Rattle.herd_kinship.specs.Ranks.{sire_rank, dam_rank}
 use Rattle.herd_kinship.specs.Table.{mendelian}
 use Rattle.herd_kinship.proofs.LawfulAncestry.{IsLawful}
 use Rattle.herd_kinship.proofs.FrozenFacts.{frozen-lawful, frozen-member, sire_is, dam_is}
@@ -65,8 +65,8 @@ quarters : (k : ℕ) → (4 * 2 ^ k ≡ 2 ^ suc (suc k)) × (2 * 2 ^ k ≡ 2 ^ s
 quarters k = (let a = pow-succ' 2 k in let b = pow-succ' 2 (suc k) in (omega (arith, a, b), omega (arith, a)))
 
 -- a value at a row and a column
-abbrev placed_value : ℕ → ℕ → Fraction → Contribution
-placed_value p q value = record { row = p; column = q; value = value }
+abbrev ranked_value : ℕ → ℕ → Fraction → Contribution
+ranked_value p q value = record { row = p; column = q; value = value }
 
 -- quarters of 1 over a Mendelian sampling variance, counted 4, 2 and 1
 module _ (l : ℕ) (positive : 0 < l) (m : ℕ) where
@@ -83,17 +83,17 @@ module _ (l : ℕ) (positive : 0 < l) (m : ℕ) where
   quarters-one : quarters_of l m (pos 1) ≡ halved false (2 ^ (2 * l - 2)) m
   quarters-one = ap (λ n. halved false n m) (let e : 1 * 2 ^ (2 * l - 2) ≡ 2 ^ (2 * l - 2) = omega arith in e)
 
-placed_value-by : (l m p q : ℕ) (x y a b : ℤ) (value : Fraction) → x ≡ a → y ≡ b → quarters_of l m (a *ℤ b) ≡ value →
-    placed_value p q (quarters_of l m (x *ℤ y)) ≡ placed_value p q value
-placed_value-by l m p q x y a b value ex ey e =
-    ap (placed_value p q) (ap (λ z. quarters_of l m (z *ℤ y)) ex ∙ (ap (λ z. quarters_of l m (a *ℤ z)) ey ∙ e))
+ranked_value-by : (l m p q : ℕ) (x y a b : ℤ) (value : Fraction) → x ≡ a → y ≡ b → quarters_of l m (a *ℤ b) ≡ value →
+    ranked_value p q (quarters_of l m (x *ℤ y)) ≡ ranked_value p q value
+ranked_value-by l m p q x y a b value ex ey e =
+    ap (ranked_value p q) (ap (λ z. quarters_of l m (z *ℤ y)) ex ∙ (ap (λ z. quarters_of l m (a *ℤ z)) ey ∙ e))
 
 same_cons : {x y : Contribution} {xs ys : List Contribution} → x ≡ y → xs ≡ ys → x ∷ xs ≡ y ∷ ys
 same_cons {x} {y} {xs} {ys} e f = ap (λ v. v ∷ xs) e ∙ ap (λ vs. y ∷ vs) f
 
 module _ (l most : ℕ) (rows : List Row) (f : IsFrozen l most rows) (positive : 0 < l) (i : ℕ) (li : i < length rows) where
   -- a known parent of the animal has -1 in its row
-  sire-half : (s : ℕ) → sire_place rows i ≡ Some s → half_row (ancestry_of rows) (number_of_row rows i) (number_of_row rows s) ≡ negsuc 0
+  sire-half : (s : ℕ) → sire_rank rows i ≡ Some s → half_row (ancestry_of rows) (number_of_row rows i) (number_of_row rows s) ≡ negsuc 0
   sire-half s e =
       let kin = ancestry_of rows in
       let w = frozen-lawful l most rows f in
@@ -101,7 +101,7 @@ module _ (l most : ℕ) (rows : List Row) (f : IsFrozen l most rows) (positive :
       let before = (w.parents (number_of_row rows s) (number_of_row rows i) (frozen-member rows i li) (inl is)).1 in
       row-sire kin w (number_of_row rows i) (number_of_row rows s) is (apart_back kin w (number_of_row rows s) (number_of_row rows i) before)
 
-  dam-half : (d : ℕ) → dam_place rows i ≡ Some d → half_row (ancestry_of rows) (number_of_row rows i) (number_of_row rows d) ≡ negsuc 0
+  dam-half : (d : ℕ) → dam_rank rows i ≡ Some d → half_row (ancestry_of rows) (number_of_row rows i) (number_of_row rows d) ≡ negsuc 0
   dam-half d e =
       let kin = ancestry_of rows in
       let w = frozen-lawful l most rows f in
@@ -112,13 +112,13 @@ module _ (l most : ℕ) (rows : List Row) (f : IsFrozen l most rows) (positive :
   own-half : half_row (ancestry_of rows) (number_of_row rows i) (number_of_row rows i) ≡ pos 2
   own-half = row-itself (ancestry_of rows) (frozen-lawful l most rows f) (number_of_row rows i)
 
-  -- the contribution at two places by what the row has at them
+  -- the contribution at two ranks by what the row has at them
   contribution-of : (p q : ℕ) (a b : ℤ) (value : Fraction) → half_row (ancestry_of rows) (number_of_row rows i) (number_of_row rows p) ≡ a →
       half_row (ancestry_of rows) (number_of_row rows i) (number_of_row rows q) ≡ b →
       quarters_of l (mendelian (ancestry_of rows) l (number_of_row rows i)) (a *ℤ b) ≡ value →
       contribution_at l rows i (p, q) ≡ record { row = p; column = q; value = value }
   contribution-of p q a b value ea eb e =
-      placed_value-by l (mendelian (ancestry_of rows) l (number_of_row rows i)) p q (half_row (ancestry_of rows) (number_of_row rows i) (number_of_row rows p))
+      ranked_value-by l (mendelian (ancestry_of rows) l (number_of_row rows i)) p q (half_row (ancestry_of rows) (number_of_row rows i) (number_of_row rows p))
       (half_row (ancestry_of rows) (number_of_row rows i) (number_of_row rows q)) a b value ea eb e
 
   at-itself : contribution_at l rows i (i, i) ≡ record { row = i; column = i; value = halved false (2 ^ (2 * l)) (mendelian (ancestry_of rows) l (number_of_row rows i)) }
@@ -133,7 +133,7 @@ module _ (l most : ℕ) (rows : List Row) (f : IsFrozen l most rows) (positive :
       contribution_at l rows i (p, q) ≡ record { row = p; column = q; value = halved false (2 ^ (2 * l - 2)) (mendelian (ancestry_of rows) l (number_of_row rows i)) }
   of-parents p q ep eq = contribution-of p q (negsuc 0) (negsuc 0) _ ep eq (quarters-one l positive (mendelian (ancestry_of rows) l (number_of_row rows i)))
 
-  -- of two places with -1 so has the later, and so has the earlier
+  -- of two ranks with -1 so has the later, and so has the earlier
   later-half : (s d : ℕ) → half_row (ancestry_of rows) (number_of_row rows i) (number_of_row rows s) ≡ negsuc 0 →
       half_row (ancestry_of rows) (number_of_row rows i) (number_of_row rows d) ≡ negsuc 0 →
       (half_row (ancestry_of rows) (number_of_row rows i) (number_of_row rows (max s d)) ≡ negsuc 0)
@@ -145,7 +145,7 @@ module _ (l most : ℕ) (rows : List Row) (f : IsFrozen l most rows) (positive :
       (λ (high : d ≤ s). let a : s ≡ max s d = omega arith in let b : d ≡ min s d = omega arith in (subst P a es, subst P b ed))
       (cases_lt s d)
 
-  listed : (s d : Option ℕ) → sire_place rows i ≡ s → dam_place rows i ≡ d →
+  listed : (s d : Option ℕ) → sire_rank rows i ≡ s → dam_rank rows i ≡ d →
       map (contribution_at l rows i) (pairs_of i s d)
       ≡ weighted (halved false (2 ^ (2 * l)) (mendelian (ancestry_of rows) l (number_of_row rows i)))
       (halved true (2 ^ (2 * l - 1)) (mendelian (ancestry_of rows) l (number_of_row rows i)))
@@ -164,14 +164,14 @@ module _ (l most : ℕ) (rows : List Row) (f : IsFrozen l most rows) (positive :
       same_cons at-itself (same_cons (with-parent s hs) (same_cons (with-parent d hd) (same_cons (of-parents s s hs hs)
       (same_cons (of-parents d d hd hd) (same_cons (of-parents (max s d) (min s d) both.0 both.1) refl)))))
 
-  contributions-weighted : (s d : Option ℕ) → sire_place rows i ≡ s → dam_place rows i ≡ d →
+  contributions-weighted : (s d : Option ℕ) → sire_rank rows i ≡ s → dam_rank rows i ≡ d →
       contributions_of l rows i
       ≡ weighted (halved false (2 ^ (2 * l)) (mendelian (ancestry_of rows) l (number_of_row rows i)))
       (halved true (2 ^ (2 * l - 1)) (mendelian (ancestry_of rows) l (number_of_row rows i)))
       (halved false (2 ^ (2 * l - 2)) (mendelian (ancestry_of rows) l (number_of_row rows i))) i s d
   unfolding contributions_of
   contributions-weighted s d es ed =
-      ap (λ o. map (contribution_at l rows i) (pairs_of i o (dam_place rows i))) es
+      ap (λ o. map (contribution_at l rows i) (pairs_of i o (dam_rank rows i))) es
       ∙ (ap (λ o. map (contribution_at l rows i) (pairs_of i s o)) ed ∙ listed s d es ed)
 
 -- what is listed are the contributions, in lowest terms
@@ -196,7 +196,7 @@ listed-are l most rows f positive small i li row e part is fits alpha half quart
     let some : 0 < part = (let p = (frozen-bound l most rows f i i li li).positive in omega (arith, p, is)) in
     let same : weighted alpha half quarter i s d ≡ contributions_of l rows i =
     rw (alpha_is, half_is, quarter_is, is)
-    (sym (contributions-weighted l most rows f positive i li s d (let a : sire_place rows i ≡ row.sire = rw e refl in a ∙ es) (let a : dam_place rows i ≡ row.dam = rw e refl in a ∙ ed))) in
+    (sym (contributions-weighted l most rows f positive i li s d (let a : sire_rank rows i ≡ row.sire = rw e refl in a ∙ es) (let a : dam_rank rows i ≡ row.dam = rw e refl in a ∙ ed))) in
     record {
       alpha = lists.alpha_is ∙ (alpha_is ∙ ap (λ v. halved false (2 ^ (2 * l)) v) is);
       count = lists.count_is ∙ ap length same;

@@ -135,7 +135,7 @@ decomposed_before kin w l x y bx by' t s d =
     other_sums _ _ _ _ _ (rw (← s, ← d) (shared-halved kin w l x y bx by' t)) (entry-halved kin w l x y bx by' t)
 
 Below-weaker : {A : Type 0} (kin : Ancestry A) (m n : ℕ) (o : Option A) → m ≤ n → Below kin m o → Below kin n o
-Below-weaker kin m n o l b x e = ((b x e).0, λ i line. let s : i < m = (b x e).1 i line in omega arith)
+Below-weaker kin m n o l b x e = ((b x e).0, λ i path. let s : i < m = (b x e).1 i path in omega arith)
 
 -- By induction on the sum of the two depths. What two animals share and their entry split in the same way over the
 -- parents of the younger one, and over an animal's parents where the two are one.
@@ -180,7 +180,7 @@ decomposed {A} kin w l (suc n) (Some x) (Some y) (suc p) (suc q) bx by' lp lq s 
     rw (shared-swap kin l (Some x) (Some y), entry-swap kin w (2 * l) (Some x) (Some y) kx ky) turned))
     (w.total x y (Below-member kin (suc p) x bx) (Below-member kin (suc q) y by'))
 
--- THE DECOMPOSITION, where no line is longer than l
+-- THE DECOMPOSITION, where no path is longer than l
 pub decomposition : {A : Type 0} (kin : Ancestry A) → IsLawful kin → (l : ℕ) → IsShallow kin l → (x y : Option A) → IsKnown kin x → IsKnown kin y → IsDecomposed kin l x y
 decomposition kin w l f x y kx ky =
     decomposed kin w l (suc l + suc l) x y (suc l) (suc l)

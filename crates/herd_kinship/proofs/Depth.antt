@@ -4,35 +4,35 @@ use Rattle.std.proofs.Math.Nat.{two-pow-succ}
 use Rattle.std.proofs.lemmas.Bool.{cases_lt}
 use Rattle.herd_kinship.specs.Ancestry.{Ancestry, IsParentIn}
 use Rattle.herd_kinship.specs.Table.{entry}
-use Rattle.herd_kinship.proofs.LawfulAncestry.{Line, IsDepth, IsShallow, IsLawful}
+use Rattle.herd_kinship.proofs.LawfulAncestry.{Path, IsDepth, IsShallow, IsLawful}
 use Rattle.herd_kinship.proofs.Table.{entry-none_left, entry-none_right, entry-start, entry-step}
 
--- an animal of the ancestry or none, and each line from it has fewer than n steps
+-- an animal of the ancestry or none, and each path from it has fewer than n steps
 abbrev pub Below : {A : Type 0} → Ancestry A → ℕ → Option A → Type 0
-Below {A} kin n o = (x : A) → o ≡ Some x → Contains kin.animals x × ((m : ℕ) → Line kin m x → m < n)
+Below {A} kin n o = (x : A) → o ≡ Some x → Contains kin.animals x × ((m : ℕ) → Path kin m x → m < n)
 
 pub Below-member : {A : Type 0} (kin : Ancestry A) (n : ℕ) (x : A) → Below kin n (Some x) → Contains kin.animals x
 Below-member kin n x b = (b x refl).0
 
--- with no room for a line there is no animal
+-- with no room for a path there is no animal
 pub Below-zero : {A : Type 0} (kin : Ancestry A) (o : Option A) → Below kin 0 o → o ≡ None
-unfolding Line
+unfolding Path
 Below-zero kin None b = refl
 Below-zero kin (Some x) b =
     let start : 0 < 0 = (b x refl).1 0 (b x refl).0 in
     absurd (omega arith)
 
 pub Below-positive : {A : Type 0} (kin : Ancestry A) (n : ℕ) (x : A) → Below kin n (Some x) → 0 < n
-unfolding Line
+unfolding Path
 Below-positive kin n x b = (b x refl).1 0 (b x refl).0
 
 Below-parent : {A : Type 0} (kin : Ancestry A) → IsLawful kin → (n : ℕ) (x : A) (o : Option A) → Below kin (suc n) (Some x) → ((p : A) → o ≡ Some p → IsParentIn kin p x) → Below kin n o
-unfolding Line
+unfolding Path
 Below-parent kin w n x o b is p e =
     let member = (w.parents p x (b x refl).0 (is p e)).0 in (
       member,
-      λ m line.
-          let longer : suc m < suc n = (b x refl).1 (suc m) ((b x refl).0, (p, is p e, line)) in
+      λ m path.
+          let longer : suc m < suc n = (b x refl).1 (suc m) ((b x refl).0, (p, is p e, path)) in
           omega arith,
     )
 
@@ -42,16 +42,16 @@ Below-sire kin w n x b = Below-parent kin w n x (kin.sire x) b (λ p e. inl e)
 pub Below-dam : {A : Type 0} (kin : Ancestry A) → IsLawful kin → (n : ℕ) (x : A) → Below kin (suc n) (Some x) → Below kin n (kin.dam x)
 Below-dam kin w n x b = Below-parent kin w n x (kin.dam x) b (λ p e. inr e)
 
--- a line without its last step
-line-shorter : {A : Type 0} (kin : Ancestry A) → IsLawful kin → (m : ℕ) (x : A) → Line kin (suc m) x → Line kin m x
-unfolding Line
-line-shorter kin w zero x line = line.0
-line-shorter kin w (suc m) x line = (line.0, (line.1.0, line.1.1, line-shorter kin w m line.1.0 line.1.2))
+-- a path without its last step
+path-shorter : {A : Type 0} (kin : Ancestry A) → IsLawful kin → (m : ℕ) (x : A) → Path kin (suc m) x → Path kin m x
+unfolding Path
+path-shorter kin w zero x path = path.0
+path-shorter kin w (suc m) x path = (path.0, (path.1.0, path.1.1, path-shorter kin w m path.1.0 path.1.2))
 
-lines-shorter : {A : Type 0} (kin : Ancestry A) → IsLawful kin → (d n : ℕ) (x : A) → Line kin (d + n) x → Line kin n x
-lines-shorter kin w zero n x line = subst (λ i. Line kin i x) (omega arith) line
-lines-shorter kin w (suc d) n x line =
-    lines-shorter kin w d n x (line-shorter kin w (d + n) x (subst (λ i. Line kin i x) (omega arith) line))
+paths-shorter : {A : Type 0} (kin : Ancestry A) → IsLawful kin → (d n : ℕ) (x : A) → Path kin (d + n) x → Path kin n x
+paths-shorter kin w zero n x path = subst (λ i. Path kin i x) (omega arith) path
+paths-shorter kin w (suc d) n x path =
+    paths-shorter kin w d n x (path-shorter kin w (d + n) x (subst (λ i. Path kin i x) (omega arith) path))
 
 -- an animal of the ancestry, or none
 abbrev pub IsKnown : {A : Type 0} → Ancestry A → Option A → Type 0
@@ -66,22 +66,22 @@ known-sire kin w i c p e = (w.parents p i c (inl e)).0
 pub known-dam : {A : Type 0} (kin : Ancestry A) → IsLawful kin → (i : A) → Contains kin.animals i → IsKnown kin (kin.dam i)
 known-dam kin w i c p e = (w.parents p i c (inr e)).0
 
--- in an ancestry with no line longer than l
+-- in an ancestry with no path longer than l
 pub Below-shallow : {A : Type 0} (kin : Ancestry A) → IsLawful kin → (l : ℕ) → IsShallow kin l → (o : Option A) → IsKnown kin o → Below kin (suc l) o
 Below-shallow kin w l f o known x e = (
   known x e,
-  λ m line.
+  λ m path.
       ⊎_elim (λ t. t)
-      (λ t. absurd (f x (lines-shorter kin w (m - suc l) (l + 1) x (subst (λ i. Line kin i x) (omega arith) line))))
+      (λ t. absurd (f x (paths-shorter kin w (m - suc l) (l + 1) x (subst (λ i. Path kin i x) (omega arith) path))))
       (cases_lt m (suc l)),
 )
 
--- of an animal whose longest line has n steps
+-- of an animal whose longest path has n steps
 pub Below-depth : {A : Type 0} (kin : Ancestry A) (n : ℕ) (x : A) → Contains kin.animals x → IsDepth kin x n → Below kin (suc n) (Some x)
 Below-depth {A} kin n x known d z e =
     let same : x ≡ z = cc in
-    let P : A → Type 0 = λ v. Contains kin.animals v × ((m : ℕ) → Line kin m v → m < suc n) in
-    subst P same (known, λ m line. let s : m ≤ n = d.1 m line in omega arith)
+    let P : A → Type 0 = λ v. Contains kin.animals v × ((m : ℕ) → Path kin m v → m < suc n) in
+    subst P same (known, λ m path. let s : m ≤ n = d.1 m path in omega arith)
 
 -- a choice among doubles
 doubled : (s b : Bool) (u v w u' v' w' : ℕ) → (s ≡ true → u ≡ 2 * u') → v ≡ 2 * v' → w ≡ 2 * w' → cond s u (cond b v w) ≡ 2 * cond s u' (cond b v' w')

@@ -1,11 +1,11 @@
--- Sums over the places from a border on.
+-- Sums over the ranks from a border on.
 use Rattle.std.proofs.Common.{ℕ, ◌+◌, ◌*◌, ◌<◌, ◌≤◌, ◌≡◌, ⊎_elim, cond, ltb, eqb, arith, refl, sym, ◌∙◌, ap, subst}
 use Rattle.std.specs.List.{sum_by, range_with_len}
 use Rattle.std.proofs.lemmas.Bool.{cases_lt, cases_order, lt-ltb, le-ltb, eq-eqb, ne_eqb}
 use Rattle.herd_kinship.proofs.Sums.{sum_by-agree, sum_by-add, sum_by-one, sum_by-none}
-use Rattle.herd_kinship.proofs.Places.{place-below, place-once}
+use Rattle.herd_kinship.proofs.Ranks.{rank-below, rank-once}
 
--- f of the places from `above` on, added up
+-- f of the ranks from `above` on, added up
 abbrev pub done : ℕ → (ℕ → ℕ) → ℕ → ℕ
 done n f above = sum_by (λ j. cond (ltb j above) 0 (f j)) (range_with_len 0 n)
 
@@ -14,10 +14,10 @@ done-start n f above none =
     sum_by-agree (λ j. cond (ltb j above) 0 (f j)) (λ j. 0 * j) (range_with_len 0 n)
     (λ j c.
     ⊎_elim (λ (l : j < above). rw (lt-ltb j above l) (omega arith))
-    (λ (l : above ≤ j). rw (le-ltb j above l) (none j l (place-below n j c) ∙ omega arith)) (cases_lt j above))
+    (λ (l : above ≤ j). rw (le-ltb j above l) (none j l (rank-below n j c) ∙ omega arith)) (cases_lt j above))
     ∙ sum_by-none (λ j. 0 * j) (range_with_len 0 n) (λ j. omega arith)
 
--- one place more, where the places between hold nothing
+-- one rank more, where the ranks between hold nothing
 pub done-step : (n : ℕ) (f : ℕ → ℕ) (above y : ℕ) → y < above → y < n → ((j : ℕ) → y < j → j < above → f j ≡ 0) →
     done n f y ≡ done n f above + f y
 done-step n f above y low ly between =
@@ -41,7 +41,7 @@ done-step n f above y low ly between =
     rw (lt-ltb j y g, lt-ltb j above (omega arith), ne_eqb y j (λ e. omega arith)) refl) r)
     (cases_order y j))
     ∙ (sum_by-add (λ j. cond (ltb j above) 0 (f j)) (λ j. cond (eqb y j) (f y) 0) (range_with_len 0 n)
-    ∙ ap (λ v. done n f above + v) (sum_by-one (eqb y) (f y) (range_with_len 0 n) (place-once n y ly)))
+    ∙ ap (λ v. done n f above + v) (sum_by-one (eqb y) (f y) (range_with_len 0 n) (rank-once n y ly)))
 
 -- where nothing is left below the border, all is done
 pub done-end : (n : ℕ) (f : ℕ → ℕ) (above : ℕ) → ((j : ℕ) → j < above → f j ≡ 0) → done n f above ≡ sum_by f (range_with_len 0 n)

@@ -7,21 +7,21 @@ use Rattle.std.proofs.lemmas.Bool.{false_from_ne_true}
 use Rattle.herd_kinship.specs.Ancestry.{Ancestry, IsParentIn}
 use Rattle.herd_kinship.specs.Table.{entry, mendelian}
 use Rattle.herd_kinship.specs.Shares.{share}
-use Rattle.herd_kinship.proofs.LawfulAncestry.{Line, IsLawful}
+use Rattle.herd_kinship.proofs.LawfulAncestry.{Path, IsLawful}
 use Rattle.herd_kinship.proofs.Depth.{Below, Below-positive, Below-sire, Below-dam, unit}
 use Rattle.herd_kinship.proofs.Shares.{share-none, share-start, share-step, mendelian-whole}
 
--- a parent of x is not j, where x has no room for one step more than a line from j
-not_parent : {A : Type 0} (kin : Ancestry A) → IsLawful kin → (n m : ℕ) (x j : A) (o : Option A) → Below kin n (Some x) → Line kin m j → n ≤ suc m →
+-- a parent of x is not j, where x has no room for one step more than a path from j
+not_parent : {A : Type 0} (kin : Ancestry A) → IsLawful kin → (n m : ℕ) (x j : A) (o : Option A) → Below kin n (Some x) → Path kin m j → n ≤ suc m →
     ((p : A) → o ≡ Some p → IsParentIn kin p x) → share kin 0 o j ≡ 0
-unfolding Line
-not_parent kin w n m x j None b line le is = share-none kin 0 j
-not_parent {A} kin w n m x j (Some p) b line le is =
+unfolding Path
+not_parent kin w n m x j None b path le is = share-none kin 0 j
+not_parent {A} kin w n m x j (Some p) b path le is =
     let apart : kin.same p j ≡ false = false_from_ne_true (kin.same p j) (λ s.
     let e : p ≡ j = (w.same p j).0 s in
     let parent : IsParentIn kin p x = is p refl in
-    let line' : Line kin m p = subst (λ v. Line kin m v) (sym e) line in
-    let longer : suc m < n = (b x refl).1 (suc m) ((b x refl).0, (p, parent, line')) in
+    let path' : Path kin m p = subst (λ v. Path kin m v) (sym e) path in
+    let longer : suc m < n = (b x refl).1 (suc m) ((b x refl).0, (p, parent, path')) in
     omega arith) in
     rw (share-start kin p j, apart) refl
 
@@ -30,48 +30,48 @@ doubled_or true p q u v e f = e
 doubled_or false p q u v e f = f refl
 
 -- the unit of a share need only be as small as the two depths' difference asks
-share-unit_between : {A : Type 0} (kin : Ancestry A) → IsLawful kin → (k : ℕ) (o : Option A) (j : A) (n m : ℕ) → Below kin n o → Line kin m j → n ≤ suc k + m →
+share-unit_between : {A : Type 0} (kin : Ancestry A) → IsLawful kin → (k : ℕ) (o : Option A) (j : A) (n m : ℕ) → Below kin n o → Path kin m j → n ≤ suc k + m →
     share kin (suc k) o j ≡ 2 * share kin k o j
-share-unit_between kin w k None j n m b line le = simp share-none
-share-unit_between kin w k (Some x) j zero m b line le =
+share-unit_between kin w k None j n m b path le = simp share-none
+share-unit_between kin w k (Some x) j zero m b path le =
     let room = Below-positive kin 0 x b in absurd (omega arith)
-share-unit_between kin w zero (Some x) j (suc n) m b line le =
+share-unit_between kin w zero (Some x) j (suc n) m b path le =
     rw (share-step kin 0 x j, share-start kin x j) (doubled_or (kin.same x j) _ _ _ _ refl (λ s.
     rw (
-      not_parent kin w (suc n) m x j (kin.sire x) b line (omega arith) (λ p e. inl e),
-      not_parent kin w (suc n) m x j (kin.dam x) b line (omega arith) (λ p e. inr e),
+      not_parent kin w (suc n) m x j (kin.sire x) b path (omega arith) (λ p e. inl e),
+      not_parent kin w (suc n) m x j (kin.dam x) b path (omega arith) (λ p e. inr e),
     ) refl))
-share-unit_between kin w (suc k) (Some x) j (suc n) m b line le =
+share-unit_between kin w (suc k) (Some x) j (suc n) m b path le =
     let double = two-pow-succ (suc k) in
-    let s = share-unit_between kin w k (kin.sire x) j n m (Below-sire kin w n x b) line (omega arith) in
-    let d = share-unit_between kin w k (kin.dam x) j n m (Below-dam kin w n x b) line (omega arith) in
+    let s = share-unit_between kin w k (kin.sire x) j n m (Below-sire kin w n x b) path (omega arith) in
+    let d = share-unit_between kin w k (kin.dam x) j n m (Below-dam kin w n x b) path (omega arith) in
     rw (share-step kin (suc k) x j, share-step kin k x j) (doubled_or (kin.same x j) _ _ _ _
     (omega (arith, double)) (λ _. omega (arith, s, d)))
 
 -- a share in a finer unit
-pub share-finer : {A : Type 0} (kin : Ancestry A) → IsLawful kin → (d k : ℕ) (o : Option A) (j : A) (n m : ℕ) → Below kin n o → Line kin m j → n ≤ suc k + m →
+pub share-finer : {A : Type 0} (kin : Ancestry A) → IsLawful kin → (d k : ℕ) (o : Option A) (j : A) (n m : ℕ) → Below kin n o → Path kin m j → n ≤ suc k + m →
     share kin (d + k) o j ≡ 2 ^ d * share kin k o j
-share-finer kin w zero k o j n m b line le =
+share-finer kin w zero k o j n m b path le =
     let e : zero + k ≡ k = omega arith in rw e (omega arith)
-share-finer kin w (suc d) k o j n m b line le =
+share-finer kin w (suc d) k o j n m b path le =
     let e : suc d + k ≡ suc (d + k) = omega arith in
-    let rest = share-finer kin w d k o j n m b line le in
-    let step = share-unit_between kin w (d + k) o j n m b line (omega arith) in
+    let rest = share-finer kin w d k o j n m b path le in
+    let step = share-unit_between kin w (d + k) o j n m b path (omega arith) in
     rw (e, step, rest, pow-succ' 2 d) (omega arith)
 
 -- the share of an animal with a known parent is even, so that it can be halved
 pub share-even : {A : Type 0} (kin : Ancestry A) → IsLawful kin → (l : ℕ) (o : Option A) (j p : A) → Below kin (suc l) o → Below kin (suc l) (Some j) → IsParentIn kin p j →
     2 * (share kin l o j / 2) ≡ share kin l o j
-unfolding Line
+unfolding Path
 share-even {A} kin w zero o j p b bj is =
     let known = (w.parents p j (bj j refl).0 is).0 in
-    let line : Line kin 1 j = ((bj j refl).0, (p, is, known)) in
-    let short : 1 < 1 = (bj j refl).1 1 line in
+    let path : Path kin 1 j = ((bj j refl).0, (p, is, known)) in
+    let short : 1 < 1 = (bj j refl).1 1 path in
     absurd (omega arith)
 share-even {A} kin w (suc l) o j p b bj is =
     let known = (w.parents p j (bj j refl).0 is).0 in
-    let line : Line kin 1 j = ((bj j refl).0, (p, is, known)) in
-    let e = share-unit_between kin w l o j (suc (suc l)) 1 b line (omega arith) in
+    let path : Path kin 1 j = ((bj j refl).0, (p, is, known)) in
+    let e = share-unit_between kin w l o j (suc (suc l)) 1 b path (omega arith) in
     rw e (omega arith)
 
 -- an entry in a finer unit
@@ -94,7 +94,7 @@ multiplied c M N Q R p q e f g =
 mendelian-finer : {A : Type 0} (kin : Ancestry A) → IsLawful kin → (l g : ℕ) (j : A) → g ≤ l → Below kin (suc g) (Some j) →
     mendelian kin l j ≡ 2 ^ (2 * (l - g)) * mendelian kin g j
 mendelian-finer kin w l g j le b =
-    let wide : Below kin (suc l) (Some j) = λ x e. ((b x e).0, λ m line. let s : m < suc g = (b x e).1 m line in omega arith) in
+    let wide : Below kin (suc l) (Some j) = λ x e. ((b x e).0, λ m path. let s : m < suc g = (b x e).1 m path in omega arith) in
     let d : ℕ = 2 * (l - g) in
     let sum : 2 * l ≡ d + 2 * g = omega arith in
     let bs = Below-sire kin w g j b in
@@ -123,10 +123,10 @@ mendelian-divides kin w l g e j le b small =
 
 -- THE EXACT TERM: of two animals of depths gx and gy and a shared ancestor j of depth g, each in the unit that depths ask for
 pub term-exact : {A : Type 0} (kin : Ancestry A) → IsLawful kin → (l gx gy g : ℕ) (x y j : A) → gx ≤ l → gy ≤ l → g ≤ gx → g ≤ gy →
-    Below kin (suc gx) (Some x) → Below kin (suc gy) (Some y) → Below kin (suc g) (Some j) → Line kin g j →
+    Below kin (suc gx) (Some x) → Below kin (suc gy) (Some y) → Below kin (suc g) (Some j) → Path kin g j →
     share kin l (Some x) j * share kin l (Some y) j * mendelian kin l j
     ≡ 2 ^ (2 * l) * (share kin (gx - g) (Some x) j * share kin (gy - g) (Some y) j * (mendelian kin l j / 2 ^ (gx + gy - 2 * g)))
-term-exact kin w l gx gy g x y j lx ly le le' bx by' bj line =
+term-exact kin w l gx gy g x y j lx ly le le' bx by' bj path =
     let e : ℕ = gx - g in
     let f : ℕ = gy - g in
     let ef : gx + gy - 2 * g ≡ e + f = omega arith in
@@ -135,10 +135,10 @@ term-exact kin w l gx gy g x y j lx ly le le' bx by' bj line =
     let q : ℕ = mendelian kin l j / 2 ^ (e + f) in
     let sx : share kin l (Some x) j ≡ 2 ^ (l - e) * t =
     ap (λ n. share kin n (Some x) j) (let s : l ≡ (l - e) + e = omega arith in s)
-    ∙ share-finer kin w (l - e) e (Some x) j (suc gx) g bx line (omega arith) in
+    ∙ share-finer kin w (l - e) e (Some x) j (suc gx) g bx path (omega arith) in
     let sy : share kin l (Some y) j ≡ 2 ^ (l - f) * u =
     ap (λ n. share kin n (Some y) j) (let s : l ≡ (l - f) + f = omega arith in s)
-    ∙ share-finer kin w (l - f) f (Some y) j (suc gy) g by' line (omega arith) in
+    ∙ share-finer kin w (l - f) f (Some y) j (suc gy) g by' path (omega arith) in
     let m : 2 ^ (e + f) * q ≡ mendelian kin l j = mendelian-divides kin w l g (e + f) j (omega arith) bj (omega arith) in
     let powers : 2 ^ (2 * l) ≡ 2 ^ (l - e) * 2 ^ (l - f) * 2 ^ (e + f) =
     ap (λ n. 2 ^ n) (let s : 2 * l ≡ (l - e) + (l - f) + (e + f) = omega arith in s)

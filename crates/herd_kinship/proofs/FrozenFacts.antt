@@ -1,4 +1,4 @@
--- What a frozen book says of its animals, by numbers and by places.
+-- What a frozen book says of its animals, by numbers and by ranks.
 use Rattle.std.proofs.Common.{ℕ, suc, ◌<◌, ◌≤◌, ◌≡◌, inl, inr, ⊎_elim, eqb, ltb, List, [], ◌∷◌, length, map, get_or, slice_get, Some, None, Option, true, false, IsTrue, Contains, arith, refl, sym, ap, subst, ◌∙◌}
 use Rattle.std.specs.declared.cmp.Ordering.TheVariants.{Less}
 use Rattle.std.specs.List.{range_with_len}
@@ -20,17 +20,17 @@ use Rattle.std.proofs.lemmas.Option.{slice_get-map, slice_get-get_or, slice_get_
 use Rattle.herd_pedigree.specs.declared.rules.animal.Animal.{Animal}
 use Rattle.herd_pedigree.specs.declared.freezing.frozen.Row.{Row}
 use Rattle.herd_pedigree.specs.rules.Book.{record_of}
-use Rattle.herd_pedigree.specs.freezing.Frozen.{IsFrozen, IsPlaceOf, age_cmp, book_of, numbers_of}
+use Rattle.herd_pedigree.specs.freezing.Frozen.{IsFrozen, IsRankOf, age_cmp, book_of, numbers_of}
 use Rattle.herd_kinship.specs.Ancestry.{IsParentIn}
 use Rattle.herd_kinship.specs.FrozenAncestry.{ancestry_of, number_of_row}
-use Rattle.herd_kinship.specs.Places.{sire_place, dam_place, placed}
+use Rattle.herd_kinship.specs.Ranks.{sire_rank, dam_rank, ranked}
 use Rattle.herd_kinship.proofs.LawfulAncestry.{IsLawful, IsShallow, IsRenamed}
 use Rattle.herd_kinship.proofs.BookFacts.{age_cmp-total, before_from_ordered, book-lawful, book-shallow, by_order, then_equal}
-use Rattle.herd_kinship.proofs.Places.{ArePlaced, places-are_lawful, place-below}
+use Rattle.herd_kinship.proofs.Ranks.{AreRanked, ranks-are_lawful, rank-below}
 use Rattle.herd_kinship.proofs.Renamed.{shallow-renamed}
 use Rattle.herd_kinship.proofs.Shares.{apart, apart_back}
 
--- the row at a place within
+-- the row at a rank within
 pub row_at : (rows : List Row) (i : ℕ) → i < length rows → (row : Row) × (slice_get rows i ≡ Some row)
 row_at [] i l = absurd (omega arith)
 row_at (row ∷ rows) i l = let xs : List Row = row ∷ rows in (get_or xs i row, slice_get-get_or xs i row l)
@@ -47,13 +47,13 @@ pub length-book_of : (rows : List Row) → length (book_of rows) ≡ length rows
 length-book_of [] = refl
 length-book_of (row ∷ rows) = ap suc (length-book_of rows)
 
--- the number at a place is that of the row
+-- the number at a rank is that of the row
 pub number_of_row-is : (rows : List Row) (i : ℕ) (row : Row) → slice_get rows i ≡ Some row → number_of_row rows i ≡ row.number
 number_of_row-is rows i row e =
     get_or_from_slice_get (numbers_of rows) i row.number []
     (slice_get-map (λ (r : Row). r.number) rows i ∙ rw e refl)
 
--- the number at a place is the key there
+-- the number at a rank is the key there
 number_of_row-key : (rows : List Row) (i : ℕ) → number_of_row rows i ≡ get_or (keys_of (book_of rows)) i []
 number_of_row-key rows i = ap (λ ns. get_or ns i []) (numbers_are_keys rows)
 
@@ -84,7 +84,7 @@ first_before x y later apart =
     (λ e. let same : bytes_eq x.0 y.0 ≡ true = sym (is_eq-slice_cmp x.0 y.0) ∙ ap is_eq (then_equal (int_cmp x.1.birth y.1.birth) (slice_cmp nat_cmp x.0 y.0) e) in absurd (cc))
     (λ e. let less : is_lt (age_cmp y x) ≡ true = rw (turned, e) refl in absurd (cc))
 
--- an animal at a lower place is before one at a higher place
+-- an animal at a lower rank is before one at a higher rank
 frozen-ordered : (l most : ℕ) (rows : List Row) → IsFrozen l most rows → (i j : ℕ) → i < j → j < length rows →
     IsTrue ((ancestry_of rows).before (number_of_row rows i) (number_of_row rows j))
 frozen-ordered l most rows f i j low lj =
@@ -108,52 +108,52 @@ frozen-ordered l most rows f i j low lj =
     (before_from_ordered book x.0 y.0 x.1 y.1 (record_at-row l most rows f i a.0 a.1) (record_at-row l most rows f j b.0 b.1)
     (first_before x y later apart))
 
--- the number of a known parent is that at its place
-place_of : (rows : List Row) (o : Option ℕ) (p : Option (List ℕ)) → IsPlaceOf rows o p → option_map (number_of_row rows) o ≡ p
-place_of rows None None is = refl
-place_of rows None (Some p) is = absurd is
-place_of rows (Some i) None is = absurd is
-place_of rows (Some i) (Some p) is = ap Some (get_or_from_slice_get (numbers_of rows) i p [] is)
+-- the number of a known parent is that at its rank
+rank_of : (rows : List Row) (o : Option ℕ) (p : Option (List ℕ)) → IsRankOf rows o p → option_map (number_of_row rows) o ≡ p
+rank_of rows None None is = refl
+rank_of rows None (Some p) is = absurd is
+rank_of rows (Some i) None is = absurd is
+rank_of rows (Some i) (Some p) is = ap Some (get_or_from_slice_get (numbers_of rows) i p [] is)
 
--- and its place is within
-place_in_rows : (rows : List Row) (o : Option ℕ) (p : Option (List ℕ)) → IsPlaceOf rows o p → (i : ℕ) → o ≡ Some i → i < length rows
-place_in_rows rows None p is i e = absurd (cc)
-place_in_rows rows (Some j) None is i e = absurd is
-place_in_rows rows (Some j) (Some p) is i e =
+-- and its rank is within
+rank_in_rows : (rows : List Row) (o : Option ℕ) (p : Option (List ℕ)) → IsRankOf rows o p → (i : ℕ) → o ≡ Some i → i < length rows
+rank_in_rows rows None p is i e = absurd (cc)
+rank_in_rows rows (Some j) None is i e = absurd is
+rank_in_rows rows (Some j) (Some p) is i e =
     let within : j < length (numbers_of rows) = slice_get_within (numbers_of rows) j p is in
     let same : j ≡ i = cc in
     let all = length-numbers_of rows in
     omega arith
 
 -- what a row says of a parent
-pub record IsParentPlace (rows : List Row) (known : Option (List ℕ)) (place : Option ℕ) : Type 0 where
-  pub number : option_map (number_of_row rows) place ≡ known
-  pub within : (p : ℕ) → place ≡ Some p → p < length rows
+pub record IsParentRank (rows : List Row) (known : Option (List ℕ)) (rank : Option ℕ) : Type 0 where
+  pub number : option_map (number_of_row rows) rank ≡ known
+  pub within : (p : ℕ) → rank ≡ Some p → p < length rows
 
 pub sire_at : (l most : ℕ) (rows : List Row) → IsFrozen l most rows → (i : ℕ) → i < length rows →
-    IsParentPlace rows ((ancestry_of rows).sire (number_of_row rows i)) (sire_place rows i)
+    IsParentRank rows ((ancestry_of rows).sire (number_of_row rows i)) (sire_rank rows i)
 sire_at l most rows f i li =
     let a = row_at rows i li in
-    let is : sire_place rows i ≡ a.0.sire = rw a.1 refl in
+    let is : sire_rank rows i ≡ a.0.sire = rw a.1 refl in
     let known : (ancestry_of rows).sire (number_of_row rows i) ≡ a.0.animal.sire =
     rw (number_of_row-is rows i a.0 a.1, record_at-row l most rows f i a.0 a.1) refl in
     let row = f.each i a.0 a.1 in
     record {
-      number = rw (is, known) (place_of rows a.0.sire a.0.animal.sire row.sire);
-      within = λ p e. place_in_rows rows a.0.sire a.0.animal.sire row.sire p (sym is ∙ e);
+      number = rw (is, known) (rank_of rows a.0.sire a.0.animal.sire row.sire);
+      within = λ p e. rank_in_rows rows a.0.sire a.0.animal.sire row.sire p (sym is ∙ e);
     }
 
 pub dam_at : (l most : ℕ) (rows : List Row) → IsFrozen l most rows → (i : ℕ) → i < length rows →
-    IsParentPlace rows ((ancestry_of rows).dam (number_of_row rows i)) (dam_place rows i)
+    IsParentRank rows ((ancestry_of rows).dam (number_of_row rows i)) (dam_rank rows i)
 dam_at l most rows f i li =
     let a = row_at rows i li in
-    let is : dam_place rows i ≡ a.0.dam = rw a.1 refl in
+    let is : dam_rank rows i ≡ a.0.dam = rw a.1 refl in
     let known : (ancestry_of rows).dam (number_of_row rows i) ≡ a.0.animal.dam =
     rw (number_of_row-is rows i a.0 a.1, record_at-row l most rows f i a.0 a.1) refl in
     let row = f.each i a.0 a.1 in
     record {
-      number = rw (is, known) (place_of rows a.0.dam a.0.animal.dam row.dam);
-      within = λ p e. place_in_rows rows a.0.dam a.0.animal.dam row.dam p (sym is ∙ e);
+      number = rw (is, known) (rank_of rows a.0.dam a.0.animal.dam row.dam);
+      within = λ p e. rank_in_rows rows a.0.dam a.0.animal.dam row.dam p (sym is ∙ e);
     }
 
 -- an animal that is before another stands below it
@@ -176,16 +176,16 @@ parent_below l most rows f i p li lp is =
     below_from_before l most rows f p i lp li
     ((frozen-lawful l most rows f).parents (number_of_row rows p) (number_of_row rows i) (frozen-member rows i li) is).1
 
-pub sire_is : (l most : ℕ) (rows : List Row) → IsFrozen l most rows → (i p : ℕ) → i < length rows → sire_place rows i ≡ Some p →
+pub sire_is : (l most : ℕ) (rows : List Row) → IsFrozen l most rows → (i p : ℕ) → i < length rows → sire_rank rows i ≡ Some p →
     (ancestry_of rows).sire (number_of_row rows i) ≡ Some (number_of_row rows p)
 sire_is l most rows f i p li e = sym (sire_at l most rows f i li).number ∙ ap (option_map (number_of_row rows)) e
 
-pub dam_is : (l most : ℕ) (rows : List Row) → IsFrozen l most rows → (i p : ℕ) → i < length rows → dam_place rows i ≡ Some p →
+pub dam_is : (l most : ℕ) (rows : List Row) → IsFrozen l most rows → (i p : ℕ) → i < length rows → dam_rank rows i ≡ Some p →
     (ancestry_of rows).dam (number_of_row rows i) ≡ Some (number_of_row rows p)
 dam_is l most rows f i p li e = sym (dam_at l most rows f i li).number ∙ ap (option_map (number_of_row rows)) e
 
-pub frozen-placed : (l most : ℕ) (rows : List Row) → IsFrozen l most rows → ArePlaced (length rows) (sire_place rows) (dam_place rows)
-frozen-placed l most rows f = record {
+pub frozen-ranked : (l most : ℕ) (rows : List Row) → IsFrozen l most rows → AreRanked (length rows) (sire_rank rows) (dam_rank rows)
+frozen-ranked l most rows f = record {
   below = λ i p li is.
       ⊎_elim
       (λ e. parent_below l most rows f i p li ((sire_at l most rows f i li).within p e) (inl (sire_is l most rows f i p li e)))
@@ -196,12 +196,12 @@ frozen-placed l most rows f = record {
       (sire_is l most rows f i p li s) (dam_is l most rows f i p li d);
 }
 
-pub placed-lawful : (l most : ℕ) (rows : List Row) → IsFrozen l most rows → IsLawful (placed rows)
-placed-lawful l most rows f = places-are_lawful (length rows) (sire_place rows) (dam_place rows) (frozen-placed l most rows f)
+pub ranked-lawful : (l most : ℕ) (rows : List Row) → IsFrozen l most rows → IsLawful (ranked rows)
+ranked-lawful l most rows f = ranks-are_lawful (length rows) (sire_rank rows) (dam_rank rows) (frozen-ranked l most rows f)
 
-same_places : (l most : ℕ) (rows : List Row) → IsFrozen l most rows → (i j : ℕ) → i < length rows → j < length rows →
+same_ranks : (l most : ℕ) (rows : List Row) → IsFrozen l most rows → (i j : ℕ) → i < length rows → j < length rows →
     (ancestry_of rows).same (number_of_row rows i) (number_of_row rows j) ≡ eqb i j
-same_places l most rows f i j li lj =
+same_ranks l most rows f i j li lj =
     let w = frozen-lawful l most rows f in
     let x = number_of_row rows i in
     let y = number_of_row rows j in
@@ -212,15 +212,15 @@ same_places l most rows f i j li lj =
     (λ (g : j < i). apart_back (ancestry_of rows) w y x (frozen-ordered l most rows f j i g li) ∙ sym (ne_eqb i j (λ e. omega arith))) r)
     (cases_order i j)
 
--- a number stands at one place
-pub same_place : (l most : ℕ) (rows : List Row) → IsFrozen l most rows → (i j : ℕ) → i < length rows → j < length rows →
+-- a number stands at one rank
+pub same_rank : (l most : ℕ) (rows : List Row) → IsFrozen l most rows → (i j : ℕ) → i < length rows → j < length rows →
     number_of_row rows i ≡ number_of_row rows j → i ≡ j
-same_place l most rows f i j li lj e =
-    eqb-true i j (sym (same_places l most rows f i j li lj) ∙ ((frozen-lawful l most rows f).same (number_of_row rows i) (number_of_row rows j)).1 e)
+same_rank l most rows f i j li lj e =
+    eqb-true i j (sym (same_ranks l most rows f i j li lj) ∙ ((frozen-lawful l most rows f).same (number_of_row rows i) (number_of_row rows j)).1 e)
 
-before_places : (l most : ℕ) (rows : List Row) → IsFrozen l most rows → (i j : ℕ) → i < length rows → j < length rows →
+before_ranks : (l most : ℕ) (rows : List Row) → IsFrozen l most rows → (i j : ℕ) → i < length rows → j < length rows →
     (ancestry_of rows).before (number_of_row rows i) (number_of_row rows j) ≡ ltb i j
-before_places l most rows f i j li lj =
+before_ranks l most rows f i j li lj =
     ⊎_elim
     (λ (g : i < j). frozen-ordered l most rows f i j g lj ∙ sym (lt-ltb i j g))
     (λ (g : j ≤ i).
@@ -231,17 +231,17 @@ numbers_are : (rows : List Row) → keys_of (book_of rows) ≡ map (number_of_ro
 numbers_are rows = sym (numbers_are_keys rows) ∙ fill_by_all (number_of_row rows) (numbers_of rows) (length rows) [] (length-numbers_of rows) (λ k _. refl)
 
 -- the two ways to name the animals are one ancestry
-pub frozen-renamed : (l most : ℕ) (rows : List Row) → IsFrozen l most rows → IsRenamed (placed rows) (ancestry_of rows) (number_of_row rows)
+pub frozen-renamed : (l most : ℕ) (rows : List Row) → IsFrozen l most rows → IsRenamed (ranked rows) (ancestry_of rows) (number_of_row rows)
 frozen-renamed l most rows f = record {
   animals =
       let P : List (List ℕ) → Type 0 = λ v. IsPermutation (map (number_of_row rows) (range_with_len 0 (length rows))) v in
       subst P (sym (numbers_are rows)) (IsPermutation-refl (map (number_of_row rows) (range_with_len 0 (length rows))));
-  same = λ i j ci cj. same_places l most rows f i j (place-below (length rows) i ci) (place-below (length rows) j cj);
-  before = λ i j ci cj. before_places l most rows f i j (place-below (length rows) i ci) (place-below (length rows) j cj);
-  sire = λ i c. sym (sire_at l most rows f i (place-below (length rows) i c)).number;
-  dam = λ i c. sym (dam_at l most rows f i (place-below (length rows) i c)).number;
+  same = λ i j ci cj. same_ranks l most rows f i j (rank-below (length rows) i ci) (rank-below (length rows) j cj);
+  before = λ i j ci cj. before_ranks l most rows f i j (rank-below (length rows) i ci) (rank-below (length rows) j cj);
+  sire = λ i c. sym (sire_at l most rows f i (rank-below (length rows) i c)).number;
+  dam = λ i c. sym (dam_at l most rows f i (rank-below (length rows) i c)).number;
 }
 
-pub placed-shallow : (l most : ℕ) (rows : List Row) → IsFrozen l most rows → IsShallow (placed rows) l
-placed-shallow l most rows f =
-    shallow-renamed (placed rows) (ancestry_of rows) (number_of_row rows) (placed-lawful l most rows f) (frozen-renamed l most rows f) l (frozen-shallow l most rows f)
+pub ranked-shallow : (l most : ℕ) (rows : List Row) → IsFrozen l most rows → IsShallow (ranked rows) l
+ranked-shallow l most rows f =
+    shallow-renamed (ranked rows) (ancestry_of rows) (number_of_row rows) (ranked-lawful l most rows f) (frozen-renamed l most rows f) l (frozen-shallow l most rows f)

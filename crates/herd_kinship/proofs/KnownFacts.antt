@@ -2,26 +2,26 @@
 use Rattle.std.proofs.Common.{ℕ, suc, ◌+◌, ◌*◌, ◌-◌, ◌/◌, ◌^◌, ◌<◌, ◌≤◌, ◌≡◌, ◌⊎◌, ⊎_elim, inl, inr, List, length, slice_get, get_or, set, min, Option, Some, None, is_some, ◌&&◌, false, arith, sym, ◌∙◌, ap, subst, refl}
 use Rattle.herd_pedigree.specs.declared.freezing.frozen.Row.{Row}
 use Rattle.herd_pedigree.specs.freezing.Frozen.{IsFrozen, depth_at}
-use Rattle.herd_kinship.specs.Ancestry.{IsAncestor, IsParentIn, LineTo}
+use Rattle.herd_kinship.specs.Ancestry.{IsAncestor, IsParentIn, PathTo}
 use Rattle.herd_kinship.specs.Table.{coefficient, entry, mendelian}
 use Rattle.herd_kinship.specs.Shares.{share}
 use Rattle.herd_kinship.specs.FrozenAncestry.{ancestry_of, number_of_row}
 use Rattle.herd_kinship.specs.Coefficients.{IsKnownParent, KnowsAncestors, own_relationship, quarter_of}
-use Rattle.herd_kinship.specs.Places.{sire_place, dam_place, placed}
+use Rattle.herd_kinship.specs.Ranks.{sire_rank, dam_rank, ranked}
 use Rattle.herd_kinship.specs.Tracing.{IsNext}
-use Rattle.herd_kinship.proofs.Ancestors.{share-reached, ancestor-before, line-joined}
+use Rattle.herd_kinship.proofs.Ancestors.{share-reached, ancestor-before, path-joined}
 use Rattle.herd_kinship.proofs.Bounds.{entry-itself, coefficient-bound, inbred-is, quarter-is, coefficient-none}
 use Rattle.herd_kinship.proofs.Depth.{Below, Below-shallow, Below-sire, Below-dam, known_some}
-use Rattle.herd_kinship.proofs.FrozenDepths.{line_to-numbers, line_to-places, line_to-joined, placed-depth}
-use Rattle.herd_kinship.proofs.FrozenFacts.{frozen-lawful, frozen-member, frozen-renamed, frozen-shallow, placed-lawful, same_place, sire_at, dam_at, IsParentPlace}
-use Rattle.herd_kinship.proofs.Places.{place-in, place-below}
+use Rattle.herd_kinship.proofs.FrozenDepths.{path_to-numbers, path_to-ranks, path_to-joined, ranked-depth}
+use Rattle.herd_kinship.proofs.FrozenFacts.{frozen-lawful, frozen-member, frozen-renamed, frozen-shallow, ranked-lawful, same_rank, sire_at, dam_at, IsParentRank}
+use Rattle.herd_kinship.proofs.Ranks.{rank-in, rank-below}
 use Rattle.herd_kinship.proofs.Renamed.{entry-renamed, mendelian-renamed}
 use Rattle.herd_kinship.proofs.Table.{entry-none_left}
 use Rattle.std.proofs.lemmas.Bool.{ltb-true, cases_eq}
 use Rattle.std.proofs.lemmas.List.{get_or-set_same, get_or-set_other}
 use Rattle.std.proofs.lemmas.Option.{slice_get_within}
 
--- numerators that are right below a place are right up to it, once the place's is written
+-- numerators that are right below a rank are right up to it, once the rank's is written
 pub right-more : (xs : List ℕ) (f : ℕ → ℕ) (i v : ℕ) → i < length xs → v ≡ f i → ((p : ℕ) → p < i → get_or xs p 0 ≡ f p) →
     (p : ℕ) → p < i + 1 → get_or (set xs i v) p 0 ≡ f p
 right-more xs f i v li e right p lp =
@@ -41,37 +41,37 @@ module _ (l most : ℕ) (rows : List Row) (f : IsFrozen l most rows) where
   frozen-coefficient_bound x lx = coefficient-bound (ancestry_of rows) (frozen-lawful l most rows f) l (number_of_row rows x) (below_limit x lx)
 
   -- a parent's numerator is its coefficient
-  known-parent : (known : List ℕ) (x p : ℕ) → x < length rows → KnowsAncestors l rows known x → IsParentIn (placed rows) p x →
+  known-parent : (known : List ℕ) (x p : ℕ) → x < length rows → KnowsAncestors l rows known x → IsParentIn (ranked rows) p x →
       (p < length rows) × (get_or known p 0 ≡ coefficient (ancestry_of rows) l (number_of_row rows p))
-  unfolding LineTo
+  unfolding PathTo
   known-parent known x p lx k is =
-      let lp : p < length rows = place-below (length rows) p ((placed-lawful l most rows f).parents p x (place-in (length rows) x lx) is).0 in
-      let line : LineTo (placed rows) 1 x p = (p, is, refl) in
-      (lp, k.right p lp (0, line_to-numbers l most rows f 1 x p lx line))
+      let lp : p < length rows = rank-below (length rows) p ((ranked-lawful l most rows f).parents p x (rank-in (length rows) x lx) is).0 in
+      let path : PathTo (ranked rows) 1 x p = (p, is, refl) in
+      (lp, k.right p lp (0, path_to-numbers l most rows f 1 x p lx path))
 
   -- an ancestor's ancestors are known too
-  known-ancestor : (known : List ℕ) (x y n : ℕ) → x < length rows → KnowsAncestors l rows known x → LineTo (placed rows) n x y → KnowsAncestors l rows known y
-  known-ancestor known x y n lx k line = record {
+  known-ancestor : (known : List ℕ) (x y n : ℕ) → x < length rows → KnowsAncestors l rows known x → PathTo (ranked rows) n x y → KnowsAncestors l rows known y
+  known-ancestor known x y n lx k path = record {
     each = k.each;
     right = λ p lp a.
-        let whole : LineTo (ancestry_of rows) (n + suc a.0) (number_of_row rows x) (number_of_row rows p) =
-        line_to-joined (ancestry_of rows) n (suc a.0) (number_of_row rows x) (number_of_row rows y) (number_of_row rows p) (line_to-numbers l most rows f n x y lx line) a.1 in
-        k.right p lp (n + a.0, subst (λ i. LineTo (ancestry_of rows) i (number_of_row rows x) (number_of_row rows p)) (let e : n + suc a.0 ≡ suc (n + a.0) = omega arith in e) whole);
+        let whole : PathTo (ancestry_of rows) (n + suc a.0) (number_of_row rows x) (number_of_row rows p) =
+        path_to-joined (ancestry_of rows) n (suc a.0) (number_of_row rows x) (number_of_row rows y) (number_of_row rows p) (path_to-numbers l most rows f n x y lx path) a.1 in
+        k.right p lp (n + a.0, subst (λ i. PathTo (ancestry_of rows) i (number_of_row rows x) (number_of_row rows p)) (let e : n + suc a.0 ≡ suc (n + a.0) = omega arith in e) whole);
   }
 
   -- those of the ancestors that a tracing meets
   pub known-next : (known : List ℕ) (x b y own : ℕ) → x < length rows → KnowsAncestors l rows known x → IsNext l rows x b y own → KnowsAncestors l rows known y
   known-next known x b y own lx k next =
       ⊎_elim
-      (λ (z : share (placed rows) (depth_at rows x - depth_at rows y) (Some x) y ≡ 0).
+      (λ (z : share (ranked rows) (depth_at rows x - depth_at rows y) (Some x) y ≡ 0).
       let pos = next.share_is.some in let is = next.share_is.own_is in absurd (omega arith))
       (λ r.
       let same : r.0 ≡ x = cc (r.1) in
-      known-ancestor known x y r.2.0 lx k (subst (λ v. LineTo (placed rows) r.2.0 v y) same r.2.1))
-      (share-reached (placed rows) (placed-lawful l most rows f) (depth_at rows x - depth_at rows y) (Some x) y)
+      known-ancestor known x y r.2.0 lx k (subst (λ v. PathTo (ranked rows) r.2.0 v y) same r.2.1))
+      (share-reached (ranked rows) (ranked-lawful l most rows f) (depth_at rows x - depth_at rows y) (Some x) y)
 
   -- a parent's quarter
-  quarter-parent : (known : List ℕ) (o : Option ℕ) (p : Option (List ℕ)) → IsParentPlace rows p o → Below (ancestry_of rows) l p →
+  quarter-parent : (known : List ℕ) (o : Option ℕ) (p : Option (List ℕ)) → IsParentRank rows p o → Below (ancestry_of rows) l p →
       ((q : ℕ) → o ≡ Some q → get_or known q 0 ≡ coefficient (ancestry_of rows) l (number_of_row rows q)) →
       quarter_of l known o ≡ entry (ancestry_of rows) (2 * l - 2) p p
   quarter-parent known None p at b right =
@@ -85,26 +85,26 @@ module _ (l most : ℕ) (rows : List Row) (f : IsFrozen l most rows) where
 
   -- the Mendelian sampling variance by the numerators of the parents
   mendelian-known : (known : List ℕ) (x : ℕ) → x < length rows → KnowsAncestors l rows known x →
-      2 ^ (2 * l) - quarter_of l known (sire_place rows x) - quarter_of l known (dam_place rows x) ≡ mendelian (ancestry_of rows) l (number_of_row rows x)
+      2 ^ (2 * l) - quarter_of l known (sire_rank rows x) - quarter_of l known (dam_rank rows x) ≡ mendelian (ancestry_of rows) l (number_of_row rows x)
   unfolding mendelian
   mendelian-known known x lx k =
       let kin = ancestry_of rows in
       let w = frozen-lawful l most rows f in
       let b = below_limit x lx in
-      let s = quarter-parent known (sire_place rows x) (kin.sire (number_of_row rows x)) (sire_at l most rows f x lx) (Below-sire kin w l (number_of_row rows x) b)
+      let s = quarter-parent known (sire_rank rows x) (kin.sire (number_of_row rows x)) (sire_at l most rows f x lx) (Below-sire kin w l (number_of_row rows x) b)
       (λ q e. (known-parent known x q lx k (inl e)).1) in
-      let d = quarter-parent known (dam_place rows x) (kin.dam (number_of_row rows x)) (dam_at l most rows f x lx) (Below-dam kin w l (number_of_row rows x) b)
+      let d = quarter-parent known (dam_rank rows x) (kin.dam (number_of_row rows x)) (dam_at l most rows f x lx) (Below-dam kin w l (number_of_row rows x) b)
       (λ q e. (known-parent known x q lx k (inr e)).1) in
       rw (s, d) refl
 
   -- what a row says of its sire
-  sire-row : (x : ℕ) (row : Row) → slice_get rows x ≡ Some row → sire_place rows x ≡ row.sire
+  sire-row : (x : ℕ) (row : Row) → slice_get rows x ≡ Some row → sire_rank rows x ≡ row.sire
   sire-row x row e = rw e refl
 
-  dam-row : (x : ℕ) (row : Row) → slice_get rows x ≡ Some row → dam_place rows x ≡ row.dam
+  dam-row : (x : ℕ) (row : Row) → slice_get rows x ≡ Some row → dam_rank rows x ≡ row.dam
   dam-row x row e = rw e refl
 
-  parent-known : (known : List ℕ) (x p : ℕ) → x < length rows → KnowsAncestors l rows known x → IsParentIn (placed rows) p x → IsKnownParent l known p
+  parent-known : (known : List ℕ) (x p : ℕ) → x < length rows → KnowsAncestors l rows known x → IsParentIn (ranked rows) p x → IsKnownParent l known p
   parent-known known x p lx k is =
       let at = known-parent known x p lx k is in
       let lp : p < length rows = at.0 in
@@ -126,17 +126,17 @@ module _ (l most : ℕ) (rows : List Row) (f : IsFrozen l most rows) where
       2 ^ (2 * l) - quarter_of l known row.sire - quarter_of l known row.dam ≡ mendelian (ancestry_of rows) l (number_of_row rows x)
   mendelian-row known x row lx k e = rw (← sire-row x row e, ← dam-row x row e) (mendelian-known known x lx k)
 
-  -- the Mendelian sampling variance of a place is that of its number
-  pub mendelian-place : (x : ℕ) → x < length rows → mendelian (placed rows) l x ≡ mendelian (ancestry_of rows) l (number_of_row rows x)
-  mendelian-place x lx =
-      sym (mendelian-renamed (placed rows) (ancestry_of rows) (number_of_row rows) (placed-lawful l most rows f) (frozen-renamed l most rows f) l x (place-in (length rows) x lx))
+  -- the Mendelian sampling variance of a rank is that of its number
+  pub mendelian-rank : (x : ℕ) → x < length rows → mendelian (ranked rows) l x ≡ mendelian (ancestry_of rows) l (number_of_row rows x)
+  mendelian-rank x lx =
+      sym (mendelian-renamed (ranked rows) (ancestry_of rows) (number_of_row rows) (ranked-lawful l most rows f) (frozen-renamed l most rows f) l x (rank-in (length rows) x lx))
 
-  -- an entry of two places is that of their numbers
-  pub entry-place : (k i j : ℕ) → i < length rows → j < length rows →
-      entry (placed rows) k (Some i) (Some j) ≡ entry (ancestry_of rows) k (Some (number_of_row rows i)) (Some (number_of_row rows j))
-  entry-place k i j li lj =
-      sym (entry-renamed (placed rows) (ancestry_of rows) (number_of_row rows) (placed-lawful l most rows f) (frozen-renamed l most rows f) k (Some i) (Some j)
-      (known_some (placed rows) i (place-in (length rows) i li)) (known_some (placed rows) j (place-in (length rows) j lj)))
+  -- an entry of two ranks is that of their numbers
+  pub entry-rank : (k i j : ℕ) → i < length rows → j < length rows →
+      entry (ranked rows) k (Some i) (Some j) ≡ entry (ancestry_of rows) k (Some (number_of_row rows i)) (Some (number_of_row rows j))
+  entry-rank k i j li lj =
+      sym (entry-renamed (ranked rows) (ancestry_of rows) (number_of_row rows) (ranked-lawful l most rows f) (frozen-renamed l most rows f) k (Some i) (Some j)
+      (known_some (ranked rows) i (rank-in (length rows) i li)) (known_some (ranked rows) j (rank-in (length rows) j lj)))
 
   -- the entry of an animal with itself, less the whole, is its coefficient
   frozen-inbred : (x : ℕ) → x < length rows →
@@ -152,18 +152,18 @@ module _ (l most : ℕ) (rows : List Row) (f : IsFrozen l most rows) where
       let below = frozen-coefficient_bound x lx in
       rw is (omega (arith, below))
 
-  no_number : (o : Option ℕ) (p : Option (List ℕ)) → IsParentPlace rows p o → o ≡ None → p ≡ None
+  no_number : (o : Option ℕ) (p : Option (List ℕ)) → IsParentRank rows p o → o ≡ None → p ≡ None
   no_number None p at e = sym at.number
   no_number (Some q) p at e = absurd (cc)
 
   -- where a parent is unknown the coefficient is 0
-  pub coefficient-unknown : (x : ℕ) → x < length rows → (sire_place rows x ≡ None) ⊎ (dam_place rows x ≡ None) → coefficient (ancestry_of rows) l (number_of_row rows x) ≡ 0
+  pub coefficient-unknown : (x : ℕ) → x < length rows → (sire_rank rows x ≡ None) ⊎ (dam_rank rows x ≡ None) → coefficient (ancestry_of rows) l (number_of_row rows x) ≡ 0
   coefficient-unknown x lx none =
       coefficient-none (ancestry_of rows) l (number_of_row rows x)
-      (⊎_elim (λ s. inl (no_number (sire_place rows x) _ (sire_at l most rows f x lx) s)) (λ d. inr (no_number (dam_place rows x) _ (dam_at l most rows f x lx) d)) none)
+      (⊎_elim (λ s. inl (no_number (sire_rank rows x) _ (sire_at l most rows f x lx) s)) (λ d. inr (no_number (dam_rank rows x) _ (dam_at l most rows f x lx) d)) none)
 
   -- where a parent is unknown the entry of the animal with itself is the whole
-  entry-unknown : (x : ℕ) → x < length rows → (sire_place rows x ≡ None) ⊎ (dam_place rows x ≡ None) →
+  entry-unknown : (x : ℕ) → x < length rows → (sire_rank rows x ≡ None) ⊎ (dam_rank rows x ≡ None) →
       own_relationship l rows x ≡ 2 ^ (2 * l)
   entry-unknown x lx none =
       entry-itself (ancestry_of rows) (frozen-lawful l most rows f) l (number_of_row rows x) (below_limit x lx)
@@ -184,11 +184,11 @@ module _ (l most : ℕ) (rows : List Row) (f : IsFrozen l most rows) where
   -- an ancestor stands below
   ancestor-below : (x p : ℕ) → x < length rows → p < length rows → IsAncestor (ancestry_of rows) (number_of_row rows p) (number_of_row rows x) → p < x
   ancestor-below x p lx lp a =
-      let at = line_to-places l most rows f (suc a.0) x (number_of_row rows p) lx a.1 in
-      let low : at.0 < x = ltb-true at.0 x (ancestor-before (placed rows) (placed-lawful l most rows f) a.0 x at.0 (place-in (length rows) x lx) at.1) in
-      subst (λ v. v < x) (same_place l most rows f at.0 p at.3 lp at.2) low
+      let at = path_to-ranks l most rows f (suc a.0) x (number_of_row rows p) lx a.1 in
+      let low : at.0 < x = ltb-true at.0 x (ancestor-before (ranked rows) (ranked-lawful l most rows f) a.0 x at.0 (rank-in (length rows) x lx) at.1) in
+      subst (λ v. v < x) (same_rank l most rows f at.0 p at.3 lp at.2) low
 
-  -- right coefficients of all places below make the ancestors known
+  -- right coefficients of all ranks below make the ancestors known
   pub known-from_below : (known : List ℕ) (x : ℕ) → x < length rows → length known ≡ length rows →
       ((p : ℕ) → p < x → get_or known p 0 ≡ coefficient (ancestry_of rows) l (number_of_row rows p)) → KnowsAncestors l rows known x
   known-from_below known x lx each right = record { each = each; right = λ p lp a. right p (ancestor-below x p lx lp a) }
@@ -197,11 +197,11 @@ module _ (l most : ℕ) (rows : List Row) (f : IsFrozen l most rows) where
   ancestor-less_deep : (x p : ℕ) → x < length rows → p < length rows → IsAncestor (ancestry_of rows) (number_of_row rows p) (number_of_row rows x) →
       depth_at rows p < depth_at rows x
   ancestor-less_deep x p lx lp a =
-      let at = line_to-places l most rows f (suc a.0) x (number_of_row rows p) lx a.1 in
-      let line : LineTo (placed rows) (suc a.0) x p = subst (λ v. LineTo (placed rows) (suc a.0) x v) (same_place l most rows f at.0 p at.3 lp at.2) at.1 in
+      let at = path_to-ranks l most rows f (suc a.0) x (number_of_row rows p) lx a.1 in
+      let path : PathTo (ranked rows) (suc a.0) x p = subst (λ v. PathTo (ranked rows) (suc a.0) x v) (same_rank l most rows f at.0 p at.3 lp at.2) at.1 in
       let longer : suc a.0 + depth_at rows p ≤ depth_at rows x =
-      (placed-depth l most rows f x lx).1 (suc a.0 + depth_at rows p)
-      (line-joined (placed rows) (placed-lawful l most rows f) (suc a.0) (depth_at rows p) x p (place-in (length rows) x lx) line (placed-depth l most rows f p lp).0) in
+      (ranked-depth l most rows f x lx).1 (suc a.0 + depth_at rows p)
+      (path-joined (ranked rows) (ranked-lawful l most rows f) (suc a.0) (depth_at rows p) x p (rank-in (length rows) x lx) path (ranked-depth l most rows f p lp).0) in
       omega arith
 
   -- right coefficients of all animals that are less deep make the ancestors known

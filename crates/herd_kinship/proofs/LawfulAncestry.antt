@@ -1,4 +1,4 @@
--- What a lawful ancestry is, its lines and depths, and ancestries that differ in the names of the animals alone.
+-- What a lawful ancestry is, its paths and depths, and ancestries that differ in the names of the animals alone.
 use Rattle.std.proofs.Common.{ℕ, zero, suc, ◌+◌, ◌≤◌, ◌≡◌, ◌⊎◌, ◌↔◌, IsTrue, Some, Contains, map}
 use Rattle.std.specs.List.{count_by}
 use Rattle.std.specs.List.Sorted.{IsPermutation}
@@ -17,18 +17,18 @@ pub record IsLawful {A : Type 0} (kin : Ancestry A) : Type 0 where
   pub parents : (p x : A) → Contains kin.animals x → IsParentIn kin p x →
       Contains kin.animals p × IsTrue (kin.before p x)
 
--- from the animal x there is a line of n steps, each to a known parent
-unfoldable pub Line : {A : Type 0} → Ancestry A → ℕ → A → Type 0
-Line kin zero x = Contains kin.animals x
-Line {A} kin (suc n) x = Contains kin.animals x × ((p : A) × IsParentIn kin p x × Line kin n p)
+-- from the animal x there is a path of n steps, each to a known parent
+unfoldable pub Path : {A : Type 0} → Ancestry A → ℕ → A → Type 0
+Path kin zero x = Contains kin.animals x
+Path {A} kin (suc n) x = Contains kin.animals x × ((p : A) × IsParentIn kin p x × Path kin n p)
 
--- the longest line from x has n steps
+-- the longest path from x has n steps
 abbrev pub IsDepth : {A : Type 0} → Ancestry A → A → ℕ → Type 0
-IsDepth kin x n = Line kin n x × ((m : ℕ) → Line kin m x → m ≤ n)
+IsDepth kin x n = Path kin n x × ((m : ℕ) → Path kin m x → m ≤ n)
 
--- no line is longer than l
+-- no path is longer than l
 abbrev pub IsShallow : {A : Type 0} → Ancestry A → ℕ → Type 0
-IsShallow {A} kin l = (x : A) → ¬ (Line kin (l + 1) x)
+IsShallow {A} kin l = (x : A) → ¬ (Path kin (l + 1) x)
 
 -- kin' is the ancestry kin with each animal x named φ x
 pub record IsRenamed {A B : Type 0} (kin : Ancestry A) (kin' : Ancestry B) (φ : A → B) : Type 0 where

@@ -16,9 +16,9 @@ pub mod Renamed
 pub mod Decompose
 pub mod ColumnSums
 pub mod RowProducts
--- a frozen book as an ancestry, by numbers and by places
+-- a frozen book as an ancestry, by numbers and by ranks
 pub mod BookFacts
-pub mod Places
+pub mod Ranks
 pub mod FrozenFacts
 pub mod FrozenDepths
 pub mod ParentsFacts

@@ -7,16 +7,16 @@ use Rattle.herd_pedigree.specs.declared.TheConstants.{MOST_ANIMALS}
 use Rattle.herd_pedigree.specs.declared.freezing.frozen.Row.{Row}
 use Rattle.herd_pedigree.specs.rules.Book.{Book, is_there, parentage_of, record_of, IsDepthOf}
 use Rattle.herd_pedigree.specs.freezing.Frozen.{IsFrozen, book_of, depth_at, numbers_of}
-use Rattle.herd_pedigree.specs.rules.Lines.{has_line}
+use Rattle.herd_pedigree.specs.rules.Paths.{has_path}
 use Rattle.herd_kinship.specs.FrozenAncestry.{ancestry_of, number_of_row}
 use Rattle.herd_kinship.specs.Mating.{ArePair, is_deepest, mating_fault}
 use Rattle.herd_kinship.specs.declared.mating_advice.MatingFault.TheVariants.{SireMissing, DamMissing, SireNotMale, DamNotFemale, TooDeep}
-use Rattle.herd_kinship.specs.Places.{placed}
+use Rattle.herd_kinship.specs.Ranks.{ranked}
 use Rattle.herd_kinship.specs.Table.{entry}
-use Rattle.herd_kinship.proofs.FrozenFacts.{length-numbers_of, number_of_row-is, placed-lawful, record_at-row, row_at}
-use Rattle.herd_kinship.proofs.FrozenDepths.{depth_at-row, depth-at_most, placed-below_depth}
+use Rattle.herd_kinship.proofs.FrozenFacts.{length-numbers_of, number_of_row-is, ranked-lawful, record_at-row, row_at}
+use Rattle.herd_kinship.proofs.FrozenDepths.{depth_at-row, depth-at_most, ranked-below_depth}
 use Rattle.herd_kinship.proofs.Depth.{unit}
-use Rattle.herd_kinship.proofs.KnownFacts.{entry-place}
+use Rattle.herd_kinship.proofs.KnownFacts.{entry-rank}
 
 -- the first fault, by the tests
 module _ (l : ℕ) (book : Book) (s d : List ℕ) where
@@ -47,32 +47,32 @@ module _ (l : ℕ) (book : Book) (s d : List ℕ) where
   no-fault a b e f g = rw (a, b, e, f, g) refl
 
 module _ (l : ℕ) (rows : List Row) (f : IsFrozen l MOST_ANIMALS rows) (n : List ℕ) (i : ℕ) (at : slice_get (numbers_of rows) i ≡ Some n) where
-  -- what is found at a place is in the book
-  pub place-within : i < length rows
-  place-within = let a = slice_get_within (numbers_of rows) i n at in let b = length-numbers_of rows in omega arith
+  -- what is found at a rank is in the book
+  pub rank-within : i < length rows
+  rank-within = let a = slice_get_within (numbers_of rows) i n at in let b = length-numbers_of rows in omega arith
 
-  pub place-number : number_of_row rows i ≡ n
-  place-number = get_or_from_slice_get (numbers_of rows) i n [] at
+  pub rank-number : number_of_row rows i ≡ n
+  rank-number = get_or_from_slice_get (numbers_of rows) i n [] at
 
-  pub place-there : is_there (book_of rows) n ≡ true
-  place-there =
-      let r = row_at rows i place-within in
-      let same : r.0.number ≡ n = sym (number_of_row-is rows i r.0 r.1) ∙ place-number in
+  pub rank-there : is_there (book_of rows) n ≡ true
+  rank-there =
+      let r = row_at rows i rank-within in
+      let same : r.0.number ≡ n = sym (number_of_row-is rows i r.0 r.1) ∙ rank-number in
       let found : record_of (book_of rows) n ≡ Some r.0.animal = subst (λ v. record_of (book_of rows) v ≡ Some r.0.animal) same (record_at-row l MOST_ANIMALS rows f i r.0 r.1) in
       rw found refl
 
   depth-of : IsDepthOf (book_of rows) n (depth_at rows i)
   depth-of =
-      let r = row_at rows i place-within in
-      let same : r.0.number ≡ n = sym (number_of_row-is rows i r.0 r.1) ∙ place-number in
+      let r = row_at rows i rank-within in
+      let same : r.0.number ≡ n = sym (number_of_row-is rows i r.0 r.1) ∙ rank-number in
       rw (depth_at-row rows i r.0 r.1) (subst (λ v. IsDepthOf (book_of rows) v r.0.depth) same (f.each i r.0 r.1).depth)
 
-  -- an animal of the greatest depth has a line of that length
+  -- an animal of the greatest depth has a path of that length
   pub deepest-true : l ≤ depth_at rows i → is_deepest l (book_of rows) n ≡ true
   deepest-true high =
-      let limit = depth-at_most l MOST_ANIMALS rows f i place-within in
+      let limit = depth-at_most l MOST_ANIMALS rows f i rank-within in
       let same : depth_at rows i ≡ l = omega arith in
-      subst (λ v. has_line (parentage_of (book_of rows)) v n ≡ true) same depth-of.reached
+      subst (λ v. has_path (parentage_of (book_of rows)) v n ≡ true) same depth-of.reached
 
   pub deepest-false : depth_at rows i < l → is_deepest l (book_of rows) n ≡ false
   deepest-false low =
@@ -89,9 +89,9 @@ mating-half l rows s d i j v pos pair is =
     let low' = pair.dam_less_deep in
     let k : ℕ = 2 * l - 1 in
     let next : 2 * l ≡ suc k = omega arith in
-    let step = unit (placed rows) (placed-lawful l MOST_ANIMALS rows f) k (Some i) (Some j) (suc (depth_at rows i)) (suc (depth_at rows j))
-    (placed-below_depth l MOST_ANIMALS rows f i li) (placed-below_depth l MOST_ANIMALS rows f j lj) (omega arith) in
-    let whole : v ≡ 2 * entry (placed rows) k (Some i) (Some j) =
-    is ∙ (sym (entry-place l MOST_ANIMALS rows f (2 * l) i j li lj) ∙ (ap (λ n. entry (placed rows) n (Some i) (Some j)) next ∙ step)) in
-    let half : v / 2 ≡ entry (placed rows) k (Some i) (Some j) = omega (arith, whole) in
-    half ∙ (entry-place l MOST_ANIMALS rows f k i j li lj ∙ rw (pair.sire_is, pair.dam_is) refl)
+    let step = unit (ranked rows) (ranked-lawful l MOST_ANIMALS rows f) k (Some i) (Some j) (suc (depth_at rows i)) (suc (depth_at rows j))
+    (ranked-below_depth l MOST_ANIMALS rows f i li) (ranked-below_depth l MOST_ANIMALS rows f j lj) (omega arith) in
+    let whole : v ≡ 2 * entry (ranked rows) k (Some i) (Some j) =
+    is ∙ (sym (entry-rank l MOST_ANIMALS rows f (2 * l) i j li lj) ∙ (ap (λ n. entry (ranked rows) n (Some i) (Some j)) next ∙ step)) in
+    let half : v / 2 ≡ entry (ranked rows) k (Some i) (Some j) = omega (arith, whole) in
+    half ∙ (entry-rank l MOST_ANIMALS rows f k i j li lj ∙ rw (pair.sire_is, pair.dam_is) refl)

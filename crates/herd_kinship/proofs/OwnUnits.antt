@@ -5,7 +5,7 @@ use Rattle.std.proofs.Math.Pow.{pow_pos}
 use Rattle.std.proofs.lemmas.Nat.{pow-add}
 use Rattle.herd_kinship.specs.Ancestry.{Ancestry}
 use Rattle.herd_kinship.specs.Shares.{share}
-use Rattle.herd_kinship.proofs.LawfulAncestry.{IsLawful, Line}
+use Rattle.herd_kinship.proofs.LawfulAncestry.{IsLawful, Path}
 use Rattle.herd_kinship.proofs.Depth.{Below}
 use Rattle.herd_kinship.proofs.Exact.{share-finer}
 use Rattle.herd_kinship.proofs.Brought.{cancel}
@@ -21,11 +21,11 @@ half-own l gx gy gp s lx lp =
     ap (λ n. n / 2) doubled ∙ (mul-div_cancel_left (s * 2 ^ r) (let p : 0 < 2 = omega arith in p) ∙ rw split (omega arith))
 
 -- what is pending at an ancestor, once nothing younger is pending, is its share in its own unit
-pub share-own : {A : Type 0} (kin : Ancestry A) → IsLawful kin → (l gx gy s : ℕ) (x y : A) → gx ≤ l → gy ≤ gx → Below kin (suc gx) (Some x) → Line kin gy y →
+pub share-own : {A : Type 0} (kin : Ancestry A) → IsLawful kin → (l gx gy s : ℕ) (x y : A) → gx ≤ l → gy ≤ gx → Below kin (suc gx) (Some x) → Path kin gy y →
     s * 2 ^ (l - gx + gy) ≡ share kin l (Some x) y → s ≡ share kin (gx - gy) (Some x) y
-share-own kin w l gx gy s x y lx ly b line e =
+share-own kin w l gx gy s x y lx ly b path e =
     let d : ℕ = l - gx + gy in
     let f : share kin l (Some x) y ≡ 2 ^ d * share kin (gx - gy) (Some x) y =
     ap (λ n. share kin n (Some x) y) (let q : l ≡ d + (gx - gy) = omega arith in q)
-    ∙ share-finer kin w d (gx - gy) (Some x) y (suc gx) gy b line (omega arith) in
+    ∙ share-finer kin w d (gx - gy) (Some x) y (suc gx) gy b path (omega arith) in
     cancel (2 ^ d) s (share kin (gx - gy) (Some x) y) (pow_pos d) (let q : 2 ^ d * s ≡ share kin l (Some x) y = omega (arith, e) in q ∙ f)

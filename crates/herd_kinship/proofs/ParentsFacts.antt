@@ -1,16 +1,16 @@
--- What the parents and the depth of a row say of its place.
+-- What the parents and the depth of a row say of its rank.
 use Rattle.std.proofs.Common.{ℕ, ◌<◌, ◌≤◌, ◌≡◌, List, length, refl, sym, ◌∙◌, ap, subst}
 use Rattle.std.proofs.lemmas.Option.{slice_get_within}
 use Rattle.herd_pedigree.specs.declared.freezing.frozen.Parents.{Parents}
 use Rattle.herd_pedigree.specs.declared.freezing.frozen.Row.{Row}
 use Rattle.herd_pedigree.specs.freezing.Frozen.{IsFrozen, depth_at}
-use Rattle.herd_kinship.specs.Places.{AreParentsAt, sire_place, dam_place}
+use Rattle.herd_kinship.specs.Ranks.{AreParentsAt, sire_rank, dam_rank}
 use Rattle.herd_kinship.proofs.FrozenDepths.{depth_at-row, depth-at_most}
 
-pub parents-sire : (rows : List Row) (i : ℕ) (parents : Parents) → AreParentsAt rows i parents → sire_place rows i ≡ parents.sire
+pub parents-sire : (rows : List Row) (i : ℕ) (parents : Parents) → AreParentsAt rows i parents → sire_rank rows i ≡ parents.sire
 parents-sire rows i parents at = rw (at.there, at.same) refl
 
-pub parents-dam : (rows : List Row) (i : ℕ) (parents : Parents) → AreParentsAt rows i parents → dam_place rows i ≡ parents.dam
+pub parents-dam : (rows : List Row) (i : ℕ) (parents : Parents) → AreParentsAt rows i parents → dam_rank rows i ≡ parents.dam
 parents-dam rows i parents at = rw (at.there, at.same) refl
 
 pub parents-depth : (rows : List Row) (i : ℕ) (parents : Parents) → AreParentsAt rows i parents → depth_at rows i ≡ parents.depth

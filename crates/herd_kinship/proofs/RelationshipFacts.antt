@@ -1,4 +1,4 @@
--- The relationships of one animal with all, by places and by numbers, and the mating that they tell.
+-- The relationships of one animal with all, by ranks and by numbers, and the mating that they tell.
 use Rattle.std.proofs.Common.{ℕ, ◌*◌, ◌-◌, ◌/◌, ◌<◌, ◌≡◌, ◌++◌, [], List, length, get_or, slice_get, take, drop, Some, true, false, arith, sym, ◌∙◌, ap, subst}
 use Rattle.std.proofs.lemmas.List.{take_all, take-append-le}
 use Rattle.std.proofs.lemmas.Option.{slice_get-get_or}
@@ -12,9 +12,9 @@ use Rattle.herd_kinship.specs.Mating.{ArePair, AreRelationshipsOf}
 use Rattle.herd_kinship.specs.Table.{entry}
 use Rattle.herd_kinship.proofs.Decompose.{entry-swap}
 use Rattle.herd_kinship.proofs.Depth.{known_some}
-use Rattle.herd_kinship.proofs.FrozenFacts.{frozen-lawful, frozen-member, length-numbers_of, same_place}
-use Rattle.herd_kinship.proofs.KnownFacts.{entry-place}
-use Rattle.herd_kinship.proofs.MatingFacts.{mating-half, place-number, place-there, place-within}
+use Rattle.herd_kinship.proofs.FrozenFacts.{frozen-lawful, frozen-member, length-numbers_of, same_rank}
+use Rattle.herd_kinship.proofs.KnownFacts.{entry-rank}
+use Rattle.herd_kinship.proofs.MatingFacts.{mating-half, rank-number, rank-there, rank-within}
 
 numbers-at : (rows : List Row) (p : ℕ) (number : List ℕ) → p < length rows → number_of_row rows p ≡ number → slice_get (numbers_of rows) p ≡ Some number
 numbers-at rows p number lp e = slice_get-get_or (numbers_of rows) p [] (let all = length-numbers_of rows in omega arith) ∙ ap Some e
@@ -25,26 +25,26 @@ written n new old is = take-append-le n new (drop (length new) old) (omega arith
 
 module _ (l : ℕ) (rows : List Row) (f : IsFrozen l MOST_ANIMALS rows) where
   -- by the numbers of the animals
-  pub relationships-made : (place : ℕ) (column : List ℕ) → place < length rows → length column ≡ length rows →
-      ((j : ℕ) → j < length rows → get_or column j 0 ≡ related l rows place (Some j)) → AreRelationships l rows place column
-  relationships-made place column lp each right = record {
+  pub relationships-made : (rank : ℕ) (column : List ℕ) → rank < length rows → length column ≡ length rows →
+      ((j : ℕ) → j < length rows → get_or column j 0 ≡ related l rows rank (Some j)) → AreRelationships l rows rank column
+  relationships-made rank column lp each right = record {
     each = each;
-    right = λ j lj. right j lj ∙ entry-place l MOST_ANIMALS rows f (2 * l) place j lp lj;
+    right = λ j lj. right j lj ∙ entry-rank l MOST_ANIMALS rows f (2 * l) rank j lp lj;
   }
 
-  -- the place of a number is one alone
-  pub relationships-of : (place : ℕ) (number column : List ℕ) → slice_get (numbers_of rows) place ≡ Some number → AreRelationships l rows place column →
+  -- the rank of a number is one alone
+  pub relationships-of : (rank : ℕ) (number column : List ℕ) → slice_get (numbers_of rows) rank ≡ Some number → AreRelationships l rows rank column →
       AreRelationshipsOf l rows number column
-  relationships-of place number column at are =
+  relationships-of rank number column at are =
       λ p lp e.
-      let same : place ≡ p = same_place l MOST_ANIMALS rows f place p (place-within l rows f number place at) lp (place-number l rows f number place at ∙ sym e) in
+      let same : rank ≡ p = same_rank l MOST_ANIMALS rows f rank p (rank-within l rows f number rank at) lp (rank-number l rows f number rank at ∙ sym e) in
       subst (λ v. AreRelationships l rows v column) same are
 
   -- an animal that isn't there
   pub relationships-absent : (number column : List ℕ) → is_there (book_of rows) number ≡ false → AreRelationshipsOf l rows number column
   relationships-absent number column absent =
       λ p lp e.
-      let there : is_there (book_of rows) number ≡ true = place-there l rows f number p (numbers-at rows p number lp e) in
+      let there : is_there (book_of rows) number ≡ true = rank-there l rows f number p (numbers-at rows p number lp e) in
       absurd (cc)
 
 -- the coefficient of a calf of the two

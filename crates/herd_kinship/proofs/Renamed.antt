@@ -5,7 +5,7 @@ use Rattle.std.proofs.lemmas.List.Sorted.{Contains-permutation}
 use Rattle.std.proofs.lemmas.List.Elements.{All-contains, All-nil, All-cons, All-weaker, Contains-append_left, Contains-append_right}
 use Rattle.herd_kinship.specs.Ancestry.{Ancestry, IsParentIn}
 use Rattle.herd_kinship.specs.Table.{entry, coefficient, mendelian}
-use Rattle.herd_kinship.proofs.LawfulAncestry.{Line, IsShallow, IsLawful, IsRenamed}
+use Rattle.herd_kinship.proofs.LawfulAncestry.{Path, IsShallow, IsLawful, IsRenamed}
 use Rattle.herd_kinship.proofs.Table.{entry-none_left, entry-none_right, entry-start, entry-step}
 use Rattle.herd_kinship.proofs.Depth.{IsKnown, known-sire, known-dam}
 
@@ -67,17 +67,17 @@ all_mapped f (x ∷ xs) =
 Contains-map : {X Y : Type 0} (f : X → Y) (xs : List X) (x : X) → Contains xs x → Contains (map f xs) (f x)
 Contains-map f xs x c = All-contains (λ v. Contains (map f xs) (f v)) xs x (all_mapped f xs) c
 
--- lines keep their lengths
-pub line-renamed : {A B : Type 0} (kin : Ancestry A) (g : Ancestry B) (φ : A → B) → IsLawful kin → IsRenamed kin g φ → (n : ℕ) (x : A) → Line kin n x → Line g n (φ x)
-unfolding Line
-line-renamed kin g φ w r zero x line =
-    Contains-permutation (map φ kin.animals) g.animals (φ x) r.animals (Contains-map φ kin.animals x line)
-line-renamed {A} {B} kin g φ w r (suc n) x line =
-    let p : A = line.1.0 in
-    let here = Contains-permutation (map φ kin.animals) g.animals (φ x) r.animals (Contains-map φ kin.animals x line.0) in
+-- paths keep their lengths
+pub path-renamed : {A B : Type 0} (kin : Ancestry A) (g : Ancestry B) (φ : A → B) → IsLawful kin → IsRenamed kin g φ → (n : ℕ) (x : A) → Path kin n x → Path g n (φ x)
+unfolding Path
+path-renamed kin g φ w r zero x path =
+    Contains-permutation (map φ kin.animals) g.animals (φ x) r.animals (Contains-map φ kin.animals x path)
+path-renamed {A} {B} kin g φ w r (suc n) x path =
+    let p : A = path.1.0 in
+    let here = Contains-permutation (map φ kin.animals) g.animals (φ x) r.animals (Contains-map φ kin.animals x path.0) in
     let is : IsParentIn g (φ p) (φ x) =
-    ⊎_elim (λ e. inl (r.sire x line.0 ∙ ap (option_map φ) e)) (λ e. inr (r.dam x line.0 ∙ ap (option_map φ) e)) line.1.1 in
-    (here, (φ p, is, line-renamed kin g φ w r n p line.1.2))
+    ⊎_elim (λ e. inl (r.sire x path.0 ∙ ap (option_map φ) e)) (λ e. inr (r.dam x path.0 ∙ ap (option_map φ) e)) path.1.1 in
+    (here, (φ p, is, path-renamed kin g φ w r n p path.1.2))
 
 pub shallow-renamed : {A B : Type 0} (kin : Ancestry A) (g : Ancestry B) (φ : A → B) → IsLawful kin → IsRenamed kin g φ → (l : ℕ) → IsShallow g l → IsShallow kin l
-shallow-renamed kin g φ w r l f x line = f (φ x) (line-renamed kin g φ w r (l + 1) x line)
+shallow-renamed kin g φ w r l f x path = f (φ x) (path-renamed kin g φ w r (l + 1) x path)

@@ -8,17 +8,17 @@ use Rattle.herd_pedigree.specs.declared.freezing.frozen.Parents.{Parents}
 use Rattle.herd_pedigree.specs.declared.freezing.frozen.Row.{Row}
 use Rattle.herd_pedigree.specs.declared.TheConstants.{MOST_ANIMALS}
 use Rattle.herd_pedigree.specs.freezing.Frozen.{IsFrozen, depth_at}
-use Rattle.herd_kinship.specs.Ancestry.{LineTo}
+use Rattle.herd_kinship.specs.Ancestry.{PathTo}
 use Rattle.herd_kinship.specs.Shares.{share}
-use Rattle.herd_kinship.specs.Places.{AreParentsAt, sire_place, dam_place, placed}
+use Rattle.herd_kinship.specs.Ranks.{AreParentsAt, sire_rank, dam_rank, ranked}
 use Rattle.herd_kinship.specs.Tracing.{brought, given, kept_share, HasRoom, IsTracing, IsNext, IsShareOf}
-use Rattle.herd_kinship.proofs.Ancestors.{share-reached, line-joined}
+use Rattle.herd_kinship.proofs.Ancestors.{share-reached, path-joined}
 use Rattle.herd_kinship.proofs.Brought.{brought-agree, brought-more, brought-none, brought-add, share-within, of_known, cancel, own-share, lowered, passed_on}
-use Rattle.herd_kinship.proofs.FrozenDepths.{placed-depth, placed-below_depth, depth-at_most, parent-less_deep}
-use Rattle.herd_kinship.proofs.FrozenFacts.{frozen-placed, placed-lawful, placed-shallow}
+use Rattle.herd_kinship.proofs.FrozenDepths.{ranked-depth, ranked-below_depth, depth-at_most, parent-less_deep}
+use Rattle.herd_kinship.proofs.FrozenFacts.{frozen-ranked, ranked-lawful, ranked-shallow}
 use Rattle.herd_kinship.proofs.OwnUnits.{half-own, share-own}
 use Rattle.herd_kinship.proofs.ParentsFacts.{parents-depth}
-use Rattle.herd_kinship.proofs.Places.{place-in}
+use Rattle.herd_kinship.proofs.Ranks.{rank-in}
 
 pub length-given : (rows : List Row) (x : ℕ) (shares : List ℕ) (y own : ℕ) (o : Option ℕ) → length (given rows x shares y own o) ≡ length shares
 length-given rows x shares y own None = refl
@@ -117,23 +117,23 @@ le_halves s a b la lb =
     omega arith
 
 module _ (l : ℕ) (rows : List Row) (f : IsFrozen l MOST_ANIMALS rows) where
-  lower-sire : (y : ℕ) → y < length rows → IsLower rows y (sire_place rows y)
+  lower-sire : (y : ℕ) → y < length rows → IsLower rows y (sire_rank rows y)
   lower-sire y ly p e =
-      let low : p < y = (frozen-placed l MOST_ANIMALS rows f).below y p ly (inl e) in
+      let low : p < y = (frozen-ranked l MOST_ANIMALS rows f).below y p ly (inl e) in
       (low, parent-less_deep l MOST_ANIMALS rows f y p ly (omega arith) (inl e))
 
-  lower-dam : (y : ℕ) → y < length rows → IsLower rows y (dam_place rows y)
+  lower-dam : (y : ℕ) → y < length rows → IsLower rows y (dam_rank rows y)
   lower-dam y ly p e =
-      let low : p < y = (frozen-placed l MOST_ANIMALS rows f).below y p ly (inr e) in
+      let low : p < y = (frozen-ranked l MOST_ANIMALS rows f).below y p ly (inr e) in
       (low, parent-less_deep l MOST_ANIMALS rows f y p ly (omega arith) (inr e))
 
-  -- the share that is kept for the youngest pending place is all that x has of it
+  -- the share that is kept for the youngest pending rank is all that x has of it
   kept-is : (x y : ℕ) (shares : List ℕ) → IsTracing l rows x (y + 1) shares →
-      kept_share l rows x shares y ≡ share (placed rows) l (Some x) y
+      kept_share l rows x shares y ≡ share (ranked rows) l (Some x) y
   kept-is x y shares t =
-      let lx : x < length rows = t.place in
+      let lx : x < length rows = t.rank in
       let b : y + 1 ≤ x + 1 = t.border_in in
-      own-share (length rows) (sire_place rows) (dam_place rows) (frozen-placed l MOST_ANIMALS rows f) l (placed-shallow l MOST_ANIMALS rows f) x y
+      own-share (length rows) (sire_rank rows) (dam_rank rows) (frozen-ranked l MOST_ANIMALS rows f) l (ranked-shallow l MOST_ANIMALS rows f) x y
       (kept_share l rows x shares) (omega arith) t.pending
 
   -- where nothing is kept for it the border goes down
@@ -147,11 +147,11 @@ module _ (l : ℕ) (rows : List Row) (f : IsFrozen l MOST_ANIMALS rows) where
       let b : y + 1 ≤ x + 1 = t.border_in in
       record {
         book = f;
-        place = t.place;
+        rank = t.rank;
         border_in = omega arith;
         long = t.long;
         whole = omega (arith, more, all);
-        pending = lowered (length rows) (sire_place rows) (dam_place rows) (frozen-placed l MOST_ANIMALS rows f) l (placed-shallow l MOST_ANIMALS rows f) x y kept zero t.pending;
+        pending = lowered (length rows) (sire_rank rows) (dam_rank rows) (frozen-ranked l MOST_ANIMALS rows f) l (ranked-shallow l MOST_ANIMALS rows f) x y kept zero t.pending;
         met = λ d above.
             ⊎_elim
             (λ (e : x - y ≡ d). subst (λ v. get_or shares v 0 ≡ 0) e none)
@@ -161,7 +161,7 @@ module _ (l : ℕ) (rows : List Row) (f : IsFrozen l MOST_ANIMALS rows) where
 
   abbrev pub passed : ℕ → ℕ → List ℕ → List ℕ
   passed x y shares =
-      given rows x (given rows x (emptied x y shares) y (get_or shares (x - y) 0) (sire_place rows y)) y (get_or shares (x - y) 0) (dam_place rows y)
+      given rows x (given rows x (emptied x y shares) y (get_or shares (x - y) 0) (sire_rank rows y)) y (get_or shares (x - y) 0) (dam_rank rows y)
 
   emptied-long : (x y : ℕ) (shares : List ℕ) → x < length shares → x < length (emptied x y shares)
   emptied-long x y shares long = let e = length-set shares (x - y) 0 in omega (arith, e, long)
@@ -172,19 +172,19 @@ module _ (l : ℕ) (rows : List Row) (f : IsFrozen l MOST_ANIMALS rows) where
   grown : (x y : ℕ) (shares : List ℕ) → IsTracing l rows x (y + 1) shares → (has : ℕ → ℕ) →
       brought (kept_share l rows x (passed x y shares)) y has
       ≡ brought (kept_share l rows x shares) y has
-      + (kept_share l rows x shares y / 2 * of_known has (sire_place rows y) + kept_share l rows x shares y / 2 * of_known has (dam_place rows y))
+      + (kept_share l rows x shares y / 2 * of_known has (sire_rank rows y) + kept_share l rows x shares y / 2 * of_known has (dam_rank rows y))
   grown x y shares t has =
       let own : ℕ = get_or shares (x - y) 0 in
-      let lx : x < length rows = t.place in
+      let lx : x < length rows = t.rank in
       let b : y + 1 ≤ x + 1 = t.border_in in
       let ly : y < length rows = omega arith in
       let limit = depth-at_most l MOST_ANIMALS rows f x lx in
       let empty = emptied x y shares in
-      let first = given rows x empty y own (sire_place rows y) in
+      let first = given rows x empty y own (sire_rank rows y) in
       let same = brought-emptied l rows x y shares has (omega arith) in
       let long = emptied-long x y shares t.long in
-      let a = brought-given l rows x limit empty y own (sire_place rows y) has (omega arith) long (lower-sire y ly) in
-      let c = brought-given l rows x limit first y own (dam_place rows y) has (omega arith) (given-long x empty y own (sire_place rows y) long) (lower-dam y ly) in
+      let a = brought-given l rows x limit empty y own (sire_rank rows y) has (omega arith) long (lower-sire y ly) in
+      let c = brought-given l rows x limit first y own (dam_rank rows y) has (omega arith) (given-long x empty y own (sire_rank rows y) long) (lower-dam y ly) in
       omega (arith, same, a, c)
 
   -- and else its share is passed on to its parents
@@ -193,26 +193,26 @@ module _ (l : ℕ) (rows : List Row) (f : IsFrozen l MOST_ANIMALS rows) where
       let own : ℕ = get_or shares (x - y) 0 in
       let kept : ℕ → ℕ = kept_share l rows x shares in
       let empty = emptied x y shares in
-      let first = given rows x empty y own (sire_place rows y) in
-      let lx : x < length rows = t.place in
+      let first = given rows x empty y own (sire_rank rows y) in
+      let lx : x < length rows = t.rank in
       let b : y + 1 ≤ x + 1 = t.border_in in
       let ly : y < length rows = omega arith in
       let long = emptied-long x y shares t.long in
       let more = brought-more kept y (λ _. 1) in
       let all = t.whole in
       let g = grown x y shares t (λ _. 1) in
-      let h = le_halves (kept y) _ _ (known_one (sire_place rows y)) (known_one (dam_place rows y)) in
+      let h = le_halves (kept y) _ _ (known_one (sire_rank rows y)) (known_one (dam_rank rows y)) in
       record {
         book = f;
-        place = lx;
+        rank = lx;
         border_in = omega arith;
-        long = given-long x first y own (dam_place rows y) (given-long x empty y own (sire_place rows y) long);
+        long = given-long x first y own (dam_rank rows y) (given-long x empty y own (sire_rank rows y) long);
         whole = omega (arith, more, all, g, h);
-        pending = passed_on (length rows) (sire_place rows) (dam_place rows) (frozen-placed l MOST_ANIMALS rows f) l (placed-shallow l MOST_ANIMALS rows f) x y
+        pending = passed_on (length rows) (sire_rank rows) (dam_rank rows) (frozen-ranked l MOST_ANIMALS rows f) l (ranked-shallow l MOST_ANIMALS rows f) x y
             kept (kept_share l rows x (passed x y shares)) lx ly t.pending (grown x y shares t);
         met = λ d above.
-            given-met rows x first y own (dam_place rows y) (omega arith) (lower-dam y ly) d above
-            ∙ (given-met rows x empty y own (sire_place rows y) (omega arith) (lower-sire y ly) d above
+            given-met rows x first y own (dam_rank rows y) (omega arith) (lower-dam y ly) d above
+            ∙ (given-met rows x empty y own (sire_rank rows y) (omega arith) (lower-sire y ly) d above
             ∙ ⊎_elim
             (λ (e : d ≡ x - y). rw e (get_or-set_same shares (x - y) 0 0 (let n = t.long in omega arith)))
             (λ (n : d ≡ x - y → ⊥).
@@ -253,7 +253,7 @@ module _ (l : ℕ) (rows : List Row) (f : IsFrozen l MOST_ANIMALS rows) where
       get_or-set_same shares (x - p) (get_or shares (x - p) 0 + own * 2 ^ (depth_at rows y - depth_at rows p - 1)) 0 (omega arith) in
       let fits = within-whole x p (given rows x shares y own (Some p)) y lp whole in
       record {
-        place = lx;
+        rank = lx;
         met = ly;
         lower = lp;
         long = long;
@@ -263,24 +263,24 @@ module _ (l : ℕ) (rows : List Row) (f : IsFrozen l MOST_ANIMALS rows) where
       }
 
   -- there is room for what the sire gets
-  room-sire : (x y : ℕ) (shares : List ℕ) → IsTracing l rows x (y + 1) shares → (p : ℕ) → sire_place rows y ≡ Some p →
+  room-sire : (x y : ℕ) (shares : List ℕ) → IsTracing l rows x (y + 1) shares → (p : ℕ) → sire_rank rows y ≡ Some p →
       HasRoom l rows x (emptied x y shares) y (get_or shares (x - y) 0) p
   room-sire x y shares t p e =
-      let lx : x < length rows = t.place in
+      let lx : x < length rows = t.rank in
       let b : y + 1 ≤ x + 1 = t.border_in in
       let ly : y < length rows = omega arith in
       let kept : ℕ → ℕ = kept_share l rows x shares in
       let more = brought-more kept y (λ _. 1) in
       let all = t.whole in
       let same = brought-emptied l rows x y shares (λ _. 1) (omega arith) in
-      room-given x y (emptied x y shares) (sire_place rows y) lx (omega arith) (emptied-long x y shares t.long) (lower-sire y ly) (get_or shares (x - y) 0) (kept y)
+      room-given x y (emptied x y shares) (sire_rank rows y) lx (omega arith) (emptied-long x y shares t.long) (lower-sire y ly) (get_or shares (x - y) 0) (kept y)
       (omega (arith, same, more, all)) (omega arith) p e
 
   -- and for what the dam gets then
-  room-dam : (x y : ℕ) (shares : List ℕ) → IsTracing l rows x (y + 1) shares → (p : ℕ) → dam_place rows y ≡ Some p →
-      HasRoom l rows x (given rows x (emptied x y shares) y (get_or shares (x - y) 0) (sire_place rows y)) y (get_or shares (x - y) 0) p
+  room-dam : (x y : ℕ) (shares : List ℕ) → IsTracing l rows x (y + 1) shares → (p : ℕ) → dam_rank rows y ≡ Some p →
+      HasRoom l rows x (given rows x (emptied x y shares) y (get_or shares (x - y) 0) (sire_rank rows y)) y (get_or shares (x - y) 0) p
   room-dam x y shares t p e =
-      let lx : x < length rows = t.place in
+      let lx : x < length rows = t.rank in
       let b : y + 1 ≤ x + 1 = t.border_in in
       let ly : y < length rows = omega arith in
       let own : ℕ = get_or shares (x - y) 0 in
@@ -290,18 +290,18 @@ module _ (l : ℕ) (rows : List Row) (f : IsFrozen l MOST_ANIMALS rows) where
       let empty = emptied x y shares in
       let long = emptied-long x y shares t.long in
       let same = brought-emptied l rows x y shares (λ _. 1) (omega arith) in
-      let a = brought-given l rows x (depth-at_most l MOST_ANIMALS rows f x lx) empty y own (sire_place rows y) (λ _. 1) (omega arith) long (lower-sire y ly) in
-      let k = known_one (sire_place rows y) in
-      let h : kept y / 2 * of_known (λ _. 1) (sire_place rows y) ≤ kept y / 2 * 1 = mul-le-mul_left (kept y / 2) k in
-      room-given x y (given rows x empty y own (sire_place rows y)) (dam_place rows y) lx (omega arith)
-      (given-long x empty y own (sire_place rows y) long) (lower-dam y ly) own (kept y / 2)
+      let a = brought-given l rows x (depth-at_most l MOST_ANIMALS rows f x lx) empty y own (sire_rank rows y) (λ _. 1) (omega arith) long (lower-sire y ly) in
+      let k = known_one (sire_rank rows y) in
+      let h : kept y / 2 * of_known (λ _. 1) (sire_rank rows y) ≤ kept y / 2 * 1 = mul-le-mul_left (kept y / 2) k in
+      room-given x y (given rows x empty y own (sire_rank rows y)) (dam_rank rows y) lx (omega arith)
+      (given-long x empty y own (sire_rank rows y) long) (lower-dam y ly) own (kept y / 2)
       (omega (arith, same, more, all, a, h)) (omega arith) p e
 
   -- the whole of x is pending at first
   pub tracing-start : (x : ℕ) (nothing : List ℕ) → x < length rows → x < length nothing → ((d : ℕ) → get_or nothing d 0 ≡ 0) →
       IsTracing l rows x (x + 1) (set nothing 0 1)
   tracing-start x nothing lx long empty_is =
-      let kin = placed rows in
+      let kin = ranked rows in
       let shares : List ℕ = set nothing 0 1 in
       let kept : ℕ → ℕ = kept_share l rows x shares in
       let limit = depth-at_most l MOST_ANIMALS rows f x lx in
@@ -321,7 +321,7 @@ module _ (l : ℕ) (rows : List Row) (f : IsFrozen l MOST_ANIMALS rows) where
       omega (arith, more, none, last)) in
       record {
         book = f;
-        place = lx;
+        rank = lx;
         border_in = omega arith;
         long = let e = length-set nothing 0 1 in omega (arith, e, long);
         whole = let b = brings (λ _. 1) in omega (arith, b);
@@ -330,13 +330,13 @@ module _ (l : ℕ) (rows : List Row) (f : IsFrozen l MOST_ANIMALS rows) where
       }
 
   -- a kept share that isn't 0 is that of an ancestor which isn't deeper
-  kept-share_of : (x j own : ℕ) → x < length rows → j < length rows → own * 2 ^ (l - depth_at rows x + depth_at rows j) ≡ share (placed rows) l (Some x) j →
+  kept-share_of : (x j own : ℕ) → x < length rows → j < length rows → own * 2 ^ (l - depth_at rows x + depth_at rows j) ≡ share (ranked rows) l (Some x) j →
       0 < own → IsShareOf rows x j own
   kept-share_of x j own lx lj is pos =
-      let kin = placed rows in
-      let w = placed-lawful l MOST_ANIMALS rows f in
-      let dx = placed-depth l MOST_ANIMALS rows f x lx in
-      let dj = placed-depth l MOST_ANIMALS rows f j lj in
+      let kin = ranked rows in
+      let w = ranked-lawful l MOST_ANIMALS rows f in
+      let dx = ranked-depth l MOST_ANIMALS rows f x lx in
+      let dj = ranked-depth l MOST_ANIMALS rows f j lj in
       let limit = depth-at_most l MOST_ANIMALS rows f x lx in
       let unit : ℕ = 2 ^ (l - depth_at rows x + depth_at rows j) in
       let not_deeper : depth_at rows j ≤ depth_at rows x =
@@ -348,23 +348,23 @@ module _ (l : ℕ) (rows : List Row) (f : IsFrozen l MOST_ANIMALS rows) where
       (λ r.
       let same : r.0 ≡ x = cc (r.1) in
       let k : ℕ = r.2.0 in
-      let to : LineTo kin k x j = subst (λ v. LineTo kin k v j) same r.2.1 in
+      let to : PathTo kin k x j = subst (λ v. PathTo kin k v j) same r.2.1 in
       let long : k + depth_at rows j ≤ depth_at rows x =
-      dx.1 (k + depth_at rows j) (line-joined kin w k (depth_at rows j) x j (place-in (length rows) x lx) to dj.0) in
+      dx.1 (k + depth_at rows j) (path-joined kin w k (depth_at rows j) x j (rank-in (length rows) x lx) to dj.0) in
       omega arith)
       (share-reached kin w l (Some x) j) in
       record {
         some = pos;
         less_deep = not_deeper;
-        own_is = share-own kin w l (depth_at rows x) (depth_at rows j) own x j limit not_deeper (placed-below_depth l MOST_ANIMALS rows f x lx) dj.0 is;
+        own_is = share-own kin w l (depth_at rows x) (depth_at rows j) own x j limit not_deeper (ranked-below_depth l MOST_ANIMALS rows f x lx) dj.0 is;
       }
 
-  -- of a place with a share that isn't 0, below which the border goes next
+  -- of a rank with a share that isn't 0, below which the border goes next
   next-is : (x y b : ℕ) (shares : List ℕ) → IsTracing l rows x (y + 1) shares →
-      y < b → b ≤ x + 1 → ((j : ℕ) → y < j → j < b → share (placed rows) l (Some x) j ≡ 0) → 0 < get_or shares (x - y) 0 →
+      y < b → b ≤ x + 1 → ((j : ℕ) → y < j → j < b → share (ranked rows) l (Some x) j ≡ 0) → 0 < get_or shares (x - y) 0 →
       IsNext l rows x b y (get_or shares (x - y) 0)
   next-is x y b shares t lb bx between pos =
-      let lx : x < length rows = t.place in
+      let lx : x < length rows = t.rank in
       let by' : y + 1 ≤ x + 1 = t.border_in in
       record {
         below = lb;
@@ -372,7 +372,7 @@ module _ (l : ℕ) (rows : List Row) (f : IsFrozen l MOST_ANIMALS rows) where
         between = between;
       }
 
--- what a tracing's step finds at the youngest pending place
+-- what a tracing's step finds at the youngest pending rank
 pub record IsStep (l : ℕ) (rows : List Row) (x y : ℕ) (shares : List ℕ) (own : ℕ) : Type 0 where
   pub tracing : IsTracing l rows x (y + 1) shares
   pub own_is : own ≡ get_or shares (x - y) 0
@@ -384,30 +384,30 @@ module _ (l : ℕ) (rows : List Row) (x y : ℕ) (shares : List ℕ) (own : ℕ)
   pub step-room_sire : (row : Row) → slice_get rows y ≡ Some row → (p : ℕ) → row.sire ≡ Some p → HasRoom l rows x (emptied x y shares) y own p
   step-room_sire row e p is =
       subst (λ v. HasRoom l rows x (emptied x y shares) y v p) (sym step.own_is)
-      (room-sire l rows f x y shares step.tracing p ((let s : sire_place rows y ≡ row.sire = rw e refl in s) ∙ is))
+      (room-sire l rows f x y shares step.tracing p ((let s : sire_rank rows y ≡ row.sire = rw e refl in s) ∙ is))
 
   pub step-room_dam : (row : Row) → slice_get rows y ≡ Some row → (p : ℕ) → row.dam ≡ Some p →
       HasRoom l rows x (given rows x (emptied x y shares) y own row.sire) y own p
   step-room_dam row e p is =
-      let s : sire_place rows y ≡ row.sire = rw e refl in
-      let d : dam_place rows y ≡ row.dam = rw e refl in
+      let s : sire_rank rows y ≡ row.sire = rw e refl in
+      let d : dam_rank rows y ≡ row.dam = rw e refl in
       subst (λ o. HasRoom l rows x (given rows x (emptied x y shares) y own o) y own p) s
-      (subst (λ v. HasRoom l rows x (given rows x (emptied x y shares) y v (sire_place rows y)) y v p) (sym step.own_is)
+      (subst (λ v. HasRoom l rows x (given rows x (emptied x y shares) y v (sire_rank rows y)) y v p) (sym step.own_is)
       (room-dam l rows f x y shares step.tracing p (d ∙ is)))
 
   -- its share is passed on
   pub step-next : (row : Row) → slice_get rows y ≡ Some row →
       IsTracing l rows x y (given rows x (given rows x (emptied x y shares) y own row.sire) y own row.dam)
   step-next row e =
-      let s : sire_place rows y ≡ row.sire = rw e refl in
-      let d : dam_place rows y ≡ row.dam = rw e refl in
+      let s : sire_rank rows y ≡ row.sire = rw e refl in
+      let d : dam_rank rows y ≡ row.dam = rw e refl in
       subst (λ o. IsTracing l rows x y (given rows x (given rows x (emptied x y shares) y own row.sire) y own o)) d
-      (subst (λ o. IsTracing l rows x y (given rows x (given rows x (emptied x y shares) y own o) y own (dam_place rows y))) s
-      (subst (λ v. IsTracing l rows x y (given rows x (given rows x (emptied x y shares) y v (sire_place rows y)) y v (dam_place rows y))) (sym step.own_is)
+      (subst (λ o. IsTracing l rows x y (given rows x (given rows x (emptied x y shares) y own o) y own (dam_rank rows y))) s
+      (subst (λ v. IsTracing l rows x y (given rows x (given rows x (emptied x y shares) y v (sire_rank rows y)) y v (dam_rank rows y))) (sym step.own_is)
       (tracing-next l rows f x y shares step.tracing)))
 
   -- it is the next ancestor, where x has nothing of those between it and the border
-  pub step-is : (top : ℕ) → ((j : ℕ) → y < j → j < top → share (placed rows) l (Some x) j ≡ 0) → y < top → top ≤ x + 1 → 0 < own → IsNext l rows x top y own
+  pub step-is : (top : ℕ) → ((j : ℕ) → y < j → j < top → share (ranked rows) l (Some x) j ≡ 0) → y < top → top ≤ x + 1 → 0 < own → IsNext l rows x top y own
   step-is top between low high some =
       let is = step.own_is in
       subst (λ v. IsNext l rows x top y v) (sym is)
@@ -415,17 +415,17 @@ module _ (l : ℕ) (rows : List Row) (x y : ℕ) (shares : List ℕ) (own : ℕ)
 
   pub step-lower_sire : (row : Row) → slice_get rows y ≡ Some row → IsLower rows y row.sire
   step-lower_sire row e =
-      let lx : x < length rows = step.tracing.place in
+      let lx : x < length rows = step.tracing.rank in
       let high : y + 1 ≤ x + 1 = step.tracing.border_in in
-      subst (λ o. IsLower rows y o) (let s : sire_place rows y ≡ row.sire = rw e refl in s) (lower-sire l rows f y (omega arith))
+      subst (λ o. IsLower rows y o) (let s : sire_rank rows y ≡ row.sire = rw e refl in s) (lower-sire l rows f y (omega arith))
 
   pub step-lower_dam : (row : Row) → slice_get rows y ≡ Some row → IsLower rows y row.dam
   step-lower_dam row e =
-      let lx : x < length rows = step.tracing.place in
+      let lx : x < length rows = step.tracing.rank in
       let high : y + 1 ≤ x + 1 = step.tracing.border_in in
-      subst (λ o. IsLower rows y o) (let d : dam_place rows y ≡ row.dam = rw e refl in d) (lower-dam l rows f y (omega arith))
+      subst (λ o. IsLower rows y o) (let d : dam_rank rows y ≡ row.dam = rw e refl in d) (lower-dam l rows f y (omega arith))
 
--- the border goes down past places for which nothing is kept
+-- the border goes down past ranks for which nothing is kept
 pub lowered-to : (l : ℕ) (rows : List Row) (x b n : ℕ) (shares : List ℕ) → IsTracing l rows x (n + b) shares →
     ((j : ℕ) → b ≤ j → j < n + b → get_or shares (x - j) 0 ≡ 0) → IsTracing l rows x b shares
 lowered-to l rows x b zero shares t none = subst (λ v. IsTracing l rows x v shares) (let e : zero + b ≡ b = omega arith in e) t
@@ -437,7 +437,7 @@ lowered-to l rows x b (suc n) shares t none =
 
 -- of an animal for which nothing is kept, nor for those between it and the border, x has nothing
 pub share-none_kept : (l : ℕ) (rows : List Row) (x b : ℕ) (shares : List ℕ) → IsTracing l rows x b shares → (j : ℕ) → j < b →
-    ((i : ℕ) → j ≤ i → i < b → get_or shares (x - i) 0 ≡ 0) → share (placed rows) l (Some x) j ≡ 0
+    ((i : ℕ) → j ≤ i → i < b → get_or shares (x - i) 0 ≡ 0) → share (ranked rows) l (Some x) j ≡ 0
 share-none_kept l rows x b shares t j low none =
     let n : ℕ = b - (j + 1) in
     let e : b ≡ n + (j + 1) = omega arith in

@@ -10,7 +10,7 @@ use Rattle.herd_pedigree.specs.declared.freezing.frozen.Parents.{Parents}
 use Rattle.herd_pedigree.specs.declared.freezing.frozen.Row.{Row}
 use Rattle.herd_pedigree.specs.freezing.Frozen.{IsFrozen, depth_at, parents_of}
 use Rattle.herd_kinship.specs.Pending.{mark, Marks}
-use Rattle.herd_kinship.specs.Places.{AreParentsAt, placed}
+use Rattle.herd_kinship.specs.Ranks.{AreParentsAt, ranked}
 use Rattle.herd_kinship.specs.Shares.{share}
 use Rattle.herd_kinship.specs.Tracing.{given, GivesMark, HasRoom, IsIdle, IsMarked, IsNext, IsPendingAt, IsTracing, IsUnderWay}
 use Rattle.herd_kinship.proofs.PendingFacts.{IsNearest}
@@ -104,7 +104,7 @@ pub record IsMet (l : ℕ) (rows : List Row) (x b : ℕ) (shares chunks' : List 
       IsUnderWay l rows x (x - d) (given rows x (given rows x (set shares d 0) (x - d) own parents.sire) (x - d) own parents.dam) last
 
 module _ (l : ℕ) (rows : List Row) (x b : ℕ) (shares chunks : List ℕ) (way : IsUnderWay l rows x b shares chunks) where
-  -- nothing is kept for a place below the border that isn't marked
+  -- nothing is kept for a rank below the border that isn't marked
   none-kept : (j : ℕ) → j < b → mark chunks (x - j) ≡ 0 → get_or shares (x - j) 0 ≡ 0
   none-kept j low none =
       ⊎_elim
@@ -125,7 +125,7 @@ module _ (l : ℕ) (rows : List Row) (x b : ℕ) (shares chunks : List ℕ) (way
     };
   }
 
-  pub none-left : ((d : ℕ) → mark chunks d ≡ 0) → (j : ℕ) → j < b → share (placed rows) l (Some x) j ≡ 0
+  pub none-left : ((d : ℕ) → mark chunks d ≡ 0) → (j : ℕ) → j < b → share (ranked rows) l (Some x) j ≡ 0
   none-left none = λ j jb. share-none_kept l rows x b shares way.tracing j jb (λ i ji ib. none-kept i ib (none (x - i)))
 
   module _ (chunks' : List ℕ) (d own : ℕ) (taken : IsTaken shares chunks chunks' d own) where

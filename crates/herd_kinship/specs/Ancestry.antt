@@ -13,11 +13,11 @@ pub record Ancestry (A : Type 0) : Type 0 where
 abbrev pub IsParentIn : {A : Type 0} → Ancestry A → A → A → Type 0
 IsParentIn kin p x = (kin.sire x ≡ Some p) ⊎ (kin.dam x ≡ Some p)
 
--- from x to p there is a line of n steps, each to a known parent
-unfoldable pub LineTo : {A : Type 0} → Ancestry A → ℕ → A → A → Type 0
-LineTo kin zero x p = x ≡ p
-LineTo {A} kin (suc n) x p = (q : A) × IsParentIn kin q x × LineTo kin n q p
+-- from x to p there is a path of n steps, each to a known parent
+unfoldable pub PathTo : {A : Type 0} → Ancestry A → ℕ → A → A → Type 0
+PathTo kin zero x p = x ≡ p
+PathTo {A} kin (suc n) x p = (q : A) × IsParentIn kin q x × PathTo kin n q p
 
 -- p is an ancestor of x
 abbrev pub IsAncestor : {A : Type 0} → Ancestry A → A → A → Type 0
-IsAncestor kin p x = (n : ℕ) × LineTo kin (suc n) x p
+IsAncestor kin p x = (n : ℕ) × PathTo kin (suc n) x p

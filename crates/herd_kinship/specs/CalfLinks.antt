@@ -1,12 +1,12 @@
 -- The calves of each sire of which the dam is known too, linked from the youngest to the oldest. Animals are named
--- by their places.
+-- by their ranks.
 use Rattle.std.specs.Prelude.{◌≡◌, ℕ, ◌<◌, ◌≤◌, List, length, slice_index_or, Option, None, Some}
 use Rattle.herd_pedigree.specs.declared.freezing.frozen.Row.{Row}
-use Rattle.herd_kinship.specs.Places.{sire_place, dam_place}
+use Rattle.herd_kinship.specs.Ranks.{sire_rank, dam_rank}
 
 -- x is a calf of s and of a known dam
 abbrev pub IsCalf : List Row → ℕ → ℕ → Type 0
-IsCalf rows s x = (sire_place rows x ≡ Some s) × (d : ℕ) × (dam_place rows x ≡ Some d)
+IsCalf rows s x = (sire_rank rows x ≡ Some s) × (d : ℕ) × (dam_rank rows x ≡ Some d)
 
 -- the link leads to the youngest calf of s below a border, if there is one
 pub record IsLink (rows : List Row) (s border : ℕ) (link : Option ℕ) : Type 0 where

@@ -1,25 +1,25 @@
--- Coefficients of inbreeding of a frozen book's animals, in unit 2^-2l, by places.
+-- Coefficients of inbreeding of a frozen book's animals, in unit 2^-2l, by ranks.
 use Rattle.std.specs.Prelude.{◌≡◌, ℕ, ◌+◌, ◌*◌, ◌/◌, ◌^◌, ◌<◌, List, length, slice_index, Option, None, Some}
 use Rattle.herd_pedigree.specs.declared.freezing.frozen.Row.{Row}
 use Rattle.herd_kinship.specs.Ancestry.{IsAncestor}
 use Rattle.herd_kinship.specs.Table.{coefficient, entry}
 use Rattle.herd_kinship.specs.FrozenAncestry.{ancestry_of, number_of_row}
-use Rattle.herd_kinship.specs.Places.{sire_place, dam_place}
+use Rattle.herd_kinship.specs.Ranks.{sire_rank, dam_rank}
 
 -- there is a numerator for each animal, and it is its coefficient
 pub record AreCoefficients (l : ℕ) (rows : List Row) (numerators : List ℕ) : Type 0 where
   pub each : length numerators ≡ length rows
-  pub right : (place : ℕ) → place < length rows → slice_index numerators place ≡ coefficient (ancestry_of rows) l (number_of_row rows place)
+  pub right : (rank : ℕ) → rank < length rows → slice_index numerators rank ≡ coefficient (ancestry_of rows) l (number_of_row rows rank)
 
--- there is a numerator for each animal, and at the ancestors of the animal at a place it is their coefficient
-pub record KnowsAncestors (l : ℕ) (rows : List Row) (known : List ℕ) (place : ℕ) : Type 0 where
+-- there is a numerator for each animal, and at the ancestors of the animal at a rank it is their coefficient
+pub record KnowsAncestors (l : ℕ) (rows : List Row) (known : List ℕ) (rank : ℕ) : Type 0 where
   pub each : length known ≡ length rows
-  pub right : (p : ℕ) → p < length rows → IsAncestor (ancestry_of rows) (number_of_row rows p) (number_of_row rows place) →
+  pub right : (p : ℕ) → p < length rows → IsAncestor (ancestry_of rows) (number_of_row rows p) (number_of_row rows rank) →
       slice_index known p ≡ coefficient (ancestry_of rows) l (number_of_row rows p)
 
--- the relationship of the animal at a place with itself, which is the whole and its coefficient
+-- the relationship of the animal at a rank with itself, which is the whole and its coefficient
 abbrev pub own_relationship : ℕ → List Row → ℕ → ℕ
-own_relationship l rows place = entry (ancestry_of rows) (2 * l) (Some (number_of_row rows place)) (Some (number_of_row rows place))
+own_relationship l rows rank = entry (ancestry_of rows) (2 * l) (Some (number_of_row rows rank)) (Some (number_of_row rows rank))
 
 -- a quarter of a parent's relationship with itself, which is the whole and its coefficient; 0 of an unknown one
 abbrev pub quarter_of : ℕ → List ℕ → Option ℕ → ℕ
@@ -33,7 +33,7 @@ pub record IsKnownParent (l : ℕ) (known : List ℕ) (parent : ℕ) : Type 0 wh
 
 -- a parent of the animal is unknown, or its sire stands below the border
 abbrev pub IsReached : List Row → ℕ → ℕ → Type 0
-IsReached rows border x = (s d : ℕ) → sire_place rows x ≡ Some s → dam_place rows x ≡ Some d → s < border
+IsReached rows border x = (s d : ℕ) → sire_rank rows x ≡ Some s → dam_rank rows x ≡ Some d → s < border
 
 -- there is a numerator for each animal, and at those that are reached it is their coefficient
 pub record KnowsReached (l : ℕ) (rows : List Row) (border : ℕ) (known : List ℕ) : Type 0 where

@@ -8,14 +8,14 @@ use Rattle.herd_kinship.specs.declared.fractions.Fraction.{Fraction}
 use Rattle.herd_kinship.specs.Fraction.{halved}
 use Rattle.herd_kinship.specs.FrozenAncestry.{ancestry_of, number_of_row}
 use Rattle.herd_kinship.specs.InverseRows.{half_row}
-use Rattle.herd_kinship.specs.Places.{sire_place, dam_place}
+use Rattle.herd_kinship.specs.Ranks.{sire_rank, dam_rank}
 use Rattle.herd_kinship.specs.Table.{mendelian}
 
 -- quarters of 1 over a Mendelian sampling variance of numerator m
 abbrev pub quarters_of : ℕ → ℕ → ℤ → Fraction
 quarters_of l m z = halved (int_lt z (pos 0)) (unsigned_abs z * 2 ^ (2 * l - 2)) m
 
--- the pairs of places at which animal i contributes, the later one first
+-- the pairs of ranks at which animal i contributes, the later one first
 abbrev pub pairs_of : ℕ → Option ℕ → Option ℕ → List (ℕ × ℕ)
 pairs_of i None None = (i, i) ∷ []
 pairs_of i (Some s) None = (i, i) ∷ (i, s) ∷ (s, s) ∷ []
@@ -34,7 +34,7 @@ contribution_at l rows i pair = record {
 
 -- the contributions of i in their order
 unfoldable pub contributions_of : ℕ → List Row → ℕ → List Contribution
-contributions_of l rows i = map (contribution_at l rows i) (pairs_of i (sire_place rows i) (dam_place rows i))
+contributions_of l rows i = map (contribution_at l rows i) (pairs_of i (sire_rank rows i) (dam_rank rows i))
 
 -- six contributions: those of the list, and then its first one again
 abbrev pub filled : List Contribution → List Contribution

@@ -28,6 +28,6 @@ book_ancestry book = record {
 abbrev pub ancestry_of : List Row → Ancestry (List ℕ)
 ancestry_of rows = book_ancestry (book_of rows)
 
--- the number of the animal at a place
+-- the number of the animal at a rank
 abbrev pub number_of_row : List Row → ℕ → List ℕ
-number_of_row rows place = slice_index_or (numbers_of rows) place []
+number_of_row rows rank = slice_index_or (numbers_of rows) rank []

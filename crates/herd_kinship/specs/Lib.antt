@@ -5,7 +5,7 @@ pub mod InverseRows
 pub mod FrozenAncestry
 pub mod Laws
 pub mod Coefficients
-pub mod Places
+pub mod Ranks
 pub mod Pending
 pub mod Tracing
 pub mod Fraction

@@ -5,7 +5,7 @@ use Rattle.herd_pedigree.specs.rules.Book.{Book, is_there, parentage_of}
 use Rattle.herd_pedigree.specs.declared.TheConstants.{MOST_ANIMALS}
 use Rattle.herd_pedigree.specs.declared.freezing.frozen.Row.{Row}
 use Rattle.herd_pedigree.specs.freezing.Frozen.{IsFrozen, book_of, depth_at}
-use Rattle.herd_pedigree.specs.rules.Lines.{has_line}
+use Rattle.herd_pedigree.specs.rules.Paths.{has_path}
 use Rattle.herd_pedigree.specs.rules.ParentFault.{first_that_holds}
 use Rattle.herd_kinship.specs.Columns.{AreRelationships}
 use Rattle.herd_kinship.specs.FrozenAncestry.{number_of_row}
@@ -14,7 +14,7 @@ use Rattle.herd_kinship.specs.declared.mating_advice.MatingFault.TheVariants.{Si
 
 -- the animal is as deep as a book allows, so that a calf of it would be too deep
 abbrev pub is_deepest : ℕ → Book → List ℕ → Bool
-is_deepest l book number = has_line (parentage_of book) l number
+is_deepest l book number = has_path (parentage_of book) l number
 
 -- the faults of a mating in the order in which they are asked, each with its test
 abbrev pub mating_faults : ℕ → Book → List ℕ → List ℕ → List (Bool × MatingFault)
@@ -39,18 +39,18 @@ number_of_mating_fault DamNotFemale = 4
 number_of_mating_fault TooDeep = 5
 number_of_mating_fault Memory = 6
 
--- the animals at the two places can be mated, and a calf of them may be in the book
-pub record ArePair (l : ℕ) (rows : List Row) (sire dam : List ℕ) (sire_place dam_place : ℕ) : Type 0 where
+-- the animals at the two ranks can be mated, and a calf of them may be in the book
+pub record ArePair (l : ℕ) (rows : List Row) (sire dam : List ℕ) (sire_rank dam_rank : ℕ) : Type 0 where
   pub book : IsFrozen l MOST_ANIMALS rows
   pub allowed : mating_fault l (book_of rows) sire dam ≡ None
-  pub sire_in : sire_place < length rows
-  pub sire_is : number_of_row rows sire_place ≡ sire
-  pub sire_less_deep : depth_at rows sire_place < l
-  pub dam_in : dam_place < length rows
-  pub dam_is : number_of_row rows dam_place ≡ dam
-  pub dam_less_deep : depth_at rows dam_place < l
+  pub sire_in : sire_rank < length rows
+  pub sire_is : number_of_row rows sire_rank ≡ sire
+  pub sire_less_deep : depth_at rows sire_rank < l
+  pub dam_in : dam_rank < length rows
+  pub dam_is : number_of_row rows dam_rank ≡ dam
+  pub dam_less_deep : depth_at rows dam_rank < l
 
 -- they are the relationships of the animal of this number, if it is in the book
 abbrev pub AreRelationshipsOf : ℕ → List Row → List ℕ → List ℕ → Type 0
 AreRelationshipsOf l rows number relationships =
-    (place : ℕ) → place < length rows → number_of_row rows place ≡ number → AreRelationships l rows place relationships
+    (rank : ℕ) → rank < length rows → number_of_row rows rank ≡ number → AreRelationships l rows rank relationships

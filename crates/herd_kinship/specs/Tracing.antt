@@ -1,5 +1,5 @@
 -- Tracing the ancestors of an animal from the youngest to the oldest (Meuwissen and Luo 1992). Animals are named
--- by their places; the share kept for an ancestor p of x is in unit 2^-(g x - g p), where g is the depth.
+-- by their ranks; the share kept for an ancestor p of x is in unit 2^-(g x - g p), where g is the depth.
 use Rattle.std.specs.Prelude.{◌≡◌, ℕ, ◌+◌, ◌*◌, ◌-◌, ◌^◌, ◌<◌, ◌≤◌, List, length, slice_index, slice_set, sum_by, Option, None, Some}
 use Rattle.std.specs.List.{range_with_len}
 use Rattle.herd_pedigree.specs.declared.freezing.frozen.Row.{Row}
@@ -7,13 +7,13 @@ use Rattle.herd_pedigree.specs.declared.TheConstants.{MOST_ANIMALS}
 use Rattle.herd_pedigree.specs.freezing.Frozen.{IsFrozen, depth_at}
 use Rattle.herd_kinship.specs.Shares.{share}
 use Rattle.herd_kinship.specs.Pending.{mark, Marks}
-use Rattle.herd_kinship.specs.Places.{placed}
+use Rattle.herd_kinship.specs.Ranks.{ranked}
 
--- the share kept for the place p, brought to unit 2^-l; the list of shares goes by the distance from x
+-- the share kept for the rank p, brought to unit 2^-l; the list of shares goes by the distance from x
 abbrev pub kept_share : ℕ → List Row → ℕ → List ℕ → ℕ → ℕ
 kept_share l rows x shares p = slice_index shares (x - p) * 2 ^ (l - depth_at rows x + depth_at rows p)
 
--- what the shares of the places below a border bring, each multiplied by what its place has
+-- what the shares of the ranks below a border bring, each multiplied by what its rank has
 abbrev pub brought : (ℕ → ℕ) → ℕ → (ℕ → ℕ) → ℕ
 brought shares border has = sum_by (λ p. shares p * has p) (range_with_len 0 border)
 
@@ -25,7 +25,7 @@ given rows x shares y own (Some p) =
 
 -- the parent p of y is older and less deep than y, and has room for y's share
 pub record HasRoom (l : ℕ) (rows : List Row) (x : ℕ) (shares : List ℕ) (y own p : ℕ) : Type 0 where
-  pub place : x < length rows
+  pub rank : x < length rows
   pub met : y ≤ x
   pub lower : p < y
   pub long : x < length shares
@@ -37,27 +37,27 @@ pub record HasRoom (l : ℕ) (rows : List Row) (x : ℕ) (shares : List ℕ) (y 
 -- are pending: to each animal there they bring just what x has of it, and together they are at most the whole.
 pub record IsTracing (l : ℕ) (rows : List Row) (x border : ℕ) (shares : List ℕ) : Type 0 where
   pub book : IsFrozen l MOST_ANIMALS rows
-  pub place : x < length rows
+  pub rank : x < length rows
   pub border_in : border ≤ x + 1
   pub long : x < length shares
   pub whole : brought (kept_share l rows x shares) border (λ _. 1) ≤ 2 ^ l
   pub pending : (j : ℕ) → j < border →
-      brought (kept_share l rows x shares) border (λ p. share (placed rows) l (Some p) j) ≡ 2 ^ l * share (placed rows) l (Some x) j
+      brought (kept_share l rows x shares) border (λ p. share (ranked rows) l (Some p) j) ≡ 2 ^ l * share (ranked rows) l (Some x) j
   pub met : (distance : ℕ) → (distance ≤ x → border ≤ x - distance) → slice_index shares distance ≡ 0
 
 -- x has this share of its ancestor j, in the unit of the two depths' difference, and it isn't 0
 pub record IsShareOf (rows : List Row) (x j own : ℕ) : Type 0 where
   pub some : 0 < own
   pub less_deep : depth_at rows j ≤ depth_at rows x
-  pub own_is : own ≡ share (placed rows) (depth_at rows x - depth_at rows j) (Some x) j
+  pub own_is : own ≡ share (ranked rows) (depth_at rows x - depth_at rows j) (Some x) j
 
 -- y is the first ancestor below the border, and x has this share of it
 pub record IsNext (l : ℕ) (rows : List Row) (x border y own : ℕ) : Type 0 where
   pub below : y < border
   pub share_is : IsShareOf rows x y own
-  pub between : (j : ℕ) → y < j → j < border → share (placed rows) l (Some x) j ≡ 0
+  pub between : (j : ℕ) → y < j → j < border → share (ranked rows) l (Some x) j ≡ 0
 
--- the distance is that of a place below the border, and a share is kept there
+-- the distance is that of a rank below the border, and a share is kept there
 pub record IsPendingAt (x border : ℕ) (shares : List ℕ) (distance : ℕ) : Type 0 where
   pub near : distance ≤ x
   pub below : x - distance < border

@@ -1,21 +1,21 @@
 ghost use Rattle.std.specs.Prelude.{◌≡◌, ℕ, ◌+◌, ◌*◌, ◌-◌, ◌/◌, ◌<◌, ◌≤◌, ◌⊎◌, is_some, length, slice_index, true, IsFalse, IfOk, IfSome, IfNone, None, Some};
 ghost use Rattle.herd_kinship.specs.CalfLinks.{AreLinked, IsCalf};
 ghost use Rattle.herd_kinship.specs.Pending.{mark};
-ghost use Rattle.herd_kinship.specs.Places.{sire_place, dam_place};
+ghost use Rattle.herd_kinship.specs.Ranks.{sire_rank, dam_rank};
 
 use crate::columns::{mark_parent, with_parent};
 use crate::pending::Pending;
 use crate::tracing::parents_at;
-use herd_pedigree::{Frozen, PackedPlace, Parents};
+use herd_pedigree::{Frozen, PackedIndex, Parents};
 use std::alloc::{AllocError, Allocator};
 
 /// The calves of each sire, those of which the dam is known too, linked from the youngest to the oldest.
 #[derive(Drop)]
 pub struct Calves<A: Allocator> {
-    /// By the sire's place, its youngest calf.
-    pub latest: Vec<PackedPlace, A>,
-    /// By the calf's place, the next older calf of its sire.
-    pub earlier: Vec<PackedPlace, A>,
+    /// By the sire's rank, its youngest calf.
+    pub latest: Vec<PackedIndex, A>,
+    /// By the calf's rank, the next older calf of its sire.
+    pub earlier: Vec<PackedIndex, A>,
 }
 
 /// The sire, where the dam is known too.
@@ -48,12 +48,12 @@ impl<A: Allocator + Clone> Calves<A> {
         ensures { IfOk result (λ calves. AreLinked frozen.now (length frozen.now) calves.latest.items calves.earlier.items) }
     {
         let animals = frozen.len() as usize;
-        let mut latest = vec![in alloc.clone()?; PackedPlace::none(); animals]?;
-        let mut earlier = vec![in alloc; PackedPlace::none(); animals]?;
+        let mut latest = vec![in alloc.clone()?; PackedIndex::none(); animals]?;
+        let mut earlier = vec![in alloc; PackedIndex::none(); animals]?;
         for calf in 0..frozen.len() {
             if let Some(sire) = sire_of_pair(parents_at(frozen, calf)) {
                 earlier[calf as usize] = latest[sire as usize];
-                latest[sire as usize] = PackedPlace::at(calf);
+                latest[sire as usize] = PackedIndex::at(calf);
             }
         }
         Ok(Calves { latest, earlier })
@@ -61,7 +61,7 @@ impl<A: Allocator + Clone> Calves<A> {
 }
 
 impl<A: Allocator> Calves<A> {
-    /// Marks the mates of a sire by their distances from the last place.
+    /// Marks the mates of a sire by their distances from the last rank.
     pub fn mark_mates<F: Allocator, P: Allocator>(
         &self,
         frozen: &Frozen<F>,
@@ -76,7 +76,7 @@ impl<A: Allocator> Calves<A> {
         requires empty { (distance : ℕ) → mark marked.old.chunks.items distance ≡ 0 }
         ensures room { last < 64 * length marked.new.chunks.items }
         ensures near { (distance : ℕ) → mark marked.new.chunks.items distance ≡ 1 → distance ≤ last }
-        ensures mates { (calf dam : ℕ) → sire_place frozen.now calf ≡ Some sire → dam_place frozen.now calf ≡ Some dam → mark marked.new.chunks.items (last - dam) ≡ 1 }
+        ensures mates { (calf dam : ℕ) → sire_rank frozen.now calf ≡ Some sire → dam_rank frozen.now calf ≡ Some dam → mark marked.new.chunks.items (last - dam) ≡ 1 }
     {
         prove!(sire < frozen.len());
         let mut link = self.latest[sire as usize].get();
@@ -99,7 +99,7 @@ impl<A: Allocator> Calves<A> {
         requires column { length column.now ≡ length frozen.now }
         requires known { length known.old ≡ length frozen.now }
         ensures long { length known.new ≡ length known.old }
-        ensures calves { (calf dam : ℕ) → sire_place frozen.now calf ≡ Some sire → dam_place frozen.now calf ≡ Some dam → slice_index known.new calf ≡ slice_index column.now dam / 2 }
+        ensures calves { (calf dam : ℕ) → sire_rank frozen.now calf ≡ Some sire → dam_rank frozen.now calf ≡ Some dam → slice_index known.new calf ≡ slice_index column.now dam / 2 }
         ensures others { (other : ℕ) → (IsCalf frozen.now sire other → ⊥) → slice_index known.new other ≡ slice_index known.old other }
     {
         prove!(sire < frozen.len());

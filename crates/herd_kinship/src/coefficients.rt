@@ -10,7 +10,7 @@ use herd_pedigree::Frozen;
 use std::alloc::{AllocError, Allocator};
 use std::marker::Model;
 
-/// The coefficients of inbreeding of a frozen book's animals, by their places, each from 0 on and below 1.
+/// The coefficients of inbreeding of a frozen book's animals, by their ranks, each from 0 on and below 1.
 #[derive(Drop)]
 pub struct Coefficients<A: Allocator> {
     numerators: Vec<u128, A>,
@@ -51,13 +51,13 @@ impl<A: Allocator> Coefficients<A> {
         self.list().is_empty()
     }
 
-    /// The coefficient of the animal at a place, in units of 2^-120: from 0 to `ONE` - 1.
-    pub fn numerator(&self, place: u32) -> u128
-        requires { place < length self.now }
-        ensures value { result ≡ slice_index self.now place }
+    /// The coefficient of the animal at a rank, in units of 2^-120: from 0 to `ONE` - 1.
+    pub fn numerator(&self, rank: u32) -> u128
+        requires { rank < length self.now }
+        ensures value { result ≡ slice_index self.now rank }
         ensures below_one { result < 2 ^ (2 * DEPTH_LIMIT) }
     {
-        self.numerators[place as usize]
+        self.numerators[rank as usize]
     }
 
     /// All coefficients in age order, in units of 2^-120.

@@ -5,9 +5,9 @@ use crate::fractions::Fraction;
 /// Summed by row and column over all animals, and mirrored, the contributions are the inverse (Henderson 1976).
 #[derive(Clone, Copy, Debug, PartialEq, Eq)]
 pub struct Contribution {
-    /// The place of the later animal of the two in age order, or of the one animal on the diagonal.
+    /// The rank of the later animal of the two in age order, or of the one animal on the diagonal.
     pub row: u32,
-    /// The place of the earlier animal of the two.
+    /// The rank of the earlier animal of the two.
     pub column: u32,
     /// What is added there, exact and in lowest terms.
     pub value: Fraction,

@@ -37,21 +37,21 @@ impl Weights {
         }
     }
 
-    fn own(self, place: u32) -> Contribution
-        ensures { result ≡ record { row = place; column = place; value = self.alpha } }
+    fn own(self, rank: u32) -> Contribution
+        ensures { result ≡ record { row = rank; column = rank; value = self.alpha } }
     {
         Contribution {
-            row: place,
-            column: place,
+            row: rank,
+            column: rank,
             value: self.alpha,
         }
     }
 
-    fn with_parent(self, place: u32, parent: u32) -> Contribution
-        ensures { result ≡ record { row = place; column = parent; value = self.minus_half } }
+    fn with_parent(self, rank: u32, parent: u32) -> Contribution
+        ensures { result ≡ record { row = rank; column = parent; value = self.minus_half } }
     {
         Contribution {
-            row: place,
+            row: rank,
             column: parent,
             value: self.minus_half,
         }
@@ -67,21 +67,21 @@ impl Weights {
         }
     }
 
-    fn without_parents(self, place: u32) -> Contributions
-        ensures { Lists result self.alpha (weighted self.alpha self.minus_half self.quarter place None None) }
+    fn without_parents(self, rank: u32) -> Contributions
+        ensures { Lists result self.alpha (weighted self.alpha self.minus_half self.quarter rank None None) }
     {
         Contributions {
             alpha: self.alpha,
             count: 1,
-            list: [self.own(place); 6],
+            list: [self.own(rank); 6],
         }
     }
 
-    fn with_one_parent(self, place: u32, parent: u32) -> Contributions
-        ensures { Lists result self.alpha (weighted self.alpha self.minus_half self.quarter place (Some parent) None) }
+    fn with_one_parent(self, rank: u32, parent: u32) -> Contributions
+        ensures { Lists result self.alpha (weighted self.alpha self.minus_half self.quarter rank (Some parent) None) }
     {
-        let own = self.own(place);
-        let between = self.with_parent(place, parent);
+        let own = self.own(rank);
+        let between = self.with_parent(rank, parent);
         let within = self.of_parents(parent, parent);
         Contributions {
             alpha: self.alpha,
@@ -90,16 +90,16 @@ impl Weights {
         }
     }
 
-    fn with_both_parents(self, place: u32, sire: u32, dam: u32) -> Contributions
-        ensures { Lists result self.alpha (weighted self.alpha self.minus_half self.quarter place (Some sire) (Some dam)) }
+    fn with_both_parents(self, rank: u32, sire: u32, dam: u32) -> Contributions
+        ensures { Lists result self.alpha (weighted self.alpha self.minus_half self.quarter rank (Some sire) (Some dam)) }
     {
         Contributions {
             alpha: self.alpha,
             count: 6,
             list: [
-                self.own(place),
-                self.with_parent(place, sire),
-                self.with_parent(place, dam),
+                self.own(rank),
+                self.with_parent(rank, sire),
+                self.with_parent(rank, dam),
                 self.of_parents(sire, sire),
                 self.of_parents(dam, dam),
                 self.of_parents(sire, dam),
@@ -108,7 +108,7 @@ impl Weights {
     }
 }
 
-/// What the animal at a place contributes to the inverse of the numerator relationship matrix, by Henderson's rules
+/// What the animal at a rank contributes to the inverse of the numerator relationship matrix, by Henderson's rules
 /// with inbreeding (Henderson 1976): with the Mendelian sampling variance d, 1/d at itself, -1/(2d) with each known
 /// parent, and 1/(4d) at each known parent and between the two.
 ///
@@ -116,23 +116,23 @@ impl Weights {
 pub fn contributions<F: Allocator, C: Allocator>(
     frozen: &Frozen<F>,
     coefficients: &Coefficients<C>,
-    place: u32,
+    rank: u32,
 ) -> Contributions
-    requires place { place < length frozen.now }
+    requires rank { rank < length frozen.now }
     requires coefficients { AreCoefficients DEPTH_LIMIT frozen.now coefficients.now }
-    ensures alpha { result.alpha ≡ halved false (2 ^ (2 * DEPTH_LIMIT)) (mendelian_variance (ancestry_of frozen.now) DEPTH_LIMIT (number_of_row frozen.now place)) }
-    ensures count { result.count ≡ length (contributions_of DEPTH_LIMIT frozen.now place) }
-    ensures list { result.list ≡ filled (contributions_of DEPTH_LIMIT frozen.now place) }
+    ensures alpha { result.alpha ≡ halved false (2 ^ (2 * DEPTH_LIMIT)) (mendelian_variance (ancestry_of frozen.now) DEPTH_LIMIT (number_of_row frozen.now rank)) }
+    ensures count { result.count ≡ length (contributions_of DEPTH_LIMIT frozen.now rank) }
+    ensures list { result.list ≡ filled (contributions_of DEPTH_LIMIT frozen.now rank) }
     ensures lowest { All (λ one. IsGcd one.value.numerator one.value.denominator 1) result.list }
 {
     // Taking the length ensures that the rows are those of a frozen book.
     frozen.len();
-    let row = frozen.row(place);
-    let weights = Weights::of(mendelian(frozen, coefficients.list(), place));
+    let row = frozen.row(rank);
+    let weights = Weights::of(mendelian(frozen, coefficients.list(), rank));
     match (row.sire, row.dam) {
-        (None, None) => weights.without_parents(place),
-        (Some(parent), None) => weights.with_one_parent(place, parent),
-        (None, Some(parent)) => weights.with_one_parent(place, parent),
-        (Some(sire), Some(dam)) => weights.with_both_parents(place, sire, dam),
+        (None, None) => weights.without_parents(rank),
+        (Some(parent), None) => weights.with_one_parent(rank, parent),
+        (None, Some(parent)) => weights.with_one_parent(rank, parent),
+        (Some(sire), Some(dam)) => weights.with_both_parents(rank, sire, dam),
     }
 }

@@ -1,4 +1,4 @@
-//! The laws of the numerator relationship matrix A, each promised for the animals at two places of a frozen book. The
+//! The laws of the numerator relationship matrix A, each promised for the animals at two ranks of a frozen book. The
 //! calls do nothing: who calls one has its `ensures` as a fact.
 
 ghost use Rattle.std.specs.Prelude.{◌<◌, length};

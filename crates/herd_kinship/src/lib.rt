@@ -2,7 +2,7 @@
 //!
 //! The relationship of two animals is their entry in the numerator relationship matrix A, by the tabular method; the
 //! coefficient of inbreeding of an animal is half the relationship of its parents (Wright 1922). All are whole numbers
-//! of units of 2^-120, so that `ONE` is 1: a line of parents has at most 60 steps, the entry of two animals goes back
+//! of units of 2^-120, so that `ONE` is 1: a path of parents has at most 60 steps, the entry of two animals goes back
 //! over at most 120, and each halves. So nothing is rounded, which `laws::unit` proves.
 //!
 //! Two ways lead to the coefficients, and give the same numbers:
@@ -19,7 +19,7 @@
 //! |---|---|---|---|
 //! | A, coefficients, Mendelian sampling variances | `Table` | | `Table`, `Depth`, `Bounds` |
 //! | shares, A = T D T', the laws | `Shares`, `Laws` | `laws` | `Shares`, `Exact`, `Decompose`, `LawFacts` |
-//! | a frozen book as an ancestry, by numbers and places | `FrozenAncestry`, `Places` | | `BookFacts`, `FrozenFacts`, `Renamed` |
+//! | a frozen book as an ancestry, by numbers and ranks | `FrozenAncestry`, `Ranks` | | `BookFacts`, `FrozenFacts`, `Renamed` |
 //! | sire by sire | `Columns`, `CalfLinks`, `Mates` | `coefficients`, `mates`, `columns`, `calves` | `BySires`, `PassedOn`, `Collecting`, `CalfFacts` |
 //! | animal by animal | `Tracing`, `Pending` | `tracing`, `pending` | `TermSums`, `TracingFacts`, `UnderWayFacts` |
 //! | one animal's relationships, mating advice | `Columns`, `Mating` | `relationships`, `mating_advice` | `RelationshipFacts`, `MatingFacts` |

@@ -4,7 +4,7 @@ ghost use Rattle.herd_kinship.specs.CalfLinks.{AreLinked};
 ghost use Rattle.herd_kinship.specs.Coefficients.{KnowsAncestors};
 ghost use Rattle.herd_kinship.specs.Columns.{related};
 ghost use Rattle.herd_kinship.specs.Mates.{IsReady};
-ghost use Rattle.herd_kinship.specs.Places.{sire_place, dam_place};
+ghost use Rattle.herd_kinship.specs.Ranks.{sire_rank, dam_rank};
 
 use crate::calves::Calves;
 use crate::columns::{collect, relate};
@@ -20,7 +20,7 @@ pub struct Mates<A: Allocator> {
     pub tracing: Tracing<A>,
     /// From the youngest to the oldest.
     pub collected: Vec<u32, A>,
-    /// By places. What stands at a place that isn't collected doesn't count.
+    /// By ranks. What stands at a rank that isn't collected doesn't count.
     pub column: Vec<u128, A>,
 }
 
@@ -52,7 +52,7 @@ impl<A: Allocator> Mates<A> {
         requires known { KnowsAncestors DEPTH_LIMIT frozen.now known.now sire }
         requires sire { sire < length frozen.now }
         ensures ready { IfOk result (λ _. IsReady (length frozen.now) self.new) }
-        ensures related { IfOk result (λ _. (calf dam : ℕ) → sire_place frozen.now calf ≡ Some sire → dam_place frozen.now calf ≡ Some dam → slice_index self.new.column.items dam ≡ related DEPTH_LIMIT frozen.now sire (Some dam)) }
+        ensures related { IfOk result (λ _. (calf dam : ℕ) → sire_rank frozen.now calf ≡ Some sire → dam_rank frozen.now calf ≡ Some dam → slice_index self.new.column.items dam ≡ related DEPTH_LIMIT frozen.now sire (Some dam)) }
     {
         let last = frozen.len() - 1;
         calves.mark_mates(frozen, sire, last, &mut self.marked);

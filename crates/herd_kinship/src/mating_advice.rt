@@ -28,7 +28,7 @@ pub enum MatingFault {
     /// By the sex letter of its number.
     #[error("the dam isn't female")]
     DamNotFemale,
-    /// The sire or the dam has a line of `DEPTH_LIMIT` parent steps.
+    /// The sire or the dam has a path of `DEPTH_LIMIT` parent steps.
     #[error("a calf would be too deep")]
     TooDeep,
     /// Only `mating` tells it.
@@ -52,7 +52,7 @@ impl MatingFault {
     }
 }
 
-/// The places of two animals that can be mated.
+/// The ranks of two animals that can be mated.
 #[derive(Clone, Copy)]
 struct Pair {
     sire: u32,
@@ -78,10 +78,10 @@ fn pair_of<F: Allocator>(
 {
     // Taking the length ensures that the rows are those of a frozen book.
     frozen.len();
-    let Some(sire_place) = frozen.place(sire) else {
+    let Some(sire_rank) = frozen.rank(sire) else {
         return Err(MatingFault::SireMissing);
     };
-    let Some(dam_place) = frozen.place(dam) else {
+    let Some(dam_rank) = frozen.rank(dam) else {
         return Err(MatingFault::DamMissing);
     };
     if !is_male(sire) {
@@ -90,22 +90,19 @@ fn pair_of<F: Allocator>(
     if is_male(dam) {
         return Err(MatingFault::DamNotFemale);
     }
-    let deeper = frozen
-        .row(sire_place)
-        .depth
-        .max(frozen.row(dam_place).depth);
+    let deeper = frozen.row(sire_rank).depth.max(frozen.row(dam_rank).depth);
     if deeper >= DEPTH_LIMIT {
         return Err(MatingFault::TooDeep);
     }
     Ok(Pair {
-        sire: sire_place,
-        dam: dam_place,
+        sire: sire_rank,
+        dam: dam_rank,
     })
 }
 
 /// The coefficient that a calf of the two would have, in units of 2^-120: half their relationship, below `ONE`.
 ///
-/// It traces the dam's ancestors once. Ages and exits aren't asked; a calf is too deep where one of the two has a line
+/// It traces the dam's ancestors once. Ages and exits aren't asked; a calf is too deep where one of the two has a path
 /// of 60 steps. `Memory` is told where a growth of memory is refused.
 pub fn mating<F: Allocator, C: Allocator, A: Allocator + Clone>(
     alloc: A,

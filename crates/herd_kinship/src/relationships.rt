@@ -13,7 +13,7 @@ use herd_pedigree::Frozen;
 use std::alloc::{AllocError, Allocator};
 use std::marker::Model;
 
-/// The relationships of one animal with all animals of a frozen book, by their places: a column of the numerator
+/// The relationships of one animal with all animals of a frozen book, by their ranks: a column of the numerator
 /// relationship matrix.
 #[derive(Drop)]
 pub struct Relationships<A: Allocator> {
@@ -29,27 +29,21 @@ impl<A: Allocator> Model for Relationships<A> {
 }
 
 impl<A: Allocator + Clone> Relationships<A> {
-    /// The relationships of the animal at a place, by one tracing and one pass over the book from the oldest on
+    /// The relationships of the animal at a rank, by one tracing and one pass over the book from the oldest on
     /// (Colleau 2002). The only error is a growth of memory that is refused.
     pub fn of<F: Allocator, C: Allocator>(
         alloc: A,
         frozen: &Frozen<F>,
         coefficients: &Coefficients<C>,
-        place: u32,
+        rank: u32,
     ) -> Result<Relationships<A>, AllocError>
-        requires place { place < length frozen.now }
+        requires rank { rank < length frozen.now }
         requires coefficients { AreCoefficients DEPTH_LIMIT frozen.now coefficients.now }
-        ensures { IfOk result (AreRelationships DEPTH_LIMIT frozen.now place) }
+        ensures { IfOk result (AreRelationships DEPTH_LIMIT frozen.now rank) }
     {
         let mut column = vec![in alloc.clone()?; 0u128; frozen.len() as usize]?;
         let mut tracing = Tracing::with_room(alloc, frozen.len())?;
-        relate_all(
-            &mut tracing,
-            frozen,
-            coefficients.list(),
-            place,
-            &mut column,
-        );
+        relate_all(&mut tracing, frozen, coefficients.list(), rank, &mut column);
         Ok(Relationships { column })
     }
 
@@ -65,8 +59,8 @@ impl<A: Allocator + Clone> Relationships<A> {
     {
         // Taking the length ensures that the rows are those of a frozen book.
         frozen.len();
-        match frozen.place(number) {
-            Some(place) => Relationships::of(alloc, frozen, coefficients, place),
+        match frozen.rank(number) {
+            Some(rank) => Relationships::of(alloc, frozen, coefficients, rank),
             None => Ok(Relationships {
                 column: Vec::new(alloc),
             }),
@@ -75,45 +69,45 @@ impl<A: Allocator + Clone> Relationships<A> {
 }
 
 impl<A: Allocator> Relationships<A> {
-    /// The relationship with the animal at a place, in units of 2^-120: 0 of unrelated animals, `ONE` and its
+    /// The relationship with the animal at a rank, in units of 2^-120: 0 of unrelated animals, `ONE` and its
     /// coefficient with itself, always below 2 * `ONE`. It is twice the coefficient that a calf of the two would have.
-    pub fn with(&self, place: u32) -> u128
-        requires { place < length self.now }
-        ensures { result ≡ slice_index self.now place }
+    pub fn with(&self, rank: u32) -> u128
+        requires { rank < length self.now }
+        ensures { result ≡ slice_index self.now rank }
     {
-        self.column[place as usize]
+        self.column[rank as usize]
     }
 }
 
-/// Writes the relationships of the animal at a place with all.
+/// Writes the relationships of the animal at a rank with all.
 fn relate_all<F: Allocator, A: Allocator>(
     tracing: &mut Tracing<A>,
     frozen: &Frozen<F>,
     known: &[u128],
-    place: u32,
+    rank: u32,
     column: &mut [u128],
 )
-    requires place { place < length frozen.now }
+    requires rank { rank < length frozen.now }
     requires known { AreCoefficients DEPTH_LIMIT frozen.now known.now }
     requires idle { IsIdle (length frozen.now) tracing.old.shares.items tracing.old.pending.chunks.items }
     requires long { length column.old ≡ length frozen.now }
     requires zero { (j : ℕ) → j < length frozen.now → slice_index column.old j ≡ 0 }
     ensures long { length column.new ≡ length column.old }
-    ensures related { (j : ℕ) → j < length frozen.now → slice_index column.new j ≡ related DEPTH_LIMIT frozen.now place (Some j) }
+    ensures related { (j : ℕ) → j < length frozen.now → slice_index column.new j ≡ related DEPTH_LIMIT frozen.now rank (Some j) }
 {
-    write_parts(tracing, frozen, known, place, column);
-    pass_on(frozen, place, column);
+    write_parts(tracing, frozen, known, rank, column);
+    pass_on(frozen, rank, column);
 }
 
-/// Makes the relationships of the animal at a place with all, from what it has of their Mendelian sampling variances.
-fn pass_on<F: Allocator>(frozen: &Frozen<F>, place: u32, column: &mut [u128])
-    requires place { place < length frozen.now }
+/// Makes the relationships of the animal at a rank with all, from what it has of their Mendelian sampling variances.
+fn pass_on<F: Allocator>(frozen: &Frozen<F>, rank: u32, column: &mut [u128])
+    requires rank { rank < length frozen.now }
     requires long { length column.old ≡ length frozen.now }
-    requires parts { (j : ℕ) → j < length frozen.now → slice_index column.old j ≡ inherited DEPTH_LIMIT frozen.now place j }
+    requires parts { (j : ℕ) → j < length frozen.now → slice_index column.old j ≡ inherited DEPTH_LIMIT frozen.now rank j }
     ensures long { length column.new ≡ length column.old }
-    ensures related { (j : ℕ) → j < length frozen.now → slice_index column.new j ≡ related DEPTH_LIMIT frozen.now place (Some j) }
+    ensures related { (j : ℕ) → j < length frozen.now → slice_index column.new j ≡ related DEPTH_LIMIT frozen.now rank (Some j) }
 {
-    prove!(place < frozen.len());
+    prove!(rank < frozen.len());
     for j in 0..frozen.len() {
         let parents = parents_at(frozen, j);
         let both = with_parent(column, parents.sire) + with_parent(column, parents.dam);

@@ -3,7 +3,7 @@ ghost use Rattle.std.specs.Option.{ForSome};
 ghost use Rattle.herd_pedigree.specs.declared.TheConstants.{DEPTH_LIMIT};
 ghost use Rattle.herd_kinship.specs.Coefficients.{IsKnownParent, KnowsAncestors, own_relationship, quarter_of};
 ghost use Rattle.herd_kinship.specs.FrozenAncestry.{ancestry_of, number_of_row};
-ghost use Rattle.herd_kinship.specs.Places.{AreParentsAt, placed};
+ghost use Rattle.herd_kinship.specs.Ranks.{AreParentsAt, ranked};
 ghost use Rattle.herd_kinship.specs.Shares.{share};
 ghost use Rattle.herd_kinship.specs.Table.{mendelian as mendelian_variance};
 ghost use Rattle.herd_kinship.specs.Tracing.{given, GivesMark, HasRoom, IsIdle, IsNext, IsUnderWay};
@@ -16,15 +16,15 @@ use std::alloc::{AllocError, Allocator};
 /// An ancestor that is met, and the share that the traced animal has of it, in the unit of their depths' difference.
 #[derive(Clone, Copy)]
 pub struct Met {
-    pub place: u32,
+    pub rank: u32,
     pub share: u64,
 }
 
 /// The ancestors of an animal, itself among them, as they are met from the youngest to the oldest.
 #[derive(Drop)]
 pub struct Tracing<A: Allocator> {
-    place: u32,
-    /// All ancestors from this place on are met.
+    rank: u32,
+    /// All ancestors from this rank on are met.
     border: u32,
     /// By distance from the animal, in units of their own; 0 again once an ancestor is met.
     shares: Vec<u64, A>,
@@ -39,7 +39,7 @@ impl<A: Allocator + Clone> Tracing<A> {
         let shares = vec![in alloc.clone()?; 0u64; animals as usize]?;
         let pending = Pending::with_room(alloc, animals)?;
         Ok(Tracing {
-            place: 0,
+            rank: 0,
             border: 0,
             shares,
             pending,
@@ -48,46 +48,46 @@ impl<A: Allocator + Clone> Tracing<A> {
 }
 
 impl<A: Allocator> Tracing<A> {
-    /// Starts at the animal at a place: nobody is met yet.
-    pub fn start<F: Allocator>(&mut self, frozen: &Frozen<F>, place: u32)
-        requires place { place < length frozen.now }
-        requires idle { IsIdle (place + 1) self.old.shares.items self.old.pending.chunks.items }
-        ensures place { self.new.place ≡ place }
-        ensures border { self.new.border ≡ place + 1 }
+    /// Starts at the animal at a rank: nobody is met yet.
+    pub fn start<F: Allocator>(&mut self, frozen: &Frozen<F>, rank: u32)
+        requires rank { rank < length frozen.now }
+        requires idle { IsIdle (rank + 1) self.old.shares.items self.old.pending.chunks.items }
+        ensures rank { self.new.rank ≡ rank }
+        ensures border { self.new.border ≡ rank + 1 }
         ensures shares { length self.new.shares.items ≡ length self.old.shares.items }
         ensures marks { length self.new.pending.chunks.items ≡ length self.old.pending.chunks.items }
-        ensures tracing { IsUnderWay DEPTH_LIMIT frozen.now place (place + 1) self.new.shares.items self.new.pending.chunks.items }
+        ensures tracing { IsUnderWay DEPTH_LIMIT frozen.now rank (rank + 1) self.new.shares.items self.new.pending.chunks.items }
     {
-        prove!(place < frozen.len());
-        self.place = place;
-        self.border = place + 1;
+        prove!(rank < frozen.len());
+        self.rank = rank;
+        self.border = rank + 1;
         self.shares[0] = 1;
         self.pending.insert(0);
     }
 
     /// Meets the next ancestor, and passes its share on to its parents.
     pub fn meet_next<F: Allocator>(&mut self, frozen: &Frozen<F>) -> Option<Met>
-        requires { IsUnderWay DEPTH_LIMIT frozen.now self.old.place self.old.border self.old.shares.items self.old.pending.chunks.items }
-        ensures same { self.new.place ≡ self.old.place }
+        requires { IsUnderWay DEPTH_LIMIT frozen.now self.old.rank self.old.border self.old.shares.items self.old.pending.chunks.items }
+        ensures same { self.new.rank ≡ self.old.rank }
         ensures shares { length self.new.shares.items ≡ length self.old.shares.items }
         ensures marks { length self.new.pending.chunks.items ≡ length self.old.pending.chunks.items }
-        ensures tracing { IsUnderWay DEPTH_LIMIT frozen.now self.new.place self.new.border self.new.shares.items self.new.pending.chunks.items }
-        ensures next { IfSome result (λ met. IsNext DEPTH_LIMIT frozen.now self.old.place self.old.border met.place met.share) }
-        ensures border { IfSome result (λ met. self.new.border ≡ met.place) }
+        ensures tracing { IsUnderWay DEPTH_LIMIT frozen.now self.new.rank self.new.border self.new.shares.items self.new.pending.chunks.items }
+        ensures next { IfSome result (λ met. IsNext DEPTH_LIMIT frozen.now self.old.rank self.old.border met.rank met.share) }
+        ensures border { IfSome result (λ met. self.new.border ≡ met.rank) }
         ensures ended { IfNone result (self.new.border ≡ 0) }
-        ensures all { IfNone result ((j : ℕ) → j < self.old.border → share (placed frozen.now) DEPTH_LIMIT (Some self.old.place) j ≡ 0) }
+        ensures all { IfNone result ((j : ℕ) → j < self.old.border → share (ranked frozen.now) DEPTH_LIMIT (Some self.old.rank) j ≡ 0) }
     {
         let Some(distance) = self.pending.take_nearest() else {
             self.border = 0;
             return None;
         };
         let met = Met {
-            place: self.place - distance as u32,
+            rank: self.rank - distance as u32,
             share: self.shares[distance],
         };
         self.shares[distance] = 0;
-        self.border = met.place;
-        let parents = parents_at(frozen, met.place);
+        self.border = met.rank;
+        let parents = parents_at(frozen, met.rank);
         self.give(frozen, parents, met, parents.sire);
         self.give(frozen, parents, met, parents.dam);
         Some(met)
@@ -101,29 +101,29 @@ impl<A: Allocator> Tracing<A> {
         met: Met,
         parent: Option<u32>,
     )
-        requires row { AreParentsAt frozen.now met.place parents }
-        requires room { ForSome parent (HasRoom DEPTH_LIMIT frozen.now self.old.place self.old.shares.items met.place met.share) }
-        requires marks { self.old.place < 64 * length self.old.pending.chunks.items }
-        ensures place { self.new.place ≡ self.old.place }
+        requires row { AreParentsAt frozen.now met.rank parents }
+        requires room { ForSome parent (HasRoom DEPTH_LIMIT frozen.now self.old.rank self.old.shares.items met.rank met.share) }
+        requires marks { self.old.rank < 64 * length self.old.pending.chunks.items }
+        ensures rank { self.new.rank ≡ self.old.rank }
         ensures border { self.new.border ≡ self.old.border }
-        ensures shares { self.new.shares.items ≡ given frozen.now self.old.place self.old.shares.items met.place met.share parent }
-        ensures marks { GivesMark self.old.place self.old.pending.chunks.items self.new.pending.chunks.items parent }
+        ensures shares { self.new.shares.items ≡ given frozen.now self.old.rank self.old.shares.items met.rank met.share parent }
+        ensures marks { GivesMark self.old.rank self.old.pending.chunks.items self.new.pending.chunks.items parent }
     {
-        if let Some(place) = parent {
-            let steps = parents.depth - parents_at(frozen, place).depth;
-            let distance = (self.place - place) as usize;
+        if let Some(rank) = parent {
+            let steps = parents.depth - parents_at(frozen, rank).depth;
+            let distance = (self.rank - rank) as usize;
             self.shares[distance] += met.share << (steps - 1);
             self.pending.insert(distance);
         }
     }
 }
 
-/// The parents and the depth of the animal at a place.
-pub fn parents_at<F: Allocator>(frozen: &Frozen<F>, place: u32) -> Parents
-    requires { place < length frozen.now }
-    ensures { AreParentsAt frozen.now place result }
+/// The parents and the depth of the animal at a rank.
+pub fn parents_at<F: Allocator>(frozen: &Frozen<F>, rank: u32) -> Parents
+    requires { rank < length frozen.now }
+    ensures { AreParentsAt frozen.now rank result }
 {
-    frozen.parents(place)
+    frozen.parents(rank)
 }
 
 /// A quarter of a parent's relationship with itself.
@@ -133,25 +133,25 @@ fn quarter(known: &[u128], parent: Option<u32>) -> u128
     ensures half { result ≤ 2 ^ (2 * DEPTH_LIMIT - 1) }
 {
     match parent {
-        Some(place) => (ONE + known[place as usize]) / 4,
+        Some(rank) => (ONE + known[rank as usize]) / 4,
         None => 0,
     }
 }
 
-/// The Mendelian sampling variance of the animal at a place, by the coefficients of its parents.
+/// The Mendelian sampling variance of the animal at a rank, by the coefficients of its parents.
 ///
 /// It is a whole number of units of 2^-120 of the additive variance: 1 less a quarter of each known parent's
 /// relationship with itself (Henderson 1976; Meuwissen and Luo 1992). So it is `ONE` of a founder, and never 0. Only
 /// the numerators of the animal's ancestors need be right in `known`.
-pub fn mendelian<F: Allocator>(frozen: &Frozen<F>, known: &[u128], place: u32) -> u128
-    requires place { place < length frozen.now }
-    requires known { KnowsAncestors DEPTH_LIMIT frozen.now known.now place }
-    ensures value { result ≡ mendelian_variance (ancestry_of frozen.now) DEPTH_LIMIT (number_of_row frozen.now place) }
+pub fn mendelian<F: Allocator>(frozen: &Frozen<F>, known: &[u128], rank: u32) -> u128
+    requires rank { rank < length frozen.now }
+    requires known { KnowsAncestors DEPTH_LIMIT frozen.now known.now rank }
+    ensures value { result ≡ mendelian_variance (ancestry_of frozen.now) DEPTH_LIMIT (number_of_row frozen.now rank) }
     ensures positive { 0 < result }
     ensures at_most_one { result ≤ 2 ^ (2 * DEPTH_LIMIT) }
 {
-    prove!(place < frozen.len());
-    let parents = parents_at(frozen, place);
+    prove!(rank < frozen.len());
+    let parents = parents_at(frozen, rank);
     ONE - quarter(known, parents.sire) - quarter(known, parents.dam)
 }
 
@@ -176,21 +176,21 @@ fn trace_ancestors<F: Allocator, A: Allocator + Clone>(
     alloc: A,
     frozen: &Frozen<F>,
     known: &[u128],
-    place: u32,
+    rank: u32,
 ) -> Result<u128, AllocError>
-    requires place { place < length frozen.now }
-    requires known { KnowsAncestors DEPTH_LIMIT frozen.now known.now place }
-    ensures { IfOk result (λ value. value ≡ own_relationship DEPTH_LIMIT frozen.now place) }
+    requires rank { rank < length frozen.now }
+    requires known { KnowsAncestors DEPTH_LIMIT frozen.now known.now rank }
+    ensures { IfOk result (λ value. value ≡ own_relationship DEPTH_LIMIT frozen.now rank) }
 {
-    prove!(place < frozen.len());
-    let depth = parents_at(frozen, place).depth;
-    let mut tracing = Tracing::with_room(alloc, place + 1)?;
-    tracing.start(frozen, place);
+    prove!(rank < frozen.len());
+    let depth = parents_at(frozen, rank).depth;
+    let mut tracing = Tracing::with_room(alloc, rank + 1)?;
+    tracing.start(frozen, rank);
     let mut sum = 0;
     while let Some(met) = tracing.meet_next(frozen) {
-        let steps = 2 * depth - 2 * parents_at(frozen, met.place).depth;
+        let steps = 2 * depth - 2 * parents_at(frozen, met.rank).depth;
         sum += term(
-            mendelian(frozen, known, met.place),
+            mendelian(frozen, known, met.rank),
             steps,
             met.share,
             met.share,
@@ -199,7 +199,7 @@ fn trace_ancestors<F: Allocator, A: Allocator + Clone>(
     Ok(sum)
 }
 
-/// The relationship of the animal at a place with itself, by the coefficients of its ancestors (Meuwissen and Luo
+/// The relationship of the animal at a rank with itself, by the coefficients of its ancestors (Meuwissen and Luo
 /// 1992).
 ///
 /// It is a whole number of units of 2^-120, from `ONE` on and below 2 * `ONE`; `inbred` makes the coefficient of it.
@@ -209,16 +209,16 @@ pub fn trace<F: Allocator, A: Allocator + Clone>(
     alloc: A,
     frozen: &Frozen<F>,
     known: &[u128],
-    place: u32,
+    rank: u32,
 ) -> Result<u128, AllocError>
-    requires place { place < length frozen.now }
-    requires known { KnowsAncestors DEPTH_LIMIT frozen.now known.now place }
-    ensures { IfOk result (λ value. value ≡ own_relationship DEPTH_LIMIT frozen.now place) }
+    requires rank { rank < length frozen.now }
+    requires known { KnowsAncestors DEPTH_LIMIT frozen.now known.now rank }
+    ensures { IfOk result (λ value. value ≡ own_relationship DEPTH_LIMIT frozen.now rank) }
 {
-    prove!(place < frozen.len());
-    let row = frozen.row(place);
+    prove!(rank < frozen.len());
+    let row = frozen.row(rank);
     if has_both_parents(&row) {
-        trace_ancestors(alloc, frozen, known, place)
+        trace_ancestors(alloc, frozen, known, rank)
     } else {
         Ok(ONE)
     }

@@ -20,7 +20,7 @@ use std::sync::Wait;
 pub type Copies = Writer<Shown, CopyUpdate, View, Ours>;
 
 /// A seat at the copies, from which an inspector reads: each inspector has one.
-pub type Place = Reader<Shown, View, Ours>;
+pub type Seat = Reader<Shown, View, Ours>;
 
 /// The writer of an office, with the handle by which its drop waits for readers before it frees both copies.
 pub struct Held<R: Wait + Drop> {
@@ -50,7 +50,7 @@ impl<R: Wait + Drop> Held<R> {
     }
 }
 
-/// A pair of these copies, with so many places for readers.
+/// A pair of these copies, with so many seats for readers.
 pub fn make_copies<R: Wait>(
     rt: &R,
     alloc: Global,
@@ -115,10 +115,10 @@ pub fn show<R: Wait>(rt: &R, copies: &mut Copies, step: &Step, past: Past)
 }
 
 /// What the writer knows goes to a reader.
-pub fn inform(copies: &mut Copies, place: &mut Place)
-    requires { place.old.place.table_id ≡ copies.old.desk.place.table_id }
-    ensures told { view place.new.place ≡ view copies.old.desk.place }
+pub fn inform(copies: &mut Copies, seat: &mut Seat)
+    requires { seat.old.place.table_id ≡ copies.old.desk.place.table_id }
+    ensures told { view seat.new.place ≡ view copies.old.desk.place }
     ensures kept { (copies.new.desk.shown ≡ copies.old.desk.shown) × (copies.new.log ≡ copies.old.log) × (copies.new.behind ≡ copies.old.behind) × (view copies.new.desk.place ≡ view copies.old.desk.place) }
 {
-    place.learn::<Notes>(copies.tell::<Notes>());
+    seat.learn::<Notes>(copies.tell::<Notes>());
 }

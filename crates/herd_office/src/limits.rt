@@ -6,6 +6,6 @@ pub const MOST_DESKS: u16 = 16;
 
 /// The most inspectors that an office may have.
 ///
-/// Each has a place at the readers' copies, and a desk visits every place while it holds the lock. No proof needs the
+/// Each has a seat at the readers' copies, and a desk visits every seat while it holds the lock. No proof needs the
 /// number.
 pub const MOST_INSPECTORS: u16 = 16;

@@ -1,4 +1,4 @@
--- The first fault, and when it is that a line is too long.
+-- The first fault, and when it is that a path is too long.
 use Rattle.std.proofs.Common.{ℕ, zero, suc, ◌||◌, ℤ, pos, ◌+◌, ◌<◌, ◌≤◌, ◌≡◌, ◌≢◌, ⊎_elim, inl, inr, arith, refl, sym, ap, ◌∙◌, subst, Bool, true, false, nat_lt, if◌then◌else◌, IsTrue, IsFalse, List, [], ◌∷◌, Option, Some, None, IfSome, length, slice_get, slice_index, slice_set, get_or}
 use Rattle.std.specs.Str.{bytes_eq}
 use Rattle.std.specs.List.{IsDistinct, list_any}
@@ -12,17 +12,17 @@ use Rattle.indexmap.specs.IndexMap.{set_value_at}
 use Rattle.herd_pedigree.specs.declared.rules.animal.Animal.{Animal}
 use Rattle.herd_pedigree.specs.declared.rules.parent_fault.ParentFault.{ParentFault}
 use Rattle.herd_pedigree.specs.declared.rules.parent_fault.ParentFault.TheVariants.{TooDeep}
-use Rattle.herd_pedigree.specs.rules.Lines.{Parentage, has_line}
+use Rattle.herd_pedigree.specs.rules.Paths.{Parentage, has_path}
 use Rattle.herd_pedigree.specs.rules.Book.{Book, record_of, parentage_of, changed, with_parents}
 use Rattle.herd_pedigree.specs.rules.ParentFault.{parent_fault, fault_by_records, is_too_deep}
 use Rattle.herd_pedigree.specs.rules.Depths.{IsParent, AreDepths, depth_from}
-use Rattle.herd_pedigree.specs.store.Places.{parent_at, parentage_at, IsPlaceIn, AreParents}
+use Rattle.herd_pedigree.specs.store.Places.{parent_at, parentage_at, IsIndexIn, AreParents}
 use Rattle.herd_pedigree.specs.store.Kept.{IsKept}
 use Rattle.herd_pedigree.specs.store.Carry.{IsSettled}
-use Rattle.herd_pedigree.proofs.lemmas.rules.LineFacts.{Line, line-from_test, test-from_line, line-at_most, line-there, below_from, depths-fall, depths-line, depths-shallow}
+use Rattle.herd_pedigree.proofs.lemmas.rules.PathFacts.{Path, path-from_test, test-from_path, path-at_most, path-there, below_from, depths-fall, depths-path, depths-shallow}
 use Rattle.herd_pedigree.proofs.lemmas.rules.BookFacts.{entry_from_key, lookup_at, length-keys, there}
 use Rattle.herd_pedigree.proofs.lemmas.rules.FaultFacts.{fault-split}
-use Rattle.herd_pedigree.proofs.lemmas.store.PlaceFacts.{line_by_place, line_by_number, place_from_there, number_from_there, number_from_place}
+use Rattle.herd_pedigree.proofs.lemmas.store.PlaceFacts.{path_by_place, path_by_number, place_from_there, number_from_there, number_from_place}
 use Rattle.herd_pedigree.proofs.lemmas.store.DepthFacts.{IsLeafSet, depths-leaf, from-most}
 use Rattle.herd_pedigree.proofs.lemmas.store.ProgenyFacts.{parent-within}
 use Rattle.herd_pedigree.proofs.lemmas.store.CarryFacts.{settled-but}
@@ -32,7 +32,7 @@ use Rattle.herd_pedigree.proofs.lemmas.rules.WrittenFacts.{written-changed, too_
 use Rattle.herd_pedigree.proofs.lemmas.store.SetFacts.{keys-set, set-changed, AreParents-set}
 
 -- a named parent's place is within the book
-named-within : (numbers : List (List ℕ)) (o : Option ℕ) (n : Option (List ℕ)) (p : ℕ) → IsPlaceIn numbers o n → o ≡ Some p → p < length numbers
+named-within : (numbers : List (List ℕ)) (o : Option ℕ) (n : Option (List ℕ)) (p : ℕ) → IsIndexIn numbers o n → o ≡ Some p → p < length numbers
 named-within numbers o n p is e = let f = number_from_place numbers o n p is e in slice_get_within numbers p f.0 f.2
 
 -- and so is each parent's
@@ -45,9 +45,9 @@ parents-within book parent_of parents a c p e =
     let n = length-keys book in
     omega (arith, h, n)
 
--- a line of the animals of two numbers' parents: one that isn't in the book
+-- a path of the animals of two numbers' parents: one that isn't in the book
 pub too_deep-absent : (l most : ℕ) (book : Book) (sires dams : List (Option ℕ)) (depths : List ℕ) → IsKept l most book sires dams depths → (number : List ℕ) → record_of book number ≡ None →
-    (sire dam : Option ℕ) (s d : Option (List ℕ)) → IsPlaceIn (keys_of book) sire s → IsPlaceIn (keys_of book) dam d → nat_lt l (depth_from (slice_index depths) sire dam) ≡ is_too_deep l book number s d
+    (sire dam : Option ℕ) (s d : Option (List ℕ)) → IsIndexIn (keys_of book) sire s → IsIndexIn (keys_of book) dam d → nat_lt l (depth_from (slice_index depths) sire dam) ≡ is_too_deep l book number s d
 too_deep-absent l most book sires dams depths k number absent sire dam s d si di =
     too_deep-birth l most book sires dams depths k number (record { birth = pos 0; sire = s; dam = d; embryo = false; herd = 0; since = pos 0; left = None }) absent sire dam si di
 
@@ -71,7 +71,7 @@ module _ (sires dams : List (Option ℕ)) (a : ℕ) (sire dam : Option ℕ) (her
 
 module _ (l most : ℕ) (book : Book) (sires dams : List (Option ℕ)) (depths : List ℕ) (k : IsKept l most book sires dams depths)
     (number : List ℕ) (a : ℕ) (at : slice_get (keys_of book) a ≡ Some number)
-    (sire dam : Option ℕ) (s d : Option (List ℕ)) (sire_is : IsPlaceIn (keys_of book) sire s) (dam_is : IsPlaceIn (keys_of book) dam d) where
+    (sire dam : Option ℕ) (s d : Option (List ℕ)) (sire_is : IsIndexIn (keys_of book) sire s) (dam_is : IsIndexIn (keys_of book) dam d) where
   entry : (was : Animal) × (slice_get book a ≡ Some (number, was))
   entry = entry_from_key book a number at
 
@@ -96,31 +96,31 @@ module _ (l most : ℕ) (book : Book) (sires dams : List (Option ℕ)) (depths :
   pub dams-corrected : AreParents (changed book number (with_parents s d)) (λ animal. animal.dam) (slice_set dams a dam)
   dams-corrected = subst (λ es. AreParents es (λ animal. animal.dam) (slice_set dams a dam)) same_book (AreParents-set book (λ animal. animal.dam) dams a (with_parents s d entry.0) dam k.dams_are here dam_is)
 
-  pub too_deep-told : is_too_deep l book number s d ≡ list_any (has_line (parentage_of (changed book number (with_parents s d))) (l + 1)) (number ∷ keys_of book)
+  pub too_deep-told : is_too_deep l book number s d ≡ list_any (has_path (parentage_of (changed book number (with_parents s d))) (l + 1)) (number ∷ keys_of book)
   too_deep-told =
       too_deep-written book (changed book number (with_parents s d)) number (with_parents s d entry.0)
       (written-changed book number (with_parents s d) entry.0 (lookup_at book k.lawful.once a number entry.0 entry.1)) l
 
-  -- no line is too long where numbers up to l fall at each step to a parent
+  -- no path is too long where numbers up to l fall at each step to a parent
   pub not_deep-by : (g : ℕ → ℕ) →
       ((p c : ℕ) → IsTrue ((parentage_at (slice_set sires a sire) (slice_set dams a dam)).is_there c) → IsParent (parentage_at (slice_set sires a sire) (slice_set dams a dam)) p c → g p < g c) →
       ((c : ℕ) → IsTrue ((parentage_at (slice_set sires a sire) (slice_set dams a dam)).is_there c) → g c ≤ l) →
       is_too_deep l book number s d ≡ false
   not_deep-by g falls bound =
-      too_deep-told ∙ list_any_none (has_line (parentage_of (changed book number (with_parents s d))) (l + 1)) (number ∷ keys_of book)
+      too_deep-told ∙ list_any_none (has_path (parentage_of (changed book number (with_parents s d))) (l + 1)) (number ∷ keys_of book)
       (λ i x h.
       let y : List ℕ = get_or (number ∷ keys_of book) i x in
       let after : Parentage ℕ = parentage_at (slice_set sires a sire) (slice_set dams a dam) in
-      false_from_ne_true (has_line (parentage_of (changed book number (with_parents s d))) (l + 1) y)
+      false_from_ne_true (has_path (parentage_of (changed book number (with_parents s d))) (l + 1) y)
       (λ t.
-      let line : Line (parentage_of (changed book number (with_parents s d))) (l + 1) y = line-from_test (parentage_of (changed book number (with_parents s d))) (l + 1) y t in
-      let place = place_from_there (changed book number (with_parents s d)) (slice_set sires a sire) (slice_set dams a dam) once-corrected sires-corrected dams-corrected y (line-there (parentage_of (changed book number (with_parents s d))) (l + 1) y line) in
-      let by_place : Line after (l + 1) place.0 = line_by_place (changed book number (with_parents s d)) (slice_set sires a sire) (slice_set dams a dam) once-corrected sires-corrected dams-corrected (l + 1) y place.0 place.1 line in
-      let low : l + 1 ≤ g place.0 = line-at_most after g falls (l + 1) place.0 by_place in
-      let high : g place.0 ≤ l = bound place.0 (line-there after (l + 1) place.0 by_place) in
+      let path : Path (parentage_of (changed book number (with_parents s d))) (l + 1) y = path-from_test (parentage_of (changed book number (with_parents s d))) (l + 1) y t in
+      let place = place_from_there (changed book number (with_parents s d)) (slice_set sires a sire) (slice_set dams a dam) once-corrected sires-corrected dams-corrected y (path-there (parentage_of (changed book number (with_parents s d))) (l + 1) y path) in
+      let by_place : Path after (l + 1) place.0 = path_by_place (changed book number (with_parents s d)) (slice_set sires a sire) (slice_set dams a dam) once-corrected sires-corrected dams-corrected (l + 1) y place.0 place.1 path in
+      let low : l + 1 ≤ g place.0 = path-at_most after g falls (l + 1) place.0 by_place in
+      let high : g place.0 ≤ l = bound place.0 (path-there after (l + 1) place.0 by_place) in
       absurd (omega (arith, low, high))))
 
-  -- parents that give no greater depth than before make no line too long
+  -- parents that give no greater depth than before make no path too long
   pub not_deep-lower : depth_from (slice_index depths) sire dam ≤ slice_index depths a → is_too_deep l book number s d ≡ false
   not_deep-lower low =
       let wide : length dams ≡ length sires = k.dams_are.long ∙ sym k.sires_are.long in
@@ -144,7 +144,7 @@ pub fault-first : (l : ℕ) (book : Book) (number : List ℕ) (birth : ℤ) (sir
 fault-first l book number birth sire dam embryo fault e =
     sym (fault-split l book number birth sire dam embryo ∙ ap (λ o. option_or o (if is_too_deep l book number sire dam then Some TooDeep else None)) e)
 
--- and where there is none, a line that is too long is
+-- and where there is none, a path that is too long is
 pub fault-rest : (l : ℕ) (book : Book) (number : List ℕ) (birth : ℤ) (sire dam : Option (List ℕ)) (embryo deep : Bool) →
     fault_by_records book birth sire dam embryo ≡ None → deep ≡ is_too_deep l book number sire dam → (if deep then Some TooDeep else None) ≡ parent_fault l book number birth sire dam embryo
 fault-rest l book number birth sire dam embryo deep e told =
@@ -153,7 +153,7 @@ fault-rest l book number birth sire dam embryo deep e told =
 -- an animal that isn't in the book, whose parents' records show no fault, has the one that its depth shows, or none
 pub newborn-fault : (l most : ℕ) (book : Book) (sires dams : List (Option ℕ)) (depths : List ℕ) → IsKept l most book sires dams depths → (number : List ℕ) → record_of book number ≡ None →
     (birth : ℤ) (s d : Option (List ℕ)) (embryo : Bool) (sire dam : Option ℕ) → fault_by_records book birth s d embryo ≡ None →
-    IsPlaceIn (keys_of book) sire s → IsPlaceIn (keys_of book) dam d → (deep : Bool) → nat_lt l (depth_from (slice_index depths) sire dam) ≡ deep →
+    IsIndexIn (keys_of book) sire s → IsIndexIn (keys_of book) dam d → (deep : Bool) → nat_lt l (depth_from (slice_index depths) sire dam) ≡ deep →
     (if deep then Some TooDeep else None) ≡ parent_fault l book number birth s d embryo
 newborn-fault l most book sires dams depths k number absent birth s d embryo sire dam told si di deep e =
     fault-rest l book number birth s d embryo deep told (sym e ∙ too_deep-absent l most book sires dams depths k number absent sire dam s d si di)
@@ -207,7 +207,7 @@ any_yes test (y ∷ ys) (suc k) x at t = or_later (test y) (list_any test ys) (a
 
 module _ (l most : ℕ) (book : Book) (sires dams : List (Option ℕ)) (depths : List ℕ) (k : IsKept l most book sires dams depths)
     (number : List ℕ) (a : ℕ) (at : slice_get (keys_of book) a ≡ Some number)
-    (sire dam : Option ℕ) (s d : Option (List ℕ)) (sire_is : IsPlaceIn (keys_of book) sire s) (dam_is : IsPlaceIn (keys_of book) dam d) where
+    (sire dam : Option ℕ) (s d : Option (List ℕ)) (sire_is : IsIndexIn (keys_of book) sire s) (dam_is : IsIndexIn (keys_of book) dam d) where
   after : Book
   after = changed book number (with_parents s d)
 
@@ -220,39 +220,39 @@ module _ (l most : ℕ) (book : Book) (sires dams : List (Option ℕ)) (depths :
   dams-after : AreParents (changed book number (with_parents s d)) (λ animal. animal.dam) (slice_set dams a dam)
   dams-after = dams-corrected l most book sires dams depths k number a at sire dam s d sire_is dam_is
 
-  -- a line that is too long by places is one by numbers
-  pub too_deep-by_place : (c : ℕ) → has_line (parentage_at (slice_set sires a sire) (slice_set dams a dam)) (l + 1) c ≡ true → is_too_deep l book number s d ≡ true
+  -- a path that is too long by places is one by numbers
+  pub too_deep-by_place : (c : ℕ) → has_path (parentage_at (slice_set sires a sire) (slice_set dams a dam)) (l + 1) c ≡ true → is_too_deep l book number s d ≡ true
   too_deep-by_place c t =
       let exchanged : Parentage ℕ = parentage_at (slice_set sires a sire) (slice_set dams a dam) in
-      let line : Line exchanged (l + 1) c = line-from_test exchanged (l + 1) c t in
-      let x = number_from_there (changed book number (with_parents s d)) (slice_set sires a sire) (slice_set dams a dam) once-after sires-after dams-after c (line-there exchanged (l + 1) c line) in
-      let by_number = line_by_number (changed book number (with_parents s d)) (slice_set sires a sire) (slice_set dams a dam) once-after sires-after dams-after (l + 1) c x.0 x.1 line in
-      let test : has_line (parentage_of (changed book number (with_parents s d))) (l + 1) x.0 ≡ true = test-from_line (parentage_of (changed book number (with_parents s d))) (l + 1) x.0 by_number in
+      let path : Path exchanged (l + 1) c = path-from_test exchanged (l + 1) c t in
+      let x = number_from_there (changed book number (with_parents s d)) (slice_set sires a sire) (slice_set dams a dam) once-after sires-after dams-after c (path-there exchanged (l + 1) c path) in
+      let by_number = path_by_number (changed book number (with_parents s d)) (slice_set sires a sire) (slice_set dams a dam) once-after sires-after dams-after (l + 1) c x.0 x.1 path in
+      let test : has_path (parentage_of (changed book number (with_parents s d))) (l + 1) x.0 ≡ true = test-from_path (parentage_of (changed book number (with_parents s d))) (l + 1) x.0 by_number in
       let keys : slice_get (number ∷ keys_of book) (suc c) ≡ Some x.0 = ap (λ ks. slice_get ks c) (sym (keys-corrected l most book sires dams depths k number a at sire dam s d sire_is dam_is)) ∙ x.1 in
       too_deep-told l most book sires dams depths k number a at sire dam s d sire_is dam_is
-      ∙ any_yes (has_line (parentage_of (changed book number (with_parents s d))) (l + 1)) (number ∷ keys_of book) (suc c) x.0 keys test
+      ∙ any_yes (has_path (parentage_of (changed book number (with_parents s d))) (l + 1)) (number ∷ keys_of book) (suc c) x.0 keys test
 
-  -- and where there is none, no line of the book is too long
-  pub not_deep-by_place : ((c : ℕ) → has_line (parentage_at (slice_set sires a sire) (slice_set dams a dam)) (l + 1) c ≡ false) → is_too_deep l book number s d ≡ false
+  -- and where there is none, no path of the book is too long
+  pub not_deep-by_place : ((c : ℕ) → has_path (parentage_at (slice_set sires a sire) (slice_set dams a dam)) (l + 1) c ≡ false) → is_too_deep l book number s d ≡ false
   not_deep-by_place none =
       too_deep-told l most book sires dams depths k number a at sire dam s d sire_is dam_is
-      ∙ list_any_none (has_line (parentage_of (changed book number (with_parents s d))) (l + 1)) (number ∷ keys_of book)
+      ∙ list_any_none (has_path (parentage_of (changed book number (with_parents s d))) (l + 1)) (number ∷ keys_of book)
       (λ i x h.
       let y : List ℕ = get_or (number ∷ keys_of book) i x in
       let exchanged : Parentage ℕ = parentage_at (slice_set sires a sire) (slice_set dams a dam) in
       let numbers : Parentage (List ℕ) = parentage_of (changed book number (with_parents s d)) in
-      false_from_ne_true (has_line numbers (l + 1) y)
+      false_from_ne_true (has_path numbers (l + 1) y)
       (λ t.
-      let line : Line numbers (l + 1) y = line-from_test numbers (l + 1) y t in
-      let place = place_from_there (changed book number (with_parents s d)) (slice_set sires a sire) (slice_set dams a dam) once-after sires-after dams-after y (line-there numbers (l + 1) y line) in
-      let by_place : Line exchanged (l + 1) place.0 = line_by_place (changed book number (with_parents s d)) (slice_set sires a sire) (slice_set dams a dam) once-after sires-after dams-after (l + 1) y place.0 place.1 line in
-      let u : has_line exchanged (l + 1) place.0 ≡ true = test-from_line exchanged (l + 1) place.0 by_place in
-      let v : has_line exchanged (l + 1) place.0 ≡ false = none place.0 in absurd (cc)))
+      let path : Path numbers (l + 1) y = path-from_test numbers (l + 1) y t in
+      let place = place_from_there (changed book number (with_parents s d)) (slice_set sires a sire) (slice_set dams a dam) once-after sires-after dams-after y (path-there numbers (l + 1) y path) in
+      let by_place : Path exchanged (l + 1) place.0 = path_by_place (changed book number (with_parents s d)) (slice_set sires a sire) (slice_set dams a dam) once-after sires-after dams-after (l + 1) y place.0 place.1 path in
+      let u : has_path exchanged (l + 1) place.0 ≡ true = test-from_path exchanged (l + 1) place.0 by_place in
+      let v : has_path exchanged (l + 1) place.0 ≡ false = none place.0 in absurd (cc)))
 
-  -- a book with no line too long has none by places
-  pub shallow-by_place : is_too_deep l book number s d ≡ false → (c : ℕ) → has_line (parentage_at (slice_set sires a sire) (slice_set dams a dam)) (l + 1) c ≡ false
+  -- a book with no path too long has none by places
+  pub shallow-by_place : is_too_deep l book number s d ≡ false → (c : ℕ) → has_path (parentage_at (slice_set sires a sire) (slice_set dams a dam)) (l + 1) c ≡ false
   shallow-by_place e c =
-      false_from_ne_true (has_line (parentage_at (slice_set sires a sire) (slice_set dams a dam)) (l + 1) c)
+      false_from_ne_true (has_path (parentage_at (slice_set sires a sire) (slice_set dams a dam)) (l + 1) c)
       (λ t. let u : true ≡ false = sym (too_deep-by_place c t) ∙ e in absurd (cc))
 
   a-within : a < length sires
@@ -270,7 +270,7 @@ module _ (l most : ℕ) (book : Book) (sires dams : List (Option ℕ)) (depths :
       (λ p e. let w = named-within (keys_of book) sire s p sire_is e in omega (arith, w, n, m))
       (λ p e. let w = named-within (keys_of book) dam d p dam_is e in omega (arith, w, n, m))
 
-  -- parents of an animal with no calves make a line too long exactly where its own depth is too great
+  -- parents of an animal with no calves make a path too long exactly where its own depth is too great
   pub too_deep-leaf : ((x : ℕ) → IsParent (parentage_at (slice_set sires a sire) (slice_set dams a dam)) a x → ⊥) → nat_lt l (depth_from (slice_index depths) sire dam) ≡ is_too_deep l book number s d
   too_deep-leaf leaf =
       let old : Parentage ℕ = parentage_at sires dams in
@@ -307,17 +307,17 @@ module _ (l most : ℕ) (book : Book) (sires dams : List (Option ℕ)) (depths :
       (λ (deep : l < v).
       let e : v ≡ l + 1 = omega (arith, deep, most) in
       let wide : AreDepths (l + 1) new (slice_index (slice_set depths a v)) = depths-leaf l (l + 1) old new (slice_index depths) (slice_index (slice_set depths a v)) a k.depths_are set (omega arith) (omega (arith, at_a, most)) in
-      let line : Line new (slice_index (slice_set depths a v) a) a = depths-line (l + 1) new (slice_index (slice_set depths a v)) wide a here in
-      let line' : Line new (l + 1) a = subst (λ n. Line new n a) (at_a ∙ e) line in
-      lt-ltb l v deep ∙ sym (too_deep-by_place a (test-from_line new (l + 1) a line')))
+      let path : Path new (slice_index (slice_set depths a v) a) a = depths-path (l + 1) new (slice_index (slice_set depths a v)) wide a here in
+      let path' : Path new (l + 1) a = subst (λ n. Path new n a) (at_a ∙ e) path in
+      lt-ltb l v deep ∙ sym (too_deep-by_place a (test-from_path new (l + 1) a path')))
       (λ (low : v ≤ l).
       let deps : AreDepths l new (slice_index (slice_set depths a v)) = depths-leaf l l old new (slice_index depths) (slice_index (slice_set depths a v)) a k.depths_are set (omega arith) (omega (arith, at_a, low)) in
       le-ltb l v low
-      ∙ sym (not_deep-by_place (λ c. false_from_ne_true (has_line new (l + 1) c) (λ t. let b = depths-shallow l new (slice_index (slice_set depths a v)) deps (l + 1) c (line-from_test new (l + 1) c t) in absurd (omega (arith, b))))))
+      ∙ sym (not_deep-by_place (λ c. false_from_ne_true (has_path new (l + 1) c) (λ t. let b = depths-shallow l new (slice_index (slice_set depths a v)) deps (l + 1) c (path-from_test new (l + 1) c t) in absurd (omega (arith, b))))))
       (cases_lt l v)
 
   -- what the rounds over the places tell
-  pub too_deep-told_by : (deep : Bool) → (IsTrue deep → (c : ℕ) × IsTrue (has_line (parentage_at (slice_set sires a sire) (slice_set dams a dam)) (l + 1) c)) → (IsFalse deep → (c : ℕ) → IsFalse (has_line (parentage_at (slice_set sires a sire) (slice_set dams a dam)) (l + 1) c)) →
+  pub too_deep-told_by : (deep : Bool) → (IsTrue deep → (c : ℕ) × IsTrue (has_path (parentage_at (slice_set sires a sire) (slice_set dams a dam)) (l + 1) c)) → (IsFalse deep → (c : ℕ) → IsFalse (has_path (parentage_at (slice_set sires a sire) (slice_set dams a dam)) (l + 1) c)) →
       deep ≡ is_too_deep l book number s d
-  too_deep-told_by true deep shallow = let line = deep refl in sym (too_deep-by_place line.0 line.1)
+  too_deep-told_by true deep shallow = let path = deep refl in sym (too_deep-by_place path.0 path.1)
   too_deep-told_by false deep shallow = sym (not_deep-by_place (shallow refl))

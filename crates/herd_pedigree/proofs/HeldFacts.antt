@@ -7,16 +7,16 @@ use Rattle.std.proofs.lemmas.List.{get_or-take, get_or-set_same, length-set, len
 use Rattle.indexmap.specs.IndexMap.{set_value_at}
 use Rattle.herd_pedigree.specs.declared.rules.animal.Animal.{Animal}
 use Rattle.herd_pedigree.specs.declared.store.undo.Undo.TheVariants.{Nothing, Birth, Record}
-use Rattle.herd_pedigree.specs.rules.Lines.{Parentage, has_line}
+use Rattle.herd_pedigree.specs.rules.Paths.{Parentage, has_path}
 use Rattle.herd_pedigree.specs.rules.Book.{Book, changed, with_parents}
 use Rattle.herd_pedigree.specs.Pedigree.{IsCorrection}
 use Rattle.herd_pedigree.specs.rules.Depths.{IsParent, AreDepths}
-use Rattle.herd_pedigree.specs.store.Places.{parent_at, parentage_at, IsPlaceIn}
+use Rattle.herd_pedigree.specs.store.Places.{parent_at, parentage_at, IsIndexIn}
 use Rattle.herd_pedigree.specs.store.Carry.{IsSettled}
 use Rattle.herd_pedigree.specs.store.Kept.{IsKept}
 use Rattle.herd_pedigree.specs.store.Records.{NamesItsOwn}
 use Rattle.herd_pedigree.specs.store.Undo.{IsHeld, without_last, undone_writes}
-use Rattle.herd_pedigree.proofs.lemmas.rules.LineFacts.{depths-fall}
+use Rattle.herd_pedigree.proofs.lemmas.rules.PathFacts.{depths-fall}
 use Rattle.herd_pedigree.proofs.lemmas.rules.BookFacts.{there as there_at}
 use Rattle.herd_pedigree.proofs.lemmas.rules.FaultFacts.{HasNoFault, no_fault}
 use Rattle.herd_pedigree.proofs.lemmas.rules.LawfulChanges.{lawful-parents}
@@ -88,21 +88,21 @@ module _ (l most : ℕ) (book : Book) (sires dams : List (Option ℕ)) (depths :
   entry-before : (number : List ℕ) × (slice_get (set_value_at book place animal) place ≡ Some (number, animal))
   entry-before = let e = there_at book place h.within.0 in (e.0.0, set_there book place animal e.0 e.1)
 
-  pub undo-sire_is : IsPlaceIn (keys_of book) sire animal.sire
+  pub undo-sire_is : IsIndexIn (keys_of book) sire animal.sire
   undo-sire_is =
       let m = h.kept.sires_are.long in
       let here : place < length sires = let w = h.within.0 in omega (arith, w, m) in
-      let is : IsPlaceIn (keys_of (set_value_at book place animal)) (parent_at (slice_set sires place sire) place) animal.sire = was.sires_are.each place (entry-before.0, animal) entry-before.1 in
-      subst (λ ks. IsPlaceIn ks sire animal.sire) (keys-set book place animal)
-      (subst (λ o. IsPlaceIn (keys_of (set_value_at book place animal)) o animal.sire) (get_or-set_same sires place sire None here) is)
+      let is : IsIndexIn (keys_of (set_value_at book place animal)) (parent_at (slice_set sires place sire) place) animal.sire = was.sires_are.each place (entry-before.0, animal) entry-before.1 in
+      subst (λ ks. IsIndexIn ks sire animal.sire) (keys-set book place animal)
+      (subst (λ o. IsIndexIn (keys_of (set_value_at book place animal)) o animal.sire) (get_or-set_same sires place sire None here) is)
 
-  pub undo-dam_is : IsPlaceIn (keys_of book) dam animal.dam
+  pub undo-dam_is : IsIndexIn (keys_of book) dam animal.dam
   undo-dam_is =
       let m = h.kept.dams_are.long in
       let here : place < length dams = let w = h.within.0 in omega (arith, w, m) in
-      let is : IsPlaceIn (keys_of (set_value_at book place animal)) (parent_at (slice_set dams place dam) place) animal.dam = was.dams_are.each place (entry-before.0, animal) entry-before.1 in
-      subst (λ ks. IsPlaceIn ks dam animal.dam) (keys-set book place animal)
-      (subst (λ o. IsPlaceIn (keys_of (set_value_at book place animal)) o animal.dam) (get_or-set_same dams place dam None here) is)
+      let is : IsIndexIn (keys_of (set_value_at book place animal)) (parent_at (slice_set dams place dam) place) animal.dam = was.dams_are.each place (entry-before.0, animal) entry-before.1 in
+      subst (λ ks. IsIndexIn ks dam animal.dam) (keys-set book place animal)
+      (subst (λ o. IsIndexIn (keys_of (set_value_at book place animal)) o animal.dam) (get_or-set_same dams place dam None here) is)
 
   pub undo-sire : (p : ℕ) → sire ≡ Some p → p < length sires
   undo-sire p e =
@@ -123,12 +123,12 @@ module _ (l most : ℕ) (book : Book) (sires dams : List (Option ℕ)) (depths :
 -- a correction with no fault
 module _ (l most : ℕ) (book : Book) (sires dams : List (Option ℕ)) (depths : List ℕ) (k : IsKept l most book sires dams depths)
     (number : List ℕ) (a : ℕ) (at : slice_get (keys_of book) a ≡ Some number) (animal : Animal) (entry : slice_get book a ≡ Some (number, animal))
-    (sire dam : Option ℕ) (s d : Option (List ℕ)) (sire_is : IsPlaceIn (keys_of book) sire s) (dam_is : IsPlaceIn (keys_of book) dam d)
+    (sire dam : Option ℕ) (s d : Option (List ℕ)) (sire_is : IsIndexIn (keys_of book) sire s) (dam_is : IsIndexIn (keys_of book) dam d)
     (asked : IsCorrection l book number s d) where
   fine : HasNoFault l book number asked.animal.birth s d asked.animal.embryo
   fine = no_fault l book number asked.animal.birth s d asked.animal.embryo asked.parents
 
-  pub shallow-asked : (c : ℕ) → has_line (parentage_at (slice_set sires a sire) (slice_set dams a dam)) (l + 1) c ≡ false
+  pub shallow-asked : (c : ℕ) → has_path (parentage_at (slice_set sires a sire) (slice_set dams a dam)) (l + 1) c ≡ false
   shallow-asked = shallow-by_place l most book sires dams depths k number a at sire dam s d sire_is dam_is fine.shallow
 
   module _ (after : List ℕ) (long : length after ≡ length depths) (settled : IsSettled l (parentage_at (slice_set sires a sire) (slice_set dams a dam)) (slice_index after) []) where

@@ -8,43 +8,43 @@ use Rattle.std.proofs.lemmas.List.{length_push, get_or_push, get_or_append_left}
 use Rattle.std.proofs.lemmas.List.Folds.{list_any_none}
 use Rattle.std.proofs.lemmas.Option.{slice_get_within, same_Some}
 use Rattle.herd_pedigree.specs.declared.rules.animal.Animal.{Animal}
-use Rattle.herd_pedigree.specs.rules.Lines.{has_line}
+use Rattle.herd_pedigree.specs.rules.Paths.{has_path}
 use Rattle.herd_pedigree.specs.rules.Book.{Book, record_of, parentage_of, IsDepthOf}
 use Rattle.herd_pedigree.specs.rules.ParentFault.{is_too_deep}
 use Rattle.herd_pedigree.specs.Pedigree.{IsBirth}
 use Rattle.herd_pedigree.specs.rules.Depths.{AreDepths, depth_from}
-use Rattle.herd_pedigree.specs.store.Places.{parent_at, parentage_at, IsPlaceIn, AreParents}
+use Rattle.herd_pedigree.specs.store.Places.{parent_at, parentage_at, IsIndexIn, AreParents}
 use Rattle.herd_pedigree.specs.store.Kept.{IsKept}
 use Rattle.herd_pedigree.specs.declared.store.undo.Undo.TheVariants.{Birth, Nothing}
 use Rattle.herd_pedigree.specs.store.Undo.{IsHeld}
-use Rattle.herd_pedigree.proofs.lemmas.rules.LineFacts.{Line, depths-line, test-from_line}
+use Rattle.herd_pedigree.proofs.lemmas.rules.PathFacts.{Path, depths-path, test-from_path}
 use Rattle.herd_pedigree.proofs.lemmas.rules.BookFacts.{push_cases, push_keeps, push_last, keys-push, length-keys, distinct-push, key_from_entry}
-use Rattle.herd_pedigree.proofs.lemmas.store.PlaceFacts.{no_longer_line, line_by_number, there_by_place, depth_by_number}
+use Rattle.herd_pedigree.proofs.lemmas.store.PlaceFacts.{no_longer_path, path_by_number, there_by_place, depth_by_number}
 use Rattle.herd_pedigree.proofs.lemmas.store.DepthFacts.{depths-push, new_depth-most}
 use Rattle.herd_pedigree.proofs.lemmas.rules.FaultFacts.{HasNoFault, no_fault}
 use Rattle.herd_pedigree.proofs.lemmas.rules.LawfulChanges.{lawful-birth, lawful-empty}
 use Rattle.herd_pedigree.proofs.lemmas.store.UndoFacts.{without_last-push}
 use Rattle.herd_pedigree.proofs.lemmas.rules.WrittenFacts.{written-push, too_deep-written}
 
-IsPlaceIn-push : (numbers : List (List ℕ)) (number : List ℕ) (o : Option ℕ) (n : Option (List ℕ)) → IsPlaceIn numbers o n → IsPlaceIn (numbers ++ number ∷ []) o n
-IsPlaceIn-push numbers number None None h = h
-IsPlaceIn-push numbers number None (Some n) h = h
-IsPlaceIn-push numbers number (Some p) None h = h
-IsPlaceIn-push numbers number (Some p) (Some n) h = push_keeps numbers number n p h
+IsIndexIn-push : (numbers : List (List ℕ)) (number : List ℕ) (o : Option ℕ) (n : Option (List ℕ)) → IsIndexIn numbers o n → IsIndexIn (numbers ++ number ∷ []) o n
+IsIndexIn-push numbers number None None h = h
+IsIndexIn-push numbers number None (Some n) h = h
+IsIndexIn-push numbers number (Some p) None h = h
+IsIndexIn-push numbers number (Some p) (Some n) h = push_keeps numbers number n p h
 
 -- the place of a parent is within the book
-pub place-within : (numbers : List (List ℕ)) (o : Option ℕ) (n : Option (List ℕ)) → IsPlaceIn numbers o n → IfSome o (λ p. p < length numbers)
+pub place-within : (numbers : List (List ℕ)) (o : Option ℕ) (n : Option (List ℕ)) → IsIndexIn numbers o n → IfSome o (λ p. p < length numbers)
 place-within numbers None n h = tt
 place-within numbers (Some p) None h = absurd h
 place-within numbers (Some p) (Some n) h = slice_get_within numbers p n h
 
 -- one parent of each, with an animal more at the end
-pub AreParents-push : (book : Book) (parent_of : Animal → Option (List ℕ)) (parents : List (Option ℕ)) (number : List ℕ) (animal : Animal) (o : Option ℕ) → AreParents book parent_of parents → IsPlaceIn (keys_of book) o (parent_of animal) →
+pub AreParents-push : (book : Book) (parent_of : Animal → Option (List ℕ)) (parents : List (Option ℕ)) (number : List ℕ) (animal : Animal) (o : Option ℕ) → AreParents book parent_of parents → IsIndexIn (keys_of book) o (parent_of animal) →
     AreParents (book ++ (number, animal) ∷ []) parent_of (parents ++ o ∷ [])
 AreParents-push book parent_of parents number animal o a is =
     let numbers : List (List ℕ) = keys_of (book ++ (number, animal) ∷ []) in
-    let grow : (o : Option ℕ) (n : Option (List ℕ)) → IsPlaceIn (keys_of book) o n → IsPlaceIn numbers o n =
-    λ o n h. subst (λ ks. IsPlaceIn ks o n) (sym (keys-push book number animal)) (IsPlaceIn-push (keys_of book) number o n h) in
+    let grow : (o : Option ℕ) (n : Option (List ℕ)) → IsIndexIn (keys_of book) o n → IsIndexIn numbers o n =
+    λ o n h. subst (λ ks. IsIndexIn ks o n) (sym (keys-push book number animal)) (IsIndexIn-push (keys_of book) number o n h) in
     let long = a.long in
     let n = length_push parents o in
     let m = length_push book (number, animal) in
@@ -55,18 +55,18 @@ AreParents-push book parent_of parents number animal o a is =
           (λ (old : slice_get book c ≡ Some entry).
           let h = slice_get_within book c entry old in
           let same : parent_at (parents ++ o ∷ []) c ≡ parent_at parents c = get_or_append_left parents (o ∷ []) None c (omega (arith, h, long)) in
-          subst (λ q. IsPlaceIn numbers q (parent_of entry.1)) (sym same) (grow (parent_at parents c) (parent_of entry.1) (a.each c entry old)))
+          subst (λ q. IsIndexIn numbers q (parent_of entry.1)) (sym same) (grow (parent_at parents c) (parent_of entry.1) (a.each c entry old)))
           (λ last.
           let e = last.0 in
           let same : parent_at (parents ++ o ∷ []) c ≡ o = get_or_push parents o None c (omega (arith, e, long)) in
-          let P : List ℕ × Animal → Type 0 = λ entry. IsPlaceIn numbers o (parent_of entry.1) in
-          subst (λ q. IsPlaceIn numbers q (parent_of entry.1)) (sym same) (subst P last.1 (grow o (parent_of animal) is)))
+          let P : List ℕ × Animal → Type 0 = λ entry. IsIndexIn numbers o (parent_of entry.1) in
+          subst (λ q. IsIndexIn numbers q (parent_of entry.1)) (sym same) (subst P last.1 (grow o (parent_of animal) is)))
           (push_cases book (number, animal) entry c at);
     }
 
 module _ (l : ℕ) (book : Book) (sires dams : List (Option ℕ)) (once : IsDistinct bytes_eq (keys_of book)) (s : AreParents book (λ animal. animal.sire) sires) (d : AreParents book (λ animal. animal.dam) dams) (g : ℕ → ℕ) where
-  pub no_line-among : AreDepths l (parentage_at sires dams) g → (xs : List (List ℕ)) → list_any (has_line (parentage_of book) (l + 1)) xs ≡ false
-  no_line-among w xs = list_any_none (has_line (parentage_of book) (l + 1)) xs (λ k x h. no_longer_line book sires dams once s d l g w (get_or xs k x))
+  pub no_path-among : AreDepths l (parentage_at sires dams) g → (xs : List (List ℕ)) → list_any (has_path (parentage_of book) (l + 1)) xs ≡ false
+  no_path-among w xs = list_any_none (has_path (parentage_of book) (l + 1)) xs (λ k x h. no_longer_path book sires dams once s d l g w (get_or xs k x))
 
 -- the depth of the animal at a place
 pub depth-kept : (l most : ℕ) (book : Book) (sires dams : List (Option ℕ)) (depths : List ℕ) → IsKept l most book sires dams depths → (c : ℕ) (x : List ℕ) → slice_get (keys_of book) c ≡ Some x → IsDepthOf book x (slice_index depths c)
@@ -74,7 +74,7 @@ depth-kept l most book sires dams depths k c x at = depth_by_number book sires d
 
 module _ (l most : ℕ) (book : Book) (sires dams : List (Option ℕ)) (depths : List ℕ) (k : IsKept l most book sires dams depths)
     (number : List ℕ) (animal : Animal) (absent : record_of book number ≡ None)
-    (sire dam : Option ℕ) (sire_is : IsPlaceIn (keys_of book) sire animal.sire) (dam_is : IsPlaceIn (keys_of book) dam animal.dam) where
+    (sire dam : Option ℕ) (sire_is : IsIndexIn (keys_of book) sire animal.sire) (dam_is : IsIndexIn (keys_of book) dam animal.dam) where
   more : Book
   more = book ++ (number, animal) ∷ []
 
@@ -101,11 +101,11 @@ module _ (l most : ℕ) (book : Book) (sires dams : List (Option ℕ)) (depths :
       new_depth-most l sires dams depths k.depths_are (k.long ∙ sym k.sires_are.long) (k.dams_are.long ∙ sym k.sires_are.long) sire dam
       (within sire (place-within (keys_of book) sire animal.sire sire_is)) (within dam (place-within (keys_of book) dam animal.dam dam_is))
 
-  -- a birth makes too long a line exactly where its own depth is too great
+  -- a birth makes too long a path exactly where its own depth is too great
   pub too_deep-birth : nat_lt l (depth_from (slice_index depths) sire dam) ≡ is_too_deep l book number animal.sire animal.dam
   too_deep-birth =
       let v : ℕ = depth_from (slice_index depths) sire dam in
-      let told : is_too_deep l book number animal.sire animal.dam ≡ list_any (has_line (parentage_of (book ++ (number, animal) ∷ [])) (l + 1)) (number ∷ keys_of book) =
+      let told : is_too_deep l book number animal.sire animal.dam ≡ list_any (has_path (parentage_of (book ++ (number, animal) ∷ [])) (l + 1)) (number ∷ keys_of book) =
       too_deep-written book (book ++ (number, animal) ∷ []) number animal (written-push book number animal absent) l in
       ⊎_elim
       (λ (deep : l < v).
@@ -113,15 +113,15 @@ module _ (l most : ℕ) (book : Book) (sires dams : List (Option ℕ)) (depths :
       let e : v ≡ l + 1 = omega (arith, deep, most) in
       let wide : AreDepths (l + 1) (parentage_at (sires ++ sire ∷ []) (dams ++ dam ∷ [])) (slice_index (depths ++ v ∷ [])) = depths-more (l + 1) (omega arith) most in
       let at : slice_get (keys_of (book ++ (number, animal) ∷ [])) (length book) ≡ Some number = key_from_entry (book ++ (number, animal) ∷ []) (length book) number animal (push_last book (number, animal)) in
-      let line : Line (parentage_at (sires ++ sire ∷ []) (dams ++ dam ∷ [])) (slice_index (depths ++ v ∷ []) (length book)) (length book) =
-      depths-line (l + 1) (parentage_at (sires ++ sire ∷ []) (dams ++ dam ∷ [])) (slice_index (depths ++ v ∷ [])) wide (length book) (there_by_place (book ++ (number, animal) ∷ []) (sires ++ sire ∷ []) (dams ++ dam ∷ []) once-more sires-more dams-more (length book) number at) in
+      let path : Path (parentage_at (sires ++ sire ∷ []) (dams ++ dam ∷ [])) (slice_index (depths ++ v ∷ []) (length book)) (length book) =
+      depths-path (l + 1) (parentage_at (sires ++ sire ∷ []) (dams ++ dam ∷ [])) (slice_index (depths ++ v ∷ [])) wide (length book) (there_by_place (book ++ (number, animal) ∷ []) (sires ++ sire ∷ []) (dams ++ dam ∷ []) once-more sires-more dams-more (length book) number at) in
       let same : slice_index (depths ++ v ∷ []) (length book) ≡ l + 1 = get_or_push depths v 0 (length book) k.long ∙ e in
-      let by_number : Line (parentage_of (book ++ (number, animal) ∷ [])) (l + 1) number =
-      line_by_number (book ++ (number, animal) ∷ []) (sires ++ sire ∷ []) (dams ++ dam ∷ []) once-more sires-more dams-more (l + 1) (length book) number at
-      (subst (λ n. Line (parentage_at (sires ++ sire ∷ []) (dams ++ dam ∷ [])) n (length book)) same line) in
-      lt-ltb l v deep ∙ sym (told ∙ or_left (has_line (parentage_of (book ++ (number, animal) ∷ [])) (l + 1) number) (list_any (has_line (parentage_of (book ++ (number, animal) ∷ [])) (l + 1)) (keys_of book)) (test-from_line (parentage_of (book ++ (number, animal) ∷ [])) (l + 1) number by_number)))
+      let by_number : Path (parentage_of (book ++ (number, animal) ∷ [])) (l + 1) number =
+      path_by_number (book ++ (number, animal) ∷ []) (sires ++ sire ∷ []) (dams ++ dam ∷ []) once-more sires-more dams-more (l + 1) (length book) number at
+      (subst (λ n. Path (parentage_at (sires ++ sire ∷ []) (dams ++ dam ∷ [])) n (length book)) same path) in
+      lt-ltb l v deep ∙ sym (told ∙ or_left (has_path (parentage_of (book ++ (number, animal) ∷ [])) (l + 1) number) (list_any (has_path (parentage_of (book ++ (number, animal) ∷ [])) (l + 1)) (keys_of book)) (test-from_path (parentage_of (book ++ (number, animal) ∷ [])) (l + 1) number by_number)))
       (λ (low : v ≤ l).
-      le-ltb l v low ∙ sym (told ∙ no_line-among l (book ++ (number, animal) ∷ []) (sires ++ sire ∷ []) (dams ++ dam ∷ []) once-more sires-more dams-more (slice_index (depths ++ v ∷ [])) (depths-more l (omega arith) low) (number ∷ keys_of book)))
+      le-ltb l v low ∙ sym (told ∙ no_path-among l (book ++ (number, animal) ∷ []) (sires ++ sire ∷ []) (dams ++ dam ∷ []) once-more sires-more dams-more (slice_index (depths ++ v ∷ [])) (depths-more l (omega arith) low) (number ∷ keys_of book)))
       (cases_lt l v)
 
   -- a birth with no fault leaves what is kept as it has to be

@@ -1,5 +1,5 @@
 -- What a book is and may be.
-pub mod Lines
+pub mod Paths
 pub mod Book
 pub mod ParentFault
 pub mod Lawful

@@ -1,6 +1,6 @@
 -- What is kept of a book, by place.
 pub mod Places
-pub mod PackedPlace
+pub mod PackedIndex
 pub mod Links
 pub mod Kept
 pub mod Undo

@@ -1,4 +1,4 @@
-//! The book in age order, with parents as places.
+//! The book in age order, with parents by their ranks.
 
 pub(crate) mod age_order;
 pub(crate) mod freeze;

@@ -2,7 +2,7 @@
 ghost use Rattle.std.specs.Prelude.{◌≡◌, ◌<◌, ◌≤◌, false, length, IfErr, IfOk, IfSome, None, Some};
 ghost use Rattle.std.specs.Map.{keys_of};
 ghost use Rattle.herd_pedigree.specs.rules.ParentFault.{fault_by_records, first_that_holds, has_sex, is_found_gone, is_found_not_older, is_missing, is_named, record_faults, record_named};
-ghost use Rattle.herd_pedigree.specs.store.Places.{IsPlaceIn};
+ghost use Rattle.herd_pedigree.specs.store.Places.{IsIndexIn};
 ghost use Rattle.herd_pedigree.specs.declared.TheConstants.{MOST_ANIMALS};
 
 use crate::rules::animal::Animal;
@@ -27,7 +27,7 @@ fn find<A: Allocator>(records: &Records<A>, parent: &Option<AnimalNumber>) -> Na
     ensures number { result.number ≡ parent.now }
     ensures record { result.animal ≡ record_named records.now.book parent.now }
     ensures within { IfSome result.place (λ place. place < length records.now.book) }
-    ensures place { is_missing parent.now result.animal ≡ false → IsPlaceIn (keys_of records.now.book) result.place parent.now }
+    ensures place { is_missing parent.now result.animal ≡ false → IsIndexIn (keys_of records.now.book) result.place parent.now }
 {
     if let Some(number) = parent {
         if let Some(place) = records.place_of(number) {
@@ -121,8 +121,8 @@ pub fn sound_parents<A: Allocator>(
     requires { length records.now.book ≤ MOST_ANIMALS }
     ensures fault { IfErr result (λ fault. fault_by_records records.now.book birth sire.now dam.now embryo ≡ Some fault) }
     ensures sound { IfOk result (λ _. fault_by_records records.now.book birth sire.now dam.now embryo ≡ None) }
-    ensures sire { IfOk result (λ parents. IsPlaceIn (keys_of records.now.book) parents.sire sire.now) }
-    ensures dam { IfOk result (λ parents. IsPlaceIn (keys_of records.now.book) parents.dam dam.now) }
+    ensures sire { IfOk result (λ parents. IsIndexIn (keys_of records.now.book) parents.sire sire.now) }
+    ensures dam { IfOk result (λ parents. IsIndexIn (keys_of records.now.book) parents.dam dam.now) }
     ensures sire_within { IfOk result (λ parents. IfSome parents.sire (λ place. place < length records.now.book)) }
     ensures dam_within { IfOk result (λ parents. IfSome parents.dam (λ place. place < length records.now.book)) }
 {

@@ -5,7 +5,7 @@ ghost use Rattle.herd_pedigree.specs.rules.Book.{IsDepthOf, changed, has_calved_
 ghost use Rattle.herd_pedigree.specs.freezing.Frozen.{IsFrozenFrom};
 ghost use Rattle.herd_pedigree.specs.rules.Lawful.{IsLawful};
 ghost use Rattle.herd_pedigree.specs.rules.ParentFault.{is_too_deep, parent_fault};
-ghost use Rattle.herd_pedigree.specs.store.Places.{IsPlaceIn};
+ghost use Rattle.herd_pedigree.specs.store.Places.{IsIndexIn};
 ghost use Rattle.herd_pedigree.specs.Pedigree.{IsBirth, IsCorrection, IsExit, IsNewborn, IsPresentOn, changed_to};
 ghost use Rattle.herd_pedigree.specs.declared.TheConstants.{DEPTH_LIMIT, MOST_ANIMALS};
 
@@ -88,7 +88,7 @@ impl<A: Allocator + Copy> Pedigree<A> {
         }
     }
 
-    // Whether some line would be too long, once the animal of the number has the parents at these places.
+    // Whether some path would be too long, once the animal of the number has the parents at these places.
     fn is_too_deep(
         &self,
         number: &AnimalNumber,
@@ -97,7 +97,7 @@ impl<A: Allocator + Copy> Pedigree<A> {
     ) -> Result<bool, AllocError>
         requires sire { IfSome sire (λ place. place < length self.now.book) }
         requires dam { IfSome dam (λ place. place < length self.now.book) }
-        ensures { IfOk result (λ deep. (s d : Option (List ℕ)) → IsPlaceIn (keys_of self.now.book) sire s → IsPlaceIn (keys_of self.now.book) dam d → deep ≡ is_too_deep DEPTH_LIMIT self.now.book number.now s d) }
+        ensures { IfOk result (λ deep. (s d : Option (List ℕ)) → IsIndexIn (keys_of self.now.book) sire s → IsIndexIn (keys_of self.now.book) dam d → deep ≡ is_too_deep DEPTH_LIMIT self.now.book number.now s d) }
     {
         let depth = depth_with(&self.depths, sire, dam);
         let Some(place) = self.records.place_of(number) else {
@@ -171,8 +171,8 @@ impl<A: Allocator + Copy> Pedigree<A> {
         dam: Option<u32>,
     ) -> Result<(), AllocError>
         requires birth { IsBirth DEPTH_LIMIT MOST_ANIMALS self.old.book number animal }
-        requires sire { IsPlaceIn (keys_of self.old.book) sire animal.sire }
-        requires dam { IsPlaceIn (keys_of self.old.book) dam animal.dam }
+        requires sire { IsIndexIn (keys_of self.old.book) sire animal.sire }
+        requires dam { IsIndexIn (keys_of self.old.book) dam animal.dam }
         ensures added { OnOk result (self.new ≡ changed_to self.old (self.old.book ++ (number, animal) ∷ [])) }
         ensures err { OnErr result (self.new ≡ self.old) }
     {
@@ -284,7 +284,7 @@ impl<A: Allocator> Pedigree<A> {
         self.records.len() == 0
     }
 
-    /// The number of parent steps on an animal's longest known line. It also tells that the book is lawful, so that
+    /// The number of parent steps on an animal's longest known path. It also tells that the book is lawful, so that
     /// no depth is above the limit.
     pub fn depth(&self, number: &AnimalNumber) -> Option<u8>
         ensures lawful { IsLawful DEPTH_LIMIT MOST_ANIMALS self.now.book }

@@ -1,4 +1,4 @@
--- the places of a level, and what is known of them
+-- the ranks of a level, and what is known of them
 pub mod LevelFacts
 pub mod Known
 -- the rule of the queue, and the list that the blocks are written into

@@ -1,4 +1,4 @@
--- What the list of numerators has once places, blocks and levels are written.
+-- What the list of numerators has once ranks, blocks and levels are written.
 use Rattle.std.proofs.Common.{◌≡◌, ℕ, suc, ◌+◌, ◌*◌, ◌/◌, ◌%◌, ◌^◌, ◌<◌, ◌≤◌, List, [], ◌∷◌, length, drop, get_or, map, set, slice_index, take, sym, ap, subst, inl, inr, ◌∙◌, ⊎_elim, arith}
 use Rattle.std.specs.Int.{div_ceil}
 use Rattle.std.specs.List.{All, Contains}
@@ -18,15 +18,15 @@ use Rattle.herd_pool.specs.Levels.{AreBlocks, HasAt, Keeps, KnowsBelow, block_of
 use Rattle.herd_pool.specs.declared.level.ComputedBlock.{ComputedBlock}
 use Rattle.herd_pool.proofs.LevelFacts.{level_of-has}
 
--- the first n places have f of themselves
+-- the first n ranks have f of themselves
 abbrev pub HasBefore : (ℕ → ℕ) → List ℕ → List ℕ → ℕ → Type 0
-HasBefore f known places n = (i : ℕ) → i < n → slice_index known (slice_index places i) ≡ f (slice_index places i)
+HasBefore f known ranks n = (i : ℕ) → i < n → slice_index known (slice_index ranks i) ≡ f (slice_index ranks i)
 
--- a write of f at one place
-set_keeps : (f : ℕ → ℕ) (known : List ℕ) (place value : ℕ) → value ≡ f place → place < length known → Keeps f known (set known place value)
-set_keeps f known place value is below p =
-    ⊎_elim (λ (e : p ≡ place). inr (ap (slice_index (set known place value)) e ∙ get_or-set_same known place value 0 below ∙ is ∙ ap f (sym e)))
-    (λ (ne : p ≡ place → ⊥). inl (get_or-set_other known place p value 0 ne)) (cases_eq p place)
+-- a write of f at one rank
+set_keeps : (f : ℕ → ℕ) (known : List ℕ) (rank value : ℕ) → value ≡ f rank → rank < length known → Keeps f known (set known rank value)
+set_keeps f known rank value is below p =
+    ⊎_elim (λ (e : p ≡ rank). inr (ap (slice_index (set known rank value)) e ∙ get_or-set_same known rank value 0 below ∙ is ∙ ap f (sym e)))
+    (λ (ne : p ≡ rank → ⊥). inl (get_or-set_other known rank p value 0 ne)) (cases_eq p rank)
 
 -- where f stands, it stays
 stays : (f : ℕ → ℕ) (old new : List ℕ) → Keeps f old new → (p : ℕ) → slice_index old p ≡ f p → slice_index new p ≡ f p
@@ -38,21 +38,21 @@ keeps_on f old known new first then p =
     ⊎_elim (λ (s : slice_index known p ≡ slice_index old p). inl (same ∙ s)) (λ (t : slice_index known p ≡ f p). inr (same ∙ t)) (first p))
     (λ (there : slice_index new p ≡ f p). inr there) (then p)
 
--- one more place is written
-pub place_written : (f : ℕ → ℕ) (old known places numerators : List ℕ) (n m place value : ℕ) → numerators ≡ map f places → m ≡ n + 1 → n < length places → place ≡ get_or places n 0 → value ≡ get_or numerators n 0 → place < length known
-    → Keeps f old known × HasBefore f known places n
-    → Keeps f old (set known place value) × HasBefore f (set known place value) places m
-place_written f old known places numerators n m place value is more within at_place at_value below was =
-    let there : value ≡ f place = at_value ∙ ap (λ l. get_or l n 0) is ∙ get_or-map f places n 0 0 within ∙ ap f (sym at_place) in
-    let keeps = set_keeps f known place value there below in (
-      keeps_on f old known (set known place value) was.0 keeps,
-      (λ i low. ⊎_elim (λ (before : i < n). stays f known (set known place value) keeps (get_or places i 0) (was.1 i before))
+-- one more rank is written
+pub rank_written : (f : ℕ → ℕ) (old known ranks numerators : List ℕ) (n m rank value : ℕ) → numerators ≡ map f ranks → m ≡ n + 1 → n < length ranks → rank ≡ get_or ranks n 0 → value ≡ get_or numerators n 0 → rank < length known
+    → Keeps f old known × HasBefore f known ranks n
+    → Keeps f old (set known rank value) × HasBefore f (set known rank value) ranks m
+rank_written f old known ranks numerators n m rank value is more within at_rank at_value below was =
+    let there : value ≡ f rank = at_value ∙ ap (λ l. get_or l n 0) is ∙ get_or-map f ranks n 0 0 within ∙ ap f (sym at_rank) in
+    let keeps = set_keeps f known rank value there below in (
+      keeps_on f old known (set known rank value) was.0 keeps,
+      (λ i low. ⊎_elim (λ (before : i < n). stays f known (set known rank value) keeps (get_or ranks i 0) (was.1 i before))
           (λ (last : n ≤ i).
-          let e : get_or places i 0 ≡ place = ap (λ k. get_or places k 0) (let k : i ≡ n = omega arith in k) ∙ sym at_place in
-          ap (slice_index (set known place value)) e ∙ get_or-set_same known place value 0 below ∙ there ∙ ap f (sym e)) (cases_lt i n)),
+          let e : get_or ranks i 0 ≡ rank = ap (λ k. get_or ranks k 0) (let k : i ≡ n = omega arith in k) ∙ sym at_rank in
+          ap (slice_index (set known rank value)) e ∙ get_or-set_same known rank value 0 below ∙ there ∙ ap f (sym e)) (cases_lt i n)),
     )
 
--- these blocks of a level have f of their places
+-- these blocks of a level have f of their ranks
 abbrev pub HasBlocks : {A : Type 0} → (ℕ → ℕ) → ℕ → List ℕ → List ℕ → List (ComputedBlock A) → Type 0
 HasBlocks f len level known blocks = All (λ block. HasAt f known (block_of len block.number level)) blocks
 
@@ -62,18 +62,18 @@ pub record HasWritten {A : Type 0} (f : ℕ → ℕ) (len : ℕ) (level old know
   pub written : HasBlocks f len level known (take n blocks)
 
 -- one more block is written
-pub block_written : {A : Type 0} (f : ℕ → ℕ) (len : ℕ) (level : List ℕ) (blocks : List (ComputedBlock A)) (n : ℕ) (block : ComputedBlock A) (old known new places numerators : List ℕ) → n < length blocks → block ≡ get_or blocks n block → places ≡ block_of len block.number level → numerators ≡ block.numerators.items
+pub block_written : {A : Type 0} (f : ℕ → ℕ) (len : ℕ) (level : List ℕ) (blocks : List (ComputedBlock A)) (n : ℕ) (block : ComputedBlock A) (old known new ranks numerators : List ℕ) → n < length blocks → block ≡ get_or blocks n block → ranks ≡ block_of len block.number level → numerators ≡ block.numerators.items
     → All (λ (b : ComputedBlock A). b.numerators.items ≡ map f (block_of len b.number level)) blocks
-    → (numerators ≡ map f places → Keeps f known new × HasAt f new places)
+    → (numerators ≡ map f ranks → Keeps f known new × HasAt f new ranks)
     → HasWritten f len level old known blocks n
     → HasWritten f len level old new blocks (n + 1)
-block_written {A = A} f len level blocks n block old known new places numerators below at is_places is_numerators all write was =
+block_written {A = A} f len level blocks n block old known new ranks numerators below at is_ranks is_numerators all write was =
     let Old : ComputedBlock A → Type 0 = λ b. HasAt f known (block_of len b.number level) in
     let New : ComputedBlock A → Type 0 = λ b. HasAt f new (block_of len b.number level) in
     let Right : ComputedBlock A → Type 0 = λ b. b.numerators.items ≡ map f (block_of len b.number level) in
     let right : Right block = subst Right (sym at) (all n block below) in
-    let now = write (is_numerators ∙ right ∙ ap (map f) (sym is_places)) in
-    let mine : New (get_or blocks n block) = subst New at (subst (HasAt f new) is_places now.1) in
+    let now = write (is_numerators ∙ right ∙ ap (map f) (sym is_ranks)) in
+    let mine : New (get_or blocks n block) = subst New at (subst (HasAt f new) is_ranks now.1) in
     record {
       kept = keeps_on f old known new was.kept now.0;
       written = All-more New blocks n block below (All-weaker Old New (λ b h i low. stays f known new now.0 (slice_index (block_of len b.number level) i) (h i low)) (take n blocks) was.written) mine;
@@ -82,7 +82,7 @@ block_written {A = A} f len level blocks n block old known new places numerators
 times_tail : {A : Type 0} (x : ℕ) (b : ComputedBlock A) (bs : List (ComputedBlock A)) → (b.number ≡ x → ⊥) → 0 < times x (numbers (b ∷ bs)) → 0 < times x (numbers bs)
 times_tail x b bs ne some = grind (arith, nat_tests)
 
--- a number that stands in the list stands at some place
+-- a number that stands in the list stands at some rank
 times_has : {A : Type 0} (x : ℕ) (blocks : List (ComputedBlock A)) → 0 < times x (numbers blocks) → (k : ℕ) × (k < length blocks) × ((d : ComputedBlock A) → (get_or blocks k d).number ≡ x)
 times_has x [] some = absurd (omega arith)
 times_has x (b ∷ bs) some =
@@ -98,7 +98,7 @@ with_number P x (b ∷ bs) some all =
     let found = times_has x (b ∷ bs) some in
     subst P (found.2 b) (all found.0 b found.1)
 
--- a place of the level is written where its block is
+-- a rank of the level is written where its block is
 in_block : (f : ℕ → ℕ) (new level : List ℕ) (len i : ℕ) (p : ℕ) → 0 < len → i < length level → get_or level i p ≡ p → HasAt f new (block_of len (i / len) level) → slice_index new p ≡ f p
 in_block f new level len i p some below at has =
     let j = i % len in
@@ -143,14 +143,14 @@ level_known l most rows known new depth len blocks some same knows are kept writ
 pub all_known : (l most : ℕ) (rows : List Row) (known : List ℕ) (depth : ℕ) → l < depth → KnowsBelow l most rows known depth → AreCoefficients l rows known
 all_known l most rows known depth beyond knows = record {
   each = knows.each;
-  right = λ place low. let limit = depth-at_most l most rows knows.frozen place low in knows.right place low (omega arith);
+  right = λ rank low. let limit = depth-at_most l most rows knows.frozen rank low in knows.right rank low (omega arith);
 }
 
 -- and they are below 1
 pub known_below_one : (l most : ℕ) (rows : List Row) (known : List ℕ) → IsFrozen l most rows → AreCoefficients l rows known → All (λ n. n < 2 ^ (2 * l)) known
 known_below_one l most rows known frozen are =
-    All-from_get_or (λ n. n < 2 ^ (2 * l)) known 0 (λ place low.
+    All-from_get_or (λ n. n < 2 ^ (2 * l)) known 0 (λ rank low.
     let each = are.each in
-    let within : place < length rows = omega arith in
-    let bound = frozen-coefficient_bound l most rows frozen place within in
-    omega (arith, are.right place within, bound))
+    let within : rank < length rows = omega arith in
+    let bound = frozen-coefficient_bound l most rows frozen rank within in
+    omega (arith, are.right rank within, bound))

@@ -16,20 +16,20 @@ pub trait Gate: Sync {
     /// A thread has taken this block of the level, both counted from 0, and begins with it.
     fn enter(&self, level: u8, block: u32);
 
-    /// Traces the animal at a place: its relationship with itself in units of 2^-120, as `herd_kinship::trace`. The
+    /// Traces the animal at a rank: its relationship with itself in units of 2^-120, as `herd_kinship::trace`. The
     /// only error is a growth of memory that is refused.
     fn trace<F: Allocator, A: Allocator + Clone>(
         &self,
         alloc: A,
         frozen: &Frozen<F>,
         known: &[u128],
-        place: u32,
+        rank: u32,
     ) -> Result<u128, AllocError>
-        requires place { place < length frozen.now }
-        requires known { KnowsAncestors DEPTH_LIMIT frozen.now known.now place }
-        ensures { IfOk result (λ value. value ≡ own_relationship DEPTH_LIMIT frozen.now place) }
+        requires rank { rank < length frozen.now }
+        requires known { KnowsAncestors DEPTH_LIMIT frozen.now known.now rank }
+        ensures { IfOk result (λ value. value ≡ own_relationship DEPTH_LIMIT frozen.now rank) }
     {
-        herd_kinship::trace(alloc, frozen, known, place)
+        herd_kinship::trace(alloc, frozen, known, rank)
     }
 }
 

@@ -15,7 +15,7 @@ use std::alloc::{AllocError, Allocator};
 pub struct ComputedBlock<A: Allocator> {
     /// The number of the block in its level, counted from 0.
     pub number: u32,
-    /// In units of 2^-120, in the order of the places.
+    /// In units of 2^-120, in the order of the ranks.
     pub numerators: Vec<u128, A>,
 }
 
@@ -23,7 +23,7 @@ pub struct ComputedBlock<A: Allocator> {
 #[derive_where(Clone, Copy)]
 pub struct Level<'a, F: Allocator> {
     pub frozen: &'a Frozen<F>,
-    /// The steps of the longest line of parents of each of its animals.
+    /// The steps of the longest path of parents of each of its animals.
     pub depth: u8,
     /// How many animals a block has, at least 1. The last may have fewer.
     pub block: u32,
@@ -36,17 +36,17 @@ impl<'a, F: Allocator> Level<'a, F> {
         requires block { 0 < self.now.block }
         ensures { result ≡ div_ceil (length (level_of self.now.depth self.now.frozen.now)) self.now.block }
     {
-        let places = self.frozen.level(self.depth).len();
-        places.div_ceil(self.block as usize) as u32
+        let ranks = self.frozen.level(self.depth).len();
+        ranks.div_ceil(self.block as usize) as u32
     }
 
-    /// The places of a block, ascending; none past the last block.
-    pub fn places(&self, number: u32) -> &'a [u32]
+    /// The ranks of a block, ascending; none past the last block.
+    pub fn ranks(&self, number: u32) -> &'a [u32]
         ensures { result.now ≡ block_of self.now.block number (level_of self.now.depth self.now.frozen.now) }
     {
-        let places = self.frozen.level(self.depth);
+        let ranks = self.frozen.level(self.depth);
         let block = self.block as usize;
-        let rest = &places[places.len().min(number as usize * block)..];
+        let rest = &ranks[ranks.len().min(number as usize * block)..];
         &rest[..rest.len().min(block)]
     }
 
@@ -64,8 +64,8 @@ impl<'a, F: Allocator> Level<'a, F> {
     {
         gate.enter(self.depth, number);
         let mut numerators = Vec::new(alloc);
-        for place in self.places(number) {
-            let value = gate.trace(alloc, self.frozen, known, *place)?;
+        for rank in self.ranks(number) {
+            let value = gate.trace(alloc, self.frozen, known, *rank)?;
             numerators.push(inbred(value))?;
         }
         Ok(ComputedBlock { number, numerators })

@@ -7,7 +7,7 @@
 //! less deep than it. So the levels of depth are gone through from the founders up, and the animals of one level may be
 //! traced in any order, on any thread.
 //!
-//! - A **level** is the animals of one depth, cut into **blocks** of so many places (`level`; `specs/Levels`).
+//! - A **level** is the animals of one depth, cut into **blocks** of so many ranks (`level`; `specs/Levels`).
 //! - The numbers of the blocks go into one **queue**, from which each thread takes the next. Its rule is that each
 //!   block is taken once (`queue`; `specs/Blocks`, proof in `proofs/Passes`).
 //! - A **worker** computes the blocks that it takes, and brings them back with its pass to the queue (`worker`, `crew`;

@@ -19,16 +19,16 @@ pub fn write_all<F: Allocator, A: Allocator>(
     ensures written { All (λ block. HasAt (coefficient_at DEPTH_LIMIT level.entry.frozen.now) known.new (block_of level.entry.block block.number (level_of level.entry.depth level.entry.frozen.now))) blocks.now }
 {
     for block in blocks {
-        write_block(known, level.places(block.number), &block.numerators);
+        write_block(known, level.ranks(block.number), &block.numerators);
     }
 }
 
-// Writes the numerators of these places.
-fn write_block(known: &mut [u128], places: &[u32], numerators: &[u128])
-    requires { All (λ place. place < length known.old) places.now }
-    ensures { (f : ℕ → ℕ) → numerators.now ≡ map f places.now → Keeps f known.old known.new × HasAt f known.new places.now }
+// Writes the numerators of these ranks.
+fn write_block(known: &mut [u128], ranks: &[u32], numerators: &[u128])
+    requires { All (λ rank. rank < length known.old) ranks.now }
+    ensures { (f : ℕ → ℕ) → numerators.now ≡ map f ranks.now → Keeps f known.old known.new × HasAt f known.new ranks.now }
 {
-    for (place, numerator) in places.iter().zip(numerators) {
-        known[*place as usize] = *numerator;
+    for (rank, numerator) in ranks.iter().zip(numerators) {
+        known[*rank as usize] = *numerator;
     }
 }

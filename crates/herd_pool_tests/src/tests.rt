@@ -145,12 +145,12 @@ fn each_block_and_each_animal_once(rt: HostRuntime) -> Result<(), Fail> {
 #[test]
 fn memory_refused_to_a_tracing(rt: HostRuntime) -> Result<(), Fail> {
     let frozen = generations(rt.alloc(), 5)?;
-    for place in 0..10 {
-        let gate = OneRefused::of(place);
+    for rank in 0..10 {
+        let gate = OneRefused::of(rank);
         let refused = coefficients(&rt, rt.alloc(), &frozen, 2, 1, &gate);
         assert!(rt;
             matches!(&refused, Err(PoolFault::Memory)),
-            "tracing {place}"
+            "tracing {rank}"
         );
         let found = coefficients(&rt, rt.alloc(), &frozen, 2, 1, &gate)?;
         assert_eq!(rt; found.list(), FIVE_GENERATIONS.as_slice());

@@ -50,5 +50,6 @@ pub use writing::certificate_fault::CertificateFault;
 pub use writing::inbreeding_list::write_inbreeding;
 pub use writing::inverse_list::write_inverse;
 pub use writing::mating_list::write_mating;
+pub use writing::output::write_all;
 pub use writing::replies::write_replies;
 pub use writing::report_fault::ReportFault;

@@ -149,11 +149,11 @@ fn certify<W: Write>(
     ensures absent { (result ≡ Err CertificateFault.NotRegistered) ↔ (is_there (book_of frozen.now) number ≡ false) }
     ensures untouched { is_there (book_of frozen.now) number ≡ false → writer.new ≡ writer.old }
 {
-    let Some(place) = frozen.place(&number) else {
+    let Some(rank) = frozen.rank(&number) else {
         return Err(CertificateFault::NotRegistered);
     };
     let coefficients = coefficients_plain(alloc, frozen)?;
-    Ok(write_certificate_at(alloc, frozen, &coefficients, place, writer)?)
+    Ok(write_certificate_at(alloc, frozen, &coefficients, rank, writer)?)
 }
 
 // Writes mating advice for a dam.

@@ -134,9 +134,9 @@ fn request_of(alloc: Global, matches: &ArgMatches<'_>) -> Result<Request, WordsF
 {
     match matches.subcommand() {
         Some(("inbreeding", given)) => Ok(inbreeding_of(given)),
-        Some(("certificate", given)) => Ok(Request::Certificate(number_of(given, "NUMBER")?)),
+        Some(("certificate", given)) => Ok(Request::Certificate(number_argument(given, "NUMBER")?)),
         Some(("mating", given)) => Ok(Request::Mating {
-            dam: number_of(given, "dam")?,
+            dam: number_argument(given, "dam")?,
             sires: sires_of(alloc, given)?,
         }),
         Some(("inverse", _)) => Ok(Request::Inverse),
@@ -190,7 +190,7 @@ fn numbers_of(alloc: Global, texts: &[&str]) -> Result<Vec<AnimalNumber>, WordsF
 }
 
 // The number under an argument that must be there.
-fn number_of(given: &ArgMatches<'_>, id: &str) -> Result<AnimalNumber, NumberFault>
+fn number_argument(given: &ArgMatches<'_>, id: &str) -> Result<AnimalNumber, NumberFault>
     ensures read { IfOk result (λ number. text_of id.now (rows_of (found_of given.now)) ≡ number) }
     ensures right { IfOk result IsAnimalNumber }
     ensures fault { IfErr result (IsNumberFault (text_of id.now (rows_of (found_of given.now)))) }

@@ -11,11 +11,11 @@ ghost use Rattle.herdbook.specs.Summary.{IsSummaryOf, TellsOf, count_of};
 use crate::clerk::{Clerk, Turn};
 use crate::clerk_fault::ClerkFault;
 use crate::crew::file_in_turn;
-use crate::summary::{DeskCount, Summary, text_of, write_all};
+use crate::summary::{DeskCount, Summary, text_of};
 use crate::task_fault::TaskFault;
 use herd_office::{Desk, Inspector, Office, OfficeName, OfficeParts};
 use herd_register::{Command, Limits};
-use herd_report::{RunFault, read_commands};
+use herd_report::{RunFault, read_commands, write_all};
 use std::alloc::{AllocError, Global};
 use std::io::{Read, Write};
 use std::marker::Brand;
@@ -56,7 +56,10 @@ pub fn clerks<H: Threads + Wait + Sync, R: Read + Drop, W: Write>(
         base as usize,
         commands.list.as_slice(),
     ) {
-        Ok(text) => Ok(write_all(writer, text.as_bytes())?),
+        Ok(text) => match write_all(writer, text.as_bytes()) {
+            Ok(()) => Ok(()),
+            Err(_) => Err(TaskFault::Run(RunFault::Write)),
+        },
         Err(fault) => Err(fault.told()),
     }
 }

@@ -1,12 +1,8 @@
 //! What clerks have done, as text.
-ghost use Rattle.std.specs.Prelude.{◌≡◌, IfErr, IfOk, OnErr, OnOk, string_bytes};
-ghost use Rattle.std.specs.Io.KnownBytes.{Appends};
-ghost use Rattle.herd_report.specs.writing.Output.{AppendsFront};
+ghost use Rattle.std.specs.Prelude.{◌≡◌, IfOk, string_bytes};
 ghost use Rattle.herdbook.specs.Summary.{desk_lines, summary_text};
 
-use herd_report::RunFault;
 use std::alloc::{AllocError, Global};
-use std::io::Write;
 
 /// How many of a desk's calls were answered.
 #[derive(Clone, Copy, Debug, PartialEq, Eq, Drop)]
@@ -54,18 +50,3 @@ fn lines_of(alloc: Global, desks: &[DeskCount]) -> Result<String, AllocError>
     Ok(text)
 }
 
-/// Writes bytes until the writer has them all, or a write fails or takes none.
-pub fn write_all<W: Write>(writer: &mut W, bytes: &[u8]) -> Result<(), RunFault>
-    ensures ok { OnOk result (Appends (W.contents writer.old) (W.contents writer.new) bytes.now) }
-    ensures err { OnErr result (AppendsFront (W.contents writer.old) (W.contents writer.new) bytes.now) }
-    ensures fault { IfErr result (λ fault. fault ≡ RunFault.Write) }
-{
-    let mut rest = bytes;
-    while !rest.is_empty() {
-        match writer.write(rest) {
-            Ok(0) | Err(_) => return Err(RunFault::Write),
-            Ok(count) => rest = &rest[count..],
-        }
-    }
-    Ok(())
-}

@@ -41,9 +41,9 @@ fn main(rt: HostRuntime) -> Result<()> {
     file_births(&mut register)?;
     print_replies(&rt, &register)?;
 
-    // `freeze` gives the book of this moment, in age order, with each animal's parents as places in it.
+    // `freeze` gives the book of this moment, in age order, with each animal's parents as ranks in it.
     let frozen = register.pedigree().freeze(rt.alloc())?;
-    // `coefficients_plain` gives the coefficients of all its animals, by their places.
+    // `coefficients_plain` gives the coefficients of all its animals, by their ranks.
     let coefficients = coefficients_plain(rt.alloc(), &frozen)?;
     print_coefficients(&rt, &frozen, &coefficients)?;
 
@@ -107,23 +107,23 @@ fn print_replies(rt: &impl Print, register: &Register<Global>) -> io::Result<()>
     Ok(())
 }
 
-// The animal at a place, and its coefficient: half its parents' entry in the tabular relationship matrix.
+// The animal at a rank, and its coefficient: half its parents' entry in the tabular relationship matrix.
 fn inbreeding_at(
     frozen: &Frozen<Global>,
     coefficients: &Coefficients<Global>,
-    place: u32,
+    rank: u32,
 ) -> (AnimalNumber, Fraction)
     // A caller has to show that these are the coefficients of this book, as `coefficients_plain` promises.
     requires coefficients { AreCoefficients DEPTH_LIMIT frozen.now coefficients.now }
-    requires place { place < length frozen.now }
-    ensures number { result.0 ≡ number_of_row frozen.now place }
+    requires rank { rank < length frozen.now }
+    ensures number { result.0 ≡ number_of_row frozen.now rank }
     ensures value { result.1 ≡ halved false (coefficient (ancestry_of frozen.now) DEPTH_LIMIT result.0) (2 ^ (2 * DEPTH_LIMIT)) }
 {
     // `row` gives what is known of an animal, `numerator` its coefficient in units of 2^-120, and `fraction` the
     // fraction in lowest terms.
     (
-        frozen.row(place).number,
-        fraction(coefficients.numerator(place)),
+        frozen.row(rank).number,
+        fraction(coefficients.numerator(rank)),
     )
 }
 
@@ -134,8 +134,8 @@ fn print_coefficients(
 ) -> Result<()>
     requires { AreCoefficients DEPTH_LIMIT frozen.now coefficients.now }
 {
-    for place in 0..frozen.len() {
-        let (number, coefficient) = inbreeding_at(frozen, coefficients, place);
+    for rank in 0..frozen.len() {
+        let (number, coefficient) = inbreeding_at(frozen, coefficients, rank);
         print_coefficient(rt, number, coefficient)?;
     }
     Ok(())

@@ -18,12 +18,12 @@ fn has_coefficients(
 ) -> Result<(), Fail> {
     let coefficients = coefficients_plain(alloc, frozen)?;
     assert_eq!(rt; coefficients.len(), expected.len());
-    for place in 0..frozen.len() {
-        let Some((name, numerator, denominator)) = expected.get(place as usize) else {
+    for rank in 0..frozen.len() {
+        let Some((name, numerator, denominator)) = expected.get(rank as usize) else {
             continue;
         };
-        let told = fraction(coefficients.numerator(place));
-        assert_eq!(rt; frozen.row(place).number, name.number());
+        let told = fraction(coefficients.numerator(rank));
+        assert_eq!(rt; frozen.row(rank).number, name.number());
         assert_eq!(rt;
             (told.numerator, told.denominator),
             (*numerator, *denominator),

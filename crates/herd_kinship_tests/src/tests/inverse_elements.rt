@@ -12,7 +12,7 @@ use std::alloc::Global;
 use std::process::Abort;
 use std::test::Fail;
 
-// A contribution to an element: its places, and the sign, numerator and denominator of its value.
+// A contribution to an element: its ranks, and the sign, numerator and denominator of its value.
 fn at(row: u32, column: u32, negative: bool, numerator: u128, denominator: u128) -> Contribution {
     Contribution {
         row,
@@ -34,8 +34,8 @@ fn contributes(
     expected: &[Contribution],
 ) -> Result<(), Fail> {
     let coefficients = coefficients_plain(alloc, frozen)?;
-    let place = frozen.place(&animal).ok_or("absent")?;
-    let told = contributions(frozen, &coefficients, place);
+    let rank = frozen.rank(&animal).ok_or("absent")?;
+    let told = contributions(frozen, &coefficients, rank);
     let list = told.list;
     let first = list[0];
     assert_eq!(rt; told.count as usize, expected.len());

@@ -48,11 +48,11 @@ fn answers_memory_or_the_mating(rt: HostRuntime) -> Result<(), Fail> {
 fn answers_memory_or_the_traced_value(rt: HostRuntime) -> Result<(), Fail> {
     let frozen = frozen_of(rt.alloc(), &full_sibs())?;
     let coefficients = coefficients_plain(rt.alloc(), &frozen)?;
-    let place = frozen.place(&Bull(5).number()).ok_or("absent")?;
+    let rank = frozen.rank(&Bull(5).number()).ok_or("absent")?;
     let mut refused = 0u32;
     for size in 1..64 {
         let heap = LocalHeap::new(rt.alloc(), 16 * size)?;
-        match trace(&heap, &frozen, coefficients.list(), place) {
+        match trace(&heap, &frozen, coefficients.list(), rank) {
             Ok(value) => assert_eq!(rt; value, (1 << 120) + (1 << 118)),
             Err(_) => refused = refused.saturating_add(1),
         }

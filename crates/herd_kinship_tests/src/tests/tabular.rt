@@ -63,10 +63,10 @@ fn agrees_with_its_table(
 ) -> Result<(), Fail> {
     let table = table_of(alloc, frozen)?;
     let coefficients = coefficients_plain(alloc, frozen)?;
-    for place in 0..frozen.len() {
-        let row = frozen.row(place);
+    for rank in 0..frozen.len() {
+        let row = frozen.row(rank);
         let expected = table.at(row.sire, row.dam) / 2;
-        assert_eq!(rt; coefficients.numerator(place), expected, "{place}");
+        assert_eq!(rt; coefficients.numerator(rank), expected, "{rank}");
     }
     Ok(())
 }

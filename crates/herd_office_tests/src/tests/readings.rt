@@ -19,7 +19,7 @@ use std::thread::{Threads, join};
 // Whether these animals are there.
 fn has_all(frozen: &Frozen<Global>, names: &[Name]) -> bool {
     for name in names {
-        if frozen.place(&name.number()).is_none() {
+        if frozen.rank(&name.number()).is_none() {
             return false;
         }
     }

@@ -1,5 +1,5 @@
 -- What follows from what a book may be.
-pub mod LineFacts
+pub mod PathFacts
 pub mod BookFacts
 pub mod PermutedFacts
 pub mod FaultFacts

@@ -11,8 +11,8 @@ use Rattle.herd_pedigree.specs.declared.freezing.frozen.Row.{Row}
 use Rattle.herd_pedigree.specs.declared.store.links.Link.{Link}
 use Rattle.herd_pedigree.specs.rules.Book.{Book, IsDepthOf}
 use Rattle.herd_pedigree.specs.rules.Lawful.{IsLawful}
-use Rattle.herd_pedigree.specs.rules.Lines.{Parentage, IsDepth}
-use Rattle.herd_pedigree.specs.store.Places.{IsPlaceIn}
+use Rattle.herd_pedigree.specs.rules.Paths.{Parentage, IsDepth}
+use Rattle.herd_pedigree.specs.store.Places.{IsIndexIn}
 
 -- a record with its place of registration, by what its age is compared by
 abbrev pub age_key : ℕ × (List ℕ × Animal) → AgeKey
@@ -51,8 +51,8 @@ IsAbove parentage (Some p) above = (depth : ℕ) × IsDepth parentage p depth ×
 pub record IsRowOf (book : Book) (keys : List AgeKey) (key : AgeKey) (row : Row) : Type 0 where
   pub number : row.number ≡ key.number
   pub entry : slice_get book key.place ≡ Some (row.number, row.animal)
-  pub sire : IsPlaceIn (map (λ k. k.number) keys) row.sire row.animal.sire
-  pub dam : IsPlaceIn (map (λ k. k.number) keys) row.dam row.animal.dam
+  pub sire : IsIndexIn (map (λ k. k.number) keys) row.sire row.animal.sire
+  pub dam : IsIndexIn (map (λ k. k.number) keys) row.dam row.animal.dam
   pub depth : IsDepthOf book row.number row.depth
 
 -- each row is that of its key

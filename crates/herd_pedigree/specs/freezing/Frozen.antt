@@ -1,4 +1,4 @@
--- A frozen book: its records in age order, with the places of their known parents and their depths.
+-- A frozen book: its records in age order, with the ranks of their known parents and their depths.
 use Rattle.std.specs.Prelude.{◌≡◌, ℕ, ◌+◌, ◌==◌, List, map, length, slice_get, slice_index_or, Option, Some, IsSorted, IsPermutation}
 use Rattle.std.specs.declared.cmp.Ordering.{Ordering}
 use Rattle.std.specs.Cmp.Lexicographic.{slice_cmp}
@@ -9,7 +9,7 @@ use Rattle.herd_pedigree.specs.declared.freezing.frozen.Row.{Row}
 use Rattle.herd_pedigree.specs.declared.freezing.frozen.Parents.{Parents}
 use Rattle.herd_pedigree.specs.rules.Book.{Book, IsDepthOf}
 use Rattle.herd_pedigree.specs.rules.Lawful.{IsLawful}
-use Rattle.herd_pedigree.specs.store.Places.{IsPlaceIn}
+use Rattle.herd_pedigree.specs.store.Places.{IsIndexIn}
 
 -- the age order: by birth days, and on the same day by numbers
 abbrev pub age_cmp : (List ℕ × Animal) → (List ℕ × Animal) → Ordering
@@ -22,21 +22,21 @@ book_of rows = map (λ row. (row.number, row.animal)) rows
 abbrev pub numbers_of : List Row → List (List ℕ)
 numbers_of rows = map (λ row. row.number) rows
 
--- a parent is known or not, and the place is that of its number
-abbrev pub IsPlaceOf : List Row → Option ℕ → Option (List ℕ) → Type 0
-IsPlaceOf rows = IsPlaceIn (numbers_of rows)
+-- a parent is known or not, and the rank is that of its number
+abbrev pub IsRankOf : List Row → Option ℕ → Option (List ℕ) → Type 0
+IsRankOf rows = IsIndexIn (numbers_of rows)
 
 -- a row of frozen rows
 pub record IsFrozenRow (rows : List Row) (row : Row) : Type 0 where
-  pub sire : IsPlaceOf rows row.sire row.animal.sire
-  pub dam : IsPlaceOf rows row.dam row.animal.dam
+  pub sire : IsRankOf rows row.sire row.animal.sire
+  pub dam : IsRankOf rows row.dam row.animal.dam
   pub depth : IsDepthOf (book_of rows) row.number row.depth
 
 -- the rows of a lawful book, in age order
 pub record IsFrozen (l most : ℕ) (rows : List Row) : Type 0 where
   pub lawful : IsLawful l most (book_of rows)
   pub sorted : IsSorted age_cmp (book_of rows)
-  pub each : (place : ℕ) (row : Row) → slice_get rows place ≡ Some row → IsFrozenRow rows row
+  pub each : (rank : ℕ) (row : Row) → slice_get rows rank ≡ Some row → IsFrozenRow rows row
 
 -- the rows are those of the book
 pub record IsFrozenFrom (l most : ℕ) (book : Book) (rows : List Row) : Type 0 where
@@ -47,14 +47,14 @@ pub record IsFrozenFrom (l most : ℕ) (book : Book) (rows : List Row) : Type 0 
 abbrev pub parents_of : Row → Parents
 parents_of row = record { sire = row.sire; dam = row.dam; depth = row.depth }
 
--- the depth at a place, and 0 where there is none
+-- the depth at a rank, and 0 where there is none
 abbrev pub depth_at : List Row → ℕ → ℕ
-depth_at rows place = slice_index_or (map (λ row. row.depth) rows) place 0
+depth_at rows rank = slice_index_or (map (λ row. row.depth) rows) rank 0
 
--- the places of a depth, ascending
+-- the ranks of a depth, ascending
 unfoldable pub level_of : ℕ → List Row → List ℕ
-level_of depth rows = filter (λ place. depth_at rows place == depth) (range_with_len 0 (length rows))
+level_of depth rows = filter (λ rank. depth_at rows rank == depth) (range_with_len 0 (length rows))
 
--- the places of each depth up to l
+-- the ranks of each depth up to l
 unfoldable pub levels_of : ℕ → List Row → List (List ℕ)
 levels_of l rows = map (λ depth. level_of depth rows) (range_with_len 0 (l + 1))

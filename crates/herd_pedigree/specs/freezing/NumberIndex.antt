@@ -1,4 +1,4 @@
--- An index of numbers by buckets, which are followed from the last place to the first.
+-- An index of numbers by buckets, which are followed from the last rank to the first.
 use Rattle.std.specs.Prelude.{◌≡◌, ℕ, ◌+◌, ◌<◌, ◌≤◌, ◌*◌, ◌/◌, ◌^◌, List, length, slice_get, slice_index, Some}
 use Rattle.std.specs.Hash.FoldHasher.{finish, initial, write}
 
@@ -10,15 +10,15 @@ hash_of number = finish (write initial number)
 unfoldable pub bucket_of : ℕ → List ℕ → ℕ
 bucket_of count number = hash_of number * count / 2 ^ 64
 
--- one more than the last place of a bucket before the bound, and 0 where it has none
+-- one more than the last rank of a bucket before the bound, and 0 where it has none
 pub record IsAfterLast (numbers : List (List ℕ)) (count bound bucket after : ℕ) : Type 0 where
   pub within : after ≤ bound
-  pub here : (place : ℕ) (number : List ℕ) → after ≡ place + 1 → slice_get numbers place ≡ Some number → bucket_of count number ≡ bucket
-  pub last : (place : ℕ) (number : List ℕ) → place < bound → slice_get numbers place ≡ Some number → bucket_of count number ≡ bucket → place < after
+  pub here : (rank : ℕ) (number : List ℕ) → after ≡ rank + 1 → slice_get numbers rank ≡ Some number → bucket_of count number ≡ bucket
+  pub last : (rank : ℕ) (number : List ℕ) → rank < bound → slice_get numbers rank ≡ Some number → bucket_of count number ≡ bucket → rank < after
 
 -- the first n numbers stand in the buckets
 pub record IsIndexOf (numbers : List (List ℕ)) (n : ℕ) (lasts earlier : List ℕ) : Type 0 where
   pub wide : length lasts ≡ length numbers + 1
   pub long : length earlier ≡ n
   pub lasts_are : (bucket : ℕ) → bucket < length numbers + 1 → IsAfterLast numbers (length numbers + 1) n bucket (slice_index lasts bucket)
-  pub earlier_are : (place : ℕ) (number : List ℕ) → place < n → slice_get numbers place ≡ Some number → IsAfterLast numbers (length numbers + 1) place (bucket_of (length numbers + 1) number) (slice_index earlier place)
+  pub earlier_are : (rank : ℕ) (number : List ℕ) → rank < n → slice_get numbers rank ≡ Some number → IsAfterLast numbers (length numbers + 1) rank (bucket_of (length numbers + 1) number) (slice_index earlier rank)

@@ -1,4 +1,4 @@
--- The rows of a frozen book, kept with the places of the parents for their numbers.
+-- The rows of a frozen book, kept with the ranks of the parents for their numbers.
 use Rattle.std.specs.Prelude.{◌≡◌, ℕ, ◌<◌, List, [], ◌∷◌, map, length, slice_get, Some, IfSome}
 use Rattle.herd_pedigree.specs.declared.freezing.frozen.Row.{Row}
 use Rattle.herd_pedigree.specs.declared.freezing.rows.PackedParents.{PackedParents}
@@ -46,7 +46,7 @@ rows_kept records parents = rows_with (numbers_kept records) records parents
 
 -- parents stand among n rows
 abbrev pub ParentsAmong : ℕ → List PackedParents → Type 0
-ParentsAmong n parents = (place : ℕ) (its : PackedParents) → slice_get parents place ≡ Some its → IfSome its.sire (λ p. p < n) × IfSome its.dam (λ p. p < n)
+ParentsAmong n parents = (rank : ℕ) (its : PackedParents) → slice_get parents rank ≡ Some its → IfSome its.sire (λ p. p < n) × IfSome its.dam (λ p. p < n)
 
 -- each row has its parents, and they stand among the rows
 pub record AreKept (records : List RowRecord) (parents : List PackedParents) : Type 0 where

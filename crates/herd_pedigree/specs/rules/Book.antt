@@ -6,7 +6,7 @@ use Rattle.std.specs.Option.{option_and_then, option_map_or}
 use Rattle.std.specs.Prelude.{ℤ}
 use Rattle.std.specs.Str.{bytes_eq}
 use Rattle.herd_pedigree.specs.declared.rules.animal.Animal.{Animal}
-use Rattle.herd_pedigree.specs.rules.Lines.{Parentage, has_line, IsDepth}
+use Rattle.herd_pedigree.specs.rules.Paths.{Parentage, has_path, IsDepth}
 
 abbrev pub Book : Type 0
 Book = List (List ℕ × Animal)
@@ -28,13 +28,13 @@ dam_of book number = option_and_then (λ animal. animal.dam) (record_of book num
 abbrev pub parentage_of : Book → Parentage (List ℕ)
 parentage_of book = record { is_there = is_there book; sire = sire_of book; dam = dam_of book }
 
--- the longest line of known parents from the animal has n steps
+-- the longest path of known parents from the animal has n steps
 abbrev pub IsDepthOf : Book → List ℕ → ℕ → Type 0
 IsDepthOf book = IsDepth (parentage_of book)
 
--- no line is longer than l
+-- no path is longer than l
 abbrev pub is_shallow : ℕ → Book → Bool
-is_shallow l book = not (list_any (has_line (parentage_of book) (l + 1)) (keys_of book))
+is_shallow l book = not (list_any (has_path (parentage_of book) (l + 1)) (keys_of book))
 
 -- the book with one record changed
 abbrev pub changed : Book → List ℕ → (Animal → Animal) → Book

@@ -1,7 +1,7 @@
 -- Depths that satisfy one equation at each animal.
 use Rattle.std.specs.Prelude.{◌≡◌, ◌⊎◌, ℕ, ◌+◌, ◌≤◌, max, IsTrue, Option, Some}
 use Rattle.std.specs.Option.{option_map_or}
-use Rattle.herd_pedigree.specs.rules.Lines.{Parentage}
+use Rattle.herd_pedigree.specs.rules.Paths.{Parentage}
 
 -- p is a known parent of x
 abbrev pub IsParent : {A : Type 0} → Parentage A → A → A → Type 0

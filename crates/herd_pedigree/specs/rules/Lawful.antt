@@ -31,7 +31,7 @@ pub record IsLawfulRecord (book : Book) (animal : Animal) : Type 0 where
   pub since : animal.birth ≤ℤ animal.since
   pub left : (day : ℤ) → animal.left ≡ Some day → animal.since ≤ℤ day
 
--- a book of at most so many animals, whose lines have at most l steps
+-- a book of at most so many animals, whose paths have at most l steps
 pub record IsLawful (l most : ℕ) (book : Book) : Type 0 where
   pub once : IsDistinct bytes_eq (keys_of book)
   pub few : length book ≤ most

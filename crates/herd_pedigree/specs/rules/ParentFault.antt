@@ -11,7 +11,7 @@ use Rattle.herd_pedigree.specs.declared.rules.animal.Animal.{Animal}
 use Rattle.herd_pedigree.specs.declared.rules.parent_fault.ParentFault.{ParentFault}
 use Rattle.herd_pedigree.specs.declared.rules.parent_fault.ParentFault.TheVariants.{SireMissing, DamMissing, SireNotMale, DamNotFemale, SireNotOlder, DamNotOlder, DamGone, TooDeep}
 use Rattle.herd_pedigree.specs.rules.Book.{Book, record_of, is_there, sire_of, dam_of}
-use Rattle.herd_pedigree.specs.rules.Lines.{Parentage, has_line}
+use Rattle.herd_pedigree.specs.rules.Paths.{Parentage, has_path}
 
 -- the first fault of a list whose test holds
 abbrev pub first_that_holds : {F : Type 0} → List (Bool × F) → Option F
@@ -71,12 +71,12 @@ parentage_with book number sire dam = record {
   dam = λ x. if bytes_eq number x then dam else dam_of book x;
 }
 
--- some line of the whole book would then be longer than l; one that comes back to its animal is
+-- some path of the whole book would then be longer than l; one that comes back to its animal is
 abbrev pub is_too_deep : ℕ → Book → List ℕ → Option (List ℕ) → Option (List ℕ) → Bool
-is_too_deep l book number sire dam = list_any (has_line (parentage_with book number sire dam) (l + 1)) (number ∷ keys_of book)
+is_too_deep l book number sire dam = list_any (has_path (parentage_with book number sire dam) (l + 1)) (number ∷ keys_of book)
 
 -- the faults of parents in the order in which they are asked: those that the book's records of them show, and last
--- that a line is too long
+-- that a path is too long
 abbrev pub parent_faults : ℕ → Book → List ℕ → ℤ → Option (List ℕ) → Option (List ℕ) → Bool → List (Bool × ParentFault)
 parent_faults l book number birth sire dam embryo =
     record_faults birth sire (record_named book sire) dam (record_named book dam) embryo

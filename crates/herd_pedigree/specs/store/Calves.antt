@@ -32,15 +32,15 @@ chain families zero calf = []
 chain families (suc n) None = []
 chain families (suc n) (Some calf) = calf ∷ chain families n (next_of families calf)
 
--- each calf of a parent stands in its chain once: what is next is of a lower rank
+-- each calf of a parent stands in its chain once: what is next has less seniority
 pub record AreChained (families : List Family) : Type 0 where
-  pub rank : ℕ → ℕ
+  pub seniority : ℕ → ℕ
   pub top : ℕ
-  pub below : (calf : ℕ) → rank calf < top
+  pub below : (calf : ℕ) → seniority calf < top
   pub within : (calf parent : ℕ) → parent_of families calf ≡ Some parent → parent < length families
   pub first : (parent calf : ℕ) → first_of families parent ≡ Some calf → (parent_of families calf ≡ Some parent) × (previous_of families calf ≡ None)
   pub foremost : (parent calf : ℕ) → parent_of families calf ≡ Some parent → previous_of families calf ≡ None → first_of families parent ≡ Some calf
-  pub next : (calf other : ℕ) → next_of families calf ≡ Some other → (previous_of families other ≡ Some calf) × ((parent_of families other ≡ parent_of families calf) × (rank other < rank calf))
+  pub next : (calf other : ℕ) → next_of families calf ≡ Some other → (previous_of families other ≡ Some calf) × ((parent_of families other ≡ parent_of families calf) × (seniority other < seniority calf))
   pub previous : (calf other : ℕ) → previous_of families other ≡ Some calf → next_of families calf ≡ Some other
   pub single : (calf : ℕ) → parent_of families calf ≡ None → (next_of families calf ≡ None) × (previous_of families calf ≡ None)
 

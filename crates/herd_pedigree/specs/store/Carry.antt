@@ -1,6 +1,6 @@
 -- Depths carried on after a change of parents.
 use Rattle.std.specs.Prelude.{◌≡◌, ◌⊎◌, ℕ, ◌+◌, List, ◌++◌, min, Contains, IsTrue, All}
-use Rattle.herd_pedigree.specs.rules.Lines.{Parentage, has_line}
+use Rattle.herd_pedigree.specs.rules.Paths.{Parentage, has_path}
 use Rattle.herd_pedigree.specs.rules.Depths.{IsParent, depth_from}
 
 -- each animal that isn't pending has the depth that its parents' depths give, cut off above the limit
@@ -8,9 +8,9 @@ abbrev pub IsSettled : {A : Type 0} → ℕ → Parentage A → (A → ℕ) → 
 IsSettled {A} l parentage depth pending = (x : A) → IsTrue (parentage.is_there x) →
     Contains pending x ⊎ (depth x ≡ min (l + 1) (depth_from depth (parentage.sire x) (parentage.dam x)))
 
--- from each of the animals there is a line of n steps
-abbrev pub HaveLines : {A : Type 0} → Parentage A → ℕ → List A → Type 0
-HaveLines parentage n animals = All (λ x. IsTrue (has_line parentage n x)) animals
+-- from each of the animals there is a path of n steps
+abbrev pub HavePaths : {A : Type 0} → Parentage A → ℕ → List A → Type 0
+HavePaths parentage n animals = All (λ x. IsTrue (has_path parentage n x)) animals
 
 -- the calves of p were put behind the others
 pub record AddsCalves {A : Type 0} (parentage : Parentage A) (p : A) (old new : List A) : Type 0 where

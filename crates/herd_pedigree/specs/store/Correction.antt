@@ -1,7 +1,7 @@
 -- The parents by place, with those of one animal exchanged.
 use Rattle.std.specs.Prelude.{◌≡◌, ℕ, ◌<◌, length, slice_set}
 use Rattle.herd_pedigree.specs.declared.store.correction.Correction.{Correction}
-use Rattle.herd_pedigree.specs.rules.Lines.{Parentage}
+use Rattle.herd_pedigree.specs.rules.Paths.{Parentage}
 use Rattle.herd_pedigree.specs.rules.Depths.{IsParent}
 use Rattle.herd_pedigree.specs.store.Places.{parentage_at}
 

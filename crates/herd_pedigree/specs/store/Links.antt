@@ -4,9 +4,9 @@ use Rattle.std.specs.Map.{keys_of}
 use Rattle.herd_pedigree.specs.declared.rules.animal.Animal.{Animal}
 use Rattle.herd_pedigree.specs.declared.store.links.Link.{Link}
 use Rattle.herd_pedigree.specs.rules.Book.{Book}
-use Rattle.herd_pedigree.specs.store.Places.{IsPlaceIn}
+use Rattle.herd_pedigree.specs.store.Places.{IsIndexIn}
 
 -- the link has the places of the parents of the record at a place
 pub record IsLinkAt (book : Book) (place : ℕ) (link : Link) : Type 0 where
-  pub sire : (entry : List ℕ × Animal) → slice_get book place ≡ Some entry → IsPlaceIn (keys_of book) link.sire entry.1.sire
-  pub dam : (entry : List ℕ × Animal) → slice_get book place ≡ Some entry → IsPlaceIn (keys_of book) link.dam entry.1.dam
+  pub sire : (entry : List ℕ × Animal) → slice_get book place ≡ Some entry → IsIndexIn (keys_of book) link.sire entry.1.sire
+  pub dam : (entry : List ℕ × Animal) → slice_get book place ≡ Some entry → IsIndexIn (keys_of book) link.dam entry.1.dam

@@ -2,7 +2,7 @@
 use Rattle.std.specs.Prelude.{◌≡◌, ℕ, List, length, nat_lt, slice_get, slice_index_or, Option, Some, None}
 use Rattle.std.specs.Map.{keys_of}
 use Rattle.herd_pedigree.specs.declared.rules.animal.Animal.{Animal}
-use Rattle.herd_pedigree.specs.rules.Lines.{Parentage}
+use Rattle.herd_pedigree.specs.rules.Paths.{Parentage}
 use Rattle.herd_pedigree.specs.rules.Book.{Book}
 
 -- the place of the parent of the animal at a place
@@ -17,14 +17,14 @@ parentage_at sires dams = record {
   dam = parent_at dams;
 }
 
--- a place in a list is that of an element, or both are unknown
-abbrev pub IsPlaceIn : {X : Type 0} → List X → Option ℕ → Option X → Type 0
-IsPlaceIn elements None None = Unit {0}
-IsPlaceIn elements None (Some element) = ⊥
-IsPlaceIn elements (Some place) None = ⊥
-IsPlaceIn elements (Some place) (Some element) = slice_get elements place ≡ Some element
+-- an index of a list is that of an element, or both are unknown
+abbrev pub IsIndexIn : {X : Type 0} → List X → Option ℕ → Option X → Type 0
+IsIndexIn elements None None = Unit {0}
+IsIndexIn elements None (Some element) = ⊥
+IsIndexIn elements (Some index) None = ⊥
+IsIndexIn elements (Some index) (Some element) = slice_get elements index ≡ Some element
 
 -- the places are those of one parent of each animal of the book
 pub record AreParents (book : Book) (parent_of : Animal → Option (List ℕ)) (parents : List (Option ℕ)) : Type 0 where
   pub long : length parents ≡ length book
-  pub each : (place : ℕ) (entry : List ℕ × Animal) → slice_get book place ≡ Some entry → IsPlaceIn (keys_of book) (parent_at parents place) (parent_of entry.1)
+  pub each : (place : ℕ) (entry : List ℕ × Animal) → slice_get book place ≡ Some entry → IsIndexIn (keys_of book) (parent_at parents place) (parent_of entry.1)

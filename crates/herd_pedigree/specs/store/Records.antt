@@ -5,7 +5,7 @@ use Rattle.std.specs.Option.{option_and_then}
 use Rattle.herd_pedigree.specs.declared.rules.animal.Animal.{Animal}
 use Rattle.herd_pedigree.specs.declared.store.records.StoredRecord.{StoredRecord}
 use Rattle.herd_pedigree.specs.rules.Book.{Book}
-use Rattle.herd_pedigree.specs.store.Places.{IsPlaceIn}
+use Rattle.herd_pedigree.specs.store.Places.{IsIndexIn}
 
 -- a book, and for how many more animals there is room
 pub record Records : Type 0 where
@@ -47,4 +47,4 @@ AreClosed entries = StandAmong (length entries) entries
 -- each parent that a book names stands in it
 abbrev pub NamesItsOwn : Book → Type 0
 NamesItsOwn book = (place : ℕ) (entry : List ℕ × Animal) → slice_get book place ≡ Some entry →
-    ((sire : Option ℕ) × IsPlaceIn (keys_of book) sire entry.1.sire) × ((dam : Option ℕ) × IsPlaceIn (keys_of book) dam entry.1.dam)
+    ((sire : Option ℕ) × IsIndexIn (keys_of book) sire entry.1.sire) × ((dam : Option ℕ) × IsIndexIn (keys_of book) dam entry.1.dam)

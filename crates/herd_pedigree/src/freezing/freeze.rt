@@ -4,7 +4,7 @@ ghost use Rattle.std.specs.Option.{option_and_then, option_map_or};
 ghost use Rattle.herd_pedigree.specs.freezing.Frozen.{IsFrozenFrom, depth_at, numbers_of};
 ghost use Rattle.herd_pedigree.specs.freezing.Freeze.{AreRanks, AreRows, IsAgeOrder, IsRanked, IsRowOf, places_of};
 ghost use Rattle.herd_pedigree.specs.rules.Lawful.{IsLawful};
-ghost use Rattle.herd_pedigree.specs.store.Places.{IsPlaceIn};
+ghost use Rattle.herd_pedigree.specs.store.Places.{IsIndexIn};
 ghost use Rattle.herd_pedigree.specs.declared.TheConstants.{DEPTH_LIMIT, MOST_ANIMALS};
 
 use crate::freezing::age_order::{AgeKey, by_age, ranks_of};
@@ -80,8 +80,8 @@ fn next_row<A: Allocator, S: Registered>(
     requires rows { AreRows (S.book records.now) keys.now rows.now }
     requires more { length rows.now < length keys.now }
     ensures row { IfSome (slice_get keys.now (length rows.now)) (λ key. IsRowOf (S.book records.now) keys.now key result) }
-    ensures sire { IsPlaceIn (numbers_of rows.now) result.sire result.animal.sire }
-    ensures dam { IsPlaceIn (numbers_of rows.now) result.dam result.animal.dam }
+    ensures sire { IsIndexIn (numbers_of rows.now) result.sire result.animal.sire }
+    ensures dam { IsIndexIn (numbers_of rows.now) result.dam result.animal.dam }
 {
     let key = keys[rows.len()];
     let entry = records.record_at(key.place as usize);

@@ -11,29 +11,29 @@ use herd_animal::AnimalNumber;
 use std::alloc::{AllocError, Allocator};
 use std::marker::Model;
 
-/// An animal of a frozen book. Places count from 0.
+/// An animal of a frozen book. Ranks count from 0.
 #[derive(Clone, Copy, Debug, PartialEq, Eq)]
 pub struct Row {
     /// Its number.
     pub number: AnimalNumber,
     /// Its record.
     pub animal: Animal,
-    /// The place of the sire, where it is known.
+    /// The rank of the sire, where it is known.
     pub sire: Option<u32>,
-    /// The place of the dam, where it is known.
+    /// The rank of the dam, where it is known.
     pub dam: Option<u32>,
-    /// The number of parent steps on the longest known line.
+    /// The number of parent steps on the longest known path.
     pub depth: u8,
 }
 
-/// Of a row what following its lines takes.
+/// Of a row what following its paths takes.
 #[derive(Clone, Copy, Debug, PartialEq, Eq)]
 pub struct Parents {
-    /// The place of the sire, where it is known.
+    /// The rank of the sire, where it is known.
     pub sire: Option<u32>,
-    /// The place of the dam, where it is known.
+    /// The rank of the dam, where it is known.
     pub dam: Option<u32>,
-    /// The number of parent steps on the longest known line.
+    /// The number of parent steps on the longest known path.
     pub depth: u8,
 }
 
@@ -77,34 +77,34 @@ impl<A: Allocator> Frozen<A> {
         self.rows.len() == 0
     }
 
-    /// The row at a place.
+    /// The row at a rank.
     // Inlined: a caller reads no more of a row than it uses.
     #[inline(always)]
-    pub fn row(&self, place: u32) -> Row
-        requires { place < length self.now }
-        ensures { slice_get self.now place ≡ Some result }
+    pub fn row(&self, rank: u32) -> Row
+        requires { rank < length self.now }
+        ensures { slice_get self.now rank ≡ Some result }
     {
-        self.rows.row(place)
+        self.rows.row(rank)
     }
 
-    /// The place of an animal. It reads an index, and takes no memory.
-    pub fn place(&self, number: &AnimalNumber) -> Option<u32>
-        ensures place { IfSome result (λ place. slice_get (numbers_of self.now) place ≡ Some number.now) }
-        ensures within { IfSome result (λ place. place < length self.now) }
+    /// The rank of an animal. It reads an index, and takes no memory.
+    pub fn rank(&self, number: &AnimalNumber) -> Option<u32>
+        ensures rank { IfSome result (λ rank. slice_get (numbers_of self.now) rank ≡ Some number.now) }
+        ensures within { IfSome result (λ rank. rank < length self.now) }
         ensures absent { IfNone result (is_there (book_of self.now) number.now ≡ false) }
     {
-        self.index.place(&self.rows, number)
+        self.index.rank(&self.rows, number)
     }
 
-    /// The parents and the depth of the row at a place. It reads less memory than `row`.
-    pub fn parents(&self, place: u32) -> Parents
-        requires { place < length self.now }
-        ensures { slice_get (map parents_of self.now) place ≡ Some result }
+    /// The parents and the depth of the row at a rank. It reads less memory than `row`.
+    pub fn parents(&self, rank: u32) -> Parents
+        requires { rank < length self.now }
+        ensures { slice_get (map parents_of self.now) rank ≡ Some result }
     {
-        self.rows.parents(place)
+        self.rows.parents(rank)
     }
 
-    /// The places of the animals of a depth, ascending; none beyond the limit.
+    /// The ranks of the animals of a depth, ascending; none beyond the limit.
     pub fn level(&self, depth: u8) -> &[u32]
         ensures { result.now ≡ level_of depth self.now }
     {

@@ -6,7 +6,7 @@ use crate::DEPTH_LIMIT;
 use crate::freezing::rows::Rows;
 use std::alloc::{AllocError, Allocator};
 
-// A level with no place for each depth up to the limit.
+// A level with no rank for each depth up to the limit.
 fn empty_levels<A: Allocator + Clone>(alloc: A) -> Result<Vec<Vec<u32, A>, A>, AllocError>
     ensures { IfOk result (λ levels. map (λ level. level.items) levels.items ≡ levels_of DEPTH_LIMIT []) }
 {
@@ -17,7 +17,7 @@ fn empty_levels<A: Allocator + Clone>(alloc: A) -> Result<Vec<Vec<u32, A>, A>, A
     Ok(levels)
 }
 
-/// The places of each depth up to the limit, ascending.
+/// The ranks of each depth up to the limit, ascending.
 pub(crate) fn levels_of<A: Allocator + Clone, B: Allocator>(
     alloc: A,
     rows: &Rows<B>,
@@ -27,8 +27,8 @@ pub(crate) fn levels_of<A: Allocator + Clone, B: Allocator>(
     ensures { IfOk result (λ levels. map (λ level. level.items) levels.items ≡ levels_of DEPTH_LIMIT rows.now) }
 {
     let mut levels = empty_levels(alloc)?;
-    for place in 0..rows.len() as u32 {
-        levels[usize::from(rows.depth(place))].push(place)?;
+    for rank in 0..rows.len() as u32 {
+        levels[usize::from(rows.depth(rank))].push(rank)?;
     }
     Ok(levels)
 }

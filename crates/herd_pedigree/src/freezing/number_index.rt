@@ -1,4 +1,4 @@
-//! An index of rows by number: each place stands in the bucket of its number's hash.
+//! An index of rows by number: each rank stands in the bucket of its number's hash.
 ghost use Rattle.std.specs.Prelude.{◌≡◌, ◌<◌, ◌≤◌, ℕ, Some, IfNone, IfOk, IfSome, length, slice_get};
 ghost use Rattle.herd_pedigree.specs.freezing.Frozen.{numbers_of};
 ghost use Rattle.herd_pedigree.specs.freezing.NumberIndex.{IsIndexOf, bucket_of, hash_of};
@@ -9,12 +9,12 @@ use herd_animal::AnimalNumber;
 use std::alloc::{AllocError, Allocator};
 use std::hash::{FoldHasher, Hash, Hasher};
 
-/// The places of rows by the buckets of their numbers, which are followed from the last place to the first.
+/// The ranks of rows by the buckets of their numbers, which are followed from the last rank to the first.
 #[derive(Drop)]
 pub struct NumberIndex<A: Allocator> {
-    // One more than the last place of each bucket, 0 where it has none.
+    // One more than the last rank of each bucket, 0 where it has none.
     pub(crate) lasts: Vec<u32, A>,
-    // By place one more than the place before it in its bucket, 0 where there is none.
+    // By rank one more than the rank before it in its bucket, 0 where there is none.
     pub(crate) earlier: Vec<u32, A>,
 }
 
@@ -26,30 +26,30 @@ impl<A: Allocator + Clone> NumberIndex<A> {
     {
         let mut lasts = vec![in alloc.clone()?; 0u32; rows.len() + 1]?;
         let mut earlier = Vec::with_capacity(alloc, rows.len())?;
-        for place in 0..rows.len() as u32 {
-            let bucket = bucket_of(rows.number(place), lasts.len());
+        for rank in 0..rows.len() as u32 {
+            let bucket = bucket_of(rows.number(rank), lasts.len());
             earlier.push(lasts[bucket])?;
-            lasts[bucket] = place + 1;
+            lasts[bucket] = rank + 1;
         }
         Ok(NumberIndex { lasts, earlier })
     }
 }
 
 impl<A: Allocator> NumberIndex<A> {
-    /// The place of a number among the rows that were indexed.
-    pub fn place<B: Allocator>(&self, rows: &Rows<B>, number: &AnimalNumber) -> Option<u32>
+    /// The rank of a number among the rows that were indexed.
+    pub fn rank<B: Allocator>(&self, rows: &Rows<B>, number: &AnimalNumber) -> Option<u32>
         requires few { length rows.now ≤ MOST_ANIMALS }
         requires index { IsIndexOf (numbers_of rows.now) (length rows.now) self.now.lasts.items self.now.earlier.items }
-        ensures found { IfSome result (λ place. slice_get (numbers_of rows.now) place ≡ Some number.now) }
-        ensures absent { IfNone result ((place : ℕ) → slice_get (numbers_of rows.now) place ≡ Some number.now → ⊥) }
+        ensures found { IfSome result (λ rank. slice_get (numbers_of rows.now) rank ≡ Some number.now) }
+        ensures absent { IfNone result ((rank : ℕ) → slice_get (numbers_of rows.now) rank ≡ Some number.now → ⊥) }
     {
         let mut after = self.lasts[bucket_of(number, self.lasts.len())];
         while after > 0 {
-            let place = after - 1;
-            if *rows.number(place) == *number {
-                return Some(place);
+            let rank = after - 1;
+            if *rows.number(rank) == *number {
+                return Some(rank);
             }
-            after = self.earlier[place as usize];
+            after = self.earlier[rank as usize];
         }
         None
     }

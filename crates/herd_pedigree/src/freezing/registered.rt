@@ -43,7 +43,7 @@ impl<A: Allocator> Registered for Records<A> {
 
     #[inline(always)]
     fn record_at(&self, place: usize) -> (AnimalNumber, Animal) {
-        let Some(entry) = self.entry_at(place) else {
+        let Some(entry) = self.get_index(place) else {
             unreachable!();
         };
         entry

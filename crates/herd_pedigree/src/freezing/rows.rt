@@ -1,14 +1,14 @@
-//! The rows of a frozen book, which keep the places of the parents for their numbers.
+//! The rows of a frozen book, which keep the ranks of the parents for their numbers.
 ghost use Rattle.std.specs.Prelude.{◌≡◌, ◌<◌, [], ◌++◌, ◌∷◌, length, map, slice_get, Some, IfOk, IfSome, OnOk};
 ghost use Rattle.herd_pedigree.specs.freezing.Frozen.{depth_at, numbers_of, parents_of};
-ghost use Rattle.herd_pedigree.specs.store.PackedPlace.{nowhere};
-ghost use Rattle.herd_pedigree.specs.store.Places.{IsPlaceIn};
+ghost use Rattle.herd_pedigree.specs.store.PackedIndex.{nowhere};
+ghost use Rattle.herd_pedigree.specs.store.Places.{IsIndexIn};
 ghost use Rattle.herd_pedigree.specs.store.Records.{number_at};
 ghost use Rattle.herd_pedigree.specs.freezing.Rows.{packed_parents, record_of_row};
 
 use crate::freezing::frozen::{Parents, Row};
 use crate::rules::animal::Animal;
-use crate::store::packed_place::PackedPlace;
+use crate::store::packed_index::PackedIndex;
 use herd_animal::{AnimalNumber, Day, Herd};
 use std::alloc::{AllocError, Allocator};
 use std::marker::Model;
@@ -27,12 +27,12 @@ pub struct RowRecord {
 /// What is kept of a row's parents, in twelve bytes.
 #[derive(Clone, Copy)]
 pub struct PackedParents {
-    sire: PackedPlace,
-    dam: PackedPlace,
+    sire: PackedIndex,
+    dam: PackedIndex,
     depth: u8,
 }
 
-/// Rows by place, which counts from 0.
+/// Rows by rank, which counts from 0.
 #[derive(Drop)]
 pub struct Rows<A: Allocator> {
     records: Vec<RowRecord, A>,
@@ -72,13 +72,13 @@ impl PackedParents {
     // What is kept of a row's parents.
     #[inline(always)]
     fn of(row: &Row) -> PackedParents
-        requires sire { IfSome row.now.sire (λ place. place < nowhere) }
-        requires dam { IfSome row.now.dam (λ place. place < nowhere) }
+        requires sire { IfSome row.now.sire (λ rank. rank < nowhere) }
+        requires dam { IfSome row.now.dam (λ rank. rank < nowhere) }
         ensures { result ≡ packed_parents row.now }
     {
         PackedParents {
-            sire: PackedPlace::of(row.sire),
-            dam: PackedPlace::of(row.dam),
+            sire: PackedIndex::of(row.sire),
+            dam: PackedIndex::of(row.dam),
             depth: row.depth,
         }
     }
@@ -106,22 +106,22 @@ impl<A: Allocator> Rows<A> {
         self.records.len()
     }
 
-    /// The number of the row at a place.
+    /// The number of the row at a rank.
     #[inline(always)]
-    pub fn number(&self, place: u32) -> &AnimalNumber
-        requires { place < length self.now }
-        ensures { slice_get (numbers_of self.now) place ≡ Some result.now }
+    pub fn number(&self, rank: u32) -> &AnimalNumber
+        requires { rank < length self.now }
+        ensures { slice_get (numbers_of self.now) rank ≡ Some result.now }
     {
-        &self.records[place as usize].number
+        &self.records[rank as usize].number
     }
 
-    /// The parents and the depth of the row at a place.
+    /// The parents and the depth of the row at a rank.
     #[inline(always)]
-    pub fn parents(&self, place: u32) -> Parents
-        requires { place < length self.now }
-        ensures { slice_get (map parents_of self.now) place ≡ Some result }
+    pub fn parents(&self, rank: u32) -> Parents
+        requires { rank < length self.now }
+        ensures { slice_get (map parents_of self.now) rank ≡ Some result }
     {
-        let packed = &self.parents[place as usize];
+        let packed = &self.parents[rank as usize];
         Parents {
             sire: packed.sire.get(),
             dam: packed.dam.get(),
@@ -129,23 +129,23 @@ impl<A: Allocator> Rows<A> {
         }
     }
 
-    /// The depth of the row at a place.
+    /// The depth of the row at a rank.
     #[inline(always)]
-    pub fn depth(&self, place: u32) -> u8
-        requires { place < length self.now }
-        ensures { result ≡ depth_at self.now place }
+    pub fn depth(&self, rank: u32) -> u8
+        requires { rank < length self.now }
+        ensures { result ≡ depth_at self.now rank }
     {
-        self.parents[place as usize].depth
+        self.parents[rank as usize].depth
     }
 
-    /// The row at a place.
+    /// The row at a rank.
     #[inline(always)]
-    pub fn row(&self, place: u32) -> Row
-        requires { place < length self.now }
-        ensures { slice_get self.now place ≡ Some result }
+    pub fn row(&self, rank: u32) -> Row
+        requires { rank < length self.now }
+        ensures { slice_get self.now rank ≡ Some result }
     {
-        let kept = &self.records[place as usize];
-        let parents = self.parents(place);
+        let kept = &self.records[rank as usize];
+        let parents = self.parents(rank);
         Row {
             number: kept.number,
             animal: Animal {
@@ -163,12 +163,12 @@ impl<A: Allocator> Rows<A> {
         }
     }
 
-    // The number of the row at a place.
+    // The number of the row at a rank.
     #[inline(always)]
-    fn number_at(&self, place: Option<u32>) -> Option<AnimalNumber>
-        ensures { result ≡ number_at (numbers_of self.now) place }
+    fn number_at(&self, rank: Option<u32>) -> Option<AnimalNumber>
+        ensures { result ≡ number_at (numbers_of self.now) rank }
     {
-        let kept = self.records.get(place? as usize)?;
+        let kept = self.records.get(rank? as usize)?;
         Some(kept.number)
     }
 
@@ -176,8 +176,8 @@ impl<A: Allocator> Rows<A> {
     #[inline(always)]
     pub fn push(&mut self, row: Row) -> Result<(), AllocError>
         requires few { length self.old < nowhere }
-        requires sire { IsPlaceIn (numbers_of self.old) row.sire row.animal.sire }
-        requires dam { IsPlaceIn (numbers_of self.old) row.dam row.animal.dam }
+        requires sire { IsIndexIn (numbers_of self.old) row.sire row.animal.sire }
+        requires dam { IsIndexIn (numbers_of self.old) row.dam row.animal.dam }
         ensures { OnOk result (self.new ≡ self.old ++ row ∷ []) }
     {
         self.records.reserve(1)?;

@@ -22,8 +22,8 @@ pub enum ParentFault {
     /// She left before the birth day. It isn't asked for a calf from a stored embryo; a sire may always have left.
     #[error("the dam has left")]
     DamGone,
-    /// Some line of the book, a descendant's too, would have more than `DEPTH_LIMIT` parent steps, or come back to
+    /// Some path of the book, a descendant's too, would have more than `DEPTH_LIMIT` parent steps, or come back to
     /// its animal.
-    #[error("a line would be too long")]
+    #[error("a path would be too long")]
     TooDeep,
 }

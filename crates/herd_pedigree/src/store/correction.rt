@@ -1,8 +1,8 @@
 //! The parents by place, with those of one animal exchanged, and the depths that follow.
 ghost use Rattle.std.specs.Prelude.{◌≡◌, ℕ, suc, ◌+◌, ◌<◌, ◌≤◌, ◌==◌, ◌++◌, ◌∷◌, [], List, All, IsTrue, IsFalse, ◌↔◌, IfNone, IfOk, IfSome, OnOk, OnErr, Some, filter, length, min, not, slice_index};
-ghost use Rattle.herd_pedigree.specs.store.Carry.{AddsCalves, HaveLines, IsSettled};
+ghost use Rattle.herd_pedigree.specs.store.Carry.{AddsCalves, HavePaths, IsSettled};
 ghost use Rattle.herd_pedigree.specs.rules.Depths.{IsParent, depth_from};
-ghost use Rattle.herd_pedigree.specs.rules.Lines.{has_line};
+ghost use Rattle.herd_pedigree.specs.rules.Paths.{has_path};
 ghost use Rattle.herd_pedigree.specs.store.Undo.{undone_writes};
 ghost use Rattle.herd_pedigree.specs.declared.TheConstants.{DEPTH_LIMIT};
 
@@ -111,7 +111,7 @@ impl<A: Allocator> Correction<'_, A> {
         ensures logged { All (λ write. write.0 < length depths.old) log.new.items }
         ensures undone { undone_writes log.new.items depths.new ≡ undone_writes log.old.items depths.old }
         ensures settled { OnOk result ((rest : List ℕ) → IsSettled DEPTH_LIMIT (corrected self.now) (slice_index depths.old) (place ∷ (rest ++ pending.old.items)) → IsSettled DEPTH_LIMIT (corrected self.now) (slice_index depths.new) (rest ++ pending.new.items)) }
-        ensures lines { OnOk result ((n : ℕ) → IsTrue (has_line (corrected self.now) n place) → HaveLines (corrected self.now) (suc n) pending.old.items → HaveLines (corrected self.now) (suc n) pending.new.items) }
+        ensures paths { OnOk result ((n : ℕ) → IsTrue (has_path (corrected self.now) n place) → HavePaths (corrected self.now) (suc n) pending.old.items → HavePaths (corrected self.now) (suc n) pending.new.items) }
     {
         let depth = self.depth_at(depths, place);
         let old = depths[place as usize];
@@ -138,7 +138,7 @@ impl<A: Allocator> Correction<'_, A> {
         ensures logged { All (λ write. write.0 < length depths.old) log.new.items }
         ensures undone { undone_writes log.new.items depths.new ≡ undone_writes log.old.items depths.old }
         ensures settled { OnOk result (IsSettled DEPTH_LIMIT (corrected self.now) (slice_index depths.old) (places.now ++ pending.old.items) → IsSettled DEPTH_LIMIT (corrected self.now) (slice_index depths.new) pending.new.items) }
-        ensures lines { OnOk result ((n : ℕ) → HaveLines (corrected self.now) n places.now → HaveLines (corrected self.now) (suc n) pending.old.items → HaveLines (corrected self.now) (suc n) pending.new.items) }
+        ensures paths { OnOk result ((n : ℕ) → HavePaths (corrected self.now) n places.now → HavePaths (corrected self.now) (suc n) pending.old.items → HavePaths (corrected self.now) (suc n) pending.new.items) }
     {
         for place in places {
             self.settle(*place, depths, log, pending)?;
@@ -147,7 +147,7 @@ impl<A: Allocator> Correction<'_, A> {
     }
 
     /// Carries depths on to the animal and its descendants, and logs what is written over. Whether that came to
-    /// an end: else some line is too long.
+    /// an end: else some path is too long.
     pub fn carry<B: Allocator + Copy>(
         &self,
         alloc: B,
@@ -161,7 +161,7 @@ impl<A: Allocator> Correction<'_, A> {
         ensures logged { All (λ write. write.0 < length depths.old) log.new.items }
         ensures undone { undone_writes log.new.items depths.new ≡ undone_writes log.old.items depths.old }
         ensures settled { IfOk result (λ done. IsTrue done → IsSettled DEPTH_LIMIT (corrected self.now) (slice_index depths.new) []) }
-        ensures deep { IfOk result (λ done. IsFalse done → (x : ℕ) × IsTrue (has_line (corrected self.now) (DEPTH_LIMIT + 1) x)) }
+        ensures deep { IfOk result (λ done. IsFalse done → (x : ℕ) × IsTrue (has_path (corrected self.now) (DEPTH_LIMIT + 1) x)) }
     {
         let mut pending = Vec::new(alloc);
         pending.push(self.place)?;
@@ -173,7 +173,7 @@ impl<A: Allocator> Correction<'_, A> {
         Ok(pending.as_slice().is_empty())
     }
 
-    /// Carries depths on and returns the log. Where some line would be too long, or memory is refused, all depths are
+    /// Carries depths on and returns the log. Where some path would be too long, or memory is refused, all depths are
     /// left as they were.
     pub fn carry_if_shallow<B: Allocator + Copy>(
         &self,
@@ -187,8 +187,8 @@ impl<A: Allocator> Correction<'_, A> {
         ensures logged { IfOk result (λ carried. IfSome carried (λ log. All (λ write. write.0 < length depths.old) log.items)) }
         ensures undone { IfOk result (λ carried. IfSome carried (λ log. undone_writes log.items depths.new ≡ depths.old)) }
         ensures settled { IfOk result (λ carried. IfSome carried (λ _. IsSettled DEPTH_LIMIT (corrected self.now) (slice_index depths.new) [])) }
-        ensures shallow { IfOk result (λ carried. IfSome carried (λ _. (x : ℕ) → IsFalse (has_line (corrected self.now) (DEPTH_LIMIT + 1) x))) }
-        ensures deep { IfOk result (λ carried. IfNone carried ((x : ℕ) × IsTrue (has_line (corrected self.now) (DEPTH_LIMIT + 1) x))) }
+        ensures shallow { IfOk result (λ carried. IfSome carried (λ _. (x : ℕ) → IsFalse (has_path (corrected self.now) (DEPTH_LIMIT + 1) x))) }
+        ensures deep { IfOk result (λ carried. IfNone carried ((x : ℕ) × IsTrue (has_path (corrected self.now) (DEPTH_LIMIT + 1) x))) }
         ensures same { IfOk result (λ carried. IfNone carried (depths.new ≡ depths.old)) }
         ensures err { OnErr result (depths.new ≡ depths.old) }
     {
@@ -208,7 +208,7 @@ impl<A: Allocator> Correction<'_, A> {
         }
     }
 
-    /// Whether some line would be too long.
+    /// Whether some path would be too long.
     pub fn is_too_deep<B: Allocator + Copy>(
         &self,
         alloc: B,
@@ -218,8 +218,8 @@ impl<A: Allocator> Correction<'_, A> {
         requires long { length depths.now ≡ length self.now.sires.now.parents }
         requires settled { IsSettled DEPTH_LIMIT (corrected self.now) (slice_index depths.now) (self.now.place ∷ []) }
         requires shallow { (x : ℕ) → x < length depths.now → slice_index depths.now x ≤ DEPTH_LIMIT }
-        ensures deep { IfOk result (λ deep. IsTrue deep → (x : ℕ) × IsTrue (has_line (corrected self.now) (DEPTH_LIMIT + 1) x)) }
-        ensures shallow { IfOk result (λ deep. IsFalse deep → (x : ℕ) → IsFalse (has_line (corrected self.now) (DEPTH_LIMIT + 1) x)) }
+        ensures deep { IfOk result (λ deep. IsTrue deep → (x : ℕ) × IsTrue (has_path (corrected self.now) (DEPTH_LIMIT + 1) x)) }
+        ensures shallow { IfOk result (λ deep. IsFalse deep → (x : ℕ) → IsFalse (has_path (corrected self.now) (DEPTH_LIMIT + 1) x)) }
     {
         let mut depths = Vec::from_slice(alloc, depths)?;
         let mut log = Vec::new(alloc);

@@ -5,18 +5,18 @@ ghost use Rattle.herd_pedigree.specs.store.Calves.{AreChained, Show, family_at, 
 ghost use Rattle.herd_pedigree.specs.store.Places.{parent_at};
 ghost use Rattle.herd_pedigree.specs.store.Undo.{without_last};
 
-use crate::store::packed_place::PackedPlace;
+use crate::store::packed_index::PackedIndex;
 use std::alloc::{AllocError, Allocator};
 use std::marker::Model;
 
 /// What is kept of an animal: its parent, and the calves of that parent that stand beside it.
 #[derive(Clone, Copy)]
 pub struct Family {
-    parent: PackedPlace,
-    previous: PackedPlace,
-    next: PackedPlace,
+    parent: PackedIndex,
+    previous: PackedIndex,
+    next: PackedIndex,
     // The first of its own calves.
-    first: PackedPlace,
+    first: PackedIndex,
 }
 
 /// The sire, or the dam, of each animal by place, and the calves of each parent.
@@ -140,10 +140,10 @@ impl<A: Allocator> Progeny<A> {
         ensures { self.new.parents ≡ self.old.parents ++ None ∷ [] }
     {
         let alone = Family {
-            parent: PackedPlace::none(),
-            previous: PackedPlace::none(),
-            next: PackedPlace::none(),
-            first: PackedPlace::none(),
+            parent: PackedIndex::none(),
+            previous: PackedIndex::none(),
+            next: PackedIndex::none(),
+            first: PackedIndex::none(),
         };
         if self.families.push(alone).is_err() {
             unreachable!();
@@ -207,8 +207,8 @@ fn join(families: &mut [Family], calf: u32, parent: u32)
     ensures parents { parents_of families.new ≡ slice_set (parents_of families.old) calf (Some parent) }
 {
     let first = family_at(families, parent).first;
-    let own = PackedPlace::at(calf);
-    let shared = PackedPlace::at(parent);
+    let own = PackedIndex::at(calf);
+    let shared = PackedIndex::at(parent);
     set_first(families, shared, own);
     set_previous(families, first, own);
     set_next(families, own, first);
@@ -224,8 +224,8 @@ fn part(families: &mut [Family], calf: u32)
     ensures parents { parents_of families.new ≡ slice_set (parents_of families.old) calf None }
 {
     let family = family_at(families, calf);
-    let own = PackedPlace::at(calf);
-    let none = PackedPlace::none();
+    let own = PackedIndex::at(calf);
+    let none = PackedIndex::none();
     set_first(families, led_by(&family), family.next);
     set_next(families, family.previous, family.next);
     set_previous(families, family.next, family.previous);
@@ -244,18 +244,18 @@ fn family_at(families: &[Family], place: u32) -> Family
 }
 
 // The parent of which an animal is the first calf.
-fn led_by(family: &Family) -> PackedPlace
+fn led_by(family: &Family) -> PackedIndex
     ensures first { family.now.previous ≡ None → result ≡ family.now.parent }
     ensures later { (calf : ℕ) → family.now.previous ≡ Some calf → result ≡ None }
 {
     match family.previous.get() {
-        Some(_) => PackedPlace::none(),
+        Some(_) => PackedIndex::none(),
         None => family.parent,
     }
 }
 
 // Sets the parent of the animal at a place.
-fn set_parent(families: &mut [Family], place: u32, parent: PackedPlace)
+fn set_parent(families: &mut [Family], place: u32, parent: PackedIndex)
     requires { place < length families.old }
     ensures { Show families.new (length families.old) (put (Some place) parent (parent_of families.old)) (previous_of families.old) (next_of families.old) (first_of families.old) }
 {
@@ -264,7 +264,7 @@ fn set_parent(families: &mut [Family], place: u32, parent: PackedPlace)
 }
 
 // Sets which calf stands before that at a place, where there is one.
-fn set_previous(families: &mut [Family], place: PackedPlace, previous: PackedPlace)
+fn set_previous(families: &mut [Family], place: PackedIndex, previous: PackedIndex)
     requires { (p : ℕ) → place ≡ Some p → p < length families.old }
     ensures { Show families.new (length families.old) (parent_of families.old) (put place previous (previous_of families.old)) (next_of families.old) (first_of families.old) }
 {
@@ -275,7 +275,7 @@ fn set_previous(families: &mut [Family], place: PackedPlace, previous: PackedPla
 }
 
 // Sets which calf stands behind that at a place, where there is one.
-fn set_next(families: &mut [Family], place: PackedPlace, next: PackedPlace)
+fn set_next(families: &mut [Family], place: PackedIndex, next: PackedIndex)
     requires { (p : ℕ) → place ≡ Some p → p < length families.old }
     ensures { Show families.new (length families.old) (parent_of families.old) (previous_of families.old) (put place next (next_of families.old)) (first_of families.old) }
 {
@@ -286,7 +286,7 @@ fn set_next(families: &mut [Family], place: PackedPlace, next: PackedPlace)
 }
 
 // Sets the first calf of the animal at a place, where there is one.
-fn set_first(families: &mut [Family], place: PackedPlace, first: PackedPlace)
+fn set_first(families: &mut [Family], place: PackedIndex, first: PackedIndex)
     requires { (p : ℕ) → place ≡ Some p → p < length families.old }
     ensures { Show families.new (length families.old) (parent_of families.old) (previous_of families.old) (next_of families.old) (put place first (first_of families.old)) }
 {

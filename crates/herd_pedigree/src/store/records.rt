@@ -6,14 +6,14 @@ ghost use Rattle.std.specs.Str.{bytes_eq};
 ghost use Rattle.indexmap.specs.IndexMap.{set_value_at};
 ghost use Rattle.herd_pedigree.specs.rules.Book.{is_there, record_of};
 ghost use Rattle.herd_pedigree.specs.store.Links.{IsLinkAt};
-ghost use Rattle.herd_pedigree.specs.store.PackedPlace.{nowhere};
-ghost use Rattle.herd_pedigree.specs.store.Places.{IsPlaceIn};
+ghost use Rattle.herd_pedigree.specs.store.PackedIndex.{nowhere};
+ghost use Rattle.herd_pedigree.specs.store.Places.{IsIndexIn};
 ghost use Rattle.herd_pedigree.specs.store.Records.{NamesItsOwn, named, number_at};
 ghost use Rattle.herd_pedigree.specs.store.Undo.{without_last};
 
 use crate::rules::animal::Animal;
 use crate::store::links::Link;
-use crate::store::packed_place::PackedPlace;
+use crate::store::packed_index::PackedIndex;
 use herd_animal::{AnimalNumber, Day, Herd};
 use indexmap::IndexMap;
 use std::alloc::{AllocError, Allocator};
@@ -24,8 +24,8 @@ use std::marker::Model;
 #[derive(Clone, Copy)]
 pub struct StoredRecord {
     birth: Day,
-    sire: PackedPlace,
-    dam: PackedPlace,
+    sire: PackedIndex,
+    dam: PackedIndex,
     embryo: bool,
     herd: Herd,
     since: Day,
@@ -64,8 +64,8 @@ impl StoredRecord {
     {
         StoredRecord {
             birth: animal.birth,
-            sire: PackedPlace::of(sire),
-            dam: PackedPlace::of(dam),
+            sire: PackedIndex::of(sire),
+            dam: PackedIndex::of(dam),
             embryo: animal.embryo,
             herd: animal.herd,
             since: animal.since,
@@ -130,7 +130,7 @@ impl<A: Allocator> Records<A> {
 
     /// The number and the record at a place, where there are so many.
     #[inline(always)]
-    pub fn entry_at(&self, place: usize) -> Option<(AnimalNumber, Animal)>
+    pub fn get_index(&self, place: usize) -> Option<(AnimalNumber, Animal)>
         ensures { result ≡ slice_get self.now.book place }
     {
         let (number, entry) = self.entries.get_index(place)?;
@@ -195,8 +195,8 @@ impl<A: Allocator> Records<A> {
     )
         requires absent { record_of self.old.book number ≡ None }
         requires few { length self.old.book < 2 ^ 32 }
-        requires sire { IsPlaceIn (keys_of self.old.book) sire animal.sire }
-        requires dam { IsPlaceIn (keys_of self.old.book) dam animal.dam }
+        requires sire { IsIndexIn (keys_of self.old.book) sire animal.sire }
+        requires dam { IsIndexIn (keys_of self.old.book) dam animal.dam }
         requires room { 0 < self.old.room }
         ensures { self.new.book ≡ self.old.book ++ (number, animal) ∷ [] }
     {
@@ -213,8 +213,8 @@ impl<A: Allocator> Records<A> {
     pub fn set(&mut self, place: usize, animal: Animal, sire: Option<u32>, dam: Option<u32>)
         requires within { place < length self.old.book }
         requires few { length self.old.book < 2 ^ 32 }
-        requires sire { IsPlaceIn (keys_of self.old.book) sire animal.sire }
-        requires dam { IsPlaceIn (keys_of self.old.book) dam animal.dam }
+        requires sire { IsIndexIn (keys_of self.old.book) sire animal.sire }
+        requires dam { IsIndexIn (keys_of self.old.book) dam animal.dam }
         ensures { self.new.book ≡ set_value_at self.old.book place animal }
     {
         self.entries[place] = StoredRecord::new(animal, sire, dam);

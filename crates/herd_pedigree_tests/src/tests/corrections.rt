@@ -44,9 +44,9 @@ fn freeze_corrected(rt: &impl Abort, alloc: Global) -> Result<Frozen<Global>, Fa
 
 fn places(frozen: &Frozen<Global>) -> [Option<u32>; 3] {
     [
-        frozen.place(&Cow(2).number()),
-        frozen.place(&Bull(1).number()),
-        frozen.place(&Bull(3).number()),
+        frozen.rank(&Cow(2).number()),
+        frozen.rank(&Bull(1).number()),
+        frozen.rank(&Bull(3).number()),
     ]
 }
 
@@ -99,7 +99,7 @@ fn a_dam_registered_later_is_set_and_unset(rt: HostRuntime) -> Result<(), Fail> 
     expect_corrected(&rt, &mut pedigree, Pair::of_sire(Bull(1)), 1)
 }
 
-// An ancestor with a later birth day than the recorded one, as an offspring of its own line.
+// An ancestor with a later birth day than the recorded one, as an offspring of its own path.
 fn returning() -> [(Change, ParentFault); 2] {
     let day = *b"2006-01-01";
     [
@@ -115,7 +115,7 @@ fn returning() -> [(Change, ParentFault); 2] {
 }
 
 #[test]
-fn a_line_that_comes_back_is_too_deep(rt: HostRuntime) -> Result<(), Fail> {
+fn a_path_that_comes_back_is_too_deep(rt: HostRuntime) -> Result<(), Fail> {
     let mut pedigree = pedigree_of(&rt, rt.alloc(), &family())?;
     expect_faults(&rt, &mut pedigree, &returning())?;
     let parents = Pair::of(Bull(9), Cow(2));

@@ -70,7 +70,7 @@ fn expect_depths(rt: &impl Abort, pedigree: &Pedigree<Global>, first: u8) {
 }
 
 #[test]
-fn a_sire_two_steps_deep_makes_lines_too_long(rt: HostRuntime) -> Result<(), Fail> {
+fn a_sire_two_steps_deep_makes_paths_too_long(rt: HostRuntime) -> Result<(), Fail> {
     let mut pedigree = deep_book(&rt, rt.alloc())?;
     expect_depths(&rt, &pedigree, 0);
     let first = seen_of(&rt, &pedigree, Bull(0));

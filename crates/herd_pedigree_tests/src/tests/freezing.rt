@@ -87,7 +87,7 @@ fn finds_places(rt: HostRuntime) -> Result<(), Fail> {
     let frozen = freeze_list(rt.alloc(), &family(rt.alloc())?)?;
     let places = [(Cow(2), Some(0)), (Bull(3), Some(2)), (Bull(4), None)];
     for (name, place) in places {
-        assert_eq!(rt; frozen.place(&name.number()), place, "{name:?}");
+        assert_eq!(rt; frozen.rank(&name.number()), place, "{name:?}");
     }
     Ok(())
 }

@@ -67,15 +67,15 @@ impl Gate for AtAnimals {
         alloc: A,
         frozen: &Frozen<F>,
         known: &[u128],
-        place: u32,
+        rank: u32,
     ) -> Result<u128, AllocError> {
         self.0.arrive();
         self.0.wait();
-        herd_kinship::trace(alloc, frozen, known, place)
+        herd_kinship::trace(alloc, frozen, known, rank)
     }
 }
 
-/// A meeting for which the animal at place 0 waits, until the one at place 2 has come.
+/// A meeting for which the animal at rank 0 waits, until the one at rank 2 has come.
 #[derive(Drop)]
 pub struct ThirdFirst(pub Meeting);
 
@@ -87,14 +87,14 @@ impl Gate for ThirdFirst {
         alloc: A,
         frozen: &Frozen<F>,
         known: &[u128],
-        place: u32,
+        rank: u32,
     ) -> Result<u128, AllocError> {
-        match place {
+        match rank {
             0 => self.0.wait(),
             2 => self.0.arrive(),
             _ => {}
         }
-        herd_kinship::trace(alloc, frozen, known, place)
+        herd_kinship::trace(alloc, frozen, known, rank)
     }
 }
 
@@ -143,10 +143,10 @@ impl Gate for Counts {
         alloc: A,
         frozen: &Frozen<F>,
         known: &[u128],
-        place: u32,
+        rank: u32,
     ) -> Result<u128, AllocError> {
-        self.count(&self.traced, place);
-        herd_kinship::trace(alloc, frozen, known, place)
+        self.count(&self.traced, rank);
+        herd_kinship::trace(alloc, frozen, known, rank)
     }
 }
 
@@ -174,12 +174,12 @@ impl Gate for OneRefused {
         alloc: A,
         frozen: &Frozen<F>,
         known: &[u128],
-        place: u32,
+        rank: u32,
     ) -> Result<u128, AllocError> {
         if self.traced.fetch_add(1, Ordering::SeqCst) == self.refused {
             return Err(AllocError);
         }
-        herd_kinship::trace(alloc, frozen, known, place)
+        herd_kinship::trace(alloc, frozen, known, rank)
     }
 }
 

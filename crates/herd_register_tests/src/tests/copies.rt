@@ -102,7 +102,7 @@ fn freezes_in_age_order(rt: HostRuntime) -> Result<(), Fail> {
         .iter()
         .enumerate()
     {
-        assert_eq!(rt; frozen.place(number), Some(place as u32));
+        assert_eq!(rt; frozen.rank(number), Some(place as u32));
     }
     assert!(rt; frozen.len() == 3);
     let calf = frozen.parents(2);

@@ -18,8 +18,8 @@ use Rattle.herd_report.specs.writing.Ancestors.{ancestor_of, letter_of, three_ge
 use Rattle.herd_report.specs.writing.CoefficientText.{coefficient_text}
 
 -- a line of a name and a value
-unfoldable pub entry_line : List ℕ → List ℕ → List ℕ
-entry_line name value = name ++ codes " " ++ value ++ codes "\n"
+unfoldable pub labelled_line : List ℕ → List ℕ → List ℕ
+labelled_line name value = name ++ codes " " ++ value ++ codes "\n"
 
 abbrev pub sex_text : Sex → List ℕ
 sex_text Male = codes "male"
@@ -33,13 +33,13 @@ left_text (Some day) = day_text day
 -- the seven lines on an animal itself
 abbrev pub animal_text : List ℕ → Animal → ℕ → List ℕ
 animal_text number animal numerator =
-    entry_line (codes "animal") number
-    ++ entry_line (codes "sex") (sex_text (sex_of number))
-    ++ entry_line (codes "born") (day_text animal.birth)
-    ++ entry_line (codes "herd") (decimal animal.herd)
-    ++ entry_line (codes "since") (day_text animal.since)
-    ++ entry_line (codes "left") (left_text animal.left)
-    ++ entry_line (codes "inbreeding") (coefficient_text (codes " ") numerator)
+    labelled_line (codes "animal") number
+    ++ labelled_line (codes "sex") (sex_text (sex_of number))
+    ++ labelled_line (codes "born") (day_text animal.birth)
+    ++ labelled_line (codes "herd") (decimal animal.herd)
+    ++ labelled_line (codes "since") (day_text animal.since)
+    ++ labelled_line (codes "left") (left_text animal.left)
+    ++ labelled_line (codes "inbreeding") (coefficient_text (codes " ") numerator)
 
 -- an animal, or `0` where it is unknown
 abbrev pub known_text : Option (List ℕ) → List ℕ
@@ -48,7 +48,7 @@ known_text (Some number) = number
 
 -- the line of an ancestor, named by the letters of the parents that lead to it
 abbrev pub ancestor_line : Book → List ℕ → List Parent → List ℕ
-ancestor_line book number line = entry_line (map letter_of line) (known_text (ancestor_of book number line))
+ancestor_line book number path = labelled_line (map letter_of path) (known_text (ancestor_of book number path))
 
 -- the lines of the ancestors, up to three parents away
 unfoldable pub ancestors_text : Book → List ℕ → List ℕ

@@ -8,21 +8,21 @@ use Rattle.herd_kinship.specs.Contributions.{contributions_of}
 use Rattle.herd_kinship.specs.FrozenAncestry.{number_of_row}
 use Rattle.herd_report.specs.writing.CoefficientText.{fraction_text}
 
--- the line of one element: the animal at the place, those of the row and of the column, and the value
+-- the line of one element: the animal at the rank, those of the row and of the column, and the value
 abbrev pub contribution_line : List Row → ℕ → Contribution → List ℕ
-contribution_line rows place element =
-    number_of_row rows place ++ codes "," ++ number_of_row rows element.row ++ codes "," ++ number_of_row rows element.column ++ codes ","
+contribution_line rows rank element =
+    number_of_row rows rank ++ codes "," ++ number_of_row rows element.row ++ codes "," ++ number_of_row rows element.column ++ codes ","
     ++ fraction_text element.value ++ codes "\n"
 
--- the lines of what the animal at a place contributes
+-- the lines of what the animal at a rank contributes
 abbrev pub contributions_text : List Row → ℕ → List ℕ
-contributions_text rows place = flat_map (contribution_line rows place) (contributions_of DEPTH_LIMIT rows place)
+contributions_text rows rank = flat_map (contribution_line rows rank) (contributions_of DEPTH_LIMIT rows rank)
 
 -- the lines of the animals of a frozen book in age order
 abbrev pub inverse_text : List Row → List ℕ
 inverse_text rows = flat_map (contributions_text rows) (range_with_len 0 (length rows))
 
--- the row and the column of an element are places of the book
+-- the row and the column of an element are ranks of the book
 pub record IsWithin (rows : List Row) (element : Contribution) : Type 0 where
   pub row : element.row < length rows
   pub column : element.column < length rows

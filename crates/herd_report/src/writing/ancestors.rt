@@ -3,7 +3,7 @@ ghost use Rattle.std.specs.List.{flat_map};
 ghost use Rattle.herd_pedigree.specs.freezing.Frozen.{IsFrozen, book_of};
 ghost use Rattle.herd_pedigree.specs.declared.TheConstants.{DEPTH_LIMIT, MOST_ANIMALS};
 ghost use Rattle.herd_kinship.specs.FrozenAncestry.{number_of_row};
-ghost use Rattle.herd_report.specs.writing.Ancestors.{ancestor_of, letter_of, parent_place};
+ghost use Rattle.herd_report.specs.writing.Ancestors.{ancestor_of, letter_of, parent_rank};
 ghost use Rattle.herd_report.specs.writing.Certificate.{ancestor_line, ancestors_text};
 
 use crate::writing::output::Output;
@@ -20,8 +20,8 @@ pub(crate) enum Parent {
 
 use Parent::{Dam, Sire};
 
-// The lines of one, of two and of three parents, the nearest parent first.
-const LINES: [&[Parent]; 14] = [
+// The paths of one, of two and of three parents, the nearest parent first.
+const PATHS: [&[Parent]; 14] = [
     &[Sire],
     &[Dam],
     &[Sire, Sire],
@@ -48,9 +48,9 @@ impl Parent {
         }
     }
 
-    // Its place in the book, where it is known.
-    fn place_in(self, row: &Row) -> Option<u32>
-        ensures { result ≡ parent_place self row.now }
+    // Its rank in the book, where it is known.
+    fn rank_in(self, row: &Row) -> Option<u32>
+        ensures { result ≡ parent_rank self row.now }
     {
         match self {
             Sire => row.sire,
@@ -59,76 +59,76 @@ impl Parent {
     }
 }
 
-/// Adds the lines of the ancestors of the animal at a place, up to three parents away.
+/// Adds the lines of the ancestors of the animal at a rank, up to three parents away.
 #[tactic(auto, unfolding(crate::specs::writing::Certificate::ancestors_text))]
 pub(crate) fn push_ancestors<A: Allocator, F: Allocator>(
     output: &mut Output<A>,
     frozen: &Frozen<F>,
-    place: u32,
+    rank: u32,
 ) -> Result<(), AllocError>
     requires frozen { IsFrozen DEPTH_LIMIT MOST_ANIMALS frozen.now }
-    requires place { place < length frozen.now }
-    ensures { OnOk result (output.new ≡ output.old ++ ancestors_text (book_of frozen.now) (number_of_row frozen.now place)) }
+    requires rank { rank < length frozen.now }
+    ensures { OnOk result (output.new ≡ output.old ++ ancestors_text (book_of frozen.now) (number_of_row frozen.now rank)) }
 {
-    push_lines(output, frozen, place, &LINES)
+    push_lines(output, frozen, rank, &PATHS)
 }
 
-// Adds the lines of the ancestors to which some lines of parents lead.
+// Adds the lines of the ancestors to which some paths lead.
 fn push_lines<A: Allocator, F: Allocator>(
     output: &mut Output<A>,
     frozen: &Frozen<F>,
-    place: u32,
-    lines: &[&[Parent]],
+    rank: u32,
+    paths: &[&[Parent]],
 ) -> Result<(), AllocError>
     requires frozen { IsFrozen DEPTH_LIMIT MOST_ANIMALS frozen.now }
-    requires place { place < length frozen.now }
+    requires rank { rank < length frozen.now }
     ensures { OnOk result (output.new ≡ output.old
-        ++ flat_map (λ line. ancestor_line (book_of frozen.now) (number_of_row frozen.now place) line.now) lines.now) }
+        ++ flat_map (λ path. ancestor_line (book_of frozen.now) (number_of_row frozen.now rank) path.now) paths.now) }
 {
-    for line in lines {
-        push_ancestor(output, frozen, place, line)?;
+    for path in paths {
+        push_ancestor(output, frozen, rank, path)?;
     }
     Ok(())
 }
 
-#[tactic(auto, unfolding(crate::specs::writing::Certificate::entry_line))]
+#[tactic(auto, unfolding(crate::specs::writing::Certificate::labelled_line))]
 fn push_ancestor<A: Allocator, F: Allocator>(
     output: &mut Output<A>,
     frozen: &Frozen<F>,
-    place: u32,
-    line: &[Parent],
+    rank: u32,
+    path: &[Parent],
 ) -> Result<(), AllocError>
     requires frozen { IsFrozen DEPTH_LIMIT MOST_ANIMALS frozen.now }
-    requires place { place < length frozen.now }
-    ensures { OnOk result (output.new ≡ output.old ++ ancestor_line (book_of frozen.now) (number_of_row frozen.now place) line.now) }
+    requires rank { rank < length frozen.now }
+    ensures { OnOk result (output.new ≡ output.old ++ ancestor_line (book_of frozen.now) (number_of_row frozen.now rank) path.now) }
 {
-    push_letters(output, line)?;
+    push_letters(output, path)?;
     output.push(b" ")?;
-    match ancestor(frozen, place, line) {
+    match ancestor(frozen, rank, path) {
         Some(number) => output.push(&number.bytes())?,
         None => output.push(b"0")?,
     }
     output.push(b"\n")
 }
 
-fn push_letters<A: Allocator>(output: &mut Output<A>, line: &[Parent]) -> Result<(), AllocError>
-    ensures { OnOk result (output.new ≡ output.old ++ map letter_of line.now) }
+fn push_letters<A: Allocator>(output: &mut Output<A>, path: &[Parent]) -> Result<(), AllocError>
+    ensures { OnOk result (output.new ≡ output.old ++ map letter_of path.now) }
 {
-    for parent in line {
+    for parent in path {
         output.push(&[parent.letter()])?;
     }
     Ok(())
 }
 
-// The ancestor to which a line of parents leads from a place.
-fn ancestor<F: Allocator>(frozen: &Frozen<F>, start: u32, line: &[Parent]) -> Option<AnimalNumber>
+// The ancestor to which a path leads from a rank.
+fn ancestor<F: Allocator>(frozen: &Frozen<F>, start: u32, path: &[Parent]) -> Option<AnimalNumber>
     requires frozen { IsFrozen DEPTH_LIMIT MOST_ANIMALS frozen.now }
-    requires place { start < length frozen.now }
-    ensures { result ≡ ancestor_of (book_of frozen.now) (number_of_row frozen.now start) line.now }
+    requires rank { start < length frozen.now }
+    ensures { result ≡ ancestor_of (book_of frozen.now) (number_of_row frozen.now start) path.now }
 {
-    let mut place = start;
-    for parent in line {
-        place = parent.place_in(&frozen.row(place))?;
+    let mut rank = start;
+    for parent in path {
+        rank = parent.rank_in(&frozen.row(rank))?;
     }
-    Some(frozen.row(place).number)
+    Some(frozen.row(rank).number)
 }

@@ -5,7 +5,7 @@ ghost use Rattle.herd_pedigree.specs.freezing.Frozen.{book_of};
 ghost use Rattle.herd_pedigree.specs.declared.TheConstants.{DEPTH_LIMIT};
 ghost use Rattle.herd_kinship.specs.Coefficients.{AreCoefficients};
 ghost use Rattle.herd_kinship.specs.FrozenAncestry.{number_of_row};
-ghost use Rattle.herd_report.specs.writing.Certificate.{animal_text, certificate_of, entry_line, left_text, sex_text};
+ghost use Rattle.herd_report.specs.writing.Certificate.{animal_text, certificate_of, labelled_line, left_text, sex_text};
 ghost use Rattle.herd_report.specs.writing.CoefficientText.{coefficient_text};
 ghost use Rattle.herd_report.specs.writing.Output.{AppendsFront};
 
@@ -35,33 +35,29 @@ pub fn write_certificate<W: Write, A: Allocator, F: Allocator, C: Allocator>(
     ensures absent { (result ≡ Err CertificateFault.NotRegistered) ↔ (is_there (book_of frozen.now) number ≡ false) }
     ensures untouched { is_there (book_of frozen.now) number ≡ false → writer.new ≡ writer.old }
 {
-    let Some(place) = frozen.place(&number) else {
+    let Some(rank) = frozen.rank(&number) else {
         return Err(CertificateFault::NotRegistered);
     };
-    Ok(write_certificate_at(alloc, frozen, coefficients, place, writer)?)
+    Ok(write_certificate_at(alloc, frozen, coefficients, rank, writer)?)
 }
 
-/// Writes the certificate of the animal at a place.
+/// Writes the certificate of the animal at a rank.
 pub(crate) fn write_certificate_at<W: Write, A: Allocator, F: Allocator, C: Allocator>(
     alloc: A,
     frozen: &Frozen<F>,
     coefficients: &Coefficients<C>,
-    place: u32,
+    rank: u32,
     writer: &mut W,
 ) -> Result<(), ReportFault>
-    requires place { place < length frozen.now }
+    requires rank { rank < length frozen.now }
     requires coefficients { AreCoefficients DEPTH_LIMIT frozen.now coefficients.now }
-    ensures ok { OnOk result (Appends (W.contents writer.old) (W.contents writer.new) (certificate_of frozen.now (number_of_row frozen.now place))) }
-    ensures err { OnErr result (AppendsFront (W.contents writer.old) (W.contents writer.new) (certificate_of frozen.now (number_of_row frozen.now place))) }
+    ensures ok { OnOk result (Appends (W.contents writer.old) (W.contents writer.new) (certificate_of frozen.now (number_of_row frozen.now rank))) }
+    ensures err { OnErr result (AppendsFront (W.contents writer.old) (W.contents writer.new) (certificate_of frozen.now (number_of_row frozen.now rank))) }
 {
-    prove!(place < frozen.len());
+    prove!(rank < frozen.len());
     let mut output = Output::new(alloc);
-    push_animal(
-        &mut output,
-        &frozen.row(place),
-        coefficients.numerator(place),
-    )?;
-    push_ancestors(&mut output, frozen, place)?;
+    push_animal(&mut output, &frozen.row(rank), coefficients.numerator(rank))?;
+    push_ancestors(&mut output, frozen, rank)?;
     output.finish(writer)
 }
 
@@ -90,7 +86,7 @@ fn push_animal<A: Allocator>(
 }
 
 fn push_left<A: Allocator>(output: &mut Output<A>, left: Option<Day>) -> Result<(), AllocError>
-    ensures { OnOk result (output.new ≡ output.old ++ entry_line (codes "left") (left_text left)) }
+    ensures { OnOk result (output.new ≡ output.old ++ labelled_line (codes "left") (left_text left)) }
 {
     match left {
         Some(day) => push_entry(output, b"left", &day.text()),
@@ -100,7 +96,7 @@ fn push_left<A: Allocator>(output: &mut Output<A>, left: Option<Day>) -> Result<
 
 fn push_inbreeding<A: Allocator>(output: &mut Output<A>, numerator: u128) -> Result<(), AllocError>
     requires { numerator < 2 ^ (2 * DEPTH_LIMIT) }
-    ensures { OnOk result (output.new ≡ output.old ++ entry_line (codes "inbreeding") (coefficient_text (codes " ") numerator)) }
+    ensures { OnOk result (output.new ≡ output.old ++ labelled_line (codes "inbreeding") (coefficient_text (codes " ") numerator)) }
 {
     output.push(b"inbreeding ")?;
     push_coefficient(output, numerator, b" ")?;
@@ -117,13 +113,13 @@ fn sex_word(sex: Sex) -> &'static [u8]
 }
 
 // Adds a line of a name and a value.
-#[tactic(auto, unfolding(crate::specs::writing::Certificate::entry_line))]
+#[tactic(auto, unfolding(crate::specs::writing::Certificate::labelled_line))]
 fn push_entry<A: Allocator>(
     output: &mut Output<A>,
     name: &[u8],
     value: &[u8],
 ) -> Result<(), AllocError>
-    ensures { OnOk result (output.new ≡ output.old ++ entry_line name.now value.now) }
+    ensures { OnOk result (output.new ≡ output.old ++ labelled_line name.now value.now) }
 {
     output.push(name)?;
     output.push(b" ")?;

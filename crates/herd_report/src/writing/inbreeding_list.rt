@@ -33,14 +33,14 @@ pub fn write_inbreeding<W: Write, A: Allocator, F: Allocator, C: Allocator>(
     let mut output = Output::new(&alloc);
     let mut end = Output::new(&alloc);
     let mut made = None;
-    for place in 0..frozen.len() {
+    for rank in 0..frozen.len() {
         output.pass_on(writer)?;
-        let numerator = coefficients.numerator(place);
+        let numerator = coefficients.numerator(rank);
         push_line(
             &mut output,
             &mut end,
             made,
-            frozen.row(place).number,
+            frozen.row(rank).number,
             numerator,
         )?;
         made = Some(numerator);

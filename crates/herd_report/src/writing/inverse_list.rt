@@ -31,49 +31,49 @@ pub fn write_inverse<W: Write, A: Allocator, F: Allocator, C: Allocator>(
 {
     let mut output = Output::new(&alloc);
     let mut end = Output::new(&alloc);
-    for place in 0..frozen.len() {
+    for rank in 0..frozen.len() {
         output.pass_on(writer)?;
-        push_contributions(&mut output, &mut end, frozen, coefficients, place)?;
+        push_contributions(&mut output, &mut end, frozen, coefficients, rank)?;
     }
     output.finish(writer)
 }
 
-// Adds the lines of what the animal at a place contributes.
+// Adds the lines of what the animal at a rank contributes.
 fn push_contributions<A: Allocator, F: Allocator, C: Allocator>(
     output: &mut Output<A>,
     end: &mut Output<A>,
     frozen: &Frozen<F>,
     coefficients: &Coefficients<C>,
-    place: u32,
+    rank: u32,
 ) -> Result<(), AllocError>
     requires frozen { IsFrozen DEPTH_LIMIT MOST_ANIMALS frozen.now }
-    requires place { place < length frozen.now }
+    requires rank { rank < length frozen.now }
     requires coefficients { AreCoefficients DEPTH_LIMIT frozen.now coefficients.now }
-    ensures { OnOk result (output.new ≡ output.old ++ contributions_text frozen.now place) }
+    ensures { OnOk result (output.new ≡ output.old ++ contributions_text frozen.now rank) }
 {
-    let listed = contributions(frozen, coefficients, place);
+    let listed = contributions(frozen, coefficients, rank);
     let elements = &listed.list[..listed.count as usize];
-    push_elements(output, end, frozen, place, elements)
+    push_elements(output, end, frozen, rank, elements)
 }
 
-// Adds the lines of some elements of the animal at a place. Of equal values that follow one another the end of the line
+// Adds the lines of some elements of the animal at a rank. Of equal values that follow one another the end of the line
 // is made once.
 fn push_elements<A: Allocator, F: Allocator>(
     output: &mut Output<A>,
     end: &mut Output<A>,
     frozen: &Frozen<F>,
-    place: u32,
+    rank: u32,
     elements: &[Contribution],
 ) -> Result<(), AllocError>
-    requires place { place < length frozen.now }
+    requires rank { rank < length frozen.now }
     requires elements { All (IsWithin frozen.now) elements.now }
-    ensures { OnOk result (output.new ≡ output.old ++ flat_map (contribution_line frozen.now place) elements.now) }
+    ensures { OnOk result (output.new ≡ output.old ++ flat_map (contribution_line frozen.now rank) elements.now) }
 {
     let mut made = None;
     for element in elements {
         make_end(end, made, element.value)?;
         made = Some(element.value);
-        push_element(output, frozen, place, *element, end.bytes())?;
+        push_element(output, frozen, rank, *element, end.bytes())?;
     }
     Ok(())
 }
@@ -98,31 +98,31 @@ fn make_end<A: Allocator>(
 fn push_element<A: Allocator, F: Allocator>(
     output: &mut Output<A>,
     frozen: &Frozen<F>,
-    place: u32,
+    rank: u32,
     element: Contribution,
     end: &[u8],
 ) -> Result<(), AllocError>
-    requires place { place < length frozen.now }
+    requires rank { rank < length frozen.now }
     requires element { IsWithin frozen.now element }
     requires end { end.now ≡ fraction_text element.value ++ codes "\n" }
-    ensures { OnOk result (output.new ≡ output.old ++ contribution_line frozen.now place element) }
+    ensures { OnOk result (output.new ≡ output.old ++ contribution_line frozen.now rank element) }
 {
-    push_number_at(output, frozen, place)?;
+    push_number_at(output, frozen, rank)?;
     push_number_at(output, frozen, element.row)?;
     push_number_at(output, frozen, element.column)?;
     output.push(end)
 }
 
-// Adds the number of the animal at a place, and a comma.
+// Adds the number of the animal at a rank, and a comma.
 fn push_number_at<A: Allocator, F: Allocator>(
     output: &mut Output<A>,
     frozen: &Frozen<F>,
-    place: u32,
+    rank: u32,
 ) -> Result<(), AllocError>
-    requires { place < length frozen.now }
-    ensures { OnOk result (output.new ≡ output.old ++ number_of_row frozen.now place ++ codes ",") }
+    requires { rank < length frozen.now }
+    ensures { OnOk result (output.new ≡ output.old ++ number_of_row frozen.now rank ++ codes ",") }
 {
-    output.push(&with_comma(frozen.row(place).number))
+    output.push(&with_comma(frozen.row(rank).number))
 }
 
 // A number and a comma.

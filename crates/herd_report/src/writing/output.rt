@@ -86,8 +86,8 @@ impl<A: Allocator> Output<A> {
     }
 }
 
-// Writes bytes until the writer has them all, or a write fails or takes none.
-fn write_all<W: Write>(writer: &mut W, bytes: &[u8]) -> Result<(), ReportFault>
+/// Writes bytes until the writer has them all, or a write fails or takes none. The only error is `Write`.
+pub fn write_all<W: Write>(writer: &mut W, bytes: &[u8]) -> Result<(), ReportFault>
     ensures ok { OnOk result (Appends (W.contents writer.old) (W.contents writer.new) bytes.now) }
     ensures err { OnErr result (AppendsFront (W.contents writer.old) (W.contents writer.new) bytes.now) }
     ensures fault { IfErr result (λ fault. fault ≡ ReportFault.Write) }

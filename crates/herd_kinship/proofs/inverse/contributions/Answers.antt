@@ -9,11 +9,11 @@ use Rattle.herd_kinship.proofs.inverse.contributions.Goals as goal
 
 -- what is listed by the weights, for the two parents of the row
 listed : (g : Over) (c : After-of-weights g) (s d : Option ℕ) → c.row-row.result.sire ≡ s → c.row-row.result.dam ≡ d → (contributions : Contributions) →
-    Lists contributions c.of-weights.result.alpha (weighted c.of-weights.result.alpha c.of-weights.result.minus_half c.of-weights.result.quarter c.args.place s d) →
-    AreListed DEPTH_LIMIT c.args.frozen.now c.args.place contributions
+    Lists contributions c.of-weights.result.alpha (weighted c.of-weights.result.alpha c.of-weights.result.minus_half c.of-weights.result.quarter c.args.rank s d) →
+    AreListed DEPTH_LIMIT c.args.frozen.now c.args.rank contributions
 listed g c s d =
     let weights = c.of-weights.ensures in
-    listed-are DEPTH_LIMIT MOST_ANIMALS c.args.frozen.now c.len.ensures.frozen (lit< tt) (lit< tt) c.args.place c.requires.place c.row-row.result c.row-row.ensures
+    listed-are DEPTH_LIMIT MOST_ANIMALS c.args.frozen.now c.len.ensures.frozen (lit< tt) (lit< tt) c.args.rank c.requires.rank c.row-row.result c.row-row.ensures
     c.mendelian.result c.mendelian.ensures.value c.mendelian.type_inv c.of-weights.result.alpha c.of-weights.result.minus_half c.of-weights.result.quarter
     weights.alpha weights.minus_half weights.quarter s d
 

@@ -8,9 +8,9 @@ use Rattle.herd_kinship.proofs.relationships.pass_on.Goals.{After-parents_at-par
 use Rattle.herd_kinship.proofs.relationships.pass_on.Goals as goal
 
 -- what the step adds up
-step : (g : Over) (c : After-parents_at-parents g) → IsPassing DEPTH_LIMIT c.args.frozen.now c.args.place c.loop-j.column c.loop-j.j c.parents_at-parents.result
+step : (g : Over) (c : After-parents_at-parents g) → IsPassing DEPTH_LIMIT c.args.frozen.now c.args.rank c.loop-j.column c.loop-j.j c.parents_at-parents.result
 step g c =
-    related-passing DEPTH_LIMIT MOST_ANIMALS c.args.frozen.now c.len.ensures.frozen c.args.place c.requires.place c.loop-j.j c.loop-j.column c.parents_at-parents.result
+    related-passing DEPTH_LIMIT MOST_ANIMALS c.args.frozen.now c.len.ensures.frozen c.args.rank c.requires.rank c.loop-j.j c.loop-j.column c.parents_at-parents.result
     c.parents_at-parents.ensures c.loop-j.invariant
 
 pub with_parent-requires : goal.with_parent-requires
@@ -36,7 +36,7 @@ pub loop-j-preserved : goal.loop-j-preserved
 loop-j-preserved g c =
     let rows = c.args.frozen.now in
     let j : ℕ = c.loop-j.j in
-    let value : get_or c.loop-j.column j 0 + (c.with_parent.result + c.with_parent-in-loop-j.result) / 2 ≡ related DEPTH_LIMIT rows c.args.place (Some j) =
+    let value : get_or c.loop-j.column j 0 + (c.with_parent.result + c.with_parent-in-loop-j.result) / 2 ≡ related DEPTH_LIMIT rows c.args.rank (Some j) =
     rw (c.with_parent.ensures, c.with_parent-in-loop-j.ensures) (step g (goal.at.loop-j-preserved g c).After-parents_at-parents).value in
-    related-next DEPTH_LIMIT MOST_ANIMALS rows c.len.ensures.frozen c.args.place c.requires.place j _ c.loop-j.column (parents-within rows j c.parents_at-parents.result c.parents_at-parents.ensures)
+    related-next DEPTH_LIMIT MOST_ANIMALS rows c.len.ensures.frozen c.args.rank c.requires.rank j _ c.loop-j.column (parents-within rows j c.parents_at-parents.result c.parents_at-parents.ensures)
     value c.loop-j.invariant

@@ -2,6 +2,6 @@ use Rattle.herd_pedigree.specs.declared.TheConstants.{DEPTH_LIMIT}
 use Rattle.herd_kinship.proofs.PassedOn.{AreRelated}
 use Rattle.herd_kinship.proofs.relationships.pass_on.Given as goal
 
--- the relationships with the places so far are made
+-- the relationships with the ranks so far are made
 abbrev pub invariant-loop-j : goal.invariant-loop-j
-invariant-loop-j g l = AreRelated DEPTH_LIMIT l.frozen l.place l.j l.column
+invariant-loop-j g l = AreRelated DEPTH_LIMIT l.frozen l.rank l.j l.column

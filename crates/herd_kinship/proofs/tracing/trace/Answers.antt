@@ -5,5 +5,5 @@ use Rattle.herd_kinship.proofs.tracing.trace.Goals as goal
 
 pub returns-else-has_both_parents : goal.returns-else-has_both_parents
 returns-else-has_both_parents g c =
-    sym (entry-row_unknown DEPTH_LIMIT MOST_ANIMALS c.args.frozen.now c.len.ensures.frozen c.args.place c.row-row.result c.row-row.ensures
+    sym (entry-row_unknown DEPTH_LIMIT MOST_ANIMALS c.args.frozen.now c.len.ensures.frozen c.args.rank c.row-row.result c.row-row.ensures
     (sym c.has_both_parents.ensures ∙ c.if-has_both_parents.false))

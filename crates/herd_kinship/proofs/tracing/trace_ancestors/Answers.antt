@@ -10,46 +10,46 @@ use Rattle.herd_kinship.proofs.tracing.trace_ancestors.Goals as goal
 
 pub loop-met-init : goal.loop-met-init
 loop-met-init g c =
-    let start = summed-start DEPTH_LIMIT MOST_ANIMALS c.args.frozen.now c.start.ensures.tracing.tracing.book c.args.place c.requires.place in
+    let start = summed-start DEPTH_LIMIT MOST_ANIMALS c.args.frozen.now c.start.ensures.tracing.tracing.book c.args.rank c.requires.rank in
     record {
-      same = c.start.ensures.place;
-      tracing = rw (c.start.ensures.place, c.start.ensures.border) c.start.ensures.tracing;
-      summed = rw (c.start.ensures.place, c.start.ensures.border) start;
+      same = c.start.ensures.rank;
+      tracing = rw (c.start.ensures.rank, c.start.ensures.border) c.start.ensures.tracing;
+      summed = rw (c.start.ensures.rank, c.start.ensures.border) start;
     }
 
 pub overflow_mul-steps : goal.overflow_mul-steps
 overflow_mul-steps g c =
-    let shallow = parents-shallow DEPTH_LIMIT MOST_ANIMALS c.args.frozen.now c.len.ensures.frozen c.args.place c.parents_at-depth.result c.parents_at-depth.ensures in
+    let shallow = parents-shallow DEPTH_LIMIT MOST_ANIMALS c.args.frozen.now c.len.ensures.frozen c.args.rank c.parents_at-depth.result c.parents_at-depth.ensures in
     omega arith
 
 pub overflow_mul-steps-in-Some : goal.overflow_mul-steps-in-Some
 overflow_mul-steps-in-Some g c =
-    let shallow = parents-shallow DEPTH_LIMIT MOST_ANIMALS c.args.frozen.now c.len.ensures.frozen c.in-Some.met.place c.parents_at.result c.parents_at.ensures in
+    let shallow = parents-shallow DEPTH_LIMIT MOST_ANIMALS c.args.frozen.now c.len.ensures.frozen c.in-Some.met.rank c.parents_at.result c.parents_at.ensures in
     omega arith
 
 pub overflow_sub-steps : goal.overflow_sub-steps
 overflow_sub-steps g c =
     let rows = c.args.frozen.now in
-    let dx = parents-depth rows c.loop-met.tracing.place c.parents_at-depth.result (rw c.loop-met.invariant.same c.parents_at-depth.ensures) in
-    let dy = parents-depth rows c.in-Some.met.place c.parents_at.result c.parents_at.ensures in
+    let dx = parents-depth rows c.loop-met.tracing.rank c.parents_at-depth.result (rw c.loop-met.invariant.same c.parents_at-depth.ensures) in
+    let dy = parents-depth rows c.in-Some.met.rank c.parents_at.result c.parents_at.ensures in
     let less = c.in-Some.ensures.next.share_is.less_deep in
     omega (arith, dx, dy, less)
 
 pub mendelian-requires-clause-known : goal.mendelian-requires-clause-known
 mendelian-requires-clause-known g c =
-    let x : ℕ = c.loop-met.tracing.place in
+    let x : ℕ = c.loop-met.tracing.rank in
     let known : KnowsAncestors DEPTH_LIMIT c.args.frozen.now c.args.known.now x = rw c.loop-met.invariant.same c.requires.known in
-    known-next DEPTH_LIMIT MOST_ANIMALS c.args.frozen.now c.len.ensures.frozen c.args.known.now x c.loop-met.tracing.border c.in-Some.met.place c.in-Some.met.share
-    c.loop-met.invariant.tracing.tracing.place known c.in-Some.ensures.next
+    known-next DEPTH_LIMIT MOST_ANIMALS c.args.frozen.now c.len.ensures.frozen c.args.known.now x c.loop-met.tracing.border c.in-Some.met.rank c.in-Some.met.share
+    c.loop-met.invariant.tracing.tracing.rank known c.in-Some.ensures.next
 
 -- what is added for the ancestor that is met
 met : (g : Over) (c : After-mendelian g) →
-    IsAdded DEPTH_LIMIT c.args.frozen.now c.loop-met.tracing.place c.in-Some.met.place c.mendelian.result c.in-Some.met.share c.loop-met.sum
+    IsAdded DEPTH_LIMIT c.args.frozen.now c.loop-met.tracing.rank c.in-Some.met.rank c.mendelian.result c.in-Some.met.share c.loop-met.sum
     c.parents_at-depth.result.depth c.parents_at.result.depth
 met g c =
     let rows = c.args.frozen.now in
-    let x : ℕ = c.loop-met.tracing.place in
-    added DEPTH_LIMIT MOST_ANIMALS rows c.len.ensures.frozen x c.loop-met.invariant.tracing.tracing.place c.loop-met.tracing.border c.in-Some.met.place c.mendelian.result c.in-Some.met.share c.loop-met.sum
+    let x : ℕ = c.loop-met.tracing.rank in
+    added DEPTH_LIMIT MOST_ANIMALS rows c.len.ensures.frozen x c.loop-met.invariant.tracing.tracing.rank c.loop-met.tracing.border c.in-Some.met.rank c.mendelian.result c.in-Some.met.share c.loop-met.sum
     c.parents_at-depth.result c.parents_at.result (lit< tt) (lit< tt) (rw c.loop-met.invariant.same c.parents_at-depth.ensures) c.parents_at.ensures c.in-Some.ensures.next c.mendelian.ensures.value c.loop-met.invariant.summed
 
 pub term-sum-requires-clause-shift : goal.term-sum-requires-clause-shift
@@ -65,16 +65,16 @@ overflow_add-sum g c =
 
 pub loop-met-preserved : goal.loop-met-preserved
 loop-met-preserved g c =
-    let place : c.meet_next.new.self.place ≡ c.loop-met.tracing.place = c.meet_next.ensures.same in
+    let rank : c.meet_next.new.self.rank ≡ c.loop-met.tracing.rank = c.meet_next.ensures.same in
     record {
-      same = place ∙ c.loop-met.invariant.same;
+      same = rank ∙ c.loop-met.invariant.same;
       tracing = c.meet_next.ensures.tracing;
-      summed = rw (place, c.in-Some.ensures.border, c.term-sum.ensures) (met g (goal.at.loop-met-preserved g c).After-mendelian).summed;
+      summed = rw (rank, c.in-Some.ensures.border, c.term-sum.ensures) (met g (goal.at.loop-met-preserved g c).After-mendelian).summed;
     }
 
 pub returns : goal.returns
 returns g c =
-    let x : ℕ = c.loop-met.tracing.place in
+    let x : ℕ = c.loop-met.tracing.rank in
     rw (← c.loop-met.invariant.same)
-    (summed-end DEPTH_LIMIT MOST_ANIMALS c.args.frozen.now c.len.ensures.frozen x c.loop-met.invariant.tracing.tracing.place c.loop-met.tracing.border c.loop-met.sum
+    (summed-end DEPTH_LIMIT MOST_ANIMALS c.args.frozen.now c.len.ensures.frozen x c.loop-met.invariant.tracing.tracing.rank c.loop-met.tracing.border c.loop-met.sum
     c.in_default.ensures.all c.loop-met.invariant.summed)

@@ -7,9 +7,9 @@ use Rattle.herd_kinship.proofs.tracing.trace_ancestors.Given as goal
 -- the terms of all that are met are added up
 abbrev pub invariant-loop-met : goal.invariant-loop-met
 invariant-loop-met g l = record {
-  same : l.tracing.place ≡ l.fn.place;
-  tracing : IsUnderWay DEPTH_LIMIT l.frozen l.tracing.place l.tracing.border l.tracing.shares.items l.tracing.pending.chunks.items;
-  summed : IsSummed DEPTH_LIMIT l.frozen l.tracing.place l.tracing.border l.sum;
+  same : l.tracing.rank ≡ l.fn.rank;
+  tracing : IsUnderWay DEPTH_LIMIT l.frozen l.tracing.rank l.tracing.border l.tracing.shares.items l.tracing.pending.chunks.items;
+  summed : IsSummed DEPTH_LIMIT l.frozen l.tracing.rank l.tracing.border l.sum;
 }
 
 abbrev pub decreases-loop-met : goal.decreases-loop-met

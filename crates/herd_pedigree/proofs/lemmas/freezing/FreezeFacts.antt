@@ -19,7 +19,7 @@ use Rattle.herd_pedigree.specs.rules.Book.{Book}
 use Rattle.herd_pedigree.specs.freezing.Frozen.{IsFrozenFrom, IsFrozenRow, age_cmp, book_of, numbers_of}
 use Rattle.herd_pedigree.specs.freezing.Freeze.{AreRows, IsAgeOrder, IsRowOf, age_key, key_cmp}
 use Rattle.herd_pedigree.specs.rules.Lawful.{IsLawful}
-use Rattle.herd_pedigree.specs.store.Places.{IsPlaceIn}
+use Rattle.herd_pedigree.specs.store.Places.{IsIndexIn}
 use Rattle.herd_pedigree.proofs.lemmas.freezing.AgeOrderFacts.{IsKeyOf, key-at}
 use Rattle.herd_pedigree.proofs.lemmas.rules.BookFacts.{there}
 use Rattle.herd_pedigree.proofs.lemmas.rules.PermutedFacts.{IsDepthOf-permuted, IsLawful-permuted}
@@ -138,8 +138,8 @@ module _ (book : Book) (keys : List AgeKey) (rows : List Row) (order : IsAgeOrde
       let key = there keys rank (subst (λ n. rank < n) long (slice_get_within rows rank row row_at)) in
       let is : IsRowOf book keys key.0 row = made rank key.0 row key.1 row_at in
       record {
-        sire = subst (λ (numbers : List (List ℕ)). IsPlaceIn numbers row.sire row.animal.sire) (sym numbers-made) is.sire;
-        dam = subst (λ (numbers : List (List ℕ)). IsPlaceIn numbers row.dam row.animal.dam) (sym numbers-made) is.dam;
+        sire = subst (λ (numbers : List (List ℕ)). IsIndexIn numbers row.sire row.animal.sire) (sym numbers-made) is.sire;
+        dam = subst (λ (numbers : List (List ℕ)). IsIndexIn numbers row.dam row.animal.dam) (sym numbers-made) is.dam;
         depth = IsDepthOf-permuted book (book_of rows) once permuted row.number row.depth is.depth;
       }
 

@@ -20,8 +20,8 @@ keys-book_of [] = refl
 keys-book_of (row ∷ rows) = ap (λ numbers. row.number ∷ numbers) (keys-book_of rows)
 
 -- a number that stands nowhere isn't in the book
-pub not_found : (rows : List Row) (x : List ℕ) (found : Option ℕ) → IfNone found ((place : ℕ) → slice_get (numbers_of rows) place ≡ Some x → ⊥) → IfNone found (is_there (book_of rows) x ≡ false)
-not_found rows x (Some place) nowhere = tt
+pub not_found : (rows : List Row) (x : List ℕ) (found : Option ℕ) → IfNone found ((rank : ℕ) → slice_get (numbers_of rows) rank ≡ Some x → ⊥) → IfNone found (is_there (book_of rows) x ≡ false)
+not_found rows x (Some rank) nowhere = tt
 not_found rows x None nowhere =
     false_from_ne_true (is_there (book_of rows) x)
     (λ there_it_is.
@@ -30,26 +30,26 @@ not_found rows x None nowhere =
     nowhere entry.0 (ap (λ numbers. slice_get numbers entry.0) (sym (keys-book_of rows)) ∙ key_from_entry (book_of rows) entry.0 x found.0 entry.1))
 
 -- the depth of a row is within the limit
-pub depth-le : (l most : ℕ) (rows : List Row) → IsFrozen l most rows → (place : ℕ) (row : Row) → slice_get rows place ≡ Some row → row.depth ≤ l
-depth-le l most rows frozen place row at =
-    IsDepthOf-le l (book_of rows) frozen.lawful.shallow row.number row.depth (frozen.each place row at).depth
+pub depth-le : (l most : ℕ) (rows : List Row) → IsFrozen l most rows → (rank : ℕ) (row : Row) → slice_get rows rank ≡ Some row → row.depth ≤ l
+depth-le l most rows frozen rank row at =
+    IsDepthOf-le l (book_of rows) frozen.lawful.shallow row.number row.depth (frozen.each rank row at).depth
 
 -- a row of shallow rows whose depth is read
-pub record IsShallowAt (l : ℕ) (rows : List Row) (place : ℕ) : Type 0 where
+pub record IsShallowAt (l : ℕ) (rows : List Row) (rank : ℕ) : Type 0 where
   pub row : Row
-  pub read : row ≡ get_or rows place row
-  pub depth : depth_at rows place ≡ row.depth
+  pub read : row ≡ get_or rows rank row
+  pub depth : depth_at rows rank ≡ row.depth
   pub shallow : row.depth ≤ l
 
-pub shallow-at : (l : ℕ) (rows : List Row) (place : ℕ) → place < length rows → All (λ r. r.depth ≤ l) rows → IsShallowAt l rows place
-shallow-at l rows place within shallow =
-    let row = there rows place within in
-    let read : get_or rows place row.0 ≡ row.0 = get_or_from_slice_get rows place row.0 row.0 row.1 in
+pub shallow-at : (l : ℕ) (rows : List Row) (rank : ℕ) → rank < length rows → All (λ r. r.depth ≤ l) rows → IsShallowAt l rows rank
+shallow-at l rows rank within shallow =
+    let row = there rows rank within in
+    let read : get_or rows rank row.0 ≡ row.0 = get_or_from_slice_get rows rank row.0 row.0 row.1 in
     record {
       row = row.0;
       read = sym read;
-      depth = get_or-map (λ r. r.depth) rows place row.0 0 within ∙ ap (λ (r : Row). r.depth) read;
-      shallow = subst (λ (r : Row). r.depth ≤ l) read (All-get_or (λ (r : Row). r.depth ≤ l) rows place row.0 within shallow);
+      depth = get_or-map (λ r. r.depth) rows rank row.0 0 within ∙ ap (λ (r : Row). r.depth) read;
+      shallow = subst (λ (r : Row). r.depth ≤ l) read (All-get_or (λ (r : Row). r.depth ≤ l) rows rank row.0 within shallow);
     }
 
 -- a list in which no element passes a test
@@ -58,28 +58,28 @@ filter_none p [] none = refl
 filter_none p (x ∷ xs) none = rw (none x) (filter_none p xs none)
 
 module _ (l most : ℕ) (rows : List Row) (frozen : IsFrozen l most rows) where
-  depth_at-le : (place : ℕ) → depth_at rows place ≤ l
-  depth_at-le place =
+  depth_at-le : (rank : ℕ) → depth_at rows rank ≤ l
+  depth_at-le rank =
       ⊎_elim
-      (λ (within : place < length rows).
-      let row = there rows place within in
-      let is : depth_at rows place ≡ row.0.depth =
-      get_or-map (λ r. r.depth) rows place row.0 0 within ∙ ap (λ r. r.depth) (get_or_from_slice_get rows place row.0 row.0 row.1) in
-      let le : row.0.depth ≤ l = depth-le l most rows frozen place row.0 row.1 in
+      (λ (within : rank < length rows).
+      let row = there rows rank within in
+      let is : depth_at rows rank ≡ row.0.depth =
+      get_or-map (λ r. r.depth) rows rank row.0 0 within ∙ ap (λ r. r.depth) (get_or_from_slice_get rows rank row.0 row.0 row.1) in
+      let le : row.0.depth ≤ l = depth-le l most rows frozen rank row.0 row.1 in
       omega arith)
-      (λ (past : length rows ≤ place).
-      let none : depth_at rows place ≡ 0 = get_or_past (map (λ r. r.depth) rows) place 0 (rw length-map past) in
+      (λ (past : length rows ≤ rank).
+      let none : depth_at rows rank ≡ 0 = get_or_past (map (λ r. r.depth) rows) rank 0 (rw length-map past) in
       omega arith)
-      (cases_lt place (length rows))
+      (cases_lt rank (length rows))
 
   -- no animal has a depth beyond the limit
   level_of-none : (depth : ℕ) → l < depth → level_of depth rows ≡ []
   unfolding level_of
   level_of-none depth beyond =
-      filter_none (λ place. depth_at rows place == depth) (range_with_len 0 (length rows))
-      (λ place. ne_eqb (depth_at rows place) depth (λ e. let le = depth_at-le place in omega arith))
+      filter_none (λ rank. depth_at rows rank == depth) (range_with_len 0 (length rows))
+      (λ rank. ne_eqb (depth_at rows rank) depth (λ e. let le = depth_at-le rank in omega arith))
 
--- a list of levels has that of each depth at its place
+-- a list of levels has that of each depth at its rank
 pub level-at : (l : ℕ) (rows : List Row) (levels : List (List ℕ)) → levels ≡ levels_of l rows → (depth : ℕ) (level : List ℕ) → slice_get levels depth ≡ Some level → level ≡ level_of depth rows
 unfolding levels_of
 level-at l rows levels e depth level at =

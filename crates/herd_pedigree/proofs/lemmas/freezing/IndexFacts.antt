@@ -1,4 +1,4 @@
--- An index of numbers grows place by place, and a bucket is followed down to its first place.
+-- An index of numbers grows rank by rank, and a bucket is followed down to its first rank.
 use Rattle.std.proofs.Common.{ℕ, ◌+◌, ◌<◌, ◌≤◌, ◌≡◌, ◌≢◌, ⊎_elim, arith, sym, ap, ◌∙◌, subst, true, false, List, [], ◌∷◌, ◌++◌, Some, length, slice_get, set}
 use Rattle.std.specs.Prelude.{slice_index}
 use Rattle.std.specs.Str.{bytes_eq}
@@ -9,15 +9,15 @@ use Rattle.herd_pedigree.specs.freezing.NumberIndex.{IsAfterLast, IsIndexOf, buc
 use Rattle.herd_pedigree.proofs.lemmas.rules.BookFacts.{bytes_itself}
 
 module _ (numbers : List (List ℕ)) (i : ℕ) (number : List ℕ) (at : slice_get numbers i ≡ Some number) where
-  -- the last place of its bucket
+  -- the last rank of its bucket
   after-this : IsAfterLast numbers (length numbers + 1) (i + 1) (bucket_of (length numbers + 1) number) (i + 1)
   after-this = record {
     within = omega arith;
-    here = λ place x e there.
-        let same_place : place ≡ i = omega (arith, e) in
-        let same : x ≡ number = same_Some x number (sym there ∙ ap (λ p. slice_get numbers p) same_place ∙ at) in
+    here = λ rank x e there.
+        let same_rank : rank ≡ i = omega (arith, e) in
+        let same : x ≡ number = same_Some x number (sym there ∙ ap (λ p. slice_get numbers p) same_rank ∙ at) in
         ap (λ y. bucket_of (length numbers + 1) y) same;
-    last = λ place x before there same. before;
+    last = λ rank x before there same. before;
   }
 
   -- another bucket
@@ -25,17 +25,17 @@ module _ (numbers : List (List ℕ)) (i : ℕ) (number : List ℕ) (at : slice_g
   after-other bucket after other old = record {
     within = let w = old.within in omega (arith, w);
     here = old.here;
-    last = λ place x before there same.
+    last = λ rank x before there same.
         ⊎_elim
-        (λ (earlier : place < i). old.last place x earlier there same)
-        (λ (late : i ≤ place).
-        let same_place : place ≡ i = omega (arith, before, late) in
-        let is : x ≡ number = same_Some x number (sym there ∙ ap (λ p. slice_get numbers p) same_place ∙ at) in
+        (λ (earlier : rank < i). old.last rank x earlier there same)
+        (λ (late : i ≤ rank).
+        let same_rank : rank ≡ i = omega (arith, before, late) in
+        let is : x ≡ number = same_Some x number (sym there ∙ ap (λ p. slice_get numbers p) same_rank ∙ at) in
         absurd (other (sym same ∙ ap (λ y. bucket_of (length numbers + 1) y) is)))
-        (cases_lt place i);
+        (cases_lt rank i);
   }
 
-  -- one more place
+  -- one more rank
   pub index-more : (lasts earlier : List ℕ) (bucket : ℕ) → bucket ≡ bucket_of (length numbers + 1) number → bucket < length numbers + 1 → IsIndexOf numbers i lasts earlier →
       IsIndexOf numbers (i + 1) (set lasts bucket (i + 1)) (earlier ++ slice_index lasts bucket ∷ [])
   index-more lasts earlier bucket is within old = record {
@@ -51,48 +51,48 @@ module _ (numbers : List (List ℕ)) (i : ℕ) (number : List ℕ) (at : slice_g
         let kept : slice_index (set lasts bucket (i + 1)) b ≡ slice_index lasts b = get_or-set_other lasts bucket b (i + 1) 0 other in
         rw kept (after-other b (slice_index lasts b) (λ e. other (e ∙ sym is)) (old.lasts_are b h)))
         (cases_eq b bucket);
-    earlier_are = λ place x before there.
+    earlier_are = λ rank x before there.
         ⊎_elim
-        (λ (low : place < i).
-        let in_earlier : place < length earlier = let l = old.long in omega (arith, l, low) in
-        let kept : slice_index (earlier ++ slice_index lasts bucket ∷ []) place ≡ slice_index earlier place = get_or_append_left earlier (slice_index lasts bucket ∷ []) 0 place in_earlier in
-        rw kept (old.earlier_are place x low there))
-        (λ (late : i ≤ place).
-        let same_place : place ≡ i = omega (arith, before, late) in
-        let same : x ≡ number = same_Some x number (sym there ∙ ap (λ p. slice_get numbers p) same_place ∙ at) in
-        let pushed : slice_index (earlier ++ slice_index lasts bucket ∷ []) place ≡ slice_index lasts bucket = get_or_push earlier (slice_index lasts bucket) 0 place (old.long ∙ sym same_place) in
-        rw (pushed, same, same_place, ← is) (old.lasts_are bucket within))
-        (cases_lt place i);
+        (λ (low : rank < i).
+        let in_earlier : rank < length earlier = let l = old.long in omega (arith, l, low) in
+        let kept : slice_index (earlier ++ slice_index lasts bucket ∷ []) rank ≡ slice_index earlier rank = get_or_append_left earlier (slice_index lasts bucket ∷ []) 0 rank in_earlier in
+        rw kept (old.earlier_are rank x low there))
+        (λ (late : i ≤ rank).
+        let same_rank : rank ≡ i = omega (arith, before, late) in
+        let same : x ≡ number = same_Some x number (sym there ∙ ap (λ p. slice_get numbers p) same_rank ∙ at) in
+        let pushed : slice_index (earlier ++ slice_index lasts bucket ∷ []) rank ≡ slice_index lasts bucket = get_or_push earlier (slice_index lasts bucket) 0 rank (old.long ∙ sym same_rank) in
+        rw (pushed, same, same_rank, ← is) (old.lasts_are bucket within))
+        (cases_lt rank i);
   }
 
--- all places of the number are before this one of its bucket
+-- all ranks of the number are before this one of its bucket
 pub record IsFollowed (numbers : List (List ℕ)) (number : List ℕ) (after : ℕ) : Type 0 where
   pub within : after ≤ length numbers
-  pub here : (place : ℕ) (x : List ℕ) → after ≡ place + 1 → slice_get numbers place ≡ Some x → bucket_of (length numbers + 1) x ≡ bucket_of (length numbers + 1) number
-  pub rest : (place : ℕ) → slice_get numbers place ≡ Some number → place < after
+  pub here : (rank : ℕ) (x : List ℕ) → after ≡ rank + 1 → slice_get numbers rank ≡ Some x → bucket_of (length numbers + 1) x ≡ bucket_of (length numbers + 1) number
+  pub rest : (rank : ℕ) → slice_get numbers rank ≡ Some number → rank < after
 
 module _ (numbers : List (List ℕ)) (n : ℕ) (all : n ≡ length numbers) (lasts earlier : List ℕ) (index : IsIndexOf numbers n lasts earlier) (number : List ℕ) where
-  pub follow-next : (after place : ℕ) (x : List ℕ) → after ≡ place + 1 → slice_get numbers place ≡ Some x → x ≢ number → IsFollowed numbers number after → IsFollowed numbers number (slice_index earlier place)
-  follow-next after place x e at other followed =
-      let within = slice_get_within numbers place x at in
-      let next = index.earlier_are place x (omega (arith, within, all)) at in
-      let same = followed.here place x e at in
+  pub follow-next : (after rank : ℕ) (x : List ℕ) → after ≡ rank + 1 → slice_get numbers rank ≡ Some x → x ≢ number → IsFollowed numbers number after → IsFollowed numbers number (slice_index earlier rank)
+  follow-next after rank x e at other followed =
+      let within = slice_get_within numbers rank x at in
+      let next = index.earlier_are rank x (omega (arith, within, all)) at in
+      let same = followed.here rank x e at in
       record {
         within = let w = next.within in omega (arith, w, within);
         here = λ q y f there. next.here q y f there ∙ same;
         rest = λ q there.
             let before = followed.rest q there in
             ⊎_elim
-            (λ (low : q < place). next.last q number low there (sym same))
-            (λ (late : place ≤ q).
-            let same_place : q ≡ place = omega (arith, before, late, e) in
-            absurd (other (same_Some x number (sym at ∙ ap (λ p. slice_get numbers p) (sym same_place) ∙ there))))
-            (cases_lt q place);
+            (λ (low : q < rank). next.last q number low there (sym same))
+            (λ (late : rank ≤ q).
+            let same_rank : q ≡ rank = omega (arith, before, late, e) in
+            absurd (other (same_Some x number (sym at ∙ ap (λ p. slice_get numbers p) (sym same_rank) ∙ there))))
+            (cases_lt q rank);
       }
 
   -- the next one stands before it
-  pub follow-smaller : (place : ℕ) (x : List ℕ) → slice_get numbers place ≡ Some x → slice_index earlier place ≤ place
-  follow-smaller place x at = let within = slice_get_within numbers place x at in (index.earlier_are place x (omega (arith, within, all)) at).within
+  pub follow-smaller : (rank : ℕ) (x : List ℕ) → slice_get numbers rank ≡ Some x → slice_index earlier rank ≤ rank
+  follow-smaller rank x at = let within = slice_get_within numbers rank x at in (index.earlier_are rank x (omega (arith, within, all)) at).within
 
 -- numbers that compare unequal
 pub apart : (x y : List ℕ) → bytes_eq x y ≡ false → x ≢ y

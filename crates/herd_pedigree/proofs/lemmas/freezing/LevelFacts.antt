@@ -1,4 +1,4 @@
--- Levels are filled place by place.
+-- Levels are filled rank by rank.
 use Rattle.std.proofs.Common.{ℕ, zero, suc, ◌+◌, ◌<◌, ◌≤◌, ◌≡◌, ◌≢◌, ⊎_elim, ◌==◌, arith, refl, sym, ap, ◌∙◌, subst, Bool, true, false, cond, List, [], ◌∷◌, ◌++◌, length, get_or, set, map, take, replicate, All}
 use Rattle.std.specs.List.{filter, range_with_len}
 use Rattle.std.proofs.lemmas.Bool.{cases_eq, eq-eqb, ne_eqb}
@@ -28,16 +28,16 @@ filter_same p q [] same = refl
 filter_same p q (x ∷ xs) same =
     rw (All-head (λ y. p y ≡ q y) x xs same, filter_same p q xs (All-tail (λ y. p y ≡ q y) x xs same)) refl
 
--- the places at which a depth stands
-abbrev places_with : ℕ → List ℕ → List ℕ
-places_with depth depths = filter (λ place. get_or depths place 0 == depth) (range_with_len 0 (length depths))
+-- the ranks at which a depth stands
+abbrev ranks_with : ℕ → List ℕ → List ℕ
+ranks_with depth depths = filter (λ rank. get_or depths rank 0 == depth) (range_with_len 0 (length depths))
 
-places_with-push : (depth : ℕ) (depths : List ℕ) (x : ℕ) → places_with depth (depths ++ x ∷ []) ≡ places_with depth depths ++ cond (x == depth) (length depths ∷ []) []
-places_with-push depth depths x =
+ranks_with-push : (depth : ℕ) (depths : List ℕ) (x : ℕ) → ranks_with depth (depths ++ x ∷ []) ≡ ranks_with depth depths ++ cond (x == depth) (length depths ∷ []) []
+ranks_with-push depth depths x =
     let n = length depths in
-    let q : ℕ → Bool = λ place. get_or (depths ++ x ∷ []) place 0 == depth in
-    let p : ℕ → Bool = λ place. get_or depths place 0 == depth in
-    let all : All (λ place. q place ≡ p place) (range_with_len 0 n) =
+    let q : ℕ → Bool = λ rank. get_or (depths ++ x ∷ []) rank 0 == depth in
+    let p : ℕ → Bool = λ rank. get_or depths rank 0 == depth in
+    let all : All (λ rank. q rank ≡ p rank) (range_with_len 0 n) =
     (λ k d h.
     let within : k < n = subst (λ m. k < m) (length-range_with_len 0 n) h in
     let zero_more : 0 + k ≡ k = omega arith in
@@ -48,20 +48,20 @@ places_with-push depth depths x =
     ∙ ap (λ ks. filter q ks) (range_more n)
     ∙ filter-append q (range_with_len 0 n) (n ∷ [])
     ∙ ap (λ ks. ks ++ filter q (n ∷ [])) (filter_same q p (range_with_len 0 n) all)
-    ∙ ap (λ b. places_with depth depths ++ cond b (n ∷ []) []) last
+    ∙ ap (λ b. ranks_with depth depths ++ cond b (n ∷ []) []) last
 
-level_of-is : (depth : ℕ) (rows : List Row) → level_of depth rows ≡ places_with depth (map (λ row. row.depth) rows)
+level_of-is : (depth : ℕ) (rows : List Row) → level_of depth rows ≡ ranks_with depth (map (λ row. row.depth) rows)
 unfolding level_of
-level_of-is depth rows = ap (λ n. filter (λ place. depth_at rows place == depth) (range_with_len 0 n)) (sym (length-map rows (λ row. row.depth)))
+level_of-is depth rows = ap (λ n. filter (λ rank. depth_at rows rank == depth) (range_with_len 0 n)) (sym (length-map rows (λ row. row.depth)))
 
--- one more row adds its place to the level of its depth
+-- one more row adds its rank to the level of its depth
 level_of-push : (depth : ℕ) (rows : List Row) (row : Row) → level_of depth (rows ++ row ∷ []) ≡ level_of depth rows ++ cond (row.depth == depth) (length rows ∷ []) []
 level_of-push depth rows row =
     let depths : List ℕ = map (λ (r : Row). r.depth) rows in
     level_of-is depth (rows ++ row ∷ [])
-    ∙ ap (λ ds. places_with depth ds) (map-append (λ (r : Row). r.depth) rows (row ∷ []))
-    ∙ places_with-push depth depths row.depth
-    ∙ ap (λ n. places_with depth depths ++ cond (row.depth == depth) (n ∷ []) []) (length-map rows (λ (r : Row). r.depth))
+    ∙ ap (λ ds. ranks_with depth ds) (map-append (λ (r : Row). r.depth) rows (row ∷ []))
+    ∙ ranks_with-push depth depths row.depth
+    ∙ ap (λ n. ranks_with depth depths ++ cond (row.depth == depth) (n ∷ []) []) (length-map rows (λ (r : Row). r.depth))
     ∙ ap (λ level. level ++ cond (row.depth == depth) (length rows ∷ []) []) (sym (level_of-is depth rows))
 
 pub length-levels_of : (l : ℕ) (rows : List Row) → length (levels_of l rows) ≡ l + 1
@@ -104,7 +104,7 @@ module _ {V : Type 0} (items : V → List ℕ) (l : ℕ) (rows : List Row) (i : 
       let long : length vectors ≡ l + 1 = sym (length-map vectors items) ∙ ap length levels ∙ length-levels_of l (take i rows) in
       omega arith
 
-  -- the place of one more row is written
+  -- the rank of one more row is written
   pub levels-more : (v w : V) → v ≡ get_or vectors row.depth v → items w ≡ items v ++ i ∷ [] → map items (set vectors row.depth w) ≡ levels_of l (take (i + 1) rows)
   levels-more v w here pushed =
       let front : List Row = take i rows in

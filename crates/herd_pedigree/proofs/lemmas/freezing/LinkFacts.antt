@@ -12,7 +12,7 @@ use Rattle.herd_pedigree.specs.declared.rules.animal.Animal.{Animal}
 use Rattle.herd_pedigree.specs.rules.Book.{Book, record_of}
 use Rattle.herd_pedigree.specs.freezing.Freeze.{FindsPlaces, link_by}
 use Rattle.herd_pedigree.specs.rules.Lawful.{IsLawfulRecord}
-use Rattle.herd_pedigree.specs.store.Places.{IsPlaceIn}
+use Rattle.herd_pedigree.specs.store.Places.{IsIndexIn}
 use Rattle.herd_pedigree.specs.store.Links.{IsLinkAt}
 use Rattle.herd_pedigree.specs.freezing.Listed.{IsListed}
 use Rattle.herd_pedigree.proofs.lemmas.rules.BookFacts.{bytes_itself, key_from_entry, lookup_at, place_of}
@@ -40,7 +40,7 @@ places-more numbers once old new i number at update below place other le here =
 
 -- the place that is found for a parent of the book is its place
 parent-placed : (book : Book) (find : List ℕ → Option ℕ) → FindsPlaces (keys_of book) find → (parent : Option (List ℕ)) → ((p : List ℕ) → parent ≡ Some p → (animal : Animal) × (record_of book p ≡ Some animal)) →
-    IsPlaceIn (keys_of book) (option_and_then find parent) parent
+    IsIndexIn (keys_of book) (option_and_then find parent) parent
 parent-placed book find finds None known = tt
 parent-placed book find finds (Some p) known =
     let record_known = known p refl in
@@ -55,9 +55,9 @@ link-found l most book find listed place entry at =
     let same : (other : List ℕ × Animal) → slice_get book place ≡ Some other → entry.1 ≡ other.1 = λ other there. ap (λ (e : List ℕ × Animal). e.1) (same_Some entry other (sym at ∙ there)) in
     record {
       sire = λ other there.
-          subst (λ (a : Animal). IsPlaceIn (keys_of book) (option_and_then find entry.1.sire) a.sire) (same other there)
+          subst (λ (a : Animal). IsIndexIn (keys_of book) (option_and_then find entry.1.sire) a.sire) (same other there)
           (parent-placed book find listed.finds entry.1.sire (λ p e. let sire = lawful.sire p e in (sire.sire, sire.there)));
       dam = λ other there.
-          subst (λ (a : Animal). IsPlaceIn (keys_of book) (option_and_then find entry.1.dam) a.dam) (same other there)
+          subst (λ (a : Animal). IsIndexIn (keys_of book) (option_and_then find entry.1.dam) a.dam) (same other there)
           (parent-placed book find listed.finds entry.1.dam (λ p e. let dam = lawful.dam p e in (dam.dam, dam.there)));
     }

@@ -14,7 +14,7 @@ use Rattle.herd_pedigree.specs.rules.Lawful.{IsLawfulRecord}
 use Rattle.herd_pedigree.specs.freezing.Frozen.{depth_at, numbers_of}
 use Rattle.herd_pedigree.specs.freezing.Freeze.{AreRows, IsAbove, IsRanked, IsRowOf, places_of}
 use Rattle.herd_pedigree.specs.store.Links.{IsLinkAt}
-use Rattle.herd_pedigree.specs.store.Places.{IsPlaceIn}
+use Rattle.herd_pedigree.specs.store.Places.{IsIndexIn}
 use Rattle.herd_pedigree.proofs.lemmas.freezing.AgeOrderFacts.{IsKeyOf, key-at, length-keys, older-before}
 use Rattle.herd_pedigree.proofs.lemmas.rules.BookFacts.{key_from_entry, entry_from_key, lookup_at, there}
 use Rattle.herd_pedigree.proofs.lemmas.freezing.FrozenDepthFacts.{IsDepth-from_parents, IsDepthOf-le}
@@ -27,7 +27,7 @@ IsOlder book birth parent = (p : List ℕ) → parent ≡ Some p → (animal : A
 -- what is known of a parent once the rows of the older animals are made
 pub record IsParentOf (book : Book) (keys : List AgeKey) (ranks : List ℕ) (rows : List Row) (place : Option ℕ) (parent : Option (List ℕ)) : Type 0 where
   pub within : IfSome place (λ p. p < length ranks)
-  pub ranked : IsPlaceIn (map (λ k. k.number) keys) (option_and_then (slice_get ranks) place) parent
+  pub ranked : IsIndexIn (map (λ k. k.number) keys) (option_and_then (slice_get ranks) place) parent
   pub earlier : IfSome (option_and_then (slice_get ranks) place) (λ rank. rank < length rows)
   pub above : IsAbove (parentage_of book) parent (option_map_or (λ rank. depth_at rows rank + 1) (option_and_then (slice_get ranks) place) 0)
 
@@ -45,7 +45,7 @@ module _ (l most : ℕ) (book : Book) (keys : List AgeKey) (ranks : List ℕ) (r
       IsDepth-from_parents (parentage_of book) x a b (rw found refl) (rw found sire) (rw found dam)
 
   module _ (key : AgeKey) (at : slice_get keys (length rows) ≡ Some key) where
-    pub parent-found : (place : Option ℕ) (parent : Option (List ℕ)) → IsPlaceIn (keys_of book) place parent → IsOlder book key.birth parent → IsParentOf book keys ranks rows place parent
+    pub parent-found : (place : Option ℕ) (parent : Option (List ℕ)) → IsIndexIn (keys_of book) place parent → IsOlder book key.birth parent → IsParentOf book keys ranks rows place parent
     parent-found None None placed older = record { within = tt; ranked = tt; earlier = tt; above = refl }
     parent-found None (Some p) placed older = absurd placed
     parent-found (Some place) None placed older = absurd placed
@@ -145,7 +145,7 @@ rows-more book keys rows row made next_made rank key other at_key at_row =
 
 -- the rank of a parent whose row is made is where that row stands
 pub made-already : (book : Book) (keys : List AgeKey) (rows : List Row) → AreRows book keys rows → length rows ≤ length keys → (rank : Option ℕ) (parent : Option (List ℕ))
-    → IsPlaceIn (map (λ k. k.number) keys) rank parent → IfSome rank (λ p. p < length rows) → IsPlaceIn (numbers_of rows) rank parent
+    → IsIndexIn (map (λ k. k.number) keys) rank parent → IfSome rank (λ p. p < length rows) → IsIndexIn (numbers_of rows) rank parent
 made-already book keys rows made few None None is earlier = tt
 made-already book keys rows made few None (Some x) is earlier = absurd is
 made-already book keys rows made few (Some p) None is earlier = absurd is

@@ -7,7 +7,7 @@ use Rattle.herd_pedigree.specs.declared.freezing.frozen.Row.{Row}
 use Rattle.herd_pedigree.specs.declared.freezing.rows.PackedParents.{PackedParents}
 use Rattle.herd_pedigree.specs.declared.freezing.rows.RowRecord.{RowRecord}
 use Rattle.herd_pedigree.specs.freezing.Frozen.{depth_at, numbers_of, parents_of}
-use Rattle.herd_pedigree.specs.store.Places.{IsPlaceIn}
+use Rattle.herd_pedigree.specs.store.Places.{IsIndexIn}
 use Rattle.herd_pedigree.specs.store.Records.{number_at}
 use Rattle.herd_pedigree.specs.freezing.Rows.{AreKept, ParentsAmong, numbers_kept, packed_parents, record_of_row, row_kept, rows_kept, rows_with}
 use Rattle.herd_pedigree.proofs.lemmas.rules.BookFacts.{push_cases, there}
@@ -26,7 +26,7 @@ module _ (numbers : List (List ℕ)) where
   numbers-rows_with (r ∷ rs) [] long = absurd (cc)
   numbers-rows_with (r ∷ rs) (p ∷ ps) long = ap (λ ns. r.number ∷ ns) (numbers-rows_with rs ps (omega (arith, long)))
 
-  -- the row at a place
+  -- the row at a rank
   pub row-at : (rs : List RowRecord) (ps : List PackedParents) (i : ℕ) (r : RowRecord) (p : PackedParents) → slice_get rs i ≡ Some r → slice_get ps i ≡ Some p → slice_get (rows_with numbers rs ps) i ≡ Some (row_kept numbers r p)
   unfolding rows_with
   row-at [] ps i r p at_r at_p = absurd (cc)
@@ -53,11 +53,11 @@ module _ (numbers : List (List ℕ)) where
   rows_with-more x (r ∷ rs) (p ∷ ps) closed =
       let first = closed 0 p refl in
       let same = row_kept-push x r p first.0 first.1 in
-      let rest = rows_with-more x rs ps (λ place its at. closed (suc place) its at) in
+      let rest = rows_with-more x rs ps (λ rank its at. closed (suc rank) its at) in
       λ i. same i ∷ rest i
 
 -- what is kept of a row is that row
-row-back : (numbers : List (List ℕ)) (row : Row) → IsPlaceIn numbers row.sire row.animal.sire → IsPlaceIn numbers row.dam row.animal.dam → row_kept numbers (record_of_row row) (packed_parents row) ≡ row
+row-back : (numbers : List (List ℕ)) (row : Row) → IsIndexIn numbers row.sire row.animal.sire → IsIndexIn numbers row.dam row.animal.dam → row_kept numbers (record_of_row row) (packed_parents row) ≡ row
 row-back numbers row sire dam =
     λ i. record row { animal = record row.animal { sire = number_at-place numbers row.sire row.animal.sire sire i; dam = number_at-place numbers row.dam row.animal.dam dam i } }
 
@@ -68,12 +68,12 @@ module _ (rs : List RowRecord) (ps : List PackedParents) (kept : AreKept rs ps) 
   pub numbers-rows : numbers_of (rows_kept rs ps) ≡ numbers_kept rs
   numbers-rows = numbers-rows_with (numbers_kept rs) rs ps kept.long
 
-  module _ (row : Row) (sire : IsPlaceIn (numbers_of (rows_kept rs ps)) row.sire row.animal.sire) (dam : IsPlaceIn (numbers_of (rows_kept rs ps)) row.dam row.animal.dam) where
-    sire_here : IsPlaceIn (numbers_kept rs) row.sire row.animal.sire
-    sire_here = subst (λ ns. IsPlaceIn ns row.sire row.animal.sire) numbers-rows sire
+  module _ (row : Row) (sire : IsIndexIn (numbers_of (rows_kept rs ps)) row.sire row.animal.sire) (dam : IsIndexIn (numbers_of (rows_kept rs ps)) row.dam row.animal.dam) where
+    sire_here : IsIndexIn (numbers_kept rs) row.sire row.animal.sire
+    sire_here = subst (λ ns. IsIndexIn ns row.sire row.animal.sire) numbers-rows sire
 
-    dam_here : IsPlaceIn (numbers_kept rs) row.dam row.animal.dam
-    dam_here = subst (λ ns. IsPlaceIn ns row.dam row.animal.dam) numbers-rows dam
+    dam_here : IsIndexIn (numbers_kept rs) row.dam row.animal.dam
+    dam_here = subst (λ ns. IsIndexIn ns row.dam row.animal.dam) numbers-rows dam
 
     numbers_long : length (numbers_kept rs) ≡ length rs
     numbers_long = length-map rs (λ r. r.number)
@@ -90,12 +90,12 @@ module _ (rs : List RowRecord) (ps : List PackedParents) (kept : AreKept rs ps) 
         let one_more : length (rs ++ record_of_row row ∷ []) ≡ length rs + 1 = length_push rs (record_of_row row) in
         record {
           long = length_push ps (packed_parents row) ∙ ap (λ n. n + 1) kept.long ∙ sym one_more;
-          closed = λ place its at.
+          closed = λ rank its at.
               let within =
               ⊎_elim
-              (λ (before : slice_get ps place ≡ Some its). kept.closed place its before)
+              (λ (before : slice_get ps rank ≡ Some its). kept.closed rank its before)
               (λ last. subst (λ (p : PackedParents). IfSome p.sire (λ s. s < length rs) × IfSome p.dam (λ d. d < length rs)) last.1 parents-here)
-              (push_cases ps (packed_parents row) its place at) in
+              (push_cases ps (packed_parents row) its rank at) in
               (further its.sire (omega (arith, one_more)) within.0, further its.dam (omega (arith, one_more)) within.1);
         }
 
@@ -109,7 +109,7 @@ module _ (rs : List RowRecord) (ps : List PackedParents) (kept : AreKept rs ps) 
         ∙ (λ i. rows_with-more numbers row.number rs ps closed i ++ row_kept-push numbers row.number (record_of_row row) (packed_parents row) (place-within numbers row.sire row.animal.sire sire_here) (place-within numbers row.dam row.animal.dam dam_here) i ∷ [])
         ∙ ap (λ r. rows_kept rs ps ++ r ∷ []) (row-back numbers row sire_here dam_here)
 
-  -- what is told of the row at a place
+  -- what is told of the row at a rank
   pub number-told : (i : ℕ) (r : RowRecord) → slice_get rs i ≡ Some r → slice_get (numbers_of (rows_kept rs ps)) i ≡ Some r.number
   number-told i r at = ap (λ ns. slice_get ns i) numbers-rows ∙ slice_get-map (λ k. k.number) rs i ∙ rw at refl
 

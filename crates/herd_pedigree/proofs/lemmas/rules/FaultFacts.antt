@@ -23,7 +23,7 @@ first-append {F} (x ∷ xs) ys = by x.0 (first-append xs ys)
     by true h = refl
     by false h = h
 
--- the first fault is the first that the records show, and where there is none, that a line is too long
+-- the first fault is the first that the records show, and where there is none, that a path is too long
 pub fault-split : (l : ℕ) (book : Book) (number : List ℕ) (birth : ℤ) (sire dam : Option (List ℕ)) (embryo : Bool) →
     parent_fault l book number birth sire dam embryo ≡ option_or (first_that_holds (record_faults birth sire (record_named book sire) dam (record_named book dam) embryo)) (if is_too_deep l book number sire dam then Some TooDeep else None)
 unfolding parent_fault
@@ -56,7 +56,7 @@ no_record_fault birth sire sire_found dam dam_found embryo h =
     let g = next _ _ _ f.1 in
     record { sire_there = a.0; dam_there = b.0; sire_male = c.0; dam_female = d.0; sire_older = e.0; dam_older = f.0; dam_stayed = g.0 }
 
--- nor does that of the lines
+-- nor does that of the paths
 pub record HasNoFault (l : ℕ) (book : Book) (number : List ℕ) (birth : ℤ) (sire dam : Option (List ℕ)) (embryo : Bool) : Type 0 where
   pub records : HasNoRecordFault birth sire (record_named book sire) dam (record_named book dam) embryo
   pub shallow : is_too_deep l book number sire dam ≡ false

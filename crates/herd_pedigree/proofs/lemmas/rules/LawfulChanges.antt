@@ -10,21 +10,21 @@ use Rattle.std.proofs.lemmas.List.{length_push}
 use Rattle.std.proofs.lemmas.List.Folds.{list_any-append}
 use Rattle.std.proofs.lemmas.Option.{same_Some}
 use Rattle.herd_pedigree.specs.declared.rules.animal.Animal.{Animal}
-use Rattle.herd_pedigree.specs.rules.Lines.{has_line}
+use Rattle.herd_pedigree.specs.rules.Paths.{has_path}
 use Rattle.herd_pedigree.specs.rules.Book.{Book, changed, is_calf_after, is_shallow, parentage_of, record_of, with_left, with_owner, with_parents}
 use Rattle.herd_pedigree.specs.rules.ParentFault.{has_left_before, is_too_deep, parentage_with}
 use Rattle.herd_pedigree.specs.rules.Lawful.{IsDamOf, IsLawful, IsLawfulRecord, IsSireOf}
 use Rattle.herd_pedigree.specs.Pedigree.{IsBirth, IsCorrection, IsExit, IsPresentOn}
 use Rattle.herd_pedigree.proofs.lemmas.rules.BookFacts.{bytes_itself, distinct-push, keys-changed, keys-push, length-changed, place_of, same_bytes}
 use Rattle.herd_pedigree.proofs.lemmas.rules.FaultFacts.{dam-may_be, no_fault, not_either, sire-may_be}
-use Rattle.herd_pedigree.proofs.lemmas.rules.WrittenFacts.{at_number, elsewhere, has_line-written, IsWritten, too_deep-written, written-changed, written-push}
+use Rattle.herd_pedigree.proofs.lemmas.rules.WrittenFacts.{at_number, elsewhere, has_path-written, IsWritten, too_deep-written, written-changed, written-push}
 
 -- the empty book is lawful
 pub lawful-empty : (l most : ℕ) → IsLawful l most []
 unfolding IsDistinct
 lawful-empty l most = record { once = tt; few = omega arith; shallow = refl; records = λ number animal e. absurd (cc) }
 
--- a book with one record written is lawful where that record is and no line is too long: other records have the
+-- a book with one record written is lawful where that record is and no path is too long: other records have the
 -- parents that they had, and what is kept of the number has the birth day that it had
 module _ (old new : Book) (number : List ℕ) (animal : Animal) (w : IsWritten old new number animal) (same : (was : Animal) → record_of old number ≡ Some was → animal.birth ≡ was.birth) where
   -- a sire stays one
@@ -101,11 +101,11 @@ module _ (old new : Book) (number : List ℕ) (animal : Animal) (w : IsWritten o
         left = left;
       }
 
--- no line is too long in the book with a record that makes none too long
-lines-written : (l : ℕ) (old new : Book) (number : List ℕ) (animal : Animal) → IsWritten old new number animal → is_too_deep l old number animal.sire animal.dam ≡ false →
-    (has_line (parentage_of new) (l + 1) number ≡ false) × (list_any (has_line (parentage_of new) (l + 1)) (keys_of old) ≡ false)
-lines-written l old new number animal w low =
-    or_parts (has_line (parentage_of new) (l + 1) number) (list_any (has_line (parentage_of new) (l + 1)) (keys_of old)) (sym (too_deep-written old new number animal w l) ∙ low)
+-- no path is too long in the book with a record that makes none too long
+paths-written : (l : ℕ) (old new : Book) (number : List ℕ) (animal : Animal) → IsWritten old new number animal → is_too_deep l old number animal.sire animal.dam ≡ false →
+    (has_path (parentage_of new) (l + 1) number ≡ false) × (list_any (has_path (parentage_of new) (l + 1)) (keys_of old) ≡ false)
+paths-written l old new number animal w low =
+    or_parts (has_path (parentage_of new) (l + 1) number) (list_any (has_path (parentage_of new) (l + 1)) (keys_of old)) (sym (too_deep-written old new number animal w l) ∙ low)
 
 -- a birth that has no fault
 pub lawful-birth : (l most : ℕ) (book : Book) (number : List ℕ) (animal : Animal) → IsLawful l most book → IsBirth l most book number animal → IsLawful l most (book ++ (number, animal) ∷ [])
@@ -114,8 +114,8 @@ lawful-birth l most book number animal lawful birth =
     let more : Book = book ++ (number, animal) ∷ [] in
     let w = written-push book number animal absent in
     let fine = no_fault l book number animal.birth animal.sire animal.dam animal.embryo birth.parents in
-    let short = lines-written l book more number animal w fine.shallow in
-    let too_long : List ℕ → Bool = has_line (parentage_of more) (l + 1) in
+    let short = paths-written l book more number animal w fine.shallow in
+    let too_long : List ℕ → Bool = has_path (parentage_of more) (l + 1) in
     let none : list_any too_long (keys_of more) ≡ false = ap (λ ks. list_any too_long ks) (keys-push book number animal) ∙ list_any-append too_long (keys_of book) (number ∷ []) ∙ (rw (short.1, short.0) refl) in
     lawful-written book more number animal w (λ was e. absurd (cc)) l most lawful
     (distinct-push book number animal lawful.once absent)
@@ -141,7 +141,7 @@ module _ (l most : ℕ) (book : Book) (lawful : IsLawful l most book) (number : 
       (subst (λ ks. IsDistinct bytes_eq ks) (sym (keys-changed book number change)) lawful.once)
       (subst (λ n. n ≤ most) (sym (length-changed book number change)) lawful.few)
 
-  -- lines are as they were where the parents are
+  -- paths are as they were where the parents are
   shallow-stays : (change was).sire ≡ was.sire → (change was).dam ≡ was.dam → IsTrue (is_shallow l (changed book number change))
   shallow-stays sire dam =
       let itself : IsWritten book book number was = record {
@@ -151,11 +151,11 @@ module _ (l most : ℕ) (book : Book) (lawful : IsLawful l most book) (number : 
             (λ (t : bytes_eq number x ≡ false). rw t refl)
             (cases_Bool (bytes_eq number x));
       } in
-      let lines : (x : List ℕ) → has_line (parentage_of (changed book number change)) (l + 1) x ≡ has_line (parentage_of book) (l + 1) x = λ x.
-      sym (has_line-written book (changed book number change) number (change was) (written-changed book number change was there) (l + 1) x)
-      ∙ (λ i. has_line (parentage_with book number (sire i) (dam i)) (l + 1) x)
-      ∙ has_line-written book book number was itself (l + 1) x in
-      let same : is_shallow l (changed book number change) ≡ is_shallow l book = λ i. not (list_any (λ x. lines x i) (keys-changed book number change i)) in
+      let paths : (x : List ℕ) → has_path (parentage_of (changed book number change)) (l + 1) x ≡ has_path (parentage_of book) (l + 1) x = λ x.
+      sym (has_path-written book (changed book number change) number (change was) (written-changed book number change was there) (l + 1) x)
+      ∙ (λ i. has_path (parentage_with book number (sire i) (dam i)) (l + 1) x)
+      ∙ has_path-written book book number was itself (l + 1) x in
+      let same : is_shallow l (changed book number change) ≡ is_shallow l book = λ i. not (list_any (λ x. paths x i) (keys-changed book number change i)) in
       same ∙ lawful.shallow
 
   -- and so is the dam of each calf where her leaving day is
@@ -171,8 +171,8 @@ lawful-parents l most book number sire dam lawful asked =
     let change : Animal → Animal = with_parents sire dam in
     let own = lawful.records number was asked.there in
     let fine = no_fault l book number was.birth sire dam was.embryo asked.parents in
-    let short = lines-written l book (changed book number change) number (change was) (written-changed book number change was asked.there) fine.shallow in
-    let too_long : List ℕ → Bool = has_line (parentage_of (changed book number change)) (l + 1) in
+    let short = paths-written l book (changed book number change) number (change was) (written-changed book number change was asked.there) fine.shallow in
+    let too_long : List ℕ → Bool = has_path (parentage_of (changed book number change)) (l + 1) in
     lawful-changed l most book lawful number change was asked.there refl
     (not_from_false (list_any too_long (keys_of (changed book number change))) (ap (λ ks. list_any too_long ks) (keys-changed book number change) ∙ short.1))
     (sire-may_be book was.birth sire dam was.embryo fine.records)

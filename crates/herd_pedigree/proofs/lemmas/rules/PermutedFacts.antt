@@ -1,4 +1,4 @@
--- A book with its records in another order has the same look-ups, and so the same lines and laws.
+-- A book with its records in another order has the same look-ups, and so the same paths and laws.
 use Rattle.std.proofs.Common.{ℕ, ◌+◌, ◌≤◌, ◌≡◌, ◌⊎◌, inl, inr, ⊎_elim, Bool, List, Option, Some, None, refl, sym, ◌∙◌, ap, subst, not, IsTrue}
 use Rattle.std.specs.Prelude.{is_some, IsPermutation}
 use Rattle.std.specs.List.{IsDistinct, list_any}
@@ -10,7 +10,7 @@ use Rattle.std.proofs.lemmas.List.Sorted.{Contains-permutation, IsPermutation-sy
 use Rattle.std.proofs.lemmas.Map.Keys.{IsDistinct-IsPermutation}
 use Rattle.std.proofs.lemmas.Map.Views.{Contains-from_lookup, lookup-from_Contains}
 use Rattle.herd_pedigree.specs.declared.rules.animal.Animal.{Animal}
-use Rattle.herd_pedigree.specs.rules.Lines.{Parentage, has_line, IsDepth}
+use Rattle.herd_pedigree.specs.rules.Paths.{Parentage, has_path, IsDepth}
 use Rattle.herd_pedigree.specs.rules.Book.{Book, IsDepthOf, is_shallow, parentage_of, record_of}
 use Rattle.herd_pedigree.specs.rules.Lawful.{IsLawful, IsLawfulRecord, IsSireOf, IsDamOf}
 use Rattle.herd_pedigree.proofs.lemmas.rules.BookFacts.{same_bytes}
@@ -57,11 +57,11 @@ module _ (book other : Book) (once : IsDistinct bytes_eq (keys_of book)) (p : Is
 
   shallow-permuted : (l : ℕ) → IsTrue (is_shallow l book) → IsTrue (is_shallow l other)
   shallow-permuted l shallow =
-      let keys : list_any (has_line (parentage_of book) (l + 1)) (keys_of book) ≡ list_any (has_line (parentage_of book) (l + 1)) (keys_of other) =
-      list_any-IsPermutation (has_line (parentage_of book) (l + 1)) (keys_of book) (keys_of other) (IsPermutation-map (λ e. e.0) book other p) in
-      let lines : list_any (has_line (parentage_of book) (l + 1)) (keys_of other) ≡ list_any (has_line (parentage_of other) (l + 1)) (keys_of other) =
-      ap (λ (parentage : Parentage (List ℕ)). list_any (has_line parentage (l + 1)) (keys_of other)) (sym parentage-permuted) in
-      sym (ap not (keys ∙ lines)) ∙ shallow
+      let keys : list_any (has_path (parentage_of book) (l + 1)) (keys_of book) ≡ list_any (has_path (parentage_of book) (l + 1)) (keys_of other) =
+      list_any-IsPermutation (has_path (parentage_of book) (l + 1)) (keys_of book) (keys_of other) (IsPermutation-map (λ e. e.0) book other p) in
+      let paths : list_any (has_path (parentage_of book) (l + 1)) (keys_of other) ≡ list_any (has_path (parentage_of other) (l + 1)) (keys_of other) =
+      ap (λ (parentage : Parentage (List ℕ)). list_any (has_path parentage (l + 1)) (keys_of other)) (sym parentage-permuted) in
+      sym (ap not (keys ∙ paths)) ∙ shallow
 
   sire-permuted : (birth : _) (x : List ℕ) → IsSireOf book birth x → IsSireOf other birth x
   sire-permuted birth x s = record { sire = s.sire; there = record_of-permuted x ∙ s.there; male = s.male; older = s.older }

@@ -7,7 +7,7 @@ use Rattle.std.specs.Option.{option_and_then, option_map_or}
 use Rattle.std.proofs.lemmas.Bool.{cases_Bool}
 use Rattle.std.proofs.lemmas.Option.{same_Some}
 use Rattle.herd_pedigree.specs.declared.rules.animal.Animal.{Animal}
-use Rattle.herd_pedigree.specs.rules.Lines.{Parentage, has_line}
+use Rattle.herd_pedigree.specs.rules.Paths.{Parentage, has_path}
 use Rattle.herd_pedigree.specs.rules.Book.{Book, record_of, parentage_of, changed}
 use Rattle.herd_pedigree.specs.rules.ParentFault.{parentage_with, is_too_deep}
 use Rattle.herd_pedigree.proofs.lemmas.rules.BookFacts.{same_bytes, bytes_itself, bytes_turned}
@@ -71,12 +71,12 @@ written-changed book number change animal there = record {
       (cases_Bool (bytes_eq number x));
 }
 
--- lines are those of the parents, however these are told
-pub has_line-same : {A : Type 0} (P Q : Parentage A) → ((x : A) → P.is_there x ≡ Q.is_there x) → ((x : A) → P.sire x ≡ Q.sire x) → ((x : A) → P.dam x ≡ Q.dam x) → (n : ℕ) (x : A) → has_line P n x ≡ has_line Q n x
-unfolding has_line
-has_line-same P Q there sire dam zero x = there x
-has_line-same P Q there sire dam (suc n) x =
-    λ i. there x i && (option_map_or (λ y. has_line-same P Q there sire dam n y i) (sire x i) false || option_map_or (λ y. has_line-same P Q there sire dam n y i) (dam x i) false)
+-- paths are those of the parents, however these are told
+pub has_path-same : {A : Type 0} (P Q : Parentage A) → ((x : A) → P.is_there x ≡ Q.is_there x) → ((x : A) → P.sire x ≡ Q.sire x) → ((x : A) → P.dam x ≡ Q.dam x) → (n : ℕ) (x : A) → has_path P n x ≡ has_path Q n x
+unfolding has_path
+has_path-same P Q there sire dam zero x = there x
+has_path-same P Q there sire dam (suc n) x =
+    λ i. there x i && (option_map_or (λ y. has_path-same P Q there sire dam n y i) (sire x i) false || option_map_or (λ y. has_path-same P Q there sire dam n y i) (dam x i) false)
 
 some_or : (t : Bool) (animal : Animal) (r : Option Animal) → (t || is_some r) ≡ is_some (if t then Some animal else r)
 some_or true animal r = refl
@@ -87,16 +87,16 @@ parent_or true animal r parent_of = refl
 parent_or false animal r parent_of = refl
 
 module _ (old new : Book) (number : List ℕ) (animal : Animal) (w : IsWritten old new number animal) where
-  -- the lines that the new book has
-  pub has_line-written : (n : ℕ) (x : List ℕ) → has_line (parentage_with old number animal.sire animal.dam) n x ≡ has_line (parentage_of new) n x
-  has_line-written =
-      has_line-same (parentage_with old number animal.sire animal.dam) (parentage_of new)
+  -- the paths that the new book has
+  pub has_path-written : (n : ℕ) (x : List ℕ) → has_path (parentage_with old number animal.sire animal.dam) n x ≡ has_path (parentage_of new) n x
+  has_path-written =
+      has_path-same (parentage_with old number animal.sire animal.dam) (parentage_of new)
       (λ x. some_or (bytes_eq number x) animal (record_of old x) ∙ sym (ap (λ o. is_some o) (w.reads x)))
       (λ x. parent_or (bytes_eq number x) animal (record_of old x) (λ a. a.sire) ∙ sym (ap (λ o. option_and_then (λ a. a.sire) o) (w.reads x)))
       (λ x. parent_or (bytes_eq number x) animal (record_of old x) (λ a. a.dam) ∙ sym (ap (λ o. option_and_then (λ a. a.dam) o) (w.reads x)))
 
-  pub too_deep-written : (l : ℕ) → is_too_deep l old number animal.sire animal.dam ≡ list_any (has_line (parentage_of new) (l + 1)) (number ∷ keys_of old)
-  too_deep-written l = λ i. list_any (λ x. has_line-written (l + 1) x i) (number ∷ keys_of old)
+  pub too_deep-written : (l : ℕ) → is_too_deep l old number animal.sire animal.dam ≡ list_any (has_path (parentage_of new) (l + 1)) (number ∷ keys_of old)
+  too_deep-written l = λ i. list_any (λ x. has_path-written (l + 1) x i) (number ∷ keys_of old)
 
   -- the record that was written, and all others
   pub at_number : record_of new number ≡ Some animal

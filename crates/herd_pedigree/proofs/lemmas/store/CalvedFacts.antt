@@ -9,7 +9,7 @@ use Rattle.std.proofs.lemmas.Option.{same_Some, slice_get-get_or}
 use Rattle.std.proofs.lemmas.List.Folds.{list_any_none}
 use Rattle.herd_pedigree.specs.declared.rules.animal.Animal.{Animal}
 use Rattle.herd_pedigree.specs.rules.Book.{Book, record_of, has_calved_after, is_calf_after}
-use Rattle.herd_pedigree.specs.store.Places.{parent_at, IsPlaceIn, AreParents}
+use Rattle.herd_pedigree.specs.store.Places.{parent_at, IsIndexIn, AreParents}
 use Rattle.herd_pedigree.proofs.lemmas.rules.BookFacts.{same_bytes, bytes_itself, stands_once, entry_from_key, value_at}
 
 -- the calf counts: it is from no stored embryo, and born after the day
@@ -51,10 +51,10 @@ module _ (book : Book) (dams : List (Option ℕ)) (a : AreParents book (λ anima
       false_from_ne_true (is_calf_after number day (get_or book k d).1)
       (λ t.
       let dam = named number (get_or book k d).1.dam (and_parts (option_map_or (bytes_eq number) (get_or book k d).1.dam false) (counts day (get_or book k d).1) t).0 in
-      let is : IsPlaceIn (keys_of book) (parent_at dams k) (Some number) = subst (λ o. IsPlaceIn (keys_of book) (parent_at dams k) o) dam (a.each k (get_or book k d) (slice_get-get_or book k d h)) in
+      let is : IsIndexIn (keys_of book) (parent_at dams k) (Some number) = subst (λ o. IsIndexIn (keys_of book) (parent_at dams k) o) dam (a.each k (get_or book k d) (slice_get-get_or book k d h)) in
       no_place (parent_at dams k) is))
     where
-      no_place : (o : Option ℕ) → IsPlaceIn (keys_of book) o (Some number) → ⊥
+      no_place : (o : Option ℕ) → IsIndexIn (keys_of book) o (Some number) → ⊥
       no_place None is = is
       no_place (Some q) is = let entry = entry_from_key book q number is in no_record book q number entry.0 entry.1 absent
 
@@ -71,7 +71,7 @@ module _ (book : Book) (dams : List (Option ℕ)) (a : AreParents book (λ anima
         let names : option_map_or (bytes_eq number) (get_or book calf d).1.dam false ≡ true = ap (λ o. option_map_or (bytes_eq number) o false) dam ∙ bytes_itself number in
         any_found (λ entry. is_calf_after number day entry.1) book calf (get_or book calf d) there (λ i. both names counts_too i)
       where
-        by : (o : Option ℕ) (n : Option (List ℕ)) → IsPlaceIn (keys_of book) o n → o ≡ Some place → n ≡ Some number
+        by : (o : Option ℕ) (n : Option (List ℕ)) → IsIndexIn (keys_of book) o n → o ≡ Some place → n ≡ Some number
         by None n is e = absurd (cc)
         by (Some q) None is e = absurd is
         by (Some q) (Some x) is e = let k : q ≡ place = same_Some _ _ e in sym is ∙ ap (λ v. slice_get (keys_of book) v) k ∙ at
@@ -89,10 +89,10 @@ module _ (book : Book) (dams : List (Option ℕ)) (a : AreParents book (λ anima
         let parts = and_parts (option_map_or (bytes_eq number) (get_or book k d).1.dam false) (counts day (get_or book k d).1) t in
         let dam = named number (get_or book k d).1.dam parts.0 in
         let there : slice_get book k ≡ Some (get_or book k d) = slice_get-get_or book k d h in
-        let of_her : parent_at dams k ≡ Some place = by (parent_at dams k) (subst (λ o. IsPlaceIn (keys_of book) (parent_at dams k) o) dam (a.each k (get_or book k d) there)) in
+        let of_her : parent_at dams k ≡ Some place = by (parent_at dams k) (subst (λ o. IsIndexIn (keys_of book) (parent_at dams k) o) dam (a.each k (get_or book k d) there)) in
         let f : counts day (get_or book k d).1 ≡ false = none k of_her (get_or book k d) there in
         let u : counts day (get_or book k d).1 ≡ true = parts.1 in absurd (cc)))
       where
-        by : (o : Option ℕ) → IsPlaceIn (keys_of book) o (Some number) → o ≡ Some place
+        by : (o : Option ℕ) → IsIndexIn (keys_of book) o (Some number) → o ≡ Some place
         by None is = absurd is
         by (Some q) is = ap Some (stands_once (keys_of book) once q place number is at)

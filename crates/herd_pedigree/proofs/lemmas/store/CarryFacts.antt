@@ -3,11 +3,11 @@ use Rattle.std.proofs.Common.{ℕ, zero, suc, ◌+◌, ◌<◌, ◌≤◌, ◌�
 use Rattle.std.proofs.lemmas.List.{get_or-set_same, get_or-set_other}
 use Rattle.std.proofs.lemmas.List.Elements.{Contains-get_or, All-cons, All-nil, All-weaker, All-append, All-head, Contains-append_left, Contains-append_right, Contains-append_cases}
 use Rattle.std.proofs.lemmas.Bool.{cases_eq, false_from_ne_true, ltb-true}
-use Rattle.herd_pedigree.specs.rules.Lines.{Parentage, has_line}
+use Rattle.herd_pedigree.specs.rules.Paths.{Parentage, has_path}
 use Rattle.herd_pedigree.specs.rules.Depths.{IsParent, AreDepths, depth_above, depth_from}
-use Rattle.herd_pedigree.specs.store.Carry.{IsSettled, HaveLines, AddsCalves}
+use Rattle.herd_pedigree.specs.store.Carry.{IsSettled, HavePaths, AddsCalves}
 use Rattle.herd_pedigree.specs.store.Places.{parentage_at}
-use Rattle.herd_pedigree.proofs.lemmas.rules.LineFacts.{Line, line-from_test, test-from_line, line-there, depths-shallow}
+use Rattle.herd_pedigree.proofs.lemmas.rules.PathFacts.{Path, path-from_test, test-from_path, path-there, depths-shallow}
 
 -- the animal is the parent, or a write there leaves what the parent gives
 named_or_same : (depths : List ℕ) (place d : ℕ) (o : Option ℕ) → (o ≡ Some place) ⊎ (depth_above (slice_index (slice_set depths place d)) o ≡ depth_above (slice_index depths) o)
@@ -82,9 +82,9 @@ module _ (l : ℕ) (parentage : Parentage ℕ) (depths : List ℕ) (place d : �
           (λ b. Contains-append_right rest more c (subst (λ xs. Contains xs c) (sym adds.is) (Contains-append_left pending adds.added c b)))
           (Contains-append_cases rest pending c h)
 
-above_line : {A : Type 0} (g : A → ℕ) (o : Option A) (n : ℕ) → suc n ≤ depth_above g o → (p : A) × (o ≡ Some p) × (n ≤ g p)
-above_line g None n h = absurd (omega (arith, h))
-above_line g (Some p) n h = (p, refl, omega (arith, h))
+above_path : {A : Type 0} (g : A → ℕ) (o : Option A) (n : ℕ) → suc n ≤ depth_above g o → (p : A) × (o ≡ Some p) × (n ≤ g p)
+above_path g None n h = absurd (omega (arith, h))
+above_path g (Some p) n h = (p, refl, omega (arith, h))
 
 either : (a b n : ℕ) → suc n ≤ max a b → (suc n ≤ a) ⊎ (suc n ≤ b)
 either a b n h = grind (arith, h)
@@ -94,23 +94,23 @@ module _ {A : Type 0} (l : ℕ) (parentage : Parentage A) (g : A → ℕ)
   gives : (x : A) → IsTrue (parentage.is_there x) → g x ≡ min (l + 1) (depth_from g (parentage.sire x) (parentage.dam x))
   gives x there = ⊎_elim (λ e. absurd (not_empty x e)) (λ k. k) (settled x there)
 
-  -- each depth is reached by a line, also one that was cut off
-  pub settled-line : (n : ℕ) (x : A) → IsTrue (parentage.is_there x) → n ≤ g x → Line parentage n x
-  unfolding Line
-  settled-line zero x there low = there
-  settled-line (suc n) x there low =
+  -- each depth is reached by a path, also one that was cut off
+  pub settled-path : (n : ℕ) (x : A) → IsTrue (parentage.is_there x) → n ≤ g x → Path parentage n x
+  unfolding Path
+  settled-path zero x there low = there
+  settled-path (suc n) x there low =
       let by_sire : ℕ = depth_above g (parentage.sire x) in
       let by_dam : ℕ = depth_above g (parentage.dam x) in
       let high : suc n ≤ max by_sire by_dam = let k : suc n ≤ min (l + 1) (max by_sire by_dam) = subst (λ v. suc n ≤ v) (gives x there) low in grind (arith, k) in
       ⊎_elim
       (λ s.
-      let p = above_line g (parentage.sire x) n s in
+      let p = above_path g (parentage.sire x) n s in
       let is : IsParent parentage p.0 x = inl p.1 in
-      (there, (p.0, is, settled-line n p.0 (closed p.0 x there is) p.2)))
+      (there, (p.0, is, settled-path n p.0 (closed p.0 x there is) p.2)))
       (λ s.
-      let p = above_line g (parentage.dam x) n s in
+      let p = above_path g (parentage.dam x) n s in
       let is : IsParent parentage p.0 x = inr p.1 in
-      (there, (p.0, is, settled-line n p.0 (closed p.0 x there is) p.2)))
+      (there, (p.0, is, settled-path n p.0 (closed p.0 x there is) p.2)))
       (either by_sire by_dam n high)
 
   -- where none is above the limit, they are the depths
@@ -125,21 +125,21 @@ module _ {A : Type 0} (l : ℕ) (parentage : Parentage A) (g : A → ℕ)
       cut a m e h = grind (arith, e, h)
 
 -- a step more
-pub line-step : {A : Type 0} (parentage : Parentage A) (n : ℕ) (p x : A) → IsTrue (parentage.is_there x) → IsParent parentage p x → has_line parentage n p ≡ true → has_line parentage (suc n) x ≡ true
-unfolding Line
-line-step parentage n p x there is line = test-from_line parentage (suc n) x (there, (p, is, line-from_test parentage n p line))
+pub path-step : {A : Type 0} (parentage : Parentage A) (n : ℕ) (p x : A) → IsTrue (parentage.is_there x) → IsParent parentage p x → has_path parentage n p ≡ true → has_path parentage (suc n) x ≡ true
+unfolding Path
+path-step parentage n p x there is path = test-from_path parentage (suc n) x (there, (p, is, path-from_test parentage n p path))
 
--- from the calves there are lines with a step more
-pub lines-calves : {A : Type 0} (parentage : Parentage A) (n : ℕ) (p : A) (old new : List A) → AddsCalves parentage p old new → IsTrue (has_line parentage n p) → HaveLines parentage (suc n) old → HaveLines parentage (suc n) new
-lines-calves {A} parentage n p old new adds line have =
-    let added : All (λ (x : A). IsTrue (has_line parentage (suc n) x)) adds.added = λ k d h.
+-- from the calves there are paths with a step more
+pub paths-calves : {A : Type 0} (parentage : Parentage A) (n : ℕ) (p : A) (old new : List A) → AddsCalves parentage p old new → IsTrue (has_path parentage n p) → HavePaths parentage (suc n) old → HavePaths parentage (suc n) new
+paths-calves {A} parentage n p old new adds path have =
+    let added : All (λ (x : A). IsTrue (has_path parentage (suc n) x)) adds.added = λ k d h.
     let is = adds.only (get_or adds.added k d) (Contains-get_or adds.added k d h) in
-    line-step parentage n p (get_or adds.added k d) is.0 is.1 line in
-    subst (λ xs. HaveLines parentage (suc n) xs) (sym adds.is) (All-append (λ (x : A). IsTrue (has_line parentage (suc n) x)) old adds.added have added)
+    path-step parentage n p (get_or adds.added k d) is.0 is.1 path in
+    subst (λ xs. HavePaths parentage (suc n) xs) (sym adds.is) (All-append (λ (x : A). IsTrue (has_path parentage (suc n) x)) old adds.added have added)
 
-pub some-line : {A : Type 0} (parentage : Parentage A) (n : ℕ) (xs : List A) → HaveLines parentage n xs → (length xs ≡ 0 → ⊥) → (x : A) × IsTrue (has_line parentage n x)
-some-line parentage n [] have some = absurd (some refl)
-some-line {A} parentage n (x ∷ xs) have some = (x, All-head (λ (x : A). IsTrue (has_line parentage n x)) x xs have)
+pub some-path : {A : Type 0} (parentage : Parentage A) (n : ℕ) (xs : List A) → HavePaths parentage n xs → (length xs ≡ 0 → ⊥) → (x : A) × IsTrue (has_path parentage n x)
+some-path parentage n [] have some = absurd (some refl)
+some-path {A} parentage n (x ∷ xs) have some = (x, All-head (λ (x : A). IsTrue (has_path parentage n x)) x xs have)
 
 -- depths by place are settled but for the animal whose parents change
 pub settled-but : (l : ℕ) (old new : Parentage ℕ) (depths : List ℕ) (place : ℕ) → AreDepths l old (slice_index depths) →
@@ -160,26 +160,26 @@ settled-but l old new depths place d same x there =
 
 module _ {A : Type 0} (l : ℕ) (parentage : Parentage A) (g : A → ℕ)
     (closed : (p x : A) → IsTrue (parentage.is_there x) → IsParent parentage p x → IsTrue (parentage.is_there p)) (settled : IsSettled l parentage g []) where
-  -- a settled depth above the limit tells a line that is too long
-  pub settled-deep : (x : A) → IsTrue (parentage.is_there x) → l < g x → has_line parentage (l + 1) x ≡ true
-  settled-deep x there high = test-from_line parentage (l + 1) x (settled-line l parentage g closed settled (l + 1) x there (omega (arith, high)))
+  -- a settled depth above the limit tells a path that is too long
+  pub settled-deep : (x : A) → IsTrue (parentage.is_there x) → l < g x → has_path parentage (l + 1) x ≡ true
+  settled-deep x there high = test-from_path parentage (l + 1) x (settled-path l parentage g closed settled (l + 1) x there (omega (arith, high)))
 
-  -- and where there is none, no line is
-  pub settled-shallow : ((x : A) → IsTrue (parentage.is_there x) → g x ≤ l) → (x : A) → has_line parentage (l + 1) x ≡ false
+  -- and where there is none, no path is
+  pub settled-shallow : ((x : A) → IsTrue (parentage.is_there x) → g x ≤ l) → (x : A) → has_path parentage (l + 1) x ≡ false
   settled-shallow most x =
-      false_from_ne_true (has_line parentage (l + 1) x)
-      (λ t. let k = depths-shallow l parentage g (settled-depths l parentage g closed settled most) (l + 1) x (line-from_test parentage (l + 1) x t) in absurd (omega (arith, k)))
+      false_from_ne_true (has_path parentage (l + 1) x)
+      (λ t. let k = depths-shallow l parentage g (settled-depths l parentage g closed settled most) (l + 1) x (path-from_test parentage (l + 1) x t) in absurd (omega (arith, k)))
 
--- each animal begins a line of no steps
-pub first-line : {A : Type 0} (parentage : Parentage A) (x : A) → IsTrue (parentage.is_there x) → HaveLines parentage 0 (x ∷ [])
-unfolding has_line
-first-line {A} parentage x there = All-cons (λ (y : A). IsTrue (has_line parentage 0 y)) x [] there (All-nil (λ (y : A). IsTrue (has_line parentage 0 y)))
+-- each animal begins a path of no steps
+pub first-path : {A : Type 0} (parentage : Parentage A) (x : A) → IsTrue (parentage.is_there x) → HavePaths parentage 0 (x ∷ [])
+unfolding has_path
+first-path {A} parentage x there = All-cons (λ (y : A). IsTrue (has_path parentage 0 y)) x [] there (All-nil (λ (y : A). IsTrue (has_path parentage 0 y)))
 
-pub no-lines : {A : Type 0} (parentage : Parentage A) (n : ℕ) → HaveLines parentage n []
-no-lines {A} parentage n = All-nil (λ (y : A). IsTrue (has_line parentage n y))
+pub no-paths : {A : Type 0} (parentage : Parentage A) (n : ℕ) → HavePaths parentage n []
+no-paths {A} parentage n = All-nil (λ (y : A). IsTrue (has_path parentage n y))
 
--- lines begin at places that there are
-pub lines-within : (sires dams : List (Option ℕ)) (n k : ℕ) (places : List ℕ) → k ≡ length sires → HaveLines (parentage_at sires dams) n places → All (λ place. place < k) places
-lines-within sires dams n k places e have =
-    All-weaker (λ (place : ℕ). IsTrue (has_line (parentage_at sires dams) n place)) (λ place. place < k)
-    (λ place line. let w = ltb-true place (length sires) (line-there (parentage_at sires dams) n place (line-from_test (parentage_at sires dams) n place line)) in omega (arith, w, e)) places have
+-- paths begin at places that there are
+pub paths-within : (sires dams : List (Option ℕ)) (n k : ℕ) (places : List ℕ) → k ≡ length sires → HavePaths (parentage_at sires dams) n places → All (λ place. place < k) places
+paths-within sires dams n k places e have =
+    All-weaker (λ (place : ℕ). IsTrue (has_path (parentage_at sires dams) n place)) (λ place. place < k)
+    (λ place path. let w = ltb-true place (length sires) (path-there (parentage_at sires dams) n place (path-from_test (parentage_at sires dams) n place path)) in omega (arith, w, e)) places have

@@ -2,7 +2,7 @@
 use Rattle.std.proofs.Common.{ℕ, ◌+◌, ◌<◌, ◌≤◌, ◌≡◌, ◌⊎◌, ⊎_elim, inl, inr, arith, refl, sym, ap, ◌∙◌, subst, IsTrue, List, [], ◌∷◌, ◌++◌, Option, Some, None, length, max, slice_index, IfSome}
 use Rattle.std.proofs.lemmas.Bool.{cases_lt, lt-ltb, ltb-true}
 use Rattle.std.proofs.lemmas.List.{get_or_append_left, get_or_push, length_push}
-use Rattle.herd_pedigree.specs.rules.Lines.{Parentage}
+use Rattle.herd_pedigree.specs.rules.Paths.{Parentage}
 use Rattle.herd_pedigree.specs.rules.Depths.{IsParent, AreDepths, depth_above, depth_from}
 use Rattle.herd_pedigree.specs.store.Places.{parent_at, parentage_at}
 

@@ -1,4 +1,4 @@
--- Lines of the book by numbers are those by places.
+-- Paths of the book by numbers are those by places.
 use Rattle.std.proofs.Common.{ℕ, ◌+◌, ◌≡◌, ⊎_elim, inl, inr, arith, refl, sym, ap, ◌∙◌, subst, false, IsTrue, List, Option, Some, None, length, slice_get}
 use Rattle.std.specs.Str.{bytes_eq}
 use Rattle.std.specs.List.{IsDistinct}
@@ -7,22 +7,22 @@ use Rattle.std.specs.Option.{option_and_then}
 use Rattle.std.proofs.lemmas.Option.{slice_get_within}
 use Rattle.std.proofs.lemmas.Bool.{lt-ltb, ltb-true, false_from_ne_true}
 use Rattle.herd_pedigree.specs.declared.rules.animal.Animal.{Animal}
-use Rattle.herd_pedigree.specs.rules.Lines.{has_line}
+use Rattle.herd_pedigree.specs.rules.Paths.{has_path}
 use Rattle.herd_pedigree.specs.rules.Book.{Book, record_of, is_there, sire_of, dam_of, parentage_of, IsDepthOf}
 use Rattle.herd_pedigree.specs.rules.Depths.{IsParent, AreDepths}
-use Rattle.herd_pedigree.specs.store.Places.{parent_at, parentage_at, IsPlaceIn, AreParents}
-use Rattle.herd_pedigree.proofs.lemmas.rules.LineFacts.{Line, line-from_test, line-moved, depths-line, depths-bound, depths-shallow, depth-from_lines, line-there}
+use Rattle.herd_pedigree.specs.store.Places.{parent_at, parentage_at, IsIndexIn, AreParents}
+use Rattle.herd_pedigree.proofs.lemmas.rules.PathFacts.{Path, path-from_test, path-moved, depths-path, depths-bound, depths-shallow, depth-from_paths, path-there}
 use Rattle.herd_pedigree.proofs.lemmas.rules.BookFacts.{lookup_at, entry_from_key, key_from_entry, place_of, there, is_some_with, some_is}
 
 -- the place of a named parent
-place_from_number : (numbers : List (List ℕ)) (o : Option ℕ) (n : Option (List ℕ)) (p : List ℕ) → IsPlaceIn numbers o n → n ≡ Some p → (q : ℕ) × (o ≡ Some q) × (slice_get numbers q ≡ Some p)
+place_from_number : (numbers : List (List ℕ)) (o : Option ℕ) (n : Option (List ℕ)) (p : List ℕ) → IsIndexIn numbers o n → n ≡ Some p → (q : ℕ) × (o ≡ Some q) × (slice_get numbers q ≡ Some p)
 place_from_number numbers None None p h e = absurd (cc)
 place_from_number numbers None (Some n) p h e = absurd h
 place_from_number numbers (Some q) None p h e = absurd (cc)
 place_from_number numbers (Some q) (Some n) p h e = (q, refl, h ∙ e)
 
 -- and the number of a parent by place
-pub number_from_place : (numbers : List (List ℕ)) (o : Option ℕ) (n : Option (List ℕ)) (q : ℕ) → IsPlaceIn numbers o n → o ≡ Some q → (p : List ℕ) × (n ≡ Some p) × (slice_get numbers q ≡ Some p)
+pub number_from_place : (numbers : List (List ℕ)) (o : Option ℕ) (n : Option (List ℕ)) (q : ℕ) → IsIndexIn numbers o n → o ≡ Some q → (p : List ℕ) × (n ≡ Some p) × (slice_get numbers q ≡ Some p)
 number_from_place numbers None None q h e = absurd (cc)
 number_from_place numbers None (Some n) q h e = absurd h
 number_from_place numbers (Some r) None q h e = absurd h
@@ -71,11 +71,11 @@ module _ (book : Book) (sires dams : List (Option ℕ)) (once : IsDistinct bytes
   there_by_number : (c : ℕ) (x : List ℕ) → slice_get (keys_of book) c ≡ Some x → IsTrue (is_there book x)
   there_by_number c x at = let entry = entry_from_key book c x at in some_is _ entry.0 (lookup_at book once c x entry.0 entry.1)
 
-  pub line_by_place : (n : ℕ) (x : List ℕ) (c : ℕ) → slice_get (keys_of book) c ≡ Some x → Line (parentage_of book) n x → Line (parentage_at sires dams) n c
-  line_by_place = line-moved (parentage_of book) (parentage_at sires dams) (λ x c. slice_get (keys_of book) c ≡ Some x) (λ x c at h. there_by_place c x at) step_by_place
+  pub path_by_place : (n : ℕ) (x : List ℕ) (c : ℕ) → slice_get (keys_of book) c ≡ Some x → Path (parentage_of book) n x → Path (parentage_at sires dams) n c
+  path_by_place = path-moved (parentage_of book) (parentage_at sires dams) (λ x c. slice_get (keys_of book) c ≡ Some x) (λ x c at h. there_by_place c x at) step_by_place
 
-  pub line_by_number : (n c : ℕ) (x : List ℕ) → slice_get (keys_of book) c ≡ Some x → Line (parentage_at sires dams) n c → Line (parentage_of book) n x
-  line_by_number = line-moved (parentage_at sires dams) (parentage_of book) (λ c x. slice_get (keys_of book) c ≡ Some x) (λ c x at h. there_by_number c x at) (λ c q x. step_by_number c q x)
+  pub path_by_number : (n c : ℕ) (x : List ℕ) → slice_get (keys_of book) c ≡ Some x → Path (parentage_at sires dams) n c → Path (parentage_of book) n x
+  path_by_number = path-moved (parentage_at sires dams) (parentage_of book) (λ c x. slice_get (keys_of book) c ≡ Some x) (λ c x at h. there_by_number c x at) (λ c q x. step_by_number c q x)
 
   -- who is there has a place
   pub place_from_there : (x : List ℕ) → IsTrue (is_there book x) → (c : ℕ) × (slice_get (keys_of book) c ≡ Some x)
@@ -95,16 +95,16 @@ module _ (book : Book) (sires dams : List (Option ℕ)) (once : IsDistinct bytes
   -- a depth by places is the depth by numbers
   pub depth_by_number : (l : ℕ) (g : ℕ → ℕ) → AreDepths l (parentage_at sires dams) g → (c : ℕ) (x : List ℕ) → slice_get (keys_of book) c ≡ Some x → IsDepthOf book x (g c)
   depth_by_number l g w c x at =
-      depth-from_lines (parentage_of book) x (g c)
-      (line_by_number (g c) c x at (depths-line l (parentage_at sires dams) g w c (there_by_place c x at)))
-      (λ m line. depths-bound l (parentage_at sires dams) g w m c (line_by_place m x c at line))
+      depth-from_paths (parentage_of book) x (g c)
+      (path_by_number (g c) c x at (depths-path l (parentage_at sires dams) g w c (there_by_place c x at)))
+      (λ m path. depths-bound l (parentage_at sires dams) g w m c (path_by_place m x c at path))
 
-  -- no line of the book is longer than the greatest depth
-  pub no_longer_line : (l : ℕ) (g : ℕ → ℕ) → AreDepths l (parentage_at sires dams) g → (x : List ℕ) → has_line (parentage_of book) (l + 1) x ≡ false
-  no_longer_line l g w x =
-      false_from_ne_true (has_line (parentage_of book) (l + 1) x)
+  -- no path of the book is longer than the greatest depth
+  pub no_longer_path : (l : ℕ) (g : ℕ → ℕ) → AreDepths l (parentage_at sires dams) g → (x : List ℕ) → has_path (parentage_of book) (l + 1) x ≡ false
+  no_longer_path l g w x =
+      false_from_ne_true (has_path (parentage_of book) (l + 1) x)
       (λ t.
-      let line : Line (parentage_of book) (l + 1) x = line-from_test (parentage_of book) (l + 1) x t in
-      let at = place_from_there x (line-there (parentage_of book) (l + 1) x line) in
-      let most = depths-shallow l (parentage_at sires dams) g w (l + 1) at.0 (line_by_place (l + 1) x at.0 at.1 line) in
+      let path : Path (parentage_of book) (l + 1) x = path-from_test (parentage_of book) (l + 1) x t in
+      let at = place_from_there x (path-there (parentage_of book) (l + 1) x path) in
+      let most = depths-shallow l (parentage_at sires dams) g w (l + 1) at.0 (path_by_place (l + 1) x at.0 at.1 path) in
       absurd (omega (arith, most)))

@@ -41,16 +41,16 @@ put_off p value f x n = put_isnt (Some p) value f x (λ e. n (sym (same_Some _ _
 -- an animal gets its first parent: it is the first calf, and that from before the next
 module _ (old new : List Family) (a : AreChained old) (c p : ℕ) (there : p < length old) (none : parent_of old c ≡ None)
     (s : Show new (length old) (put (Some c) (Some p) (parent_of old)) (put (first_of old p) (Some c) (previous_of old)) (put (Some c) (first_of old p) (next_of old)) (put (Some p) (Some c) (first_of old))) where
-  rank_to : ℕ → ℕ
-  rank_to x = cond (x == c) a.top (a.rank x)
+  seniority_to : ℕ → ℕ
+  seniority_to x = cond (x == c) a.top (a.seniority x)
 
-  rank_c : rank_to c ≡ a.top
-  unfolding rank_to
-  rank_c = ap (λ t. cond t a.top (a.rank c)) (eq-eqb c c refl)
+  seniority_c : seniority_to c ≡ a.top
+  unfolding seniority_to
+  seniority_c = ap (λ t. cond t a.top (a.seniority c)) (eq-eqb c c refl)
 
-  rank_off : (x : ℕ) → x ≢ c → rank_to x ≡ a.rank x
-  unfolding rank_to
-  rank_off x n = ap (λ t. cond t a.top (a.rank x)) (ne_eqb x c n)
+  seniority_off : (x : ℕ) → x ≢ c → seniority_to x ≡ a.seniority x
+  unfolding seniority_to
+  seniority_off x n = ap (λ t. cond t a.top (a.seniority x)) (ne_eqb x c n)
 
   has_parent : (x q : ℕ) → parent_of old x ≡ Some q → x ≢ c
   has_parent x q e is = let bad : None ≡ Some q = sym none ∙ ap (λ v. parent_of old v) (sym is) ∙ e in absurd (cc)
@@ -77,10 +77,10 @@ module _ (old new : List Family) (a : AreChained old) (c p : ℕ) (there : p < l
   not_first : (x q : ℕ) → parent_of old x ≡ Some q → q ≢ p → first_of old p ≢ Some x
   not_first x q e n is = n (same_Some _ _ (sym e ∙ (a.first p x is).0))
 
-  below_to : (x : ℕ) → rank_to x < a.top + 1
+  below_to : (x : ℕ) → seniority_to x < a.top + 1
   below_to x = elim (cases_eq x c) [
-    | inl same ↦ let r = ap (λ v. rank_to v) same in omega (arith, r, rank_c)
-    | inr other ↦ let r = rank_off x other in let b = a.below x in omega (arith, r, b)
+    | inl same ↦ let r = ap (λ v. seniority_to v) same in omega (arith, r, seniority_c)
+    | inr other ↦ let r = seniority_off x other in let b = a.below x in omega (arith, r, b)
   ]
 
   within_to : (x q : ℕ) → parent_of new x ≡ Some q → q < length new
@@ -118,23 +118,23 @@ module _ (old new : List Family) (a : AreChained old) (c p : ℕ) (there : p < l
         ]
   ]
 
-  next_to : (x y : ℕ) → next_of new x ≡ Some y → (previous_of new y ≡ Some x) × ((parent_of new y ≡ parent_of new x) × (rank_to y < rank_to x))
+  next_to : (x y : ℕ) → next_of new x ≡ Some y → (previous_of new y ≡ Some x) × ((parent_of new y ≡ parent_of new x) × (seniority_to y < seniority_to x))
   next_to x y e = elim (cases_eq x c) [
     | inl same ↦
         let f : first_of old p ≡ Some y = sym next_c ∙ ap (λ v. next_of new v) (sym same) ∙ e in
         let was = a.first p y f in
         let other = has_parent y p was.0 in
-        let r = rank_off y other in
+        let r = seniority_off y other in
         let b = a.below y in
-        let less : rank_to y < rank_to c = omega (arith, r, b, rank_c) in
-        subst (λ v. (previous_of new y ≡ Some v) × ((parent_of new y ≡ parent_of new v) × (rank_to y < rank_to v))) (sym same)
+        let less : seniority_to y < seniority_to c = omega (arith, r, b, seniority_c) in
+        subst (λ v. (previous_of new y ≡ Some v) × ((parent_of new y ≡ parent_of new v) × (seniority_to y < seniority_to v))) (sym same)
         (previous_f y f, (parent_off y other ∙ was.0 ∙ sym parent_c, less))
     | inr n ↦
         let was = a.next x y (sym (next_off x n) ∙ e) in
         let other : y ≢ c = λ is. let bad : None ≡ Some x = sym (a.single c none).1 ∙ ap (λ v. previous_of old v) (sym is) ∙ was.0 in absurd (cc) in
         let not : first_of old p ≢ Some y = λ f. let bad : None ≡ Some x = sym (a.first p y f).1 ∙ was.0 in absurd (cc) in
-        let ry = rank_off y other in
-        let rx = rank_off x n in
+        let ry = seniority_off y other in
+        let rx = seniority_off x n in
         let less = was.1.1 in
         (previous_off y not ∙ was.0, (parent_off y other ∙ was.1.0 ∙ sym (parent_off x n), omega (arith, ry, rx, less)))
   ]
@@ -161,7 +161,7 @@ module _ (old new : List Family) (a : AreChained old) (c p : ℕ) (there : p < l
   ]
 
   pub chained-link : AreChained new
-  chained-link = record { rank = rank_to; top = a.top + 1; below = below_to; within = within_to; first = first_to; foremost = foremost_to; next = next_to; previous = previous_to; single = single_to }
+  chained-link = record { seniority = seniority_to; top = a.top + 1; below = below_to; within = within_to; first = first_to; foremost = foremost_to; next = next_to; previous = previous_to; single = single_to }
 
 -- the place before which a calf stands first, where it does
 pub record IsLedBy (families : List Family) (c p : ℕ) (o : Option ℕ) : Type 0 where
@@ -206,10 +206,10 @@ module _ (old new : List Family) (a : AreChained old) (c p : ℕ) (has : parent_
 
   -- the neighbours are others
   next_other : (x : ℕ) → next_of old c ≡ Some x → x ≢ c
-  next_other x e is = let r = (a.next c x e).1.1 in let same = ap (λ v. a.rank v) is in absurd (omega (arith, r, same))
+  next_other x e is = let r = (a.next c x e).1.1 in let same = ap (λ v. a.seniority v) is in absurd (omega (arith, r, same))
 
   previous_other : (x : ℕ) → previous_of old c ≡ Some x → x ≢ c
-  previous_other x e is = let r = (a.next x c (a.previous x c e)).1.1 in let same = ap (λ v. a.rank v) is in absurd (omega (arith, r, same))
+  previous_other x e is = let r = (a.next x c (a.previous x c e)).1.1 in let same = ap (λ v. a.seniority v) is in absurd (omega (arith, r, same))
 
   -- it led its siblings, or stood behind one
   leads : ((previous_of old c ≡ None) × (o ≡ Some p)) ⊎ ((previous_of old c ≢ None) × (o ≡ None))
@@ -269,7 +269,7 @@ module _ (old new : List Family) (a : AreChained old) (c p : ℕ) (has : parent_
             ]
       ]
 
-  next_from : (x y : ℕ) → next_of new x ≡ Some y → (previous_of new y ≡ Some x) × ((parent_of new y ≡ parent_of new x) × (a.rank y < a.rank x))
+  next_from : (x y : ℕ) → next_of new x ≡ Some y → (previous_of new y ≡ Some x) × ((parent_of new y ≡ parent_of new x) × (a.seniority y < a.seniority x))
   next_from x y e =
       let other : x ≢ c = λ is. let bad : None ≡ Some y = sym after_c ∙ ap (λ v. next_of new v) (sym is) ∙ e in absurd (cc) in
       elim (is_place (previous_of old c) x) [
@@ -313,12 +313,12 @@ module _ (old new : List Family) (a : AreChained old) (c p : ℕ) (has : parent_
   ]
 
   pub chained-unlink : AreChained new
-  chained-unlink = record { rank = a.rank; top = a.top; below = a.below; within = within_from; first = first_from; foremost = foremost_from; next = next_from; previous = previous_from; single = single_from }
+  chained-unlink = record { seniority = a.seniority; top = a.top; below = a.below; within = within_from; first = first_from; foremost = foremost_from; next = next_from; previous = previous_from; single = single_from }
 
 -- what is kept of each stays as it was
 pub chained-same : (old new : List Family) → AreChained old → ((x : ℕ) → family_at new x ≡ family_at old x) → ((c p : ℕ) → parent_of old c ≡ Some p → p < length new) → AreChained new
 chained-same old new a e w = record {
-  rank = a.rank;
+  seniority = a.seniority;
   top = a.top;
   below = a.below;
   within = λ c p h. w c p (sym (parent c) ∙ h);
@@ -491,7 +491,7 @@ chain-past families (suc n) (suc k) (Some x) c e = let h = chain-past families n
 
 module _ (families : List Family) (a : AreChained families) (p : ℕ) where
   -- each calf is reached from the first
-  reached : (m c : ℕ) → parent_of families c ≡ Some p → a.top ≤ m + a.rank c → (k : ℕ) × (steps families k (first_of families p) ≡ Some c)
+  reached : (m c : ℕ) → parent_of families c ≡ Some p → a.top ≤ m + a.seniority c → (k : ℕ) × (steps families k (first_of families p) ≡ Some c)
   unfolding steps
   reached zero c e h = let b = a.below c in absurd (omega (arith, b, h))
   reached (suc m) c e h = elim (known (previous_of families c)) [
@@ -513,8 +513,8 @@ module _ (families : List Family) (a : AreChained families) (p : ℕ) where
     | inr some ↦ (a.next some.0 c (sym (step_on families k (first_of families p) some.0 some.1) ∙ e)).1.0 ∙ steps_to k some.0 some.1
   ]
 
-  -- those that come later are of lower rank
-  falls : (i j : ℕ) (x y : ℕ) → i < j → steps families i (first_of families p) ≡ Some x → steps families j (first_of families p) ≡ Some y → a.rank y < a.rank x
+  -- those that come later have less seniority
+  falls : (i j : ℕ) (x y : ℕ) → i < j → steps families i (first_of families p) ≡ Some x → steps families j (first_of families p) ≡ Some y → a.seniority y < a.seniority x
   unfolding steps
   falls i zero x y h e f = absurd (omega (arith, h))
   falls i (suc j) x y h e f = elim (known (steps families j (first_of families p))) [
@@ -524,7 +524,7 @@ module _ (families : List Family) (a : AreChained families) (p : ℕ) where
         elim (cases_eq i j) [
           | inl same ↦
               let is_x : some.0 ≡ x = same_Some _ _ (sym some.1 ∙ ap (λ k. steps families k (first_of families p)) (sym same) ∙ e) in
-              let t = ap (λ v. a.rank v) is_x in omega (arith, r, t)
+              let t = ap (λ v. a.seniority v) is_x in omega (arith, r, t)
           | inr other ↦ let t = falls i j x some.0 (omega (arith, h, other)) e some.1 in omega (arith, r, t)
         ]
   ]
@@ -561,7 +561,7 @@ module _ (families : List Family) (a : AreChained families) (p : ℕ) where
       let y = all_before k j c (omega (arith, l)) e in
       let r = falls i j x.0 y.0 h x.1 y.1 in
       let same : x.0 ≡ y.0 = sym (at_step_is i x.0 x.1) ∙ is ∙ at_step_is j y.0 y.1 in
-      let t = ap (λ v. a.rank v) same in
+      let t = ap (λ v. a.seniority v) same in
       absurd (omega (arith, r, t))) in
       omega (arith, fits)
 
@@ -588,7 +588,7 @@ no-calves families a p none c e =
 -- no animals
 pub chained-empty : AreChained []
 chained-empty = record {
-  rank = λ c. 0;
+  seniority = λ c. 0;
   top = 1;
   below = λ c. omega arith;
   within = λ c p e. absurd (cc);

@@ -11,7 +11,7 @@ use Rattle.indexmap.specs.IndexMap.{set_value_at}
 use Rattle.herd_pedigree.specs.declared.rules.animal.Animal.{Animal}
 use Rattle.herd_pedigree.specs.declared.store.records.StoredRecord.{StoredRecord}
 use Rattle.herd_pedigree.specs.store.Links.{IsLinkAt}
-use Rattle.herd_pedigree.specs.store.Places.{IsPlaceIn}
+use Rattle.herd_pedigree.specs.store.Places.{IsIndexIn}
 use Rattle.herd_pedigree.specs.store.Records.{AreClosed, NamesItsOwn, StandAmong, stored_book, book_with, named, number_at}
 use Rattle.herd_pedigree.specs.store.Undo.{without_last}
 use Rattle.herd_pedigree.proofs.lemmas.rules.BookFacts.{is_some_with, keys-push, length-keys, none_if, push_cases, push_keeps, stands_once, there}
@@ -66,13 +66,13 @@ module _ (numbers : List (List ℕ)) where
       λ i. (e.0, same i) ∷ rest i
 
   -- the number at a place that is a parent's
-  pub number_at-place : (o : Option ℕ) (n : Option (List ℕ)) → IsPlaceIn numbers o n → number_at numbers o ≡ n
+  pub number_at-place : (o : Option ℕ) (n : Option (List ℕ)) → IsIndexIn numbers o n → number_at numbers o ≡ n
   number_at-place None None h = refl
   number_at-place None (Some x) h = absurd h
   number_at-place (Some p) None h = absurd h
   number_at-place (Some p) (Some x) h = h
 
-  pub place-within : (o : Option ℕ) (n : Option (List ℕ)) → IsPlaceIn numbers o n → IfSome o (λ p. p < length numbers)
+  pub place-within : (o : Option ℕ) (n : Option (List ℕ)) → IsIndexIn numbers o n → IfSome o (λ p. p < length numbers)
   place-within None n h = tt
   place-within (Some p) None h = absurd h
   place-within (Some p) (Some x) h = slice_get_within numbers p x h
@@ -107,7 +107,7 @@ value-found es number (Some p) some is =
     ∙ sym (lookup-book_with (keys_of es) (bytes_eq number) es ∙ ap (λ o. option_map (named (keys_of es)) o) found.1)
 
 -- what is kept of an animal is its record
-pub named-is : (numbers : List (List ℕ)) (entry : StoredRecord) (animal : Animal) → IsPlaceIn numbers entry.sire animal.sire → IsPlaceIn numbers entry.dam animal.dam
+pub named-is : (numbers : List (List ℕ)) (entry : StoredRecord) (animal : Animal) → IsIndexIn numbers entry.sire animal.sire → IsIndexIn numbers entry.dam animal.dam
     → entry.birth ≡ animal.birth → entry.embryo ≡ animal.embryo → entry.herd ≡ animal.herd → entry.since ≡ animal.since → entry.left ≡ animal.left → named numbers entry ≡ animal
 named-is numbers entry animal sire dam birth embryo herd since left =
     λ i. record {
@@ -165,9 +165,9 @@ module _ (es : List (List ℕ × StoredRecord)) where
       (set_value-cases es i place e entry at)
 
 -- a place that is kept is that of the number it gives
-place-named : (numbers : List (List ℕ)) (o : Option ℕ) → IfSome o (λ p. p < length numbers) → IsPlaceIn numbers o (number_at numbers o)
+place-named : (numbers : List (List ℕ)) (o : Option ℕ) → IfSome o (λ p. p < length numbers) → IsIndexIn numbers o (number_at numbers o)
 place-named numbers None h = tt
-place-named numbers (Some p) h = let n = there numbers p h in subst (λ o. IsPlaceIn numbers (Some p) o) (sym n.1) n.1
+place-named numbers (Some p) h = let n = there numbers p h in subst (λ o. IsIndexIn numbers (Some p) o) (sym n.1) n.1
 
 entry_with : (es : List (List ℕ × StoredRecord)) (i : ℕ) (e : StoredRecord) → slice_get (values_of es) i ≡ Some e → (x : List ℕ) × (slice_get es i ≡ Some (x, e))
 entry_with [] i e at = absurd (cc)
@@ -181,24 +181,24 @@ link-kept es i e at closed =
     let its = entry_with es i e at in
     let parents = closed i (its.0, e) its.1 in
     let here : slice_get (stored_book es) i ≡ Some (its.0, named numbers e) = entry-book_with numbers es i ∙ ap (λ o. option_map (λ (k : List ℕ × StoredRecord). (k.0, named numbers k.1)) o) its.1 in
-    let told : (o : Option ℕ) → IfSome o (λ p. p < length es) → IsPlaceIn (keys_of (stored_book es)) o (number_at numbers o) = λ o h.
-    subst (λ l. IsPlaceIn l o (number_at numbers o)) (sym (keys-stored_book es)) (place-named numbers o (subst (λ n. IfSome o (λ p. p < n)) (sym (length-keys es)) h)) in
+    let told : (o : Option ℕ) → IfSome o (λ p. p < length es) → IsIndexIn (keys_of (stored_book es)) o (number_at numbers o) = λ o h.
+    subst (λ l. IsIndexIn l o (number_at numbers o)) (sym (keys-stored_book es)) (place-named numbers o (subst (λ n. IfSome o (λ p. p < n)) (sym (length-keys es)) h)) in
     let same : (entry : List ℕ × Animal) → slice_get (stored_book es) i ≡ Some entry → named numbers e ≡ entry.1 = λ entry stands. ap (λ (p : List ℕ × Animal). p.1) (same_Some (its.0, named numbers e) entry (sym here ∙ stands)) in
     record {
-      sire = λ entry stands. subst (λ (a : Animal). IsPlaceIn (keys_of (stored_book es)) e.sire a.sire) (same entry stands) (told e.sire parents.0);
-      dam = λ entry stands. subst (λ (a : Animal). IsPlaceIn (keys_of (stored_book es)) e.dam a.dam) (same entry stands) (told e.dam parents.1);
+      sire = λ entry stands. subst (λ (a : Animal). IsIndexIn (keys_of (stored_book es)) e.sire a.sire) (same entry stands) (told e.sire parents.0);
+      dam = λ entry stands. subst (λ (a : Animal). IsIndexIn (keys_of (stored_book es)) e.dam a.dam) (same entry stands) (told e.dam parents.1);
     }
 
 -- where a place gives a number that stands among the first, it is one of the first
 among_first : (numbers : List (List ℕ)) (x : List ℕ) → IsDistinct bytes_eq (numbers ++ x ∷ []) → (o : Option ℕ) → IfSome o (λ p. p < length (numbers ++ x ∷ []))
-    → (first : Option ℕ) → IsPlaceIn numbers first (number_at (numbers ++ x ∷ []) o) → IfSome o (λ p. p < length numbers)
+    → (first : Option ℕ) → IsIndexIn numbers first (number_at (numbers ++ x ∷ []) o) → IfSome o (λ p. p < length numbers)
 among_first numbers x once None h first is = tt
 among_first numbers x once (Some p) h first is =
     let n = there (numbers ++ x ∷ []) p h in
-    let named : IsPlaceIn numbers first (Some n.0) = subst (λ o. IsPlaceIn numbers first o) n.1 is in
+    let named : IsIndexIn numbers first (Some n.0) = subst (λ o. IsIndexIn numbers first o) n.1 is in
     by first n.0 n.1 named
   where
-    by : (first : Option ℕ) (y : List ℕ) → slice_get (numbers ++ x ∷ []) p ≡ Some y → IsPlaceIn numbers first (Some y) → p < length numbers
+    by : (first : Option ℕ) (y : List ℕ) → slice_get (numbers ++ x ∷ []) p ≡ Some y → IsIndexIn numbers first (Some y) → p < length numbers
     by None y at is = absurd is
     by (Some q) y at is =
         let same : p ≡ q = stands_once (numbers ++ x ∷ []) once p q y at (push_keeps numbers x y q is) in
@@ -224,9 +224,9 @@ module _ (es : List (List ℕ × StoredRecord)) (x : List ℕ) (e : StoredRecord
       let numbers : keys_of (book_with (keys_of es ++ x ∷ []) es) ≡ keys_of es = keys-book_with (keys_of es ++ x ∷ []) es in
       let within = h place entry (push_keeps es (x, e) entry place at) in
       let sire = among_first (keys_of es) x distinct entry.1.sire (further entry.1.sire (omega (arith, all)) within.0) parents.0.0
-      (subst (λ l. IsPlaceIn l parents.0.0 (number_at (keys_of es ++ x ∷ []) entry.1.sire)) numbers parents.0.1) in
+      (subst (λ l. IsIndexIn l parents.0.0 (number_at (keys_of es ++ x ∷ []) entry.1.sire)) numbers parents.0.1) in
       let dam = among_first (keys_of es) x distinct entry.1.dam (further entry.1.dam (omega (arith, all)) within.1) parents.1.0
-      (subst (λ l. IsPlaceIn l parents.1.0 (number_at (keys_of es ++ x ∷ []) entry.1.dam)) numbers parents.1.1) in
+      (subst (λ l. IsIndexIn l parents.1.0 (number_at (keys_of es ++ x ∷ []) entry.1.dam)) numbers parents.1.1) in
       (further entry.1.sire (omega (arith, long)) sire, further entry.1.dam (omega (arith, long)) dam)
 
   pub stored_book-pop : stored_book es ≡ without_last (stored_book (es ++ (x, e) ∷ []))

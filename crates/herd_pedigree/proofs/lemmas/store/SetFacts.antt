@@ -12,7 +12,7 @@ use Rattle.herd_pedigree.specs.declared.store.undo.Undo.TheVariants.{Record}
 use Rattle.herd_pedigree.specs.rules.Book.{Book, changed}
 use Rattle.herd_pedigree.specs.rules.Lawful.{IsLawful}
 use Rattle.herd_pedigree.specs.Pedigree.{Pedigree, changed_to}
-use Rattle.herd_pedigree.specs.store.Places.{parent_at, IsPlaceIn, AreParents}
+use Rattle.herd_pedigree.specs.store.Places.{parent_at, IsIndexIn, AreParents}
 use Rattle.herd_pedigree.specs.store.Kept.{IsKept}
 use Rattle.herd_pedigree.specs.store.Undo.{IsHeld}
 use Rattle.herd_pedigree.proofs.lemmas.rules.BookFacts.{bytes_itself, bytes_turned, apart_at, entry_found}
@@ -65,21 +65,21 @@ set-back (e ∷ es) zero x a b at = let k : e ≡ (x, a) = same_Some _ _ at in a
 set-back (e ∷ es) (suc i) x a b at = ap (λ l. e ∷ l) (set-back es i x a b at)
 
 -- one parent of each, with another of the animal at a place
-pub AreParents-set : (book : Book) (parent_of : Animal → Option (List ℕ)) (parents : List (Option ℕ)) (i : ℕ) (b : Animal) (o : Option ℕ) → AreParents book parent_of parents → i < length book → IsPlaceIn (keys_of book) o (parent_of b) →
+pub AreParents-set : (book : Book) (parent_of : Animal → Option (List ℕ)) (parents : List (Option ℕ)) (i : ℕ) (b : Animal) (o : Option ℕ) → AreParents book parent_of parents → i < length book → IsIndexIn (keys_of book) o (parent_of b) →
     AreParents (set_value_at book i b) parent_of (slice_set parents i o)
 AreParents-set book parent_of parents i b o a here is = record {
   long = length-set parents i o ∙ a.long ∙ sym (length-set-at book i b);
   each = λ c entry at.
-      let P : Option ℕ → Type 0 = λ q. IsPlaceIn (keys_of (set_value_at book i b)) q (parent_of entry.1) in
-      let Q : List (List ℕ) → Type 0 = λ ks. IsPlaceIn ks (parent_at (slice_set parents i o) c) (parent_of entry.1) in
+      let P : Option ℕ → Type 0 = λ q. IsIndexIn (keys_of (set_value_at book i b)) q (parent_of entry.1) in
+      let Q : List (List ℕ) → Type 0 = λ ks. IsIndexIn ks (parent_at (slice_set parents i o) c) (parent_of entry.1) in
       ⊎_elim
       (λ set.
       let within : i < length parents = let l = a.long in omega (arith, l, here) in
       let same : parent_at (slice_set parents i o) c ≡ o = ap (λ k. parent_at (slice_set parents i o) k) set.0 ∙ get_or-set_same parents i o None within in
-      subst Q (sym (keys-set book i b)) (subst (λ q. IsPlaceIn (keys_of book) q (parent_of entry.1)) (sym same) (subst (λ e. IsPlaceIn (keys_of book) o (parent_of e)) set.1 is)))
+      subst Q (sym (keys-set book i b)) (subst (λ q. IsIndexIn (keys_of book) q (parent_of entry.1)) (sym same) (subst (λ e. IsIndexIn (keys_of book) o (parent_of e)) set.1 is)))
       (λ was.
       let same : parent_at (slice_set parents i o) c ≡ parent_at parents c = get_or-set_other parents i c o None was.0 in
-      subst Q (sym (keys-set book i b)) (subst (λ q. IsPlaceIn (keys_of book) q (parent_of entry.1)) (sym same) (a.each c entry was.1)))
+      subst Q (sym (keys-set book i b)) (subst (λ q. IsIndexIn (keys_of book) q (parent_of entry.1)) (sym same) (a.each c entry was.1)))
       (set_value-cases book i c b entry at);
 }
 
@@ -88,7 +88,7 @@ pub AreParents-same : (book : Book) (parent_of : Animal → Option (List ℕ)) (
     AreParents (set_value_at book i b) parent_of parents
 AreParents-same book parent_of parents i x a b k at same =
     subst (λ ps. AreParents (set_value_at book i b) parent_of ps) (set-get_or parents i None)
-    (AreParents-set book parent_of parents i b (parent_at parents i) k (slice_get_within book i (x, a) at) (subst (λ n. IsPlaceIn (keys_of book) (parent_at parents i) n) (sym same) (k.each i (x, a) at)))
+    (AreParents-set book parent_of parents i b (parent_at parents i) k (slice_get_within book i (x, a) at) (subst (λ n. IsIndexIn (keys_of book) (parent_at parents i) n) (sym same) (k.each i (x, a) at)))
 
 module _ (l most : ℕ) (book : Book) (sires dams : List (Option ℕ)) (depths : List ℕ) (k : IsKept l most book sires dams depths) (i : ℕ) (x : List ℕ) (a b : Animal) (at : slice_get book i ≡ Some (x, a)) (sire : b.sire ≡ a.sire) (dam : b.dam ≡ a.dam) (lawful : IsLawful l most (set_value_at book i b)) where
   -- what is kept, where the parents stay

@@ -3,7 +3,7 @@ use Rattle.herd_pool.specs.Levels.{Keeps}
 use Rattle.herd_pool.proofs.Writes.{HasBefore}
 use Rattle.herd_pool.proofs.merge.write_block.Given as goal
 
-abbrev pub invariant-loop-place : goal.invariant-loop-place
-invariant-loop-place l =
-    (f : ℕ → ℕ) → l.numerators ≡ map f l.places
-    → Keeps f l.initial.known l.known × HasBefore f l.known l.places (length l.yielded)
+abbrev pub invariant-loop-rank : goal.invariant-loop-rank
+invariant-loop-rank l =
+    (f : ℕ → ℕ) → l.numerators ≡ map f l.ranks
+    → Keeps f l.initial.known l.known × HasBefore f l.known l.ranks (length l.yielded)

@@ -1,4 +1,4 @@
--- The certificate of an animal that stands at a place of a frozen book.
+-- The certificate of an animal that stands at a rank of a frozen book.
 use Rattle.std.proofs.Common.{◌≡◌, ◌∙◌, ℕ, ◌<◌, List, [], ◌++◌, length, slice_get, slice_index, Option, Some, None, false, true, Contains, ap, refl, sym, arith}
 use Rattle.std.proofs.lemmas.Bool.{false≢true}
 use Rattle.std.specs.Map.{keys_of}
@@ -14,53 +14,53 @@ use Rattle.herd_kinship.specs.FrozenAncestry.{ancestry_of, number_of_row}
 use Rattle.herd_kinship.specs.Table.{coefficient}
 use Rattle.herd_kinship.proofs.BookFacts.{record_there}
 use Rattle.herd_kinship.proofs.FrozenFacts.{length-numbers_of, number_of_row-is, numbers_are_keys, record_at-row}
-use Rattle.herd_report.specs.writing.Certificate.{ancestors_text, animal_text, certificate_text, entry_line}
+use Rattle.herd_report.specs.writing.Certificate.{ancestors_text, animal_text, certificate_text, labelled_line}
 
 -- the lines on the animal of the row there, and then those of its ancestors, are the certificate
-pub certificate_made : (l most : ℕ) (rows : List Row) → IsFrozen l most rows → (place : ℕ) (row : Row) → slice_get rows place ≡ Some row
+pub certificate_made : (l most : ℕ) (rows : List Row) → IsFrozen l most rows → (rank : ℕ) (row : Row) → slice_get rows rank ≡ Some row
     → (numerator : ℕ) (none first whole : List ℕ) → none ≡ [] → first ≡ none ++ animal_text row.number row.animal numerator
-    → whole ≡ first ++ ancestors_text (book_of rows) (number_of_row rows place)
-    → whole ≡ certificate_text (book_of rows) numerator (number_of_row rows place)
-certificate_made l most rows frozen place row there numerator none first whole empty begun ended =
+    → whole ≡ first ++ ancestors_text (book_of rows) (number_of_row rows rank)
+    → whole ≡ certificate_text (book_of rows) numerator (number_of_row rows rank)
+certificate_made l most rows frozen rank row there numerator none first whole empty begun ended =
     let book = book_of rows in
     let text : certificate_text book numerator row.number ≡ animal_text row.number row.animal numerator ++ ancestors_text book row.number =
     ap (λ found. option_map_or (λ (animal : Animal). animal_text row.number animal numerator ++ ancestors_text book row.number) found [])
-    (record_at-row l most rows frozen place row there) in
+    (record_at-row l most rows frozen rank row there) in
     let start : first ≡ animal_text row.number row.animal numerator = begun ∙ ap (λ l. l ++ animal_text row.number row.animal numerator) empty in
     let end : whole ≡ animal_text row.number row.animal numerator ++ ancestors_text book row.number =
-    (rw (number_of_row-is rows place row there) at ended) ∙ ap (λ l. l ++ ancestors_text book row.number) start in
-    rw (number_of_row-is rows place row there) (end ∙ sym text)
+    (rw (number_of_row-is rows rank row there) at ended) ∙ ap (λ l. l ++ ancestors_text book row.number) start in
+    rw (number_of_row-is rows rank row there) (end ∙ sym text)
 
--- the number that stands at a place is there
-number_is_there : (rows : List Row) (place : ℕ) (number : List ℕ) → slice_get (numbers_of rows) place ≡ Some number
+-- the number that stands at a rank is there
+number_is_there : (rows : List Row) (rank : ℕ) (number : List ℕ) → slice_get (numbers_of rows) rank ≡ Some number
     → is_there (book_of rows) number ≡ true
-number_is_there rows place number there =
-    let found = get_or_from_slice_get (numbers_of rows) place number [] there in
+number_is_there rows rank number there =
+    let found = get_or_from_slice_get (numbers_of rows) rank number [] there in
     let among : Contains (keys_of (book_of rows)) number =
-    rw (← numbers_are_keys rows, ← found) (Contains-get_or (numbers_of rows) place [] (slice_get_within (numbers_of rows) place number there)) in
+    rw (← numbers_are_keys rows, ← found) (Contains-get_or (numbers_of rows) rank [] (slice_get_within (numbers_of rows) rank number there)) in
     ap is_some (record_there (book_of rows) number among).1
 
 -- so it isn't absent
-pub not_absent : (rows : List Row) (place : ℕ) (number : List ℕ) → slice_get (numbers_of rows) place ≡ Some number
+pub not_absent : (rows : List Row) (rank : ℕ) (number : List ℕ) → slice_get (numbers_of rows) rank ≡ Some number
     → is_there (book_of rows) number ≡ false → ⊥
-not_absent rows place number there absent = absurd (false≢true (sym absent ∙ number_is_there rows place number there))
+not_absent rows rank number there absent = absurd (false≢true (sym absent ∙ number_is_there rows rank number there))
 
--- the row at the place of a number has that number
-pub number_at_place : (rows : List Row) (place : ℕ) (number : List ℕ) → slice_get (numbers_of rows) place ≡ Some number
-    → number_of_row rows place ≡ number
-number_at_place rows place number there = get_or_from_slice_get (numbers_of rows) place number [] there
+-- the row at the rank of a number has that number
+pub number_at_rank : (rows : List Row) (rank : ℕ) (number : List ℕ) → slice_get (numbers_of rows) rank ≡ Some number
+    → number_of_row rows rank ≡ number
+number_at_rank rows rank number there = get_or_from_slice_get (numbers_of rows) rank number [] there
 
--- the certificate with the numerator at a place is that with the coefficient of the animal there
+-- the certificate with the numerator at a rank is that with the coefficient of the animal there
 pub certificate_with_coefficient : (l : ℕ) (rows : List Row) (numerators : List ℕ) → AreCoefficients l rows numerators
-    → (place : ℕ) → place < length rows → (numerator : ℕ) → numerator ≡ slice_index numerators place
-    → certificate_text (book_of rows) numerator (number_of_row rows place)
-    ≡ certificate_text (book_of rows) (coefficient (ancestry_of rows) l (number_of_row rows place)) (number_of_row rows place)
-certificate_with_coefficient l rows numerators are place within numerator read =
-    ap (λ n. certificate_text (book_of rows) n (number_of_row rows place)) (read ∙ are.right place within)
+    → (rank : ℕ) → rank < length rows → (numerator : ℕ) → numerator ≡ slice_index numerators rank
+    → certificate_text (book_of rows) numerator (number_of_row rows rank)
+    ≡ certificate_text (book_of rows) (coefficient (ancestry_of rows) l (number_of_row rows rank)) (number_of_row rows rank)
+certificate_with_coefficient l rows numerators are rank within numerator read =
+    ap (λ n. certificate_text (book_of rows) n (number_of_row rows rank)) (read ∙ are.right rank within)
 
 some_text : (book : Book) (numerator : ℕ) (number : List ℕ) (found : Option Animal) → is_some found ≡ true
     → 0 < length (option_map_or (λ (animal : Animal). animal_text number animal numerator ++ ancestors_text book number) found [])
-unfolding entry_line
+unfolding labelled_line
 some_text book numerator number None there = absurd (false≢true there)
 some_text book numerator number (Some animal) there = omega arith
 
@@ -69,9 +69,9 @@ pub some_certificate_text : (book : Book) (numerator : ℕ) (number : List ℕ) 
     → 0 < length (certificate_text book numerator number)
 some_certificate_text book numerator number there = some_text book numerator number (record_of book number) there
 
--- nor is that of the animal at a place
-pub some_certificate_at : (l most : ℕ) (rows : List Row) → IsFrozen l most rows → (place : ℕ) (row : Row) → slice_get rows place ≡ Some row
-    → (numerator : ℕ) → 0 < length (certificate_text (book_of rows) numerator (number_of_row rows place))
-some_certificate_at l most rows frozen place row there numerator =
-    rw (number_of_row-is rows place row there)
-    (some_certificate_text (book_of rows) numerator row.number (ap is_some (record_at-row l most rows frozen place row there)))
+-- nor is that of the animal at a rank
+pub some_certificate_at : (l most : ℕ) (rows : List Row) → IsFrozen l most rows → (rank : ℕ) (row : Row) → slice_get rows rank ≡ Some row
+    → (numerator : ℕ) → 0 < length (certificate_text (book_of rows) numerator (number_of_row rows rank))
+some_certificate_at l most rows frozen rank row there numerator =
+    rw (number_of_row-is rows rank row there)
+    (some_certificate_text (book_of rows) numerator row.number (ap is_some (record_at-row l most rows frozen rank row there)))

@@ -10,13 +10,13 @@ use Rattle.herd_kinship.proofs.FrozenFacts.{number_of_row-is}
 use Rattle.herd_report.proofs.lemmas.writing.OutputFacts.{some_after}
 use Rattle.herd_report.specs.writing.CoefficientText.{coefficient_line, coefficient_text}
 
--- the numerator at a place is the coefficient of the row there
+-- the numerator at a rank is the coefficient of the row there
 pub numerator_is : (l : ℕ) (rows : List Row) (numerators : List ℕ) → AreCoefficients l rows numerators
-    → (place : ℕ) (row : Row) → slice_get rows place ≡ Some row
-    → slice_index numerators place ≡ coefficient (ancestry_of rows) l row.number
-numerator_is l rows numerators are place row there =
-    are.right place (slice_get_within rows place row there)
-    ∙ ap (coefficient (ancestry_of rows) l) (number_of_row-is rows place row there)
+    → (rank : ℕ) (row : Row) → slice_get rows rank ≡ Some row
+    → slice_index numerators rank ≡ coefficient (ancestry_of rows) l row.number
+numerator_is l rows numerators are rank row there =
+    are.right rank (slice_get_within rows rank row there)
+    ∙ ap (coefficient (ancestry_of rows) l) (number_of_row-is rows rank row there)
 
 -- a line isn't empty
 pub some_coefficient_line : (number : List ℕ) (numerator : ℕ) → 0 < length (coefficient_line number numerator)

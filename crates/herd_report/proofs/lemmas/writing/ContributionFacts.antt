@@ -8,7 +8,7 @@ use Rattle.herd_pedigree.specs.declared.freezing.frozen.Row.{Row}
 use Rattle.herd_pedigree.specs.freezing.Frozen.{IsFrozen}
 use Rattle.herd_kinship.specs.declared.contribution.Contribution.{Contribution}
 use Rattle.herd_kinship.specs.Contributions.{contribution_at, contributions_of, filled, pairs_of}
-use Rattle.herd_kinship.specs.Places.{sire_place, dam_place}
+use Rattle.herd_kinship.specs.Ranks.{sire_rank, dam_rank}
 use Rattle.herd_kinship.proofs.FrozenFacts.{sire_at, dam_at}
 use Rattle.herd_kinship.specs.FrozenAncestry.{number_of_row}
 use Rattle.herd_report.specs.writing.CoefficientText.{fraction_text}
@@ -23,10 +23,10 @@ take-filled f i (Some s) None = refl
 take-filled f i None (Some d) = refl
 take-filled f i (Some s) (Some d) = refl
 
-pub take-filled-contributions : (rows : List Row) (place : ℕ)
-    → take (length (contributions_of DEPTH_LIMIT rows place)) (filled (contributions_of DEPTH_LIMIT rows place)) ≡ contributions_of DEPTH_LIMIT rows place
+pub take-filled-contributions : (rows : List Row) (rank : ℕ)
+    → take (length (contributions_of DEPTH_LIMIT rows rank)) (filled (contributions_of DEPTH_LIMIT rows rank)) ≡ contributions_of DEPTH_LIMIT rows rank
 unfolding contributions_of
-take-filled-contributions rows place = take-filled (contribution_at DEPTH_LIMIT rows place) place (sire_place rows place) (dam_place rows place)
+take-filled-contributions rows rank = take-filled (contribution_at DEPTH_LIMIT rows rank) rank (sire_rank rows rank) (dam_rank rows rank)
 
 -- there are at most six
 at_most_six : (f : ℕ × ℕ → Contribution) (i : ℕ) (s d : Option ℕ) → length (map f (pairs_of i s d)) ≤ 6
@@ -35,11 +35,11 @@ at_most_six f i (Some s) None = omega arith
 at_most_six f i None (Some d) = omega arith
 at_most_six f i (Some s) (Some d) = omega arith
 
-pub length-contributions-le : (rows : List Row) (place : ℕ) → length (contributions_of DEPTH_LIMIT rows place) ≤ 6
+pub length-contributions-le : (rows : List Row) (rank : ℕ) → length (contributions_of DEPTH_LIMIT rows rank) ≤ 6
 unfolding contributions_of
-length-contributions-le rows place = at_most_six (contribution_at DEPTH_LIMIT rows place) place (sire_place rows place) (dam_place rows place)
+length-contributions-le rows rank = at_most_six (contribution_at DEPTH_LIMIT rows rank) rank (sire_rank rows rank) (dam_rank rows rank)
 
--- an element at two places of the book
+-- an element at two ranks of the book
 within_at : (rows : List Row) (i p q : ℕ) → p < length rows → q < length rows → IsWithin rows (contribution_at DEPTH_LIMIT rows i (p, q))
 within_at rows i p q first second = record { row = first; column = second }
 
@@ -77,28 +77,28 @@ module _ (rows : List Row) (i : ℕ) (own : i < length rows) where
       (one_within (value (d, d)) (between ∷ []) (within_at rows i d d second second)
       (one_within between [] (within_at rows i (max s d) (min s d) later earlier) (All-nil (IsWithin rows)))))))
 
-pub contributions_within : (rows : List Row) → IsFrozen DEPTH_LIMIT MOST_ANIMALS rows → (place : ℕ) → place < length rows
-    → All (IsWithin rows) (contributions_of DEPTH_LIMIT rows place)
+pub contributions_within : (rows : List Row) → IsFrozen DEPTH_LIMIT MOST_ANIMALS rows → (rank : ℕ) → rank < length rows
+    → All (IsWithin rows) (contributions_of DEPTH_LIMIT rows rank)
 unfolding contributions_of
-contributions_within rows frozen place within =
-    all_within rows place within (sire_place rows place) (dam_place rows place)
-    (sire_at DEPTH_LIMIT MOST_ANIMALS rows frozen place within).within
-    (dam_at DEPTH_LIMIT MOST_ANIMALS rows frozen place within).within
+contributions_within rows frozen rank within =
+    all_within rows rank within (sire_rank rows rank) (dam_rank rows rank)
+    (sire_at DEPTH_LIMIT MOST_ANIMALS rows frozen rank within).within
+    (dam_at DEPTH_LIMIT MOST_ANIMALS rows frozen rank within).within
 
-some_line : (rows : List Row) (place : ℕ) (element : Contribution) → 0 < length (contribution_line rows place element)
-some_line rows place element =
+some_line : (rows : List Row) (rank : ℕ) (element : Contribution) → 0 < length (contribution_line rows rank element)
+some_line rows rank element =
     some_after
-    (number_of_row rows place ++ codes "," ++ number_of_row rows element.row ++ codes "," ++ number_of_row rows element.column ++ codes "," ++ fraction_text element.value)
+    (number_of_row rows rank ++ codes "," ++ number_of_row rows element.row ++ codes "," ++ number_of_row rows element.column ++ codes "," ++ fraction_text element.value)
     (codes "\n") (omega arith)
 
-some_lines : (rows : List Row) (place : ℕ) (f : ℕ × ℕ → Contribution) (s d : Option ℕ)
-    → 0 < length (flat_map (contribution_line rows place) (map f (pairs_of place s d)))
-some_lines rows place f None None = some_before (contribution_line rows place (f (place, place))) _ (some_line rows place (f (place, place)))
-some_lines rows place f (Some s) None = some_before (contribution_line rows place (f (place, place))) _ (some_line rows place (f (place, place)))
-some_lines rows place f None (Some d) = some_before (contribution_line rows place (f (place, place))) _ (some_line rows place (f (place, place)))
-some_lines rows place f (Some s) (Some d) = some_before (contribution_line rows place (f (place, place))) _ (some_line rows place (f (place, place)))
+some_lines : (rows : List Row) (rank : ℕ) (f : ℕ × ℕ → Contribution) (s d : Option ℕ)
+    → 0 < length (flat_map (contribution_line rows rank) (map f (pairs_of rank s d)))
+some_lines rows rank f None None = some_before (contribution_line rows rank (f (rank, rank))) _ (some_line rows rank (f (rank, rank)))
+some_lines rows rank f (Some s) None = some_before (contribution_line rows rank (f (rank, rank))) _ (some_line rows rank (f (rank, rank)))
+some_lines rows rank f None (Some d) = some_before (contribution_line rows rank (f (rank, rank))) _ (some_line rows rank (f (rank, rank)))
+some_lines rows rank f (Some s) (Some d) = some_before (contribution_line rows rank (f (rank, rank))) _ (some_line rows rank (f (rank, rank)))
 
 -- an animal contributes some lines
-pub some_contributions_text : (rows : List Row) (place : ℕ) → 0 < length (contributions_text rows place)
+pub some_contributions_text : (rows : List Row) (rank : ℕ) → 0 < length (contributions_text rows rank)
 unfolding contributions_of
-some_contributions_text rows place = some_lines rows place (contribution_at DEPTH_LIMIT rows place) (sire_place rows place) (dam_place rows place)
+some_contributions_text rows rank = some_lines rows rank (contribution_at DEPTH_LIMIT rows rank) (sire_rank rows rank) (dam_rank rows rank)

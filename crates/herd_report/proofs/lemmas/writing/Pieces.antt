@@ -6,31 +6,31 @@ use Rattle.std.proofs.lemmas.List.FromFn.{get_or-range_with_len, length-range_wi
 use Rattle.std.proofs.lemmas.Option.{slice_get_within, slice_get-get_or, get_or_from_slice_get}
 use Rattle.herd_report.proofs.lemmas.writing.OutputFacts.{Holds, holds_piece, some_before}
 
--- the element that a loop over the list reads stands at the place
-pub slice_get-item : {X : Type 0} (xs : List X) (place : ℕ) (x : X) → place < length xs → x ≡ get_or xs place x → slice_get xs place ≡ Some x
-slice_get-item xs place x within there = slice_get-get_or xs place x within ∙ ap Some (sym there)
+-- the element that a loop over the list reads stands at the rank
+pub slice_get-item : {X : Type 0} (xs : List X) (rank : ℕ) (x : X) → rank < length xs → x ≡ get_or xs rank x → slice_get xs rank ≡ Some x
+slice_get-item xs rank x within there = slice_get-get_or xs rank x within ∙ ap Some (sym there)
 
--- a number stands at its own place among the first n
-pub slice_get-range : (n place : ℕ) → place < n → slice_get (range_with_len 0 n) place ≡ Some place
-slice_get-range n place within =
-    slice_get-get_or (range_with_len 0 n) place 0 (rw (length-range_with_len 0 n) within)
-    ∙ ap Some (get_or-range_with_len 0 n place 0 within ∙ zero-add place)
+-- a number stands at its own rank among the first n
+pub slice_get-range : (n rank : ℕ) → rank < n → slice_get (range_with_len 0 n) rank ≡ Some rank
+slice_get-range n rank within =
+    slice_get-get_or (range_with_len 0 n) rank 0 (rw (length-range_with_len 0 n) within)
+    ∙ ap Some (get_or-range_with_len 0 n rank 0 within ∙ zero-add rank)
 
--- the piece of the element at a place, and those after it
-pub flat_map-drop : {X A : Type 0} (f : X → List A) (xs : List X) (place : ℕ) (x : X) → slice_get xs place ≡ Some x
-    → flat_map f (drop place xs) ≡ f x ++ flat_map f (drop (place + 1) xs)
-flat_map-drop {X} f xs place x there =
-    ap (flat_map f) (drop_more xs place x (slice_get_within xs place x there))
-    ∙ ap (λ (y : X). f y ++ flat_map f (drop (place + 1) xs)) (get_or_from_slice_get xs place x x there)
+-- the piece of the element at a rank, and those after it
+pub flat_map-drop : {X A : Type 0} (f : X → List A) (xs : List X) (rank : ℕ) (x : X) → slice_get xs rank ≡ Some x
+    → flat_map f (drop rank xs) ≡ f x ++ flat_map f (drop (rank + 1) xs)
+flat_map-drop {X} f xs rank x there =
+    ap (flat_map f) (drop_more xs rank x (slice_get_within xs rank x there))
+    ∙ ap (λ (y : X). f y ++ flat_map f (drop (rank + 1) xs)) (get_or_from_slice_get xs rank x x there)
 
--- the piece of the element at a place joined what waits
-pub holds_element : {X : Type 0} {old now : Option (List ℕ)} {text waiting pushed : List ℕ} (f : X → List ℕ) (xs : List X) (place : ℕ) (x : X)
-    → Holds old now text waiting (flat_map f (drop place xs)) → slice_get xs place ≡ Some x → pushed ≡ waiting ++ f x
-    → Holds old now text pushed (flat_map f (drop (place + 1) xs))
-holds_element f xs place x held there joined =
-    holds_piece (f x) (flat_map f (drop (place + 1) xs)) held (flat_map-drop f xs place x there) joined
+-- the piece of the element at a rank joined what waits
+pub holds_element : {X : Type 0} {old now : Option (List ℕ)} {text waiting pushed : List ℕ} (f : X → List ℕ) (xs : List X) (rank : ℕ) (x : X)
+    → Holds old now text waiting (flat_map f (drop rank xs)) → slice_get xs rank ≡ Some x → pushed ≡ waiting ++ f x
+    → Holds old now text pushed (flat_map f (drop (rank + 1) xs))
+holds_element f xs rank x held there joined =
+    holds_piece (f x) (flat_map f (drop (rank + 1) xs)) held (flat_map-drop f xs rank x there) joined
 
--- the piece of the element at a place is still to be made
-pub some_left : {X : Type 0} (f : X → List ℕ) (xs : List X) (place : ℕ) (x : X) → slice_get xs place ≡ Some x → 0 < length (f x)
-    → 0 < length (flat_map f (drop place xs))
-some_left f xs place x there some = rw (flat_map-drop f xs place x there) (some_before (f x) (flat_map f (drop (place + 1) xs)) some)
+-- the piece of the element at a rank is still to be made
+pub some_left : {X : Type 0} (f : X → List ℕ) (xs : List X) (rank : ℕ) (x : X) → slice_get xs rank ≡ Some x → 0 < length (f x)
+    → 0 < length (flat_map f (drop rank xs))
+some_left f xs rank x there some = rw (flat_map-drop f xs rank x there) (some_before (f x) (flat_map f (drop (rank + 1) xs)) some)

@@ -2,11 +2,11 @@ use Rattle.std.proofs.Common.{◌≡◌, ℕ, ◌-◌, ◌*◌, ◌<◌, inr, �
 use Rattle.herd_pedigree.specs.declared.TheConstants.{DEPTH_LIMIT, MOST_ANIMALS}
 use Rattle.herd_kinship.specs.CalfLinks.{IsLink}
 use Rattle.herd_kinship.specs.Pending.{mark}
-use Rattle.herd_kinship.specs.Places.{dam_place}
+use Rattle.herd_kinship.specs.Ranks.{dam_rank}
 use Rattle.herd_kinship.specs.Tracing.{GivesMark}
 use Rattle.herd_kinship.proofs.CalfFacts.{calf-within, latest-link, left_from, left-smaller, next-link, IsWalked, walked-start, walked-next}
 use Rattle.herd_kinship.proofs.Collecting.{gives-from, gives-it, gives-kept, gives-room}
-use Rattle.herd_kinship.proofs.FrozenFacts.{frozen-placed}
+use Rattle.herd_kinship.proofs.FrozenFacts.{frozen-ranked}
 use Rattle.herd_kinship.proofs.ParentsFacts.{parents-dam}
 use Rattle.herd_kinship.proofs.calves.Calves.mark_mates.Given.{Over}
 use Rattle.herd_kinship.proofs.calves.Calves.mark_mates.Goals.{After-get-link-in-Some, After-parents_at, In-Some}
@@ -20,7 +20,7 @@ within g c = calf-within c.args.frozen.now c.args.sire c.in-Some.calf (c.loop-li
 dam-older : (g : Over) (c : After-parents_at g) → (d : ℕ) → c.parents_at.result.dam ≡ Some d → d < c.in-Some.calf
 dam-older g c d e =
     let rows = c.args.frozen.now in
-    (frozen-placed DEPTH_LIMIT MOST_ANIMALS rows c.len.ensures.frozen).below c.in-Some.calf d
+    (frozen-ranked DEPTH_LIMIT MOST_ANIMALS rows c.len.ensures.frozen).below c.in-Some.calf d
     (calf-within rows c.args.sire c.in-Some.calf (c.loop-link.invariant.walked.next c.in-Some.calf c.in-Some.is))
     (inr (parents-dam rows c.in-Some.calf c.parents_at.result c.parents_at.ensures ∙ e))
 
@@ -86,8 +86,8 @@ loop-link-preserved g c =
           (λ (was : mark chunks e ≡ 1). c.loop-link.invariant.near e was)
           (λ at. let far = at.2 in omega arith)
           (gives-from last chunks chunks' dam gives e m);
-      walked = walked-next rows c.args.sire z c.get-link-in-Some.result (λ x. (d : ℕ) → dam_place rows x ≡ Some d → mark chunks (last - d) ≡ 1) _ is
+      walked = walked-next rows c.args.sire z c.get-link-in-Some.result (λ x. (d : ℕ) → dam_rank rows x ≡ Some d → mark chunks (last - d) ≡ 1) _ is
           (λ x zx marked d e. gives-kept last chunks chunks' dam gives (last - d) (marked d e))
           (λ d e. gives-it last chunks chunks' dam gives d (sym (parents-dam rows z c.parents_at.result c.parents_at.ensures) ∙ e))
-          (subst (λ o. IsWalked rows c.args.sire o (λ x. (d : ℕ) → dam_place rows x ≡ Some d → mark chunks (last - d) ≡ 1)) c.in-Some.is c.loop-link.invariant.walked);
+          (subst (λ o. IsWalked rows c.args.sire o (λ x. (d : ℕ) → dam_rank rows x ≡ Some d → mark chunks (last - d) ≡ 1)) c.in-Some.is c.loop-link.invariant.walked);
     }

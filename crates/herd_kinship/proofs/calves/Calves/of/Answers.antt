@@ -2,9 +2,9 @@ use Rattle.std.proofs.Common.{◌≡◌, ℕ, ◌<◌, inl, List, length, Option
 use Rattle.std.proofs.lemmas.List.{get_or_read}
 use Rattle.herd_pedigree.specs.declared.TheConstants.{DEPTH_LIMIT, MOST_ANIMALS}
 use Rattle.herd_kinship.specs.CalfLinks.{AreLinked, IsCalf}
-use Rattle.herd_kinship.specs.Places.{sire_place}
+use Rattle.herd_kinship.specs.Ranks.{sire_rank}
 use Rattle.herd_kinship.proofs.CalfFacts.{calf-pair, linked-calf, linked-other, no-calf}
-use Rattle.herd_kinship.proofs.FrozenFacts.{frozen-placed}
+use Rattle.herd_kinship.proofs.FrozenFacts.{frozen-ranked}
 use Rattle.herd_kinship.proofs.ParentsFacts.{parents-sire, parents-within}
 use Rattle.herd_kinship.proofs.calves.Calves.of.Given.{Over}
 use Rattle.herd_kinship.proofs.calves.Calves.of.Goals.{in-Some, in_default, In-Some}
@@ -15,9 +15,9 @@ within : (g : Over) (c : In-Some g) → c.in-Some.sire < length c.loop-calf.late
 within g c =
     let rows = c.args.frozen.now in
     let i : ℕ = c.loop-calf.calf in
-    let is : sire_place rows i ≡ Some c.in-Some.sire = parents-sire rows i c.parents_at.result c.parents_at.ensures ∙ c.in-Some.ensures.sire in
+    let is : sire_rank rows i ≡ Some c.in-Some.sire = parents-sire rows i c.parents_at.result c.parents_at.ensures ∙ c.in-Some.ensures.sire in
     let li = parents-within rows i c.parents_at.result c.parents_at.ensures in
-    let lower : c.in-Some.sire < i = (frozen-placed DEPTH_LIMIT MOST_ANIMALS rows c.len-animals.ensures.frozen).below i c.in-Some.sire li (inl is) in
+    let lower : c.in-Some.sire < i = (frozen-ranked DEPTH_LIMIT MOST_ANIMALS rows c.len-animals.ensures.frozen).below i c.in-Some.sire li (inl is) in
     let each : length c.loop-calf.latest.items ≡ length rows = c.loop-calf.invariant.each_sire in
     omega arith
 
@@ -38,7 +38,7 @@ loop-calf-preserved g c =
       | in-Some w ↦
           (let p : ℕ = w.in-Some.sire in
           let calf : IsCalf rows p i = calf-pair rows i p c.parents_at.result c.parents_at.ensures w.in-Some.ensures.sire w.in-Some.ensures.dam in
-          let lower : p < i = (frozen-placed DEPTH_LIMIT MOST_ANIMALS rows c.len-animals.ensures.frozen).below i p li (inl calf.0) in
+          let lower : p < i = (frozen-ranked DEPTH_LIMIT MOST_ANIMALS rows c.len-animals.ensures.frozen).below i p li (inl calf.0) in
           let each : length latest ≡ length rows = c.loop-calf.invariant.each_sire in
           let read = get_or_read latest p w.index.result.now (omega arith) w.index.ensures None in
           rw (w.latest-is, w.earlier-is, w.at.ensures, read) (linked-calf rows i p latest earlier li (omega arith) calf c.loop-calf.invariant))

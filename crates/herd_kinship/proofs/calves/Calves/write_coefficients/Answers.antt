@@ -3,9 +3,9 @@ use Rattle.std.proofs.lemmas.List.{get_or-set_same, get_or-set_other, length-set
 use Rattle.herd_pedigree.specs.declared.TheConstants.{DEPTH_LIMIT, MOST_ANIMALS}
 use Rattle.herd_kinship.specs.CalfLinks.{IsCalf, IsLink}
 use Rattle.herd_kinship.specs.Columns.{at_parent}
-use Rattle.herd_kinship.specs.Places.{dam_place}
+use Rattle.herd_kinship.specs.Ranks.{dam_rank}
 use Rattle.herd_kinship.proofs.CalfFacts.{calf-within, latest-link, left_from, left-smaller, next-link, IsWalked, walked-start, walked-next}
-use Rattle.herd_kinship.proofs.FrozenFacts.{frozen-placed}
+use Rattle.herd_kinship.proofs.FrozenFacts.{frozen-ranked}
 use Rattle.herd_kinship.proofs.ParentsFacts.{parents-dam}
 use Rattle.herd_kinship.proofs.calves.Calves.write_coefficients.Given.{Over}
 use Rattle.herd_kinship.proofs.calves.Calves.write_coefficients.Goals.{After-get-link-in-Some, After-parents_at, In-Some}
@@ -19,7 +19,7 @@ within g c = calf-within c.args.frozen.now c.args.sire c.in-Some.calf (c.loop-li
 dam-older : (g : Over) (c : After-parents_at g) → (d : ℕ) → c.parents_at.result.dam ≡ Some d → d < c.in-Some.calf
 dam-older g c d e =
     let rows = c.args.frozen.now in
-    (frozen-placed DEPTH_LIMIT MOST_ANIMALS rows c.len.ensures.frozen).below c.in-Some.calf d
+    (frozen-ranked DEPTH_LIMIT MOST_ANIMALS rows c.len.ensures.frozen).below c.in-Some.calf d
     (calf-within rows c.args.sire c.in-Some.calf (c.loop-link.invariant.walked.next c.in-Some.calf c.in-Some.is))
     (inr (parents-dam rows c.in-Some.calf c.parents_at.result c.parents_at.ensures ∙ e))
 
@@ -82,14 +82,14 @@ loop-link-preserved g c =
     let here = within g (goal.at.loop-link-preserved g c).In-Some in
     let each : length known ≡ length rows = c.loop-link.invariant.each in
     let is = older g (goal.at.loop-link-preserved g c).After-get-link-in-Some in
-    let right : value ≡ at_parent c.args.column.now (dam_place rows z) / 2 =
+    let right : value ≡ at_parent c.args.column.now (dam_rank rows z) / 2 =
     ap (λ v. v / 2) c.with_parent.ensures ∙ ap (λ o. at_parent c.args.column.now o / 2) (sym (parents-dam rows z c.parents_at.result c.parents_at.ensures)) in
     record {
       each = length-set known z value ∙ each;
       others = λ x none.
           get_or-set_other known z x value 0 (λ same. none (subst (λ v. IsCalf rows c.args.sire v) (sym same) calf)) ∙ c.loop-link.invariant.others x none;
-      walked = walked-next rows c.args.sire z c.get-link-in-Some.result (λ x. get_or known x 0 ≡ at_parent c.args.column.now (dam_place rows x) / 2) _ is
+      walked = walked-next rows c.args.sire z c.get-link-in-Some.result (λ x. get_or known x 0 ≡ at_parent c.args.column.now (dam_rank rows x) / 2) _ is
           (λ x zx done. get_or-set_other known z x value 0 (λ same. omega arith) ∙ done)
           (get_or-set_same known z value 0 (omega arith) ∙ right)
-          (subst (λ o. IsWalked rows c.args.sire o (λ x. get_or known x 0 ≡ at_parent c.args.column.now (dam_place rows x) / 2)) c.in-Some.is c.loop-link.invariant.walked);
+          (subst (λ o. IsWalked rows c.args.sire o (λ x. get_or known x 0 ≡ at_parent c.args.column.now (dam_rank rows x) / 2)) c.in-Some.is c.loop-link.invariant.walked);
     }

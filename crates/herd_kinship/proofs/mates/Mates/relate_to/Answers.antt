@@ -2,7 +2,7 @@ use Rattle.std.proofs.Common.{◌≡◌, ℕ, ◌-◌, ◌<◌, ◌≤◌, inr, 
 use Rattle.herd_pedigree.specs.declared.TheConstants.{DEPTH_LIMIT, MOST_ANIMALS}
 use Rattle.herd_kinship.specs.Columns.{related, HasAll}
 use Rattle.herd_kinship.proofs.CalfFacts.{calf-within}
-use Rattle.herd_kinship.proofs.FrozenFacts.{frozen-placed}
+use Rattle.herd_kinship.proofs.FrozenFacts.{frozen-ranked}
 use Rattle.herd_kinship.proofs.PassedOn.{has-all}
 use Rattle.herd_kinship.proofs.RelationshipFacts.{written}
 use Rattle.herd_kinship.proofs.mates.Mates.relate_to.Goals as goal
@@ -14,7 +14,7 @@ returns-clause-related g c =
     let f : ℕ → ℕ = λ j. related DEPTH_LIMIT rows c.args.sire (Some j) in
     λ calf dam es ed.
     let within : calf < length rows = calf-within rows c.args.sire calf (es, dam, ed) in
-    let lower : dam < calf = (frozen-placed DEPTH_LIMIT MOST_ANIMALS rows c.len-last.ensures.frozen).below calf dam within (inr ed) in
+    let lower : dam < calf = (frozen-ranked DEPTH_LIMIT MOST_ANIMALS rows c.len-last.ensures.frozen).below calf dam within (inr ed) in
     let count = c.len-last.ensures.value in
     let near : dam ≤ c.len-last.result - 1 = omega arith in
     let there : Contains c.collect.new.collected.items dam = c.in_ok-collect.ensures.all dam near (c.mark_mates.ensures.mates calf dam es ed) in

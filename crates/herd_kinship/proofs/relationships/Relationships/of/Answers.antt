@@ -13,5 +13,5 @@ returns g c =
     let ok = c.in_ok-column.column.ok in
     let len = c.in_ok-column.ensures.len in
     let all = c.len.ensures.value in
-    subst (λ xs. AreRelationships DEPTH_LIMIT rows c.args.place xs) (sym (written c.in_ok-column.column.len column c.in_ok-column.column.items (omega arith)))
-    (relationships-made DEPTH_LIMIT rows c.len.ensures.frozen c.args.place column c.requires.place (omega arith) c.relate_all.ensures.related)
+    subst (λ xs. AreRelationships DEPTH_LIMIT rows c.args.rank xs) (sym (written c.in_ok-column.column.len column c.in_ok-column.column.items (omega arith)))
+    (relationships-made DEPTH_LIMIT rows c.len.ensures.frozen c.args.rank column c.requires.rank (omega arith) c.relate_all.ensures.related)

@@ -8,15 +8,15 @@ use Rattle.herd_kinship.proofs.tracing.Tracing.give.Goals as goal
 
 pub parents_at-requires : goal.parents_at-requires
 parents_at-requires g c =
-    let room = c.requires.room c.in-Some.place c.in-Some.is in
-    let lower = room.lower in let met = room.met in let place = room.place in omega arith
+    let room = c.requires.room c.in-Some.rank c.in-Some.is in
+    let lower = room.lower in let met = room.met in let rank = room.rank in omega arith
 
 -- what the parent gets
 gift : (g : Over) (c : After-parents_at g) →
-    IsGift DEPTH_LIMIT c.args.frozen.now c.args.self.now.place c.args.self.now.shares.items c.args.met.place c.args.met.share c.in-Some.place c.args.parents.depth c.parents_at.result.depth
+    IsGift DEPTH_LIMIT c.args.frozen.now c.args.self.now.rank c.args.self.now.shares.items c.args.met.rank c.args.met.share c.in-Some.rank c.args.parents.depth c.parents_at.result.depth
 gift g c =
-    gift-is DEPTH_LIMIT c.args.frozen.now c.args.self.now.place c.args.self.now.shares.items c.args.met.place c.args.met.share c.in-Some.place c.args.parents c.parents_at.result
-    (lit< tt) (lit< tt) (c.requires.room c.in-Some.place c.in-Some.is) c.requires.row c.parents_at.ensures
+    gift-is DEPTH_LIMIT c.args.frozen.now c.args.self.now.rank c.args.self.now.shares.items c.args.met.rank c.args.met.share c.in-Some.rank c.args.parents c.parents_at.result
+    (lit< tt) (lit< tt) (c.requires.room c.in-Some.rank c.in-Some.is) c.requires.row c.parents_at.ensures
 
 pub overflow_sub-steps : goal.overflow_sub-steps
 overflow_sub-steps g c = let less = (gift g (goal.at.overflow_sub-steps g c).After-parents_at).less_deep in omega (arith, less)
@@ -31,10 +31,10 @@ pub overflow_sub-distance : goal.overflow_sub-distance
 overflow_sub-distance g c = (gift g (goal.at.overflow_sub-distance g c).After-parents_at).distance
 
 -- the share that the parent has before
-before : (g : Over) (c : After-index_mut g) → c.index_mut.result.now ≡ get_or c.args.self.now.shares.items (c.args.self.now.place - c.in-Some.place) 0
+before : (g : Over) (c : After-index_mut g) → c.index_mut.result.now ≡ get_or c.args.self.now.shares.items (c.args.self.now.rank - c.in-Some.rank) 0
 before g c =
-    let long = (c.requires.room c.in-Some.place c.in-Some.is).long in
-    get_or_read c.args.self.now.shares.items (c.args.self.now.place - c.in-Some.place) c.index_mut.result.now (omega (arith, long)) c.index_mut.ensures.value 0
+    let long = (c.requires.room c.in-Some.rank c.in-Some.is).long in
+    get_or_read c.args.self.now.shares.items (c.args.self.now.rank - c.in-Some.rank) c.index_mut.result.now (omega (arith, long)) c.index_mut.ensures.value 0
 
 pub overflow_add-index_mut : goal.overflow_add-index_mut
 overflow_add-index_mut g c =

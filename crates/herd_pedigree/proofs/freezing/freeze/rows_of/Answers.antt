@@ -1,7 +1,7 @@
 use Rattle.std.proofs.Common.{arith, ap, ◌∙◌, ◌+◌, ◌<◌}
 use Rattle.std.proofs.lemmas.List.{length_push}
 use Rattle.herd_pedigree.specs.declared.TheConstants.{MOST_ANIMALS}
-use Rattle.herd_pedigree.specs.store.PackedPlace.{nowhere}
+use Rattle.herd_pedigree.specs.store.PackedIndex.{nowhere}
 use Rattle.herd_pedigree.proofs.lemmas.freezing.AgeOrderFacts.{length-keys}
 use Rattle.herd_pedigree.proofs.lemmas.freezing.NextRowFacts.{rows-more}
 use Rattle.herd_pedigree.proofs.freezing.freeze.rows_of.Goals as goal

@@ -4,5 +4,5 @@ use Rattle.herd_pedigree.specs.freezing.Frozen.{levels_of}
 use Rattle.herd_pedigree.specs.declared.TheConstants.{DEPTH_LIMIT}
 use Rattle.herd_pedigree.proofs.freezing.levels.levels_of.Given as goal
 
-abbrev pub invariant-loop-place : goal.invariant-loop-place
-invariant-loop-place g l = map (λ level. level.items) l.levels.items ≡ levels_of DEPTH_LIMIT (take l.place l.rows)
+abbrev pub invariant-loop-rank : goal.invariant-loop-rank
+invariant-loop-rank g l = map (λ level. level.items) l.levels.items ≡ levels_of DEPTH_LIMIT (take l.rank l.rows)

@@ -3,7 +3,7 @@ use Rattle.std.specs.Map.{keys_of}
 use Rattle.herd_pedigree.specs.rules.Book.{Book, record_of}
 use Rattle.herd_pedigree.specs.Pedigree.{IsBirth}
 use Rattle.herd_pedigree.specs.rules.Depths.{depth_from}
-use Rattle.herd_pedigree.specs.store.Places.{IsPlaceIn}
+use Rattle.herd_pedigree.specs.store.Places.{IsIndexIn}
 use Rattle.herd_pedigree.specs.declared.TheConstants.{DEPTH_LIMIT, MOST_ANIMALS}
 use Rattle.herd_pedigree.proofs.KeptFacts.{IsHeld-push}
 use Rattle.herd_pedigree.proofs.lemmas.store.UndoFacts.{birth-view}
@@ -19,8 +19,8 @@ invariant_of-self-2 g c =
     let sire : Option ℕ = c.args.sire in
     let dam : Option ℕ = c.args.dam in
     let birth : IsBirth DEPTH_LIMIT MOST_ANIMALS book c.args.number c.args.animal = subst (λ p. IsBirth DEPTH_LIMIT MOST_ANIMALS p.book c.args.number c.args.animal) (sym c.self.view_is) c.requires.birth in
-    let sire_is : IsPlaceIn (keys_of book) sire c.args.animal.sire = subst (λ p. IsPlaceIn (keys_of p.book) sire c.args.animal.sire) (sym c.self.view_is) c.requires.sire in
-    let dam_is : IsPlaceIn (keys_of book) dam c.args.animal.dam = subst (λ p. IsPlaceIn (keys_of p.book) dam c.args.animal.dam) (sym c.self.view_is) c.requires.dam in
+    let sire_is : IsIndexIn (keys_of book) sire c.args.animal.sire = subst (λ p. IsIndexIn (keys_of p.book) sire c.args.animal.sire) (sym c.self.view_is) c.requires.sire in
+    let dam_is : IsIndexIn (keys_of book) dam c.args.animal.dam = subst (λ p. IsIndexIn (keys_of p.book) dam c.args.animal.dam) (sym c.self.view_is) c.requires.dam in
     let absent : record_of book c.args.number ≡ None = birth.absent in
     let entries : c.push.new.self.book ≡ book ++ (c.args.number, c.args.animal) ∷ [] = c.push.ensures ∙ ap (λ b. b ++ (c.args.number, c.args.animal) ∷ []) c.reserve.ensures.book in
     let sires_are : c.push-3.new.self.parents ≡ sires ++ sire ∷ [] = c.push-3.ensures ∙ ap (λ ps. ps ++ sire ∷ []) c.reserve-3.ensures.parents in

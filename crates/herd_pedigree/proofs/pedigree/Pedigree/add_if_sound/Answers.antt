@@ -5,7 +5,7 @@ use Rattle.herd_pedigree.specs.declared.rules.parent_fault.ParentFault.TheVarian
 use Rattle.herd_pedigree.specs.rules.Book.{Book, record_of}
 use Rattle.herd_pedigree.specs.rules.Depths.{depth_from}
 use Rattle.herd_pedigree.specs.rules.ParentFault.{parent_fault}
-use Rattle.herd_pedigree.specs.store.Places.{IsPlaceIn}
+use Rattle.herd_pedigree.specs.store.Places.{IsIndexIn}
 use Rattle.herd_pedigree.specs.declared.TheConstants.{DEPTH_LIMIT, MOST_ANIMALS}
 use Rattle.herd_pedigree.proofs.CheckFacts.{fault-first, newborn-fault}
 use Rattle.herd_pedigree.proofs.pedigree.Pedigree.add_if_sound.Goals as goal
@@ -54,10 +54,10 @@ add_below-requires-clause-birth g c =
     }
 
 pub add_below-requires-clause-sire : goal.add_below-requires-clause-sire
-add_below-requires-clause-sire g c = subst (λ p. IsPlaceIn (keys_of p.book) c.in-Ok.parents.sire c.args.animal.sire) c.self.view_is c.in-Ok.ensures.sire
+add_below-requires-clause-sire g c = subst (λ p. IsIndexIn (keys_of p.book) c.in-Ok.parents.sire c.args.animal.sire) c.self.view_is c.in-Ok.ensures.sire
 
 pub add_below-requires-clause-dam : goal.add_below-requires-clause-dam
-add_below-requires-clause-dam g c = subst (λ p. IsPlaceIn (keys_of p.book) c.in-Ok.parents.dam c.args.animal.dam) c.self.view_is c.in-Ok.ensures.dam
+add_below-requires-clause-dam g c = subst (λ p. IsIndexIn (keys_of p.book) c.in-Ok.parents.dam c.args.animal.dam) c.self.view_is c.in-Ok.ensures.dam
 
 pub returns-clause-fault : goal.returns-clause-fault
 returns-clause-fault g c =

@@ -2,7 +2,7 @@ use Rattle.std.proofs.Common.{sym, ap, ◌∙◌, subst, ◌≡◌, Some, None, 
 use Rattle.std.specs.Map.{keys_of}
 use Rattle.herd_pedigree.specs.rules.Book.{Book}
 use Rattle.herd_pedigree.specs.rules.ParentFault.{fault_by_records, is_too_deep, parent_fault}
-use Rattle.herd_pedigree.specs.store.Places.{IsPlaceIn}
+use Rattle.herd_pedigree.specs.store.Places.{IsIndexIn}
 use Rattle.herd_pedigree.specs.declared.TheConstants.{DEPTH_LIMIT}
 use Rattle.herd_pedigree.proofs.CheckFacts.{fault-first, fault-rest}
 use Rattle.herd_pedigree.proofs.pedigree.Pedigree.check_parents.Goals as goal
@@ -16,8 +16,8 @@ pub returns-then-branch : goal.returns-then-branch
 returns-then-branch g c =
     let now : Book = c.args.self.now.book in
     let same : c.self.inside.records.book ≡ now = ap (λ p. p.book) c.self.view_is in
-    let sire_is : IsPlaceIn (keys_of now) c.in-Ok.parents.sire c.args.sire = subst (λ b. IsPlaceIn (keys_of b) c.in-Ok.parents.sire c.args.sire) same c.in-Ok.ensures.sire in
-    let dam_is : IsPlaceIn (keys_of now) c.in-Ok.parents.dam c.args.dam = subst (λ b. IsPlaceIn (keys_of b) c.in-Ok.parents.dam c.args.dam) same c.in-Ok.ensures.dam in
+    let sire_is : IsIndexIn (keys_of now) c.in-Ok.parents.sire c.args.sire = subst (λ b. IsIndexIn (keys_of b) c.in-Ok.parents.sire c.args.sire) same c.in-Ok.ensures.sire in
+    let dam_is : IsIndexIn (keys_of now) c.in-Ok.parents.dam c.args.dam = subst (λ b. IsIndexIn (keys_of b) c.in-Ok.parents.dam c.args.dam) same c.in-Ok.ensures.dam in
     let deep : true ≡ is_too_deep DEPTH_LIMIT now c.args.number c.args.sire c.args.dam = sym c.if-branch.true ∙ c.in_ok-is_too_deep.ensures c.args.sire c.args.dam sire_is dam_is in
     fault-rest DEPTH_LIMIT now c.args.number c.args.birth c.args.sire c.args.dam c.args.embryo true
     (subst (λ b. fault_by_records b c.args.birth c.args.sire c.args.dam c.args.embryo ≡ None) same c.in-Ok.ensures.sound) deep
@@ -26,8 +26,8 @@ pub returns-else-branch : goal.returns-else-branch
 returns-else-branch g c =
     let now : Book = c.args.self.now.book in
     let same : c.self.inside.records.book ≡ now = ap (λ p. p.book) c.self.view_is in
-    let sire_is : IsPlaceIn (keys_of now) c.in-Ok.parents.sire c.args.sire = subst (λ b. IsPlaceIn (keys_of b) c.in-Ok.parents.sire c.args.sire) same c.in-Ok.ensures.sire in
-    let dam_is : IsPlaceIn (keys_of now) c.in-Ok.parents.dam c.args.dam = subst (λ b. IsPlaceIn (keys_of b) c.in-Ok.parents.dam c.args.dam) same c.in-Ok.ensures.dam in
+    let sire_is : IsIndexIn (keys_of now) c.in-Ok.parents.sire c.args.sire = subst (λ b. IsIndexIn (keys_of b) c.in-Ok.parents.sire c.args.sire) same c.in-Ok.ensures.sire in
+    let dam_is : IsIndexIn (keys_of now) c.in-Ok.parents.dam c.args.dam = subst (λ b. IsIndexIn (keys_of b) c.in-Ok.parents.dam c.args.dam) same c.in-Ok.ensures.dam in
     let deep : false ≡ is_too_deep DEPTH_LIMIT now c.args.number c.args.sire c.args.dam = sym c.if-branch.false ∙ c.in_ok-is_too_deep.ensures c.args.sire c.args.dam sire_is dam_is in
     fault-rest DEPTH_LIMIT now c.args.number c.args.birth c.args.sire c.args.dam c.args.embryo false
     (subst (λ b. fault_by_records b c.args.birth c.args.sire c.args.dam c.args.embryo ≡ None) same c.in-Ok.ensures.sound) deep

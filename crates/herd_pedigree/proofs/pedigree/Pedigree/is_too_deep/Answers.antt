@@ -2,11 +2,11 @@ use Rattle.std.proofs.Common.{◌+◌, sym, ap, ◌∙◌, subst, arith, ◌≡�
 use Rattle.std.proofs.lemmas.Bool.{lt-ltb}
 use Rattle.std.proofs.lemmas.List.{get_or_default}
 use Rattle.std.specs.Map.{keys_of}
-use Rattle.herd_pedigree.specs.rules.Lines.{has_line}
+use Rattle.herd_pedigree.specs.rules.Paths.{has_path}
 use Rattle.herd_pedigree.specs.rules.Book.{Book, record_of}
 use Rattle.herd_pedigree.specs.rules.ParentFault.{is_too_deep}
 use Rattle.herd_pedigree.specs.rules.Depths.{depth_from}
-use Rattle.herd_pedigree.specs.store.Places.{IsPlaceIn, parentage_at}
+use Rattle.herd_pedigree.specs.store.Places.{IsIndexIn, parentage_at}
 use Rattle.herd_pedigree.specs.store.Carry.{IsSettled}
 use Rattle.herd_pedigree.specs.declared.TheConstants.{DEPTH_LIMIT, MOST_ANIMALS}
 use Rattle.herd_pedigree.proofs.lemmas.rules.BookFacts.{at_position, none_if}
@@ -24,7 +24,7 @@ returns-in_default g c =
     let kept = c.self.invariant.kept in
     let depth : c.depth_with-depth.result ≡ depth_from (slice_index depths) c.args.sire c.args.dam = c.depth_with-depth.ensures.depth ∙ ap (λ ds. depth_from (slice_index ds) c.args.sire c.args.dam) c.deref.ensures.value in
     let absent : record_of book number ≡ None = none_if (record_of book number) (sym c.in_default.ensures.found) in
-    let P : Book → Type 0 = λ book. (s d : Option (List ℕ)) → IsPlaceIn (keys_of book) c.args.sire s → IsPlaceIn (keys_of book) c.args.dam d → nat_lt c.from.result c.depth_with-depth.result ≡ is_too_deep DEPTH_LIMIT book number s d in
+    let P : Book → Type 0 = λ book. (s d : Option (List ℕ)) → IsIndexIn (keys_of book) c.args.sire s → IsIndexIn (keys_of book) c.args.dam d → nat_lt c.from.result c.depth_with-depth.result ≡ is_too_deep DEPTH_LIMIT book number s d in
     let told : P book = λ s d si di. (λ i. nat_lt (c.from.ensures i) (depth i)) ∙ too_deep-absent DEPTH_LIMIT MOST_ANIMALS book sires dams depths kept number absent c.args.sire c.args.dam s d si di in
     subst (λ p. P p.book) c.self.view_is told
 
@@ -43,7 +43,7 @@ returns-then-depth-from g c =
     let low : depth_from (slice_index depths) c.args.sire c.args.dam ≤ slice_index depths place =
     let a = c.if-depth-from.true in let b = c.from-2.ensures in omega (arith, depth, read, a, b) in
     let at : slice_get (keys_of book) place ≡ Some number = at_position book number place (sym c.in-Some.ensures.index) in
-    let P : Book → Type 0 = λ book. (s d : Option (List ℕ)) → IsPlaceIn (keys_of book) c.args.sire s → IsPlaceIn (keys_of book) c.args.dam d → false ≡ is_too_deep DEPTH_LIMIT book number s d in
+    let P : Book → Type 0 = λ book. (s d : Option (List ℕ)) → IsIndexIn (keys_of book) c.args.sire s → IsIndexIn (keys_of book) c.args.dam d → false ≡ is_too_deep DEPTH_LIMIT book number s d in
     let told : P book = λ s d si di. sym (not_deep-lower DEPTH_LIMIT MOST_ANIMALS book sires dams depths kept number place at c.args.sire c.args.dam s d si di low) in
     subst (λ p. P p.book) c.self.view_is told
 
@@ -71,7 +71,7 @@ returns-then-has_no_calves g c =
     let depth : c.depth_with-depth.result ≡ depth_from (slice_index depths) c.args.sire c.args.dam = c.depth_with-depth.ensures.depth ∙ ap (λ ds. depth_from (slice_index ds) c.args.sire c.args.dam) c.deref.ensures.value in
     let place : ℕ = c.in-Some.place in
     let at : slice_get (keys_of book) place ≡ Some number = at_position book number place (sym c.in-Some.ensures.index) in
-    let P : Book → Type 0 = λ book. (s d : Option (List ℕ)) → IsPlaceIn (keys_of book) c.args.sire s → IsPlaceIn (keys_of book) c.args.dam d → nat_lt c.from-then-has_no_calves.result c.depth_with-depth.result ≡ is_too_deep DEPTH_LIMIT book number s d in
+    let P : Book → Type 0 = λ book. (s d : Option (List ℕ)) → IsIndexIn (keys_of book) c.args.sire s → IsIndexIn (keys_of book) c.args.dam d → nat_lt c.from-then-has_no_calves.result c.depth_with-depth.result ≡ is_too_deep DEPTH_LIMIT book number s d in
     let told : P book = λ s d si di. (λ i. nat_lt (c.from-then-has_no_calves.ensures i) (depth i)) ∙ too_deep-leaf DEPTH_LIMIT MOST_ANIMALS book sires dams depths kept number place at c.args.sire c.args.dam s d si di (c.has_no_calves.ensures c.if-has_no_calves.true) in
     subst (λ p. P p.book) c.self.view_is told
 
@@ -121,10 +121,10 @@ returns g c =
     let kept = c.self.invariant.kept in
     let place : ℕ = c.in-Some.place in
     let at : slice_get (keys_of book) place ≡ Some number = at_position book number place (sym c.in-Some.ensures.index) in
-    let P : Book → Bool → Type 0 = λ book deep. (s d : Option (List ℕ)) → IsPlaceIn (keys_of book) c.args.sire s → IsPlaceIn (keys_of book) c.args.dam d → deep ≡ is_too_deep DEPTH_LIMIT book number s d in
+    let P : Book → Bool → Type 0 = λ book deep. (s d : Option (List ℕ)) → IsIndexIn (keys_of book) c.args.sire s → IsIndexIn (keys_of book) c.args.dam d → deep ≡ is_too_deep DEPTH_LIMIT book number s d in
     let new = parentage_at (slice_set sires place c.args.sire) (slice_set dams place c.args.dam) in
-    let Q : Bool → Type 0 = λ deep. (IsTrue deep → (x : ℕ) × IsTrue (has_line new (DEPTH_LIMIT + 1) x)) in
-    let R : Bool → Type 0 = λ deep. (IsFalse deep → (x : ℕ) → IsFalse (has_line new (DEPTH_LIMIT + 1) x)) in
+    let Q : Bool → Type 0 = λ deep. (IsTrue deep → (x : ℕ) × IsTrue (has_path new (DEPTH_LIMIT + 1) x)) in
+    let R : Bool → Type 0 = λ deep. (IsFalse deep → (x : ℕ) → IsFalse (has_path new (DEPTH_LIMIT + 1) x)) in
     IfOk-both c.is_too_deep.result Q R (P c.args.self.now.book)
     (λ deep q r. subst (λ p. P p.book deep) c.self.view_is (λ s d si di. too_deep-told_by DEPTH_LIMIT MOST_ANIMALS book sires dams depths kept number place at c.args.sire c.args.dam s d si di deep q r))
     c.is_too_deep.ensures.deep c.is_too_deep.ensures.shallow

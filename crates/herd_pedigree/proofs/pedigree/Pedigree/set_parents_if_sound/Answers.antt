@@ -6,10 +6,10 @@ use Rattle.std.proofs.lemmas.Bool.{false≢true, true≢false}
 use Rattle.indexmap.specs.IndexMap.{set_value_at}
 use Rattle.herd_pedigree.specs.declared.rules.animal.Animal.{Animal}
 use Rattle.herd_pedigree.specs.declared.store.undo.Undo.TheVariants.{Record}
-use Rattle.herd_pedigree.specs.rules.Lines.{has_line}
+use Rattle.herd_pedigree.specs.rules.Paths.{has_path}
 use Rattle.herd_pedigree.specs.rules.Book.{Book, changed, record_of, with_parents}
 use Rattle.herd_pedigree.specs.Pedigree.{IsCorrection, changed_to}
-use Rattle.herd_pedigree.specs.store.Places.{IsPlaceIn, parentage_at}
+use Rattle.herd_pedigree.specs.store.Places.{IsIndexIn, parentage_at}
 use Rattle.herd_pedigree.specs.rules.ParentFault.{is_too_deep, parent_fault}
 use Rattle.herd_pedigree.specs.declared.rules.parent_fault.ParentFault.TheVariants.{TooDeep}
 use Rattle.herd_pedigree.specs.store.Carry.{IsSettled}
@@ -76,19 +76,19 @@ returns-in_default-2-clause-fault g c =
     let s : Option (List ℕ) = c.args.sire in
     let d : Option (List ℕ) = c.args.dam in
     let entry : slice_get book place ≡ Some (number, a) = entry_found book number place a c.in-Some.ensures.index c.animal_at-animal.ensures in
-    let line : (x : ℕ) × IsTrue (has_line (parentage_at (slice_set sires place sire) (slice_set dams place dam)) (DEPTH_LIMIT + 1) x) = rw c.in_default-2.is at c.in_ok-log.ensures.deep in
+    let path : (x : ℕ) × IsTrue (has_path (parentage_at (slice_set sires place sire) (slice_set dams place dam)) (DEPTH_LIMIT + 1) x) = rw c.in_default-2.is at c.in_ok-log.ensures.deep in
     let deep : true ≡ is_too_deep DEPTH_LIMIT book number s d =
-    too_deep-told_by DEPTH_LIMIT MOST_ANIMALS book sires dams c.self.inside.depths.items kept number place (at_position book number place (sym c.in-Some.ensures.index)) sire dam s d c.in-Ok.ensures.sire c.in-Ok.ensures.dam true (λ _. line) (λ no. absurd (true≢false no)) in
+    too_deep-told_by DEPTH_LIMIT MOST_ANIMALS book sires dams c.self.inside.depths.items kept number place (at_position book number place (sym c.in-Some.ensures.index)) sire dam s d c.in-Ok.ensures.sire c.in-Ok.ensures.dam true (λ _. path) (λ no. absurd (true≢false no)) in
     subst (λ p. IfSome (record_of p.book number) (λ animal. Some TooDeep ≡ parent_fault DEPTH_LIMIT p.book number animal.birth s d animal.embryo)) c.self.view_is
     (told-there DEPTH_LIMIT book kept.lawful.once place number a entry s d (Some TooDeep) (fault-rest DEPTH_LIMIT book number a.birth s d a.embryo true c.in-Ok.ensures.sound deep))
 
 pub set-requires-clause-sire : goal.set-requires-clause-sire
 set-requires-clause-sire g c =
-    subst (λ o. IsPlaceIn (keys_of c.self.inside.records.book) c.in-Ok.parents.sire o) (sym (ap (λ v. v.sire) c.with_parents-corrected.ensures)) c.in-Ok.ensures.sire
+    subst (λ o. IsIndexIn (keys_of c.self.inside.records.book) c.in-Ok.parents.sire o) (sym (ap (λ v. v.sire) c.with_parents-corrected.ensures)) c.in-Ok.ensures.sire
 
 pub set-requires-clause-dam : goal.set-requires-clause-dam
 set-requires-clause-dam g c =
-    subst (λ o. IsPlaceIn (keys_of c.self.inside.records.book) c.in-Ok.parents.dam o) (sym (ap (λ v. v.dam) c.with_parents-corrected.ensures)) c.in-Ok.ensures.dam
+    subst (λ o. IsIndexIn (keys_of c.self.inside.records.book) c.in-Ok.parents.dam o) (sym (ap (λ v. v.dam) c.with_parents-corrected.ensures)) c.in-Ok.ensures.dam
 
 -- Depths were carried on to the end, so that the new parents have no fault: the correction is one that the book may take.
 pub invariant_of-self-2 : goal.invariant_of-self-2
@@ -102,8 +102,8 @@ invariant_of-self-2 g c =
     let place : ℕ = c.in-Some.index in
     let sire : Option ℕ = c.in-Ok.parents.sire in
     let dam : Option ℕ = c.in-Ok.parents.dam in
-    let sire_is : IsPlaceIn (keys_of book) sire c.args.sire = c.in-Ok.ensures.sire in
-    let dam_is : IsPlaceIn (keys_of book) dam c.args.dam = c.in-Ok.ensures.dam in
+    let sire_is : IsIndexIn (keys_of book) sire c.args.sire = c.in-Ok.ensures.sire in
+    let dam_is : IsIndexIn (keys_of book) dam c.args.dam = c.in-Ok.ensures.dam in
     let a : Animal = c.animal_at-animal.result in
     let s : Option (List ℕ) = c.args.sire in
     let d : Option (List ℕ) = c.args.dam in
@@ -111,7 +111,7 @@ invariant_of-self-2 g c =
     let entry : slice_get book place ≡ Some (number, a) = entry_found book number place a c.in-Some.ensures.index c.animal_at-animal.ensures in
     let written : c.set.new.self.book ≡ set_value_at book place (with_parents s d a) = c.set.ensures ∙ ap (λ v. set_value_at book place v) c.with_parents-corrected.ensures in
     let there : record_of book number ≡ Some a = lookup_at book kept.lawful.once place number a entry in
-    let shallow : (x : ℕ) → IsFalse (has_line (parentage_at (slice_set sires place sire) (slice_set dams place dam)) (DEPTH_LIMIT + 1) x) = rw c.in-Some-2.is at c.in_ok-log.ensures.shallow in
+    let shallow : (x : ℕ) → IsFalse (has_path (parentage_at (slice_set sires place sire) (slice_set dams place dam)) (DEPTH_LIMIT + 1) x) = rw c.in-Some-2.is at c.in_ok-log.ensures.shallow in
     let fine : false ≡ is_too_deep DEPTH_LIMIT book number s d =
     too_deep-told_by DEPTH_LIMIT MOST_ANIMALS book sires dams depths kept number place at sire dam s d sire_is dam_is false (λ yes. absurd (false≢true yes)) (λ _. shallow) in
     let asked : IsCorrection DEPTH_LIMIT book number s d = record { animal = a; there = there; parents = sym (fault-rest DEPTH_LIMIT book number a.birth s d a.embryo false c.in-Ok.ensures.sound fine) } in
@@ -146,7 +146,7 @@ returns-clause-fault g c =
     let s : Option (List ℕ) = c.args.sire in
     let d : Option (List ℕ) = c.args.dam in
     let entry : slice_get book place ≡ Some (number, a) = entry_found book number place a c.in-Some.ensures.index c.animal_at-animal.ensures in
-    let shallow : (x : ℕ) → IsFalse (has_line (parentage_at (slice_set sires place sire) (slice_set dams place dam)) (DEPTH_LIMIT + 1) x) = rw c.in-Some-2.is at c.in_ok-log.ensures.shallow in
+    let shallow : (x : ℕ) → IsFalse (has_path (parentage_at (slice_set sires place sire) (slice_set dams place dam)) (DEPTH_LIMIT + 1) x) = rw c.in-Some-2.is at c.in_ok-log.ensures.shallow in
     let fine : false ≡ is_too_deep DEPTH_LIMIT book number s d =
     too_deep-told_by DEPTH_LIMIT MOST_ANIMALS book sires dams c.self.inside.depths.items kept number place (at_position book number place (sym c.in-Some.ensures.index)) sire dam s d c.in-Ok.ensures.sire c.in-Ok.ensures.dam false (λ yes. absurd (false≢true yes)) (λ _. shallow) in
     subst (λ p. IfSome (record_of p.book number) (λ animal. None ≡ parent_fault DEPTH_LIMIT p.book number animal.birth s d animal.embryo)) c.self.view_is

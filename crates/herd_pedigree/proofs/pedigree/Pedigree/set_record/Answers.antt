@@ -5,7 +5,7 @@ use Rattle.herd_pedigree.specs.declared.store.undo.Undo.TheVariants.{Record}
 use Rattle.herd_pedigree.specs.rules.Book.{Book}
 use Rattle.herd_pedigree.specs.rules.Lawful.{IsLawful}
 use Rattle.herd_pedigree.specs.Pedigree.{changed_to}
-use Rattle.herd_pedigree.specs.store.Places.{IsPlaceIn}
+use Rattle.herd_pedigree.specs.store.Places.{IsIndexIn}
 use Rattle.herd_pedigree.specs.store.Undo.{IsHeld}
 use Rattle.herd_pedigree.specs.declared.TheConstants.{DEPTH_LIMIT, MOST_ANIMALS}
 use Rattle.herd_pedigree.proofs.lemmas.rules.BookFacts.{entry_from_value}
@@ -16,15 +16,15 @@ pub set-requires-clause-sire : goal.set-requires-clause-sire
 set-requires-clause-sire g c =
     let book : Book = c.self.inside.records.book in
     let entry = entry_from_value book c.args.place c.args.was (subst (λ p. slice_get (values_of p.book) c.args.place ≡ Some c.args.was) (sym c.self.view_is) c.requires.there) in
-    subst (λ o. IsPlaceIn (keys_of book) c.parent-sire.result o) (sym c.requires.sire)
-    (subst (λ o. IsPlaceIn (keys_of book) o c.args.was.sire) (sym c.parent-sire.ensures) (c.self.invariant.kept.sires_are.each c.args.place (entry.0, c.args.was) entry.1))
+    subst (λ o. IsIndexIn (keys_of book) c.parent-sire.result o) (sym c.requires.sire)
+    (subst (λ o. IsIndexIn (keys_of book) o c.args.was.sire) (sym c.parent-sire.ensures) (c.self.invariant.kept.sires_are.each c.args.place (entry.0, c.args.was) entry.1))
 
 pub set-requires-clause-dam : goal.set-requires-clause-dam
 set-requires-clause-dam g c =
     let book : Book = c.self.inside.records.book in
     let entry = entry_from_value book c.args.place c.args.was (subst (λ p. slice_get (values_of p.book) c.args.place ≡ Some c.args.was) (sym c.self.view_is) c.requires.there) in
-    subst (λ o. IsPlaceIn (keys_of book) c.parent-dam.result o) (sym c.requires.dam)
-    (subst (λ o. IsPlaceIn (keys_of book) o c.args.was.dam) (sym c.parent-dam.ensures) (c.self.invariant.kept.dams_are.each c.args.place (entry.0, c.args.was) entry.1))
+    subst (λ o. IsIndexIn (keys_of book) c.parent-dam.result o) (sym c.requires.dam)
+    (subst (λ o. IsIndexIn (keys_of book) o c.args.was.dam) (sym c.parent-dam.ensures) (c.self.invariant.kept.dams_are.each c.args.place (entry.0, c.args.was) entry.1))
 
 pub invariant_of-self : goal.invariant_of-self
 invariant_of-self g c =

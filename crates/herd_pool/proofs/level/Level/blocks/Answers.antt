@@ -7,10 +7,10 @@ use Rattle.herd_pool.proofs.level.Level.blocks.Goals as goal
 pub overflow_cast-result : goal.overflow_cast-result
 overflow_cast-result g c =
     let rows = c.args.self.now.frozen.now in
-    let level = ap length c.level-places.ensures in
+    let level = ap length c.level-ranks.ensures in
     let all = length-level_of c.args.self.now.depth rows in
     let few = c.requires.frozen.lawful.few in
     let book = length-book_of rows in
-    let quotient = div-le_self (length c.level-places.result.now) c.args.self.now.block in
+    let quotient = div-le_self (length c.level-ranks.result.now) c.args.self.now.block in
     let is = c.div_ceil.ensures in
     omega arith

@@ -4,8 +4,8 @@ use Rattle.herd_pedigree.specs.declared.TheConstants.{DEPTH_LIMIT}
 use Rattle.herd_pool.specs.Levels.{block_of, coefficient_at}
 use Rattle.herd_pool.proofs.level.Level.compute.Given as goal
 
-abbrev pub invariant-loop-place : goal.invariant-loop-place
-invariant-loop-place g l = record {
-  places : l.place-items ≡ block_of l.self.block l.number (level_of l.self.depth l.self.frozen.now);
-  numerators : l.numerators.items ≡ map (coefficient_at DEPTH_LIMIT l.self.frozen.now) (take l.place-index l.place-items);
+abbrev pub invariant-loop-rank : goal.invariant-loop-rank
+invariant-loop-rank g l = record {
+  ranks : l.rank-items ≡ block_of l.self.block l.number (level_of l.self.depth l.self.frozen.now);
+  numerators : l.numerators.items ≡ map (coefficient_at DEPTH_LIMIT l.self.frozen.now) (take l.rank-index l.rank-items);
 }

@@ -5,6 +5,6 @@ use Rattle.herd_kinship.specs.FrozenAncestry.{number_of_row}
 use Rattle.herd_report.specs.writing.Certificate.{ancestor_line}
 use Rattle.herd_report.proofs.writing.ancestors.push_lines.Given as goal
 
-abbrev pub invariant-loop-line : goal.invariant-loop-line
-invariant-loop-line g l =
-    l.output ≡ l.fn.output ++ flat_map (λ line. ancestor_line (book_of l.frozen) (number_of_row l.frozen l.place) line.now) (take l.line-index l.lines)
+abbrev pub invariant-loop-path : goal.invariant-loop-path
+invariant-loop-path g l =
+    l.output ≡ l.fn.output ++ flat_map (λ path. ancestor_line (book_of l.frozen) (number_of_row l.frozen l.rank) path.now) (take l.path-index l.paths)

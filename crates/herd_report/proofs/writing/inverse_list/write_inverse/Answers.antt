@@ -12,32 +12,32 @@ use Rattle.herd_report.proofs.writing.inverse_list.write_inverse.Goals as goal
 pub returns-in_err-pass_on-clause-err : goal.returns-in_err-pass_on-clause-err
 returns-in_err-pass_on-clause-err g c =
     let exit = err_from_is_err_and c.from_residual.result c.from_residual.ensures.1 in
-    rw exit.1 (front_waiting c.loop-place.invariant c.in_err-pass_on.ensures.err)
+    rw exit.1 (front_waiting c.loop-rank.invariant c.in_err-pass_on.ensures.err)
 
 pub returns-in_err-push_contributions-clause-err : goal.returns-in_err-push_contributions-clause-err
 returns-in_err-push_contributions-clause-err g c =
     let exit = err_from_is_err_and c.from_residual-in_err-push_contributions.result c.from_residual-in_err-push_contributions.ensures.1 in
     let rows = c.args.frozen.now in
-    let place = c.loop-place.place in
-    let within : place < length rows = omega arith in
-    let some = some_left (contributions_text rows) (range_with_len 0 (length rows)) place place (slice_get-range (length rows) place within) (some_contributions_text rows place) in
-    rw exit.1 (front_passed (holds_passed c.loop-place.invariant c.in_ok-pass_on.ensures.ok) some)
+    let rank = c.loop-rank.rank in
+    let within : rank < length rows = omega arith in
+    let some = some_left (contributions_text rows) (range_with_len 0 (length rows)) rank rank (slice_get-range (length rows) rank within) (some_contributions_text rows rank) in
+    rw exit.1 (front_passed (holds_passed c.loop-rank.invariant c.in_ok-pass_on.ensures.ok) some)
 
-pub loop-place-preserved : goal.loop-place-preserved
-loop-place-preserved g c =
+pub loop-rank-preserved : goal.loop-rank-preserved
+loop-rank-preserved g c =
     let rows = c.args.frozen.now in
-    let place = c.loop-place.place in
-    let within : place < length rows = omega arith in
-    holds_element (contributions_text rows) (range_with_len 0 (length rows)) place place
-    (holds_passed c.loop-place.invariant c.in_ok-pass_on.ensures.ok) (slice_get-range (length rows) place within) c.in_ok-push_contributions.ensures
+    let rank = c.loop-rank.rank in
+    let within : rank < length rows = omega arith in
+    holds_element (contributions_text rows) (range_with_len 0 (length rows)) rank rank
+    (holds_passed c.loop-rank.invariant c.in_ok-pass_on.ensures.ok) (slice_get-range (length rows) rank within) c.in_ok-push_contributions.ensures
 
 pub returns-clause-err : goal.returns-clause-err
-returns-clause-err g c = on_err_weaker c.finish.result (front_waiting c.loop-place.invariant) c.finish.ensures.err
+returns-clause-err g c = on_err_weaker c.finish.result (front_waiting c.loop-rank.invariant) c.finish.ensures.err
 
 pub returns-clause-ok : goal.returns-clause-ok
 returns-clause-ok g c =
     let rows = c.args.frozen.now in
-    let place = c.loop-place.place in
-    let past : length (range_with_len 0 (length rows)) ≤ place = rw (length-range_with_len 0 (length rows)) (omega arith) in
-    let held = rw (drop_all place (range_with_len 0 (length rows)) past) at c.loop-place.invariant in
+    let rank = c.loop-rank.rank in
+    let past : length (range_with_len 0 (length rows)) ≤ rank = rw (length-range_with_len 0 (length rows)) (omega arith) in
+    let held = rw (drop_all rank (range_with_len 0 (length rows)) past) at c.loop-rank.invariant in
     on_ok_weaker c.finish.result (λ written. appends_waiting (g.W.Write.contents c.finish.new.writer) held written) c.finish.ensures.ok

@@ -4,7 +4,7 @@ use Rattle.herd_report.proofs.lemmas.writing.OutputFacts.{Holds}
 use Rattle.herd_report.specs.writing.InverseList.{contributions_text, inverse_text}
 use Rattle.herd_report.proofs.writing.inverse_list.write_inverse.Given as goal
 
-abbrev pub invariant-loop-place : goal.invariant-loop-place
-invariant-loop-place g l =
+abbrev pub invariant-loop-rank : goal.invariant-loop-rank
+invariant-loop-rank g l =
     Holds (g.W.Write.contents l.fn.writer) (g.W.Write.contents l.writer) (inverse_text l.frozen) l.output
-    (flat_map (contributions_text l.frozen) (drop l.place (range_with_len 0 (length l.frozen))))
+    (flat_map (contributions_text l.frozen) (drop l.rank (range_with_len 0 (length l.frozen))))

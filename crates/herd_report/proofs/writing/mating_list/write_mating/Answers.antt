@@ -17,17 +17,17 @@ returns-in_err-push_advice-clause-err g c =
     let exit = err_from_is_err_and c.from_residual-in_err-push_advice.result c.from_residual-in_err-push_advice.ensures.1 in
     let book = book_of c.args.frozen.now in
     let sires = c.args.sires.now in
-    let place = c.loop-sire.sire-index in
-    let there = slice_get-item sires place c.sire-item.result c.loop-sire-test.true c.sire-item.is in
-    let some = some_left (mating_line book c.args.dam) sires place c.sire-item.result there (some_mating_line book c.args.dam c.sire-item.result) in
+    let rank = c.loop-sire.sire-index in
+    let there = slice_get-item sires rank c.sire-item.result c.loop-sire-test.true c.sire-item.is in
+    let some = some_left (mating_line book c.args.dam) sires rank c.sire-item.result there (some_mating_line book c.args.dam c.sire-item.result) in
     rw exit.1 (front_passed (holds_passed c.loop-sire.invariant c.in_ok-pass_on.ensures.ok) some)
 
 pub loop-sire-preserved : goal.loop-sire-preserved
 loop-sire-preserved g c =
     let sires = c.args.sires.now in
-    let place = c.loop-sire.sire-index in
-    holds_element (mating_line (book_of c.args.frozen.now) c.args.dam) sires place c.sire-item.result
-    (holds_passed c.loop-sire.invariant c.in_ok-pass_on.ensures.ok) (slice_get-item sires place c.sire-item.result c.loop-sire-test.true c.sire-item.is) c.in_ok-push_advice.ensures
+    let rank = c.loop-sire.sire-index in
+    holds_element (mating_line (book_of c.args.frozen.now) c.args.dam) sires rank c.sire-item.result
+    (holds_passed c.loop-sire.invariant c.in_ok-pass_on.ensures.ok) (slice_get-item sires rank c.sire-item.result c.loop-sire-test.true c.sire-item.is) c.in_ok-push_advice.ensures
 
 pub returns-clause-err : goal.returns-clause-err
 returns-clause-err g c = on_err_weaker c.finish.result (front_waiting c.loop-sire.invariant) c.finish.ensures.err

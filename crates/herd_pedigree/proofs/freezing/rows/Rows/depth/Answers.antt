@@ -25,5 +25,5 @@ returns g c =
     let long : length (rows_kept rs ps) ≡ length rs = length-rows rs ps c.self.invariant in
     let here = c.requires in
     let both = c.self.invariant.long in
-    let at = slice_get_read ps (length ps) c.args.place c.index.result.now refl (omega (arith, seen, long, here, both)) c.index.ensures in
-    sym (depth-told rs ps c.self.invariant c.args.place c.index.result.now at) ∙ ap (λ (rows : List Row). depth_at rows c.args.place) c.self.view_is
+    let at = slice_get_read ps (length ps) c.args.rank c.index.result.now refl (omega (arith, seen, long, here, both)) c.index.ensures in
+    sym (depth-told rs ps c.self.invariant c.args.rank c.index.result.now at) ∙ ap (λ (rows : List Row). depth_at rows c.args.rank) c.self.view_is

@@ -23,5 +23,5 @@ returns g c =
     let seen : length (rows_kept rs ps) ≡ length c.args.self.now = ap (λ (rows : List Row). length rows) c.self.view_is in
     let long : length (rows_kept rs ps) ≡ length rs = length-rows rs ps c.self.invariant in
     let here = c.requires in
-    let at = slice_get_read rs (length rs) c.args.place c.index.result.now refl (omega (arith, seen, long, here)) c.index.ensures in
-    subst (λ (rows : List Row). slice_get (numbers_of rows) c.args.place ≡ Some c.index.result.now.number) c.self.view_is (number-told rs ps c.self.invariant c.args.place c.index.result.now at)
+    let at = slice_get_read rs (length rs) c.args.rank c.index.result.now refl (omega (arith, seen, long, here)) c.index.ensures in
+    subst (λ (rows : List Row). slice_get (numbers_of rows) c.args.rank ≡ Some c.index.result.now.number) c.self.view_is (number-told rs ps c.self.invariant c.args.rank c.index.result.now at)

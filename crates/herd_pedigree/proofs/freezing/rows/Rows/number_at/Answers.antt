@@ -14,24 +14,24 @@ pub returns-in_err-kept : goal.returns-in_err-kept
 returns-in_err-kept g c =
     let rs = c.self.inside.records.items in
     let ps = c.self.inside.parents.items in
-    let place : ℕ = c.in_ok-place.field-0 in
+    let rank : ℕ = c.in_ok-rank.field-0 in
     let records : List RowRecord = c.deref.result.now in
-    let past : length records ≤ place = ltb-false place (length records) (sym c.in_err-kept.ensures.lookup.0) in
-    let past_rows : length rs ≤ place = subst (λ (l : List RowRecord). length l ≤ place) c.deref.ensures.value past in
-    let absent : slice_get (numbers_of (rows_kept rs ps)) place ≡ None =
-    ap (λ ns. slice_get ns place) (numbers-rows rs ps c.self.invariant) ∙ slice_get-map (λ k. k.number) rs place ∙ ap (λ (o : Option RowRecord). option_map (λ k. k.number) o) (slice_get_past rs place past_rows) in
+    let past : length records ≤ rank = ltb-false rank (length records) (sym c.in_err-kept.ensures.lookup.0) in
+    let past_rows : length rs ≤ rank = subst (λ (l : List RowRecord). length l ≤ rank) c.deref.ensures.value past in
+    let absent : slice_get (numbers_of (rows_kept rs ps)) rank ≡ None =
+    ap (λ ns. slice_get ns rank) (numbers-rows rs ps c.self.invariant) ∙ slice_get-map (λ k. k.number) rs rank ∙ ap (λ (o : Option RowRecord). option_map (λ k. k.number) o) (slice_get_past rs rank past_rows) in
     let none : c.from_residual-in_err-kept.result ≡ None = search rules in
-    let told : None ≡ number_at (numbers_of (rows_kept rs ps)) c.args.place = rw c.in_ok-place.was (sym absent) in
-    none ∙ subst (λ (rows : List Row). None ≡ number_at (numbers_of rows) c.args.place) c.self.view_is told
+    let told : None ≡ number_at (numbers_of (rows_kept rs ps)) c.args.rank = rw c.in_ok-rank.was (sym absent) in
+    none ∙ subst (λ (rows : List Row). None ≡ number_at (numbers_of rows) c.args.rank) c.self.view_is told
 
 pub returns : goal.returns
 returns g c =
     let rs = c.self.inside.records.items in
     let ps = c.self.inside.parents.items in
-    let place : ℕ = c.in_ok-place.field-0 in
+    let rank : ℕ = c.in_ok-rank.field-0 in
     let kept : RowRecord = c.in_ok-kept.kept.now in
     let records : List RowRecord = c.deref.result.now in
-    let within : place < length records = ltb-true place (length records) (sym c.in_ok-kept.ensures.lookup.0) in
-    let at : slice_get rs place ≡ Some kept = subst (λ (l : List RowRecord). slice_get l place ≡ Some kept) c.deref.ensures.value (slice_get_read records (length records) place kept refl within c.in_ok-kept.ensures.lookup.1) in
-    let told : Some kept.number ≡ number_at (numbers_of (rows_kept rs ps)) c.args.place = rw c.in_ok-place.was (sym (number-told rs ps c.self.invariant place kept at)) in
-    subst (λ (rows : List Row). Some kept.number ≡ number_at (numbers_of rows) c.args.place) c.self.view_is told
+    let within : rank < length records = ltb-true rank (length records) (sym c.in_ok-kept.ensures.lookup.0) in
+    let at : slice_get rs rank ≡ Some kept = subst (λ (l : List RowRecord). slice_get l rank ≡ Some kept) c.deref.ensures.value (slice_get_read records (length records) rank kept refl within c.in_ok-kept.ensures.lookup.1) in
+    let told : Some kept.number ≡ number_at (numbers_of (rows_kept rs ps)) c.args.rank = rw c.in_ok-rank.was (sym (number-told rs ps c.self.invariant rank kept at)) in
+    subst (λ (rows : List Row). Some kept.number ≡ number_at (numbers_of rows) c.args.rank) c.self.view_is told

@@ -27,7 +27,7 @@ returns g c =
     let here = c.requires in
     let both = c.self.invariant.long in
     let packed = c.index-packed.result.now in
-    let at = slice_get_read ps (length ps) c.args.place packed refl (omega (arith, seen, long, here, both)) c.index-packed.ensures in
+    let at = slice_get_read ps (length ps) c.args.rank packed refl (omega (arith, seen, long, here, both)) c.index-packed.ensures in
     let told : Parents = record { sire = c.get.result; dam = c.get-2.result; depth = packed.depth } in
     let same : record { sire = packed.sire; dam = packed.dam; depth = packed.depth } ≡ told = λ i. record { sire = sym c.get.ensures i; dam = sym c.get-2.ensures i; depth = packed.depth } in
-    subst (λ (rows : List Row). slice_get (map parents_of rows) c.args.place ≡ Some told) c.self.view_is (parents-told rs ps c.self.invariant c.args.place packed at ∙ ap Some same)
+    subst (λ (rows : List Row). slice_get (map parents_of rows) c.args.rank ≡ Some told) c.self.view_is (parents-told rs ps c.self.invariant c.args.rank packed at ∙ ap Some same)

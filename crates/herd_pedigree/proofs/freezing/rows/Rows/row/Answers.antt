@@ -26,8 +26,8 @@ returns g c =
     let here = c.requires in
     let kept = c.index-kept.result.now in
     let parents = c.parents-parents.result in
-    let at = slice_get_read rs (length rs) c.args.place kept refl (omega (arith, seen, long, here)) c.index-kept.ensures in
-    let told = subst (λ (rows : List Row). slice_get (map parents_of rows) c.args.place ≡ Some parents) (sym c.self.view_is) c.parents-parents.ensures in
+    let at = slice_get_read rs (length rs) c.args.rank kept refl (omega (arith, seen, long, here)) c.index-kept.ensures in
+    let told = subst (λ (rows : List Row). slice_get (map parents_of rows) c.args.rank ≡ Some parents) (sym c.self.view_is) c.parents-parents.ensures in
     let sire = subst (λ (rows : List Row). c.number_at.result ≡ number_at (numbers_of rows) parents.sire) (sym c.self.view_is) c.number_at.ensures in
     let dam = subst (λ (rows : List Row). c.number_at-2.result ≡ number_at (numbers_of rows) parents.dam) (sym c.self.view_is) c.number_at-2.ensures in
-    ap (λ (rows : List Row). slice_get rows c.args.place) (sym c.self.view_is) ∙ row-told rs ps c.self.invariant c.args.place kept at parents told c.number_at.result c.number_at-2.result sire dam
+    ap (λ (rows : List Row). slice_get rows c.args.rank) (sym c.self.view_is) ∙ row-told rs ps c.self.invariant c.args.rank kept at parents told c.number_at.result c.number_at-2.result sire dam

@@ -2,9 +2,9 @@ use Rattle.std.proofs.Common.{rules, refl, sym, ap, ◌∙◌, subst, arith, ℕ
 use Rattle.std.proofs.lemmas.Bool.{lt-ltb}
 use Rattle.std.proofs.lemmas.List.{append-nil, length-set}
 use Rattle.herd_pedigree.specs.store.Correction.{corrected}
-use Rattle.herd_pedigree.specs.store.Carry.{IsSettled, HaveLines}
+use Rattle.herd_pedigree.specs.store.Carry.{IsSettled, HavePaths}
 use Rattle.herd_pedigree.specs.declared.TheConstants.{DEPTH_LIMIT}
-use Rattle.herd_pedigree.proofs.lemmas.store.CarryFacts.{first-line, no-lines, lines-within, some-line}
+use Rattle.herd_pedigree.proofs.lemmas.store.CarryFacts.{first-path, no-paths, paths-within, some-path}
 use Rattle.herd_pedigree.proofs.store.correction.Correction.carry.Goals as goal
 
 pub loop-init : goal.loop-init
@@ -17,7 +17,7 @@ loop-init g c =
       logged = c.requires.logged;
       undone = refl;
       settled = subst (λ xs. IsSettled DEPTH_LIMIT (corrected x) (slice_index c.args.depths.now) xs) (sym items) c.requires.settled;
-      lines = subst (λ xs. HaveLines (corrected x) 0 xs) (sym items) (first-line (corrected x) x.place there);
+      paths = subst (λ xs. HavePaths (corrected x) 0 xs) (sym items) (first-path (corrected x) x.place there);
     }
 
 pub settle_all-requires-clause-within : goal.settle_all-requires-clause-within
@@ -27,7 +27,7 @@ settle_all-requires-clause-within g c =
     let dams : List (Option ℕ) = slice_set x.dams.now.parents x.place x.dam in
     let long : length c.loop.depths ≡ length sires = c.loop.invariant.long ∙ c.requires.long ∙ sym (length-set x.sires.now.parents x.place x.sire) in
     subst (λ xs. All (λ place. place < length c.loop.depths) xs) (sym c.deref.ensures.value)
-    (lines-within sires dams c.loop.counter (length c.loop.depths) c.loop.pending.items long c.loop.invariant.lines)
+    (paths-within sires dams c.loop.counter (length c.loop.depths) c.loop.pending.items long c.loop.invariant.paths)
 
 pub loop-preserved : goal.loop-preserved
 loop-preserved g c =
@@ -41,11 +41,11 @@ loop-preserved g c =
       logged = subst (λ n. All (λ (write : ℕ × ℕ). write.0 < n) c.settle_all.new.log.items) old.long c.settle_all.ensures.logged;
       undone = c.settle_all.ensures.undone ∙ old.undone;
       settled = c.in_ok-settle_all.ensures.settled (subst (λ xs. IsSettled DEPTH_LIMIT (corrected x) (slice_index c.loop.depths) xs) (sym lists) old.settled);
-      lines =
-          subst (λ k. HaveLines (corrected x) k c.settle_all.new.pending.items) next
-          (c.in_ok-settle_all.ensures.lines c.loop.counter
-          (subst (λ xs. HaveLines (corrected x) c.loop.counter xs) (sym c.deref.ensures.value) old.lines)
-          (subst (λ xs. HaveLines (corrected x) (suc c.loop.counter) xs) (sym c.new-calves.ensures.items) (no-lines (corrected x) (suc c.loop.counter))));
+      paths =
+          subst (λ k. HavePaths (corrected x) k c.settle_all.new.pending.items) next
+          (c.in_ok-settle_all.ensures.paths c.loop.counter
+          (subst (λ xs. HavePaths (corrected x) c.loop.counter xs) (sym c.deref.ensures.value) old.paths)
+          (subst (λ xs. HavePaths (corrected x) (suc c.loop.counter) xs) (sym c.new-calves.ensures.items) (no-paths (corrected x) (suc c.loop.counter))));
     }
 
 pub returns-clause-deep : goal.returns-clause-deep
@@ -53,5 +53,5 @@ returns-clause-deep g c =
     λ no.
     let x = c.args.self.now in
     let end : c.loop.counter ≡ DEPTH_LIMIT + 1 = search rules in
-    some-line (corrected x) (DEPTH_LIMIT + 1) c.loop.pending.items (subst (λ n. HaveLines (corrected x) n c.loop.pending.items) end c.loop.invariant.lines)
+    some-path (corrected x) (DEPTH_LIMIT + 1) c.loop.pending.items (subst (λ n. HavePaths (corrected x) n c.loop.pending.items) end c.loop.invariant.paths)
     (λ none. let t : c.is_empty.result ≡ true = c.is_empty.ensures ∙ ap (λ xs. length xs == 0) c.as_slice.ensures.value ∙ ap (λ n. n == 0) none in absurd (cc))

@@ -4,7 +4,7 @@ use Rattle.std.proofs.lemmas.List.{set-set, set-get_or}
 use Rattle.herd_pedigree.specs.store.Correction.{corrected}
 use Rattle.herd_pedigree.specs.store.Undo.{undone_writes}
 use Rattle.herd_pedigree.specs.declared.TheConstants.{DEPTH_LIMIT}
-use Rattle.herd_pedigree.proofs.lemmas.store.CarryFacts.{settled-same, settled-set, lines-calves}
+use Rattle.herd_pedigree.proofs.lemmas.store.CarryFacts.{settled-same, settled-set, paths-calves}
 use Rattle.herd_pedigree.proofs.lemmas.store.UndoFacts.{undone-last}
 use Rattle.herd_pedigree.proofs.store.correction.Correction.settle.Goals as goal
 
@@ -31,8 +31,8 @@ returns-clause-settled g c =
     (λ adds rest s. settled-set DEPTH_LIMIT (corrected c.args.self.now) c.args.depths.now c.args.place c.depth_at-depth.result within c.depth_at-depth.ensures rest c.args.pending.now.items c.push_calves.new.pending.items adds s)
     c.push_calves.ensures
 
-pub returns-clause-lines : goal.returns-clause-lines
-returns-clause-lines g c =
+pub returns-clause-paths : goal.returns-clause-paths
+returns-clause-paths g c =
     on_ok_weaker c.push_calves.result
-    (λ adds n line have. lines-calves (corrected c.args.self.now) n c.args.place c.args.pending.now.items c.push_calves.new.pending.items adds line have)
+    (λ adds n path have. paths-calves (corrected c.args.self.now) n c.args.place c.args.pending.now.items c.push_calves.new.pending.items adds path have)
     c.push_calves.ensures

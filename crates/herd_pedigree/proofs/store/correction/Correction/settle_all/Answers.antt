@@ -3,7 +3,7 @@ use Rattle.std.proofs.Common.{◌∙◌}
 use Rattle.std.proofs.lemmas.List.{drop_more, drop_all}
 use Rattle.std.proofs.lemmas.List.Elements.{All-get_or}
 use Rattle.herd_pedigree.specs.store.Correction.{corrected}
-use Rattle.herd_pedigree.specs.rules.Lines.{has_line}
+use Rattle.herd_pedigree.specs.rules.Paths.{has_path}
 use Rattle.herd_pedigree.specs.store.Carry.{IsSettled}
 use Rattle.herd_pedigree.specs.declared.TheConstants.{DEPTH_LIMIT}
 use Rattle.herd_pedigree.proofs.store.correction.Correction.settle_all.Goals as goal
@@ -24,8 +24,8 @@ loop-place-preserved g c =
           let before : IsSettled DEPTH_LIMIT (corrected x) (slice_index c.loop-place.depths) (place ∷ (drop (i + 1) places ++ c.loop-place.pending.items)) =
           subst (λ xs. IsSettled DEPTH_LIMIT (corrected x) (slice_index c.loop-place.depths) (xs ++ c.loop-place.pending.items)) more (old.settled s) in
           c.in_ok-settle.ensures.settled (drop (i + 1) places) before;
-      lines = λ n lines have.
-          c.in_ok-settle.ensures.lines n (All-get_or (λ (p : ℕ). IsTrue (has_line (corrected x) n p)) places i 0 c.loop-place-test.true lines) (old.lines n lines have);
+      paths = λ n paths have.
+          c.in_ok-settle.ensures.paths n (All-get_or (λ (p : ℕ). IsTrue (has_path (corrected x) n p)) places i 0 c.loop-place-test.true paths) (old.paths n paths have);
     }
 
 pub returns-clause-settled : goal.returns-clause-settled

@@ -3,7 +3,7 @@ use Rattle.std.specs.Map.{keys_of, lookup}
 use Rattle.std.specs.Str.{bytes_eq}
 use Rattle.indexmap.proofs.CallerLemmas.{insert_entry-new}
 use Rattle.herd_pedigree.specs.rules.Book.{record_of}
-use Rattle.herd_pedigree.specs.store.Places.{IsPlaceIn}
+use Rattle.herd_pedigree.specs.store.Places.{IsIndexIn}
 use Rattle.herd_pedigree.specs.store.Records.{AreClosed, stored_book, named}
 use Rattle.herd_pedigree.specs.declared.rules.animal.Animal.{Animal}
 use Rattle.herd_pedigree.specs.declared.store.records.StoredRecord.{StoredRecord}
@@ -16,8 +16,8 @@ invariant_of-self g c =
     let entry : StoredRecord = c.new.result in
     let animal : Animal = c.args.animal in
     let keys : keys_of c.args.self.now.book ≡ keys_of es = ap (λ r. keys_of r.book) (sym c.self.view_is) ∙ keys-stored_book es in
-    let sire : IsPlaceIn (keys_of es) entry.sire animal.sire = rw (c.new.ensures.sire, ← keys) c.requires.sire in
-    let dam : IsPlaceIn (keys_of es) entry.dam animal.dam = rw (c.new.ensures.dam, ← keys) c.requires.dam in
+    let sire : IsIndexIn (keys_of es) entry.sire animal.sire = rw (c.new.ensures.sire, ← keys) c.requires.sire in
+    let dam : IsIndexIn (keys_of es) entry.dam animal.dam = rw (c.new.ensures.dam, ← keys) c.requires.dam in
     let none : record_of (stored_book es) c.args.number ≡ None = subst (λ r. record_of r.book c.args.number ≡ None) (sym c.self.view_is) c.requires.absent in
     let absent : lookup (bytes_eq c.args.number) es ≡ None = absent-among es c.args.number none in
     let entries : c.insert.new.self.entries ≡ es ++ (c.args.number, entry) ∷ [] = search (rules, insert_entry-new bytes_eq c.self.inside.entries c.args.number entry absent) in
@@ -30,8 +30,8 @@ returns g c =
     let entry : StoredRecord = c.new.result in
     let animal : Animal = c.args.animal in
     let keys : keys_of c.args.self.now.book ≡ keys_of es = ap (λ r. keys_of r.book) (sym c.self.view_is) ∙ keys-stored_book es in
-    let sire : IsPlaceIn (keys_of es) entry.sire animal.sire = rw (c.new.ensures.sire, ← keys) c.requires.sire in
-    let dam : IsPlaceIn (keys_of es) entry.dam animal.dam = rw (c.new.ensures.dam, ← keys) c.requires.dam in
+    let sire : IsIndexIn (keys_of es) entry.sire animal.sire = rw (c.new.ensures.sire, ← keys) c.requires.sire in
+    let dam : IsIndexIn (keys_of es) entry.dam animal.dam = rw (c.new.ensures.dam, ← keys) c.requires.dam in
     let none : record_of (stored_book es) c.args.number ≡ None = subst (λ r. record_of r.book c.args.number ≡ None) (sym c.self.view_is) c.requires.absent in
     let absent : lookup (bytes_eq c.args.number) es ≡ None = absent-among es c.args.number none in
     let entries : c.insert.new.self.entries ≡ es ++ (c.args.number, entry) ∷ [] = search (rules, insert_entry-new bytes_eq c.self.inside.entries c.args.number entry absent) in

@@ -1,7 +1,7 @@
 -- The text is an animal number, so it is read.
 use Rattle.std.proofs.lemmas.List.{append-nil}
 use Rattle.herd_fixtures.proofs.NumberFacts.{IsAnimalNumber-number_with}
-use Rattle.herd_fixtures.proofs.name.number_of.Goals as goal
+use Rattle.herd_fixtures.proofs.name.animal_number.Goals as goal
 
 pub unreachable-requires : goal.unreachable-requires
 unreachable-requires c =

@@ -4,7 +4,7 @@ use Rattle.std.proofs.lemmas.Result.{IfOk-weaker}
 use Rattle.clap.specs.Words.{found_of, rows_of}
 use Rattle.herdbook.specs.Words.{text_of}
 use Rattle.herdbook.proofs.WordsFacts.{text_of-found}
-use Rattle.herdbook.proofs.arguments.number_of.Goals as goal
+use Rattle.herdbook.proofs.arguments.number_argument.Goals as goal
 
 pub returns-clause-read : goal.returns-clause-read
 returns-clause-read c =

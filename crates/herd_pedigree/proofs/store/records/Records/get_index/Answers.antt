@@ -5,7 +5,7 @@ use Rattle.herd_pedigree.specs.store.Records.{stored_book, named}
 use Rattle.herd_pedigree.specs.declared.rules.animal.Animal.{Animal}
 use Rattle.herd_pedigree.specs.declared.store.records.StoredRecord.{StoredRecord}
 use Rattle.herd_pedigree.proofs.lemmas.store.RecordsFacts.{entry-book_with, keys-stored_book}
-use Rattle.herd_pedigree.proofs.store.records.Records.entry_at.Goals as goal
+use Rattle.herd_pedigree.proofs.store.records.Records.get_index.Goals as goal
 
 pub returns : goal.returns
 returns g c =

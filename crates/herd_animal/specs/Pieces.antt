@@ -3,9 +3,9 @@ use Rattle.std.specs.Prelude.{ℕ, List, [], ◌∷◌, take, drop}
 use Rattle.std.specs.Int.{w64, from_le_bytes}
 
 -- eight characters from a place on
-abbrev pub word : ℕ → List ℕ → ℕ
-word place text = from_le_bytes w64 (take 8 (drop place text))
+abbrev pub piece : ℕ → List ℕ → ℕ
+piece place text = from_le_bytes w64 (take 8 (drop place text))
 
 -- nineteen characters: the first eight, the next eight and the last eight
-abbrev pub words : List ℕ → List ℕ
-words text = word 0 text ∷ word 8 text ∷ word 11 text ∷ []
+abbrev pub pieces : List ℕ → List ℕ
+pieces text = piece 0 text ∷ piece 8 text ∷ piece 11 text ∷ []

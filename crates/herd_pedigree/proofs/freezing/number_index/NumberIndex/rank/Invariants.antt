@@ -1,7 +1,7 @@
--- The places of the number that are left.
+-- The ranks of the number that are left.
 use Rattle.herd_pedigree.specs.freezing.Frozen.{numbers_of}
 use Rattle.herd_pedigree.proofs.lemmas.freezing.IndexFacts.{IsFollowed}
-use Rattle.herd_pedigree.proofs.freezing.number_index.NumberIndex.place.Given as goal
+use Rattle.herd_pedigree.proofs.freezing.number_index.NumberIndex.rank.Given as goal
 
 abbrev pub invariant-loop-after : goal.invariant-loop-after
 invariant-loop-after g l = IsFollowed (numbers_of l.rows) l.number l.after

@@ -1,5 +1,0 @@
-use Rattle.herd_report.proofs.lemmas.writing.OutputFacts.{passes_count}
-use Rattle.herdbook.proofs.summary.write_all.Goals as goal
-
-pub loop-rest-preserved : goal.loop-rest-preserved
-loop-rest-preserved g c = passes_count c.in-Ok.count c.in-Ok.ensures.bound c.loop-rest.invariant c.in-Ok.ensures.bytes
