@@ -1,7 +1,10 @@
--- Desks that are handed in, and what their counts add up to.
-use Rattle.std.proofs.Common.{◌≡◌, ℕ, zero, suc, ◌+◌, List, [], ◌∷◌, map, slice_get, Some, refl, subst}
+-- Desks that are handed in, their numbers, and what their counts add up to.
+use Rattle.std.proofs.Common.{◌≡◌, ◌∙◌, ℕ, zero, suc, ◌+◌, List, [], ◌∷◌, ap, ap₂, arith, get_or, length, map, set, slice_get, Some, refl, subst, sym}
+use Rattle.std.specs.List.{range_with_len}
 use Rattle.std.specs.Prelude.{sum_by}
+use Rattle.std.proofs.lemmas.List.{map-set, set-get_or}
 use Rattle.std.proofs.lemmas.List.Folds.{fold-map}
+use mathlib.Core.List.{map-map}
 use Rattle.herd_register.specs.declared.step.Step.{Step}
 use Rattle.herd_office.specs.Histories.{of_desk}
 use Rattle.herdbook.specs.Summary.{count_of}
@@ -22,3 +25,25 @@ each-count number answered journal (desk ∷ more) known zero count is =
     subst (λ (c : DeskCount). c.answered ≡ of_desk c.number journal) same (known 0 desk refl)
 each-count number answered journal (desk ∷ more) known (suc place) count is =
     each-count number answered journal more (λ k d there. known (suc k) d there) place count is
+
+-- desks that are numbered one after the other have the numbers of a range
+pub numbers-range : {D : Type 0} (number : D → ℕ) (from : ℕ) (desks : List D)
+    → ((place : ℕ) (desk : D) → slice_get desks place ≡ Some desk → number desk ≡ place + from)
+    → map number desks ≡ range_with_len from (length desks)
+numbers-range number from [] known = refl
+numbers-range number from (desk ∷ more) known =
+    let first : number desk ≡ from = omega (arith, known 0 desk refl) in
+    ap₂ (λ (n : ℕ) (ns : List ℕ). n ∷ ns) first
+    (numbers-range number (from + 1) more (λ place d there. omega (arith, known (suc place) d there)))
+
+-- and their counts have the same
+pub numbers-counts : {D : Type 0} (number answered : D → ℕ) (desks : List D)
+    → map (λ (c : DeskCount). c.number) (map (λ d. count_of (number d) (answered d)) desks) ≡ map number desks
+numbers-counts number answered desks = map-map (λ (c : DeskCount). c.number) (λ d. count_of (number d) (answered d)) desks
+
+-- another element with the same number at a place leaves the numbers as they were
+pub numbers-set : {C : Type 0} (number : C → ℕ) (clerks : List C) (place : ℕ) (old new : C)
+    → number new ≡ number (get_or clerks place old) → map number (set clerks place new) ≡ map number clerks
+numbers-set number clerks place old new same =
+    map-set number clerks place new ∙ ap (set (map number clerks) place) same
+    ∙ sym (map-set number clerks place (get_or clerks place old)) ∙ ap (map number) (set-get_or clerks place old)

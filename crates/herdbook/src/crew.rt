@@ -1,5 +1,5 @@
 //! Clerks who file side by side, each in a thread of its own.
-ghost use Rattle.std.specs.Prelude.{◌≡◌, ◌≤◌, IfOk, length, vec_len};
+ghost use Rattle.std.specs.Prelude.{◌≡◌, ◌≤◌, IfOk, length, map, vec_items, vec_len};
 ghost use Rattle.herd_register.specs.declared.limits.TheConstants.{MOST_STEPS};
 ghost use Rattle.herd_office.specs.declared.limits.TheConstants.{MOST_DESKS};
 
@@ -40,6 +40,7 @@ pub fn file_in_turn<
 ) -> Result<Vec<Clerk<N>>, ClerkFault>
     requires some { (1 ≤ vec_len clerks) × (vec_len clerks ≤ MOST_DESKS) }
     requires few { length commands.now ≤ MOST_STEPS }
+    ensures numbers { IfOk result (λ done. map (λ c. c.desk.number) done.items ≡ map (λ c. c.desk.number) clerks.items) }
 {
     thread::scope(
         thread::scope_env(),
@@ -47,6 +48,7 @@ pub fn file_in_turn<
         |scope| -> Result<Vec<Clerk<N>>, ClerkFault>
             requires some { (1 ≤ vec_len clerks) × (vec_len clerks ≤ MOST_DESKS) }
             requires few { length commands.now ≤ MOST_STEPS }
+            ensures numbers { IfOk result (λ done. map (λ c. c.desk.number) done.items ≡ map (λ c. c.desk.number) clerks.items) }
         {
             let started = start_all(scope, rt, alloc, office, clerks, commands)?;
             join_all(rt, alloc, started)
@@ -65,13 +67,14 @@ fn start_all<'s, N: OfficeName + Send + Sync, E, H: Wait + Sync, R: Wait + Drop 
 ) -> Result<Vec<Started<N>>, ClerkFault>
     requires some { (1 ≤ vec_len clerks) × (vec_len clerks ≤ MOST_DESKS) }
     requires few { length commands.now ≤ MOST_STEPS }
+    ensures numbers { IfOk result (λ started. map (λ s. s.promise.number) (vec_items started) ≡ map (λ c. c.desk.number) clerks.items) }
 {
     let step = clerks.len();
     let mut started = Vec::new(alloc);
-    for (first, clerk) in clerks.into_iter().enumerate() {
+    for clerk in clerks {
         let turn = Turn {
             commands,
-            first,
+            first: started.len(),
             step,
         };
         let clerk = start(scope, rt, office, clerk, turn)?;
@@ -141,7 +144,9 @@ fn join_all<N: OfficeName, H: Threads>(
     rt: &H,
     alloc: Global,
     started: Vec<Started<N>>,
-) -> Result<Vec<Clerk<N>>, ClerkFault> {
+) -> Result<Vec<Clerk<N>>, ClerkFault>
+    ensures numbers { IfOk result (λ done. map (λ c. c.desk.number) done.items ≡ map (λ s. s.promise.number) (vec_items started)) }
+{
     let mut done = Vec::new(alloc);
     for clerk in started {
         done.push(clerk.join(rt)?).map_err(AllocError::from)?;

@@ -1,5 +1,6 @@
 //! Filing a command file at several desks, each with a clerk in a thread of its own.
 ghost use Rattle.std.specs.Prelude.{◌≡◌, ◌≤◌, IfErr, IfOk, IfSome, OnOk, length, map, string_bytes, vec_len};
+ghost use Rattle.std.specs.List.{range_with_len};
 ghost use Rattle.herd_register.specs.Register.{AreLimits};
 ghost use Rattle.herd_register.specs.declared.limits.TheConstants.{MOST_STEPS};
 ghost use Rattle.herd_report.specs.reading.CommandFile.{commands};
@@ -39,9 +40,9 @@ pub fn clerks<H: Threads + Wait + Sync, R: Read + Drop, W: Write>(
     requires limits { AreLimits limits }
     requires desks { (1 ≤ desks) × (desks ≤ MOST_DESKS) }
     ensures ok { OnOk result (IfSome (R.remaining reader)
-        (λ bytes. IsFiledBy limits (commands bytes limits.steps) (W.contents writer.old) (W.contents writer.new))) }
+        (λ bytes. IsFiledBy limits desks (commands bytes limits.steps) (W.contents writer.old) (W.contents writer.new))) }
     ensures err { IfErr result (λ fault. IfSome (R.remaining reader)
-        (λ bytes. EndsClerks limits (commands bytes limits.steps) (W.contents writer.old) (W.contents writer.new) fault)) }
+        (λ bytes. EndsClerks limits desks (commands bytes limits.steps) (W.contents writer.old) (W.contents writer.new) fault)) }
     ensures fault { IfErr result CanEndClerks }
 {
     let commands = read_commands(alloc, reader, limits.steps);
@@ -76,7 +77,7 @@ fn text_filed<H: Threads + Wait + Sync>(
     requires limits { AreLimits limits }
     requires desks { (1 ≤ desks) × (desks ≤ MOST_DESKS) }
     requires few { length commands.now ≤ limits.steps }
-    ensures { IfOk result (λ text. TellsOf (office_limits limits.animals (length commands.now)) (length commands.now) (string_bytes text)) }
+    ensures { IfOk result (λ text. TellsOf (office_limits limits.animals (length commands.now)) desks (length commands.now) (string_bytes text)) }
 {
     let summary = summary_of(rt, alloc, limits, desks, base, commands)?;
     Ok(text_of(alloc, &summary)?)
@@ -94,7 +95,7 @@ fn summary_of<H: Threads + Wait + Sync>(
     requires limits { AreLimits limits }
     requires desks { (1 ≤ desks) × (desks ≤ MOST_DESKS) }
     requires few { length commands.now ≤ limits.steps }
-    ensures { IfOk result (IsSummaryOf (office_limits limits.animals (length commands.now)) (length commands.now)) }
+    ensures { IfOk result (IsSummaryOf (office_limits limits.animals (length commands.now)) desks (length commands.now)) }
 {
     let limits = Limits {
         animals: limits.animals,
@@ -115,7 +116,7 @@ fn filed_in<N: OfficeName + Send + Sync, H: Threads + Wait + Sync>(
     requires named { AreNamed N.name N.parts N.all N.book N.limits parts }
     requires desks { (1 ≤ parts.desks) × (parts.desks ≤ MOST_DESKS) }
     requires few { length commands.now ≤ MOST_STEPS }
-    ensures { IfOk result (IsSummaryOf N.limits (length commands.now)) }
+    ensures { IfOk result (IsSummaryOf N.limits N.all (length commands.now)) }
 {
     let (office, desks, inspectors) = Office::<N, &H>::open(alloc, parts)?;
     let clerks = all_filed(rt, alloc, &office, desks, base, commands)?;
@@ -133,6 +134,7 @@ fn all_filed<N: OfficeName + Send + Sync, H: Threads + Wait + Sync, R: Wait + Dr
 ) -> Result<Vec<Clerk<N>>, ClerkFault>
     requires desks { (1 ≤ vec_len desks) × (vec_len desks ≤ MOST_DESKS) }
     requires few { length commands.now ≤ MOST_STEPS }
+    ensures numbers { IfOk result (λ clerks. map (λ c. c.desk.number) clerks.items ≡ map (λ d. d.number) desks.items) }
 {
     let mut clerks = clerks_at(alloc, desks)?;
     let (first, rest) = commands.split_at(base.min(commands.len()));
@@ -146,7 +148,8 @@ fn all_filed<N: OfficeName + Send + Sync, H: Threads + Wait + Sync, R: Wait + Dr
 }
 
 fn clerks_at<N: OfficeName>(alloc: Global, desks: Vec<Desk<N>>) -> Result<Vec<Clerk<N>>, ClerkFault>
-    ensures { IfOk result (λ clerks. vec_len clerks ≡ vec_len desks) }
+    ensures count { IfOk result (λ clerks. vec_len clerks ≡ vec_len desks) }
+    ensures numbers { IfOk result (λ clerks. map (λ c. c.desk.number) clerks.items ≡ map (λ d. d.number) desks.items) }
 {
     let mut clerks = Vec::new(alloc);
     for desk in desks {
@@ -164,7 +167,8 @@ fn closed<N: OfficeName, H: Wait, R: Wait + Drop>(
     mut inspectors: Vec<Inspector<N>>,
     commands: usize,
 ) -> Result<Summary, ClerkFault>
-    ensures { IfOk result (IsSummaryOf N.limits commands) }
+    requires numbers { map (λ c. c.desk.number) clerks.items ≡ range_with_len 1 N.all }
+    ensures { IfOk result (IsSummaryOf N.limits N.all commands) }
 {
     let Some(mut inspector) = inspectors.pop() else {
         return Err(ClerkFault::NoPlace);
@@ -196,7 +200,8 @@ fn handed_in<N: OfficeName>(
     clerks: Vec<Clerk<N>>,
     inspector: &mut Inspector<N>,
 ) -> Result<(Vec<Desk<N>>, Vec<DeskCount>), AllocError>
-    ensures { IfOk result (λ r. r.1.items ≡ map (λ d. count_of d.number d.answered) r.0.items) }
+    ensures counts { IfOk result (λ r. r.1.items ≡ map (λ d. count_of d.number d.answered) r.0.items) }
+    ensures numbers { IfOk result (λ r. map (λ d. d.number) r.0.items ≡ map (λ c. c.desk.number) clerks.items) }
 {
     let mut desks = Vec::new(alloc);
     let mut counts = Vec::new(alloc);

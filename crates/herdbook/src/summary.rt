@@ -49,4 +49,3 @@ fn lines_of(alloc: Global, desks: &[DeskCount]) -> Result<String, AllocError>
     }
     Ok(text)
 }
-

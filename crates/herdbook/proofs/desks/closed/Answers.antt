@@ -2,7 +2,7 @@
 use Rattle.std.proofs.Common.{rules, ◌≡◌, ◌∙◌, [], ◌∷◌, ap, sym, refl, subst, length}
 use Rattle.herd_register.specs.Run.{IsLegal, commands_of, run_book}
 use Rattle.herd_register.specs.declared.limits.Limits.{Limits}
-use Rattle.herdbook.proofs.SummaryFacts.{each-count, sum-counts}
+use Rattle.herdbook.proofs.SummaryFacts.{each-count, numbers-counts, sum-counts}
 use Rattle.herdbook.proofs.desks.closed.Goals as goal
 
 pub returns : goal.returns
@@ -17,8 +17,9 @@ returns g c =
       legal = subst (λ (l : Limits). IsLegal l journal) c.in-Ok.ensures.limits c.journal-steps.ensures.legal;
       steps_are = ap length same;
       all_filed = search rules;
-      sum_is = rw c.in_ok-desks.ensures (sum-counts (λ d. d.number) (λ d. d.answered) desks ∙ sym c.in-Ok.ensures.sum ∙ sym (ap length same));
-      each_is = rw c.in_ok-desks.ensures (each-count (λ d. d.number) (λ d. d.answered) journal desks c.in-Ok.ensures.each);
+      numbers_are = rw c.in_ok-desks.ensures.counts (numbers-counts (λ d. d.number) (λ d. d.answered) desks ∙ c.in_ok-desks.ensures.numbers ∙ c.requires.numbers);
+      sum_is = rw c.in_ok-desks.ensures.counts (sum-counts (λ d. d.number) (λ d. d.answered) desks ∙ sym c.in-Ok.ensures.sum ∙ sym (ap length same));
+      each_is = rw c.in_ok-desks.ensures.counts (each-count (λ d. d.number) (λ d. d.answered) journal desks c.in-Ok.ensures.each);
       animals_are =
           subst (λ (l : Limits). c.len-animals.result ≡ length (run_book l (commands_of journal))) c.in-Ok.ensures.limits
           (c.len-animals.ensures ∙ ap length c.pedigree.ensures.book);

@@ -1,7 +1,11 @@
--- A count for each desk so far.
-use Rattle.std.proofs.Common.{◌≡◌, map}
+-- A desk for each clerk so far, and a count for each desk.
+use Rattle.std.proofs.Common.{◌≡◌, ◌++◌, map}
+use Rattle.std.specs.Vec.Iter.{into_iter_items}
 use Rattle.herdbook.specs.Summary.{count_of}
 use Rattle.herdbook.proofs.desks.handed_in.Given as goal
 
 abbrev pub invariant-loop-clerk : goal.invariant-loop-clerk
-invariant-loop-clerk g l = l.counts.items ≡ map (λ d. count_of d.number d.answered) l.desks.items
+invariant-loop-clerk g l = record {
+  counts : l.counts.items ≡ map (λ d. count_of d.number d.answered) l.desks.items;
+  numbers : map (λ d. d.number) l.desks.items ++ map (λ c. c.desk.number) (into_iter_items l.clerk-iterator) ≡ map (λ c. c.desk.number) l.fn.clerks.items;
+}
