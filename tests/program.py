@@ -312,10 +312,11 @@ class Checks:
                 for base in 0, 1, 2, 10, 1_000_000:
                     wanted = wrote(reference.clerks(text, desks, base))
                     self.expect("clerks", wanted, ["clerks", "--desks", str(desks), "--base", str(base)], text)
-        # the calves of two founders are accepted in any order once the founders are filed
+        # the calves of two founders are accepted in any order once the founders are filed, which are the last of the first commands
         calves = "".join(f"birth,{animal('F', calf)},2002-01-01,{animal('M', 1)},{animal('F', 2)},,1\n" for calf in range(3, 43))
-        text = HEADER + founder(animal("M", 1)) + founder(animal("F", 2)) + calves
-        self.expect("clerks of calves", wrote(reference.clerks(text, 4, 2)), ["clerks", "--desks", "4", "--base", "2"], text)
+        refused = f"exit,{animal('M', 99)},2002-01-01,,,,\n" * 20_000
+        text = HEADER + refused + founder(animal("M", 1)) + founder(animal("F", 2)) + calves
+        self.expect("clerks of calves", wrote(reference.clerks(text, 4, 20_002)), ["clerks", "--desks", "4", "--base", "20002"], text)
         # two lines of sires, dealt in turn to two desks: each desk files a line in its order
         text = sire_lines(30)
         self.expect("clerks of two lines", wrote(reference.clerks(text, 2)), ["clerks", "--desks", "2"], text)

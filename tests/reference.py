@@ -116,7 +116,7 @@ class Book:
 
     def relationships(self):
         """A function of two animals, or of none: their entry of the tabular method."""
-        rank = {number: place for place, number in enumerate(self.by_age())}
+        rank = {number: at for at, number in enumerate(self.by_age())}
 
         @functools.cache
         def entry(one, other):
@@ -206,7 +206,7 @@ def mating(text, dam, sires):
 def inverse(text):
     book = filed(text)[0]
     entry = book.relationships()
-    rank = {number: place for place, number in enumerate(book.by_age())}
+    rank = {number: at for at, number in enumerate(book.by_age())}
     lines = []
     for number in book.by_age():
         parents = [it for it in (book.animals[number].sire, book.animals[number].dam) if it]

@@ -106,6 +106,7 @@ pub fn file_on<N: OfficeName, W: Wait, R: Wait + Drop, A: Allocator + Copy>(
     ensures legal { IfOk result (λ f. IsLegal N.limits f.slip.history) }
     ensures ends { IfOk result (λ f. EndsWith f.slip.history desk.old.number command f.reply) }
     ensures begins { IfOk result (λ f. IsPrefix desk.old.history f.slip.history) }
+    ensures longer { IfOk result (λ f. length desk.old.history < length f.slip.history) }
     ensures answered { IfOk result (λ _. desk.new.answered ≡ desk.old.answered + 1) }
     ensures held { IfOk result (λ f. desk.new.history ≡ f.slip.history) }
     ensures number { desk.new.number ≡ desk.old.number }
@@ -228,6 +229,7 @@ impl<N: OfficeName> Desk<N> {
     ) -> Result<Filed<N>, FileFault>
         ensures legal { IfOk result (λ f. IsLegal N.limits f.slip.history) }
         ensures begins { IfOk result (λ f. IsPrefix self.old.history f.slip.history) }
+        ensures longer { IfOk result (λ f. length self.old.history < length f.slip.history) }
         ensures ends { IfOk result (λ f. EndsWith f.slip.history self.old.number command f.reply) }
         ensures serial { IfOk result (λ f. f.serial ≡ length f.slip.history) }
         ensures answered { IfOk result (λ _. self.new.answered ≡ self.old.answered + 1) }

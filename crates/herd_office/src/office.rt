@@ -122,7 +122,7 @@ pub struct Office<N: OfficeName, R: Wait + Drop, A: Allocator = Global> {
 impl<N: OfficeName, R: Wait + Drop, A: Allocator + Copy> Office<N, R, A> {
     /// Opens the office that has these parts.
     ///
-    /// `Memory` is told where a growth of memory is refused, and `NoPlace` where the readers' copies have no place for
+    /// `Memory` is told where a growth of memory is refused, and `NoPlace` where the readers' copies have no seat for
     /// an inspector. They were made with one for each, and no office is known to meet it.
     pub fn open(
         alloc: A,

@@ -82,7 +82,7 @@ block_written {A = A} f len level blocks n block old known new ranks numerators 
 times_tail : {A : Type 0} (x : ℕ) (b : ComputedBlock A) (bs : List (ComputedBlock A)) → (b.number ≡ x → ⊥) → 0 < times x (numbers (b ∷ bs)) → 0 < times x (numbers bs)
 times_tail x b bs ne some = grind (arith, nat_tests)
 
--- a number that stands in the list stands at some rank
+-- the number of a block that stands in the list stands at some place
 times_has : {A : Type 0} (x : ℕ) (blocks : List (ComputedBlock A)) → 0 < times x (numbers blocks) → (k : ℕ) × (k < length blocks) × ((d : ComputedBlock A) → (get_or blocks k d).number ≡ x)
 times_has x [] some = absurd (omega arith)
 times_has x (b ∷ bs) some =

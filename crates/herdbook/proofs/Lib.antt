@@ -1,4 +1,5 @@
 mod CommandFacts
+mod DealFacts
 mod ProgramFacts
 mod SummaryFacts
 mod WordsFacts

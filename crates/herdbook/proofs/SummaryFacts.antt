@@ -1,8 +1,8 @@
 -- Desks that are handed in, their numbers, and what their counts add up to.
-use Rattle.std.proofs.Common.{◌≡◌, ◌∙◌, ℕ, zero, suc, ◌+◌, List, [], ◌∷◌, ap, ap₂, arith, get_or, length, map, set, slice_get, Some, refl, subst, sym}
+use Rattle.std.proofs.Common.{◌≡◌, ◌∙◌, ℕ, zero, suc, ◌+◌, List, [], ◌∷◌, ◌++◌, ap, ap₂, append_assoc, arith, get_or, length, map, set, slice_get, Some, refl, subst, sym}
 use Rattle.std.specs.List.{range_with_len}
 use Rattle.std.specs.Prelude.{sum_by}
-use Rattle.std.proofs.lemmas.List.{map-set, set-get_or}
+use Rattle.std.proofs.lemmas.List.{map-append, map-set, set-get_or}
 use Rattle.std.proofs.lemmas.List.Folds.{fold-map}
 use mathlib.Core.List.{map-map}
 use Rattle.herd_register.specs.declared.step.Step.{Step}
@@ -40,6 +40,14 @@ numbers-range number from (desk ∷ more) known =
 pub numbers-counts : {D : Type 0} (number answered : D → ℕ) (desks : List D)
     → map (λ (c : DeskCount). c.number) (map (λ d. count_of (number d) (answered d)) desks) ≡ map number desks
 numbers-counts number answered desks = map-map (λ (c : DeskCount). c.number) (λ d. count_of (number d) (answered d)) desks
+
+-- what is handed over goes from the one list to the other, with its number
+pub handed_over : {C S : Type 0} (f : C → ℕ) (g : S → ℕ) (done done′ : List C) (left left′ : List S) (came : C) (next : S) (all : List ℕ)
+    → done′ ≡ done ++ came ∷ [] → left ≡ next ∷ left′ → f came ≡ g next → map f done ++ map g left ≡ all → map f done′ ++ map g left′ ≡ all
+handed_over f g done done′ left left′ came next all joined taken same was =
+    ap (λ l. map f l ++ map g left′) joined ∙ ap (λ l. l ++ map g left′) (map-append f done (came ∷ []))
+    ∙ append_assoc (map f done) (f came ∷ []) (map g left′) ∙ ap (λ n. map f done ++ n ∷ map g left′) same
+    ∙ ap (λ l. map f done ++ map g l) (sym taken) ∙ was
 
 -- another element with the same number at a place leaves the numbers as they were
 pub numbers-set : {C : Type 0} (number : C → ℕ) (clerks : List C) (place : ℕ) (old new : C)

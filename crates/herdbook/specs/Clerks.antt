@@ -45,16 +45,16 @@ told_of clerk.NoPlace = NoPlace
 abbrev pub office_limits : ℕ → ℕ → Limits
 office_limits animals commands = record { animals = animals; steps = max commands 1 }
 
--- the file has no fault, and a text that tells of its commands and of so many desks passes a test
-pub record IsTold (limits : Limits) (desks : ℕ) (file : CommandFile) (Passes : List ℕ → Type 0) : Type 0 where
+-- the file has no fault, and a text that tells of its commands, so many desks and so many first commands passes a test
+pub record IsTold (limits : Limits) (desks base : ℕ) (file : CommandFile) (Passes : List ℕ → Type 0) : Type 0 where
   pub text : List ℕ
   pub faultless : file.fault ≡ None
-  pub tells : TellsOf (office_limits limits.animals (length file.commands)) desks (length file.commands) text
+  pub tells : TellsOf (office_limits limits.animals (length file.commands)) desks base file.commands text
   pub passes : Passes text
 
 -- the summary of the file's commands was written
-abbrev pub IsFiledBy : Limits → ℕ → CommandFile → Option (List ℕ) → Option (List ℕ) → Type 0
-IsFiledBy limits desks file old new = IsTold limits desks file (Appends old new)
+abbrev pub IsFiledBy : Limits → ℕ → ℕ → CommandFile → Option (List ℕ) → Option (List ℕ) → Type 0
+IsFiledBy limits desks base file old new = IsTold limits desks base file (Appends old new)
 
 -- a line fault, or an interruption of the reading, was met after some commands, and nothing was written
 pub record EndsByLine (limits : Limits) (file : CommandFile) (fault : LineFault) (old new : Option (List ℕ)) : Type 0 where
@@ -63,13 +63,13 @@ pub record EndsByLine (limits : Limits) (file : CommandFile) (fault : LineFault)
   pub unwritten : new ≡ old
 
 -- how clerks may end early
-abbrev pub EndsClerks : Limits → ℕ → CommandFile → Option (List ℕ) → Option (List ℕ) → TaskFault → Type 0
-EndsClerks limits desks file old new (Run (Line fault)) = EndsByLine limits file fault old new
-EndsClerks limits desks file old new (Run NotRegistered) = ⊥
-EndsClerks limits desks file old new (Run NoThread) = (file.fault ≡ None) × (new ≡ old)
-EndsClerks limits desks file old new (Run Memory) = (file.fault ≡ None) × (new ≡ old)
-EndsClerks limits desks file old new (Run Write) = IsTold limits desks file (AppendsFront old new)
-EndsClerks limits desks file old new NoPlace = (file.fault ≡ None) × (new ≡ old)
+abbrev pub EndsClerks : Limits → ℕ → ℕ → CommandFile → Option (List ℕ) → Option (List ℕ) → TaskFault → Type 0
+EndsClerks limits desks base file old new (Run (Line fault)) = EndsByLine limits file fault old new
+EndsClerks limits desks base file old new (Run NotRegistered) = ⊥
+EndsClerks limits desks base file old new (Run NoThread) = (file.fault ≡ None) × (new ≡ old)
+EndsClerks limits desks base file old new (Run Memory) = (file.fault ≡ None) × (new ≡ old)
+EndsClerks limits desks base file old new (Run Write) = IsTold limits desks base file (AppendsFront old new)
+EndsClerks limits desks base file old new NoPlace = (file.fault ≡ None) × (new ≡ old)
 
 -- the faults that clerks can end by, whatever is read
 abbrev pub CanEndClerks : TaskFault → Type 0

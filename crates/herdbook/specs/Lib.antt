@@ -1,5 +1,6 @@
 pub mod Clerks
 pub mod CommandLine
+pub mod Deal
 pub mod Ending
 pub mod FaultText
 pub mod Program

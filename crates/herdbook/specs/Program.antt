@@ -21,13 +21,13 @@ use Rattle.herdbook.specs.declared.task_fault.TaskFault.TheVariants.{Run, NoPlac
 -- a task was carried out on a command file
 abbrev pub IsCarriedOut : Task → Limits → CommandFile → Option (List ℕ) → Option (List ℕ) → Type 0
 IsCarriedOut (task.Run order) limits file old new = IsAnswered limits order file old new
-IsCarriedOut (task.Clerks desks base) limits file old new = IsFiledBy limits desks file old new
+IsCarriedOut (task.Clerks desks base) limits file old new = IsFiledBy limits desks base file old new
 
 -- how it may end early
 abbrev pub EndsCarrying : Task → Limits → CommandFile → Option (List ℕ) → Option (List ℕ) → TaskFault → Type 0
 EndsCarrying (task.Run order) limits file old new (Run fault) = EndsBy limits order file old new fault
 EndsCarrying (task.Run order) limits file old new NoPlace = ⊥
-EndsCarrying (task.Clerks desks base) limits file old new fault = EndsClerks limits desks file old new fault
+EndsCarrying (task.Clerks desks base) limits file old new fault = EndsClerks limits desks base file old new fault
 
 -- a task for the request, of which a fact holds
 pub record HasTask (request : Request) (Holds : Task → Type 0) : Type 0 where

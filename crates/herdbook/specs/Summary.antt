@@ -1,11 +1,12 @@
 -- What clerks have done, and how it is told.
-use Rattle.std.specs.Prelude.{◌≡◌, ℕ, List, [], ◌∷◌, ◌++◌, codes, decimal, length, map, sum_by, slice_get, Some}
+use Rattle.std.specs.Prelude.{◌≡◌, ℕ, List, [], ◌∷◌, ◌++◌, codes, decimal, drop, length, map, sum_by, slice_get, take, Some}
 use Rattle.std.specs.List.{range_with_len}
-use mathlib.Core.List.{IsPrefix}
 use Rattle.herd_register.specs.Run.{IsLegal, commands_of, run_book}
+use Rattle.herd_register.specs.declared.command.Command.{Command}
 use Rattle.herd_register.specs.declared.limits.Limits.{Limits}
 use Rattle.herd_register.specs.declared.step.Step.{Step}
 use Rattle.herd_office.specs.Histories.{of_desk}
+use Rattle.herdbook.specs.Deal.{commands_at, dealt}
 use Rattle.herdbook.specs.declared.summary.DeskCount.{DeskCount}
 use Rattle.herdbook.specs.declared.summary.Summary.{Summary}
 
@@ -25,24 +26,24 @@ summary_text summary =
     ++ codes "steps " ++ decimal summary.steps ++ codes "\nanimals " ++ decimal summary.animals
     ++ codes "\nseen " ++ decimal summary.seen ++ codes "\n"
 
--- a summary of an office of so many desks that was closed after so many commands: a legal journal has a step for each of them; there
--- is a count for each desk, in order, and the journal has as many steps of a desk as it has answered; the book is that of the
--- journal, and an inspector has seen a beginning of it
-pub record IsSummaryOf (limits : Limits) (desks commands : ℕ) (summary : Summary) : Type 0 where
+-- a summary of the closed office of so many desks for these commands, of which so many first ones fell to desk 1: a legal journal is as
+-- long as they are, and each desk's steps in it are of the commands that fell to it, in their order; there is a count for each desk, from
+-- 1 on, of its steps; the animals are those of the journal's book, and an inspector has seen as many steps as there are; in which order
+-- different desks filed is left open
+pub record IsSummaryOf (limits : Limits) (desks base : ℕ) (commands : List Command) (summary : Summary) : Type 0 where
   pub journal : List Step
-  pub seen_steps : List Step
   pub legal : IsLegal limits journal
   pub steps_are : summary.steps ≡ length journal
-  pub all_filed : summary.steps ≡ commands
+  pub as_many : summary.steps ≡ length commands
   pub numbers_are : map (λ d. d.number) summary.desks.items ≡ range_with_len 1 desks
   pub sum_is : sum_by (λ d. d.answered) summary.desks.items ≡ summary.steps
   pub each_is : (place : ℕ) (desk : DeskCount) → slice_get summary.desks.items place ≡ Some desk → desk.answered ≡ of_desk desk.number journal
+  pub dealt_are : (place : ℕ) (desk : DeskCount) → slice_get summary.desks.items place ≡ Some desk → commands_at desk.number journal ≡ dealt desks (take base commands) (drop base commands) desk.number
   pub animals_are : summary.animals ≡ length (run_book limits (commands_of journal))
-  pub seen_are : summary.seen ≡ length seen_steps
-  pub seen_first : IsPrefix seen_steps journal
+  pub all_seen : summary.seen ≡ summary.steps
 
 -- the text is that of such a summary
-pub record TellsOf (limits : Limits) (desks commands : ℕ) (text : List ℕ) : Type 0 where
+pub record TellsOf (limits : Limits) (desks base : ℕ) (commands : List Command) (text : List ℕ) : Type 0 where
   pub summary : Summary
-  pub counts : IsSummaryOf limits desks commands summary
+  pub counts : IsSummaryOf limits desks base commands summary
   pub text_is : text ≡ summary_text summary

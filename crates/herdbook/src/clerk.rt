@@ -1,7 +1,9 @@
 //! A clerk, who files commands at a desk one after the other.
-ghost use Rattle.std.specs.Prelude.{◌≡◌, ◌+◌, ◌≤◌, length, None, OnOk};
+ghost use Rattle.std.specs.Prelude.{◌≡◌, ◌≤◌, List, [], ◌∷◌, ◌++◌, length, None, OnOk};
+ghost use Rattle.herd_register.specs.declared.command.Command.{Command};
 ghost use Rattle.herd_register.specs.declared.limits.TheConstants.{MOST_STEPS};
 ghost use Rattle.herd_office.specs.declared.limits.TheConstants.{MOST_DESKS};
+ghost use Rattle.herdbook.specs.Deal.{HasFiled, every};
 
 use crate::clerk_fault::ClerkFault;
 use herd_office::{Desk, Filed, Office, OfficeName, Slip};
@@ -15,11 +17,11 @@ pub struct Clerk<N: OfficeName> {
     pub slip: Option<Slip<N>>,
 }
 
-/// The commands that fall to a desk: from the first on, every so many-th.
+/// Commands of a list: the one at the place `from`, and from it on every `step`-th.
 #[derive(Clone, Copy)]
 pub struct Turn<'a> {
     pub commands: &'a [Command],
-    pub first: usize,
+    pub from: usize,
     pub step: usize,
 }
 
@@ -32,6 +34,13 @@ impl<N: OfficeName> Clerk<N> {
         Clerk { desk, slip: None }
     }
 
+    /// The number of the desk.
+    pub fn number(&self) -> u16
+        ensures { result ≡ self.now.desk.number }
+    {
+        self.desk.number()
+    }
+
     // Files a command.
     fn file<H: Wait, R: Wait + Drop>(
         &mut self,
@@ -40,7 +49,8 @@ impl<N: OfficeName> Clerk<N> {
         command: Command,
     ) -> Result<(), ClerkFault>
         ensures number { self.new.desk.number ≡ self.old.desk.number }
-        ensures answered { OnOk result (self.new.desk.answered ≡ self.old.desk.answered + 1) }
+        ensures filed { (before : List Command) → HasFiled self.old.desk.number self.old.desk.answered self.old.desk.history before
+            → OnOk result (HasFiled self.new.desk.number self.new.desk.answered self.new.desk.history (before ++ command ∷ [])) }
     {
         let Filed {
             serial: _,
@@ -61,8 +71,10 @@ impl<N: OfficeName> Clerk<N> {
         requires step { (1 ≤ turn.step) × (turn.step ≤ MOST_DESKS) }
         requires few { length turn.commands.now ≤ MOST_STEPS }
         ensures number { self.new.desk.number ≡ self.old.desk.number }
+        ensures filed { (before : List Command) → HasFiled self.old.desk.number self.old.desk.answered self.old.desk.history before
+            → OnOk result (HasFiled self.new.desk.number self.new.desk.answered self.new.desk.history (before ++ every turn.entry.step turn.entry.from turn.entry.commands.now)) }
     {
-        let mut place = turn.first;
+        let mut place = turn.from;
         while place < turn.commands.len() {
             self.file(rt, office, turn.commands[place])?;
             place += turn.step;

@@ -16,7 +16,8 @@ pub enum ClerkFault {
     NoThread,
     /// A growth of memory was refused.
     Memory,
-    /// An office lacks a reader's place, gives no reading, isn't closed, or has other steps than the file has commands.
+    /// An office lacks a seat for a reader or room for a step, gives no reading, isn't closed, or its inspector hasn't
+    /// seen every step.
     NoPlace,
 }
 

@@ -1,32 +1,39 @@
 //! Clerks who file side by side, each in a thread of its own.
-ghost use Rattle.std.specs.Prelude.{◌≡◌, ◌≤◌, IfOk, length, map, vec_items, vec_len};
+ghost use Rattle.std.specs.Prelude.{◌≡◌, ◌≤◌, All, IfOk, length, map, vec_items};
 ghost use Rattle.herd_register.specs.declared.limits.TheConstants.{MOST_STEPS};
 ghost use Rattle.herd_office.specs.declared.limits.TheConstants.{MOST_DESKS};
+ghost use Rattle.herdbook.specs.Deal.{HasFiled, dealt, dealt_first};
+ghost use Rattle.herdbook.specs.declared.deal.Deal.{Deal};
 
-use crate::clerk::{Clerk, Turn};
+use crate::clerk::Clerk;
 use crate::clerk_fault::ClerkFault;
+use crate::deal::Deal;
 use herd_office::{Office, OfficeName};
-use herd_register::Command;
 use std::alloc::{AllocError, Global};
 use std::sync::Wait;
 use std::thread;
 use std::thread::{Promise, PromisedHandle, Scope, Threads};
 
-/// Filing at the desk of a number.
-#[derive(Clone, Copy, Drop)]
-pub struct DeskTask {
+/// What a clerk's thread is started for: that all that falls to the desk of this number is filed there, the first
+/// commands included.
+#[derive(Clone, Copy)]
+pub struct DeskTask<'a> {
     pub number: u16,
+    pub deal: Deal<'a>,
 }
 
-impl<N: OfficeName> Promise<Result<Clerk<N>, ClerkFault>> for DeskTask {
+impl<'a, N: OfficeName> Promise<Result<Clerk<N>, ClerkFault>> for DeskTask<'a> {
     ghost use Rattle.std.specs.Prelude.{◌≡◌, IfOk};
+    ghost use Rattle.herdbook.specs.Deal.{HasFiled, dealt};
 
-    ghost kept_by = { λ task result. IfOk result (λ clerk. clerk.desk.number ≡ task.number) };
+    ghost kept_by = { λ task result. IfOk result (λ clerk. (clerk.desk.number ≡ task.number)
+        × HasFiled clerk.desk.number clerk.desk.answered clerk.desk.history (dealt task.deal.desks task.deal.first.now task.deal.rest.now clerk.desk.number)) };
 }
 
-type Started<N> = PromisedHandle<Result<Clerk<N>, ClerkFault>, DeskTask>;
+type Started<'a, N> = PromisedHandle<Result<Clerk<N>, ClerkFault>, DeskTask<'a>>;
 
-/// Files the commands at the clerks' desks in turn. When it returns, all threads have ended.
+/// Files the rest of the commands at the clerks' desks, once the first ones are filed. When it returns, all threads
+/// have ended.
 pub fn file_in_turn<
     N: OfficeName + Send + Sync,
     H: Threads + Wait + Sync,
@@ -36,87 +43,80 @@ pub fn file_in_turn<
     alloc: Global,
     office: &Office<N, R>,
     clerks: Vec<Clerk<N>>,
-    commands: &[Command],
+    deal: Deal<'_>,
 ) -> Result<Vec<Clerk<N>>, ClerkFault>
-    requires some { (1 ≤ vec_len clerks) × (vec_len clerks ≤ MOST_DESKS) }
-    requires few { length commands.now ≤ MOST_STEPS }
+    requires desks { (1 ≤ deal.desks) × (deal.desks ≤ MOST_DESKS) }
+    requires few { length deal.rest.now ≤ MOST_STEPS }
+    requires first { All (λ c. HasFiled c.desk.number c.desk.answered c.desk.history (dealt_first deal.first.now c.desk.number)) clerks.items }
     ensures numbers { IfOk result (λ done. map (λ c. c.desk.number) done.items ≡ map (λ c. c.desk.number) clerks.items) }
+    ensures filed { IfOk result (λ done. All (λ c. HasFiled c.desk.number c.desk.answered c.desk.history (dealt deal.entry.desks deal.entry.first.now deal.entry.rest.now c.desk.number)) done.items) }
 {
     thread::scope(
         thread::scope_env(),
         rt,
         |scope| -> Result<Vec<Clerk<N>>, ClerkFault>
-            requires some { (1 ≤ vec_len clerks) × (vec_len clerks ≤ MOST_DESKS) }
-            requires few { length commands.now ≤ MOST_STEPS }
+            requires desks { (1 ≤ deal.desks) × (deal.desks ≤ MOST_DESKS) }
+            requires few { length deal.rest.now ≤ MOST_STEPS }
+            requires first { All (λ c. HasFiled c.desk.number c.desk.answered c.desk.history (dealt_first deal.first.now c.desk.number)) clerks.items }
             ensures numbers { IfOk result (λ done. map (λ c. c.desk.number) done.items ≡ map (λ c. c.desk.number) clerks.items) }
+            ensures filed { IfOk result (λ done. All (λ c. HasFiled c.desk.number c.desk.answered c.desk.history (dealt deal.entry.desks deal.entry.first.now deal.entry.rest.now c.desk.number)) done.items) }
         {
-            let started = start_all(scope, rt, alloc, office, clerks, commands)?;
+            let started = start_all(scope, rt, alloc, office, clerks, deal)?;
             join_all(rt, alloc, started)
         },
     )
 }
 
-// Starts a clerk at each desk, in the order of the desks.
+// Starts the thread of each clerk, in their order.
 fn start_all<'s, N: OfficeName + Send + Sync, E, H: Wait + Sync, R: Wait + Drop + Send + Sync>(
     scope: &'s Scope<'s, E>,
     rt: &'s H,
     alloc: Global,
     office: &'s Office<N, R>,
     clerks: Vec<Clerk<N>>,
-    commands: &'s [Command],
-) -> Result<Vec<Started<N>>, ClerkFault>
-    requires some { (1 ≤ vec_len clerks) × (vec_len clerks ≤ MOST_DESKS) }
-    requires few { length commands.now ≤ MOST_STEPS }
+    deal: Deal<'s>,
+) -> Result<Vec<Started<'s, N>>, ClerkFault>
+    requires desks { (1 ≤ deal.desks) × (deal.desks ≤ MOST_DESKS) }
+    requires few { length deal.rest.now ≤ MOST_STEPS }
+    requires first { All (λ c. HasFiled c.desk.number c.desk.answered c.desk.history (dealt_first deal.first.now c.desk.number)) clerks.items }
     ensures numbers { IfOk result (λ started. map (λ s. s.promise.number) (vec_items started) ≡ map (λ c. c.desk.number) clerks.items) }
+    ensures deals { IfOk result (λ started. All (λ s. s.promise.deal ≡ deal.entry) (vec_items started)) }
 {
-    let step = clerks.len();
     let mut started = Vec::new(alloc);
     for clerk in clerks {
-        let turn = Turn {
-            commands,
-            first: started.len(),
-            step,
-        };
-        let clerk = start(scope, rt, office, clerk, turn)?;
+        let clerk = start(scope, rt, office, clerk, deal)?;
         started.push(clerk).map_err(AllocError::from)?;
     }
     Ok(started)
 }
 
-// Starts a clerk.
+// Starts a clerk's thread.
 fn start<'s, N: OfficeName + Send + Sync, E, H: Wait + Sync, R: Wait + Drop + Send + Sync>(
     scope: &'s Scope<'s, E>,
     rt: &'s H,
     office: &'s Office<N, R>,
     clerk: Clerk<N>,
-    turn: Turn<'s>,
-) -> Result<Started<N>, ClerkFault>
-    requires step { (1 ≤ turn.step) × (turn.step ≤ MOST_DESKS) }
-    requires few { length turn.commands.now ≤ MOST_STEPS }
+    deal: Deal<'s>,
+) -> Result<Started<'s, N>, ClerkFault>
+    requires desks { (1 ≤ deal.desks) × (deal.desks ≤ MOST_DESKS) }
+    requires few { length deal.rest.now ≤ MOST_STEPS }
+    requires first { HasFiled clerk.desk.number clerk.desk.answered clerk.desk.history (dealt_first deal.first.now clerk.desk.number) }
     ensures number { IfOk result (λ started. started.promise.number ≡ clerk.desk.number) }
+    ensures deal { IfOk result (λ started. started.promise.deal ≡ deal.entry) }
 {
     let task = DeskTask {
         number: clerk.desk.number(),
+        deal,
     };
-    let Turn {
-        commands,
-        first,
-        step,
-    } = turn;
     let started = scope.spawn_with(
         task,
         move || -> Result<Clerk<N>, ClerkFault>
-            requires step { (1 ≤ step) × (step ≤ MOST_DESKS) }
-            requires few { length commands.now ≤ MOST_STEPS }
+            requires desks { (1 ≤ deal.desks) × (deal.desks ≤ MOST_DESKS) }
+            requires few { length deal.rest.now ≤ MOST_STEPS }
+            requires first { HasFiled clerk.desk.number clerk.desk.answered clerk.desk.history (dealt_first deal.first.now clerk.desk.number) }
             ensures number { IfOk result (λ done. done.desk.number ≡ clerk.desk.number) }
-        {
-            let turn = Turn {
-                commands,
-                first,
-                step,
-            };
-            filed(rt, office, clerk, turn)
-        },
+            ensures filed { IfOk result (λ done. HasFiled done.desk.number done.desk.answered done.desk.history (dealt deal.entry.desks deal.entry.first.now deal.entry.rest.now done.desk.number)) }
+        { filed(rt, office, clerk, deal) },
     );
     match started {
         Ok(started) => Ok(started),
@@ -124,32 +124,37 @@ fn start<'s, N: OfficeName + Send + Sync, E, H: Wait + Sync, R: Wait + Drop + Se
     }
 }
 
-// The clerk after a turn.
+// The clerk, once the turn of his desk is filed.
 fn filed<N: OfficeName, H: Wait, R: Wait + Drop>(
     rt: &H,
     office: &Office<N, R>,
     mut clerk: Clerk<N>,
-    turn: Turn<'_>,
+    deal: Deal<'_>,
 ) -> Result<Clerk<N>, ClerkFault>
-    requires step { (1 ≤ turn.step) × (turn.step ≤ MOST_DESKS) }
-    requires few { length turn.commands.now ≤ MOST_STEPS }
+    requires desks { (1 ≤ deal.desks) × (deal.desks ≤ MOST_DESKS) }
+    requires few { length deal.rest.now ≤ MOST_STEPS }
+    requires first { HasFiled clerk.desk.number clerk.desk.answered clerk.desk.history (dealt_first deal.first.now clerk.desk.number) }
     ensures number { IfOk result (λ done. done.desk.number ≡ clerk.desk.number) }
+    ensures filed { IfOk result (λ done. HasFiled done.desk.number done.desk.answered done.desk.history (dealt deal.entry.desks deal.entry.first.now deal.entry.rest.now done.desk.number)) }
 {
+    let turn = deal.turn(clerk.number());
     clerk.file_turn(rt, office, turn)?;
     Ok(clerk)
 }
 
-// Waits for each clerk in turn.
+// Waits for the clerks one after the other, and gives them back in that order, or the first fault in it.
 fn join_all<N: OfficeName, H: Threads>(
     rt: &H,
     alloc: Global,
-    started: Vec<Started<N>>,
+    started: Vec<Started<'_, N>>,
 ) -> Result<Vec<Clerk<N>>, ClerkFault>
-    ensures numbers { IfOk result (λ done. map (λ c. c.desk.number) done.items ≡ map (λ s. s.promise.number) (vec_items started)) }
+    ensures numbers { IfOk result (λ done. map (λ c. c.desk.number) done.items ≡ map (λ s. s.promise.number) (vec_items started.entry)) }
+    ensures filed { (deal : Deal) → All (λ s. s.promise.deal ≡ deal) (vec_items started.entry)
+        → IfOk result (λ done. All (λ c. HasFiled c.desk.number c.desk.answered c.desk.history (dealt deal.desks deal.first.now deal.rest.now c.desk.number)) done.items) }
 {
     let mut done = Vec::new(alloc);
-    for clerk in started {
-        done.push(clerk.join(rt)?).map_err(AllocError::from)?;
+    for handle in started {
+        done.push(handle.join(rt)?).map_err(AllocError::from)?;
     }
     Ok(done)
 }

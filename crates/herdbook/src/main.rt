@@ -11,7 +11,8 @@
 //! | the texts of help and of the version | | `help` | |
 //! | what the program does for its words | `Program` | `program` | `ProgramFacts` |
 //! | how it ends, and what is told on standard error | `Ending`, `FaultText` | `ending`, `task_fault`, `fault_text` | |
-//! | clerks: the desk of each command, their threads, one clerk's turns | `Clerks` | `desks`, `crew`, `clerk` | |
+//! | clerks, their threads, one clerk's turn | `Clerks`, `Deal` | `desks`, `crew`, `clerk` | `DealFacts`, `SummaryFacts` |
+//! | the desk of each command | `Deal` | `deal` | `DealFacts` |
 //! | how clerks end early | `Clerks` | `clerk_fault` | |
 //! | what each desk answered, as text | `Summary` | `summary` | `SummaryFacts` |
 #![tactic(auto)]
@@ -20,6 +21,7 @@ mod arguments;
 mod clerk;
 mod clerk_fault;
 mod crew;
+mod deal;
 mod desks;
 mod ending;
 mod fault_text;

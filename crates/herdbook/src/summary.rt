@@ -17,6 +17,7 @@ pub struct Summary {
     pub desks: Vec<DeskCount>,
     /// The length of the journal.
     pub steps: usize,
+    /// How many animals its book has.
     pub animals: u32,
     /// How many steps the inspector has seen.
     pub seen: u64,
@@ -38,6 +39,7 @@ pub fn text_of(alloc: Global, summary: &Summary) -> Result<String, AllocError>
     Ok(text)
 }
 
+// A line for each desk.
 fn lines_of(alloc: Global, desks: &[DeskCount]) -> Result<String, AllocError>
     ensures { IfOk result (λ text. string_bytes text ≡ desk_lines desks.now) }
 {

@@ -9,7 +9,8 @@ use herd_report::RunFault;
 pub enum TaskFault {
     /// As a run may end.
     Run(RunFault),
-    /// The clerks' office lacked a reader's place, gave no reading, or didn't close with a step for each command.
+    /// The clerks' office lacked a seat for a reader or room for a step, gave no reading, wasn't closed, or its inspector
+    /// hadn't seen every step.
     /// Nothing was written.
     NoPlace,
 }

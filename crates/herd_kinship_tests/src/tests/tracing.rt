@@ -33,10 +33,10 @@ struct Shape {
     dams: u32,
 }
 
-// The index of an animal by its generation and its rank there.
-fn index_in(shape: Shape, generation: u32, rank: u32) -> u32 {
+// The index of an animal by its generation and its position there.
+fn index_in(shape: Shape, generation: u32, position: u32) -> u32 {
     let older = generation.wrapping_mul(shape.animals);
-    older.wrapping_add(rank).wrapping_add(1)
+    older.wrapping_add(position).wrapping_add(1)
 }
 
 // The first day of the year that is so many after 2000.
@@ -47,9 +47,9 @@ fn new_year(after: u32) -> DayText {
     day
 }
 
-fn name_in(shape: Shape, generation: u32, rank: u32) -> Name {
-    let index = index_in(shape, generation, rank);
-    if rank.is_multiple_of(2) {
+fn name_in(shape: Shape, generation: u32, position: u32) -> Name {
+    let index = index_in(shape, generation, position);
+    if position.is_multiple_of(2) {
         Bull(index)
     } else {
         Cow(index)
@@ -57,20 +57,20 @@ fn name_in(shape: Shape, generation: u32, rank: u32) -> Name {
 }
 
 // The sire is of the generation before, the dam of every third one of the generation before that; some are unknown.
-fn parents_in(shape: Shape, generation: u32, rank: u32) -> Pair
+fn parents_in(shape: Shape, generation: u32, position: u32) -> Pair
     requires sires { 0 < shape.sires }
     requires dams { 0 < shape.dams }
 {
-    if generation == 0 || index_in(shape, generation, rank).is_multiple_of(17) {
+    if generation == 0 || index_in(shape, generation, position).is_multiple_of(17) {
         return UNKNOWN;
     }
-    let back = if generation > 1 && rank.is_multiple_of(3) {
+    let back = if generation > 1 && position.is_multiple_of(3) {
         2
     } else {
         1
     };
-    let male = (rank / 2 % shape.sires).wrapping_mul(2);
-    let female = (rank % shape.dams).wrapping_mul(2).wrapping_add(1);
+    let male = (position / 2 % shape.sires).wrapping_mul(2);
+    let female = (position % shape.dams).wrapping_mul(2).wrapping_add(1);
     Pair::of(
         name_in(shape, generation - 1, male),
         name_in(shape, generation - back, female),
@@ -83,9 +83,9 @@ fn shaped(alloc: Global, shape: Shape) -> Result<Frozen<Global>, BirthFault>
 {
     let mut pedigree = Pedigree::new(alloc);
     for generation in 0..shape.generations {
-        for rank in 0..shape.animals {
-            let name = name_in(shape, generation, rank);
-            let parents = parents_in(shape, generation, rank);
+        for position in 0..shape.animals {
+            let name = name_in(shape, generation, position);
+            let parents = parents_in(shape, generation, position);
             file_birth(&mut pedigree, Birth(name, new_year(generation), parents))?;
         }
     }

@@ -183,8 +183,8 @@ fn freeze_often<N: OfficeName>(
 // Both are in age order, so the rows of the earlier book are met one after the other.
 fn contains(after: &Frozen<Global>, before: &Frozen<Global>) -> bool {
     let mut found = 0;
-    for place in 0..after.len() {
-        if found < before.len() && after.row(place).number == before.row(found).number {
+    for rank in 0..after.len() {
+        if found < before.len() && after.row(rank).number == before.row(found).number {
             found += 1;
         }
     }

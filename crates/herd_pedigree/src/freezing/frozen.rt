@@ -26,7 +26,7 @@ pub struct Row {
     pub depth: u8,
 }
 
-/// Of a row what following its paths takes.
+/// The part of a row that is read to follow its paths.
 #[derive(Clone, Copy, Debug, PartialEq, Eq)]
 pub struct Parents {
     /// The rank of the sire, where it is known.

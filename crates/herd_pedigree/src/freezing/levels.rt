@@ -6,7 +6,7 @@ use crate::DEPTH_LIMIT;
 use crate::freezing::rows::Rows;
 use std::alloc::{AllocError, Allocator};
 
-// A level with no rank for each depth up to the limit.
+// An empty level for each depth up to the limit.
 fn empty_levels<A: Allocator + Clone>(alloc: A) -> Result<Vec<Vec<u32, A>, A>, AllocError>
     ensures { IfOk result (λ levels. map (λ level. level.items) levels.items ≡ levels_of DEPTH_LIMIT []) }
 {

@@ -42,7 +42,7 @@ fn freeze_corrected(rt: &impl Abort, alloc: Global) -> Result<Frozen<Global>, Fa
     Ok(pedigree.freeze(alloc)?)
 }
 
-fn places(frozen: &Frozen<Global>) -> [Option<u32>; 3] {
+fn ranks(frozen: &Frozen<Global>) -> [Option<u32>; 3] {
     [
         frozen.rank(&Cow(2).number()),
         frozen.rank(&Bull(1).number()),
@@ -53,7 +53,7 @@ fn places(frozen: &Frozen<Global>) -> [Option<u32>; 3] {
 #[test]
 fn a_corrected_book_is_frozen(rt: HostRuntime) -> Result<(), Fail> {
     let frozen = freeze_corrected(&rt, rt.alloc())?;
-    assert_eq!(rt; places(&frozen), [Some(0), Some(1), Some(2)]);
+    assert_eq!(rt; ranks(&frozen), [Some(0), Some(1), Some(2)]);
     assert_eq!(rt; frozen.len(), 3);
     let parents = Parents {
         sire: Some(1),
@@ -99,7 +99,7 @@ fn a_dam_registered_later_is_set_and_unset(rt: HostRuntime) -> Result<(), Fail> 
     expect_corrected(&rt, &mut pedigree, Pair::of_sire(Bull(1)), 1)
 }
 
-// An ancestor with a later birth day than the recorded one, as an offspring of its own path.
+// An ancestor with a later birth day than the recorded one, as an offspring of its descendant, or of itself.
 fn returning() -> [(Change, ParentFault); 2] {
     let day = *b"2006-01-01";
     [

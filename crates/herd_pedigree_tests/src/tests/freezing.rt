@@ -1,4 +1,4 @@
-//! Books that are frozen: their rows, and the places of numbers.
+//! Books that are frozen: their rows, and the ranks of numbers.
 ghost use Rattle.std.specs.Prelude.{IfOk};
 ghost use Rattle.herd_pedigree.specs.rules.Lawful.{IsLawful};
 ghost use Rattle.herd_pedigree.specs.declared.TheConstants.{DEPTH_LIMIT, MOST_ANIMALS};
@@ -83,11 +83,11 @@ fn freezes_a_family(rt: HostRuntime) -> Result<(), Fail> {
 }
 
 #[test]
-fn finds_places(rt: HostRuntime) -> Result<(), Fail> {
+fn finds_ranks(rt: HostRuntime) -> Result<(), Fail> {
     let frozen = freeze_list(rt.alloc(), &family(rt.alloc())?)?;
-    let places = [(Cow(2), Some(0)), (Bull(3), Some(2)), (Bull(4), None)];
-    for (name, place) in places {
-        assert_eq!(rt; frozen.rank(&name.number()), place, "{name:?}");
+    let ranks = [(Cow(2), Some(0)), (Bull(3), Some(2)), (Bull(4), None)];
+    for (name, rank) in ranks {
+        assert_eq!(rt; frozen.rank(&name.number()), rank, "{name:?}");
     }
     Ok(())
 }

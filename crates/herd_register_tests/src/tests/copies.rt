@@ -59,8 +59,8 @@ pub(super) fn are_same<A: Allocator, B: Allocator>(one: &Frozen<A>, other: &Froz
     if one.len() != other.len() {
         return false;
     }
-    for place in 0..one.len() {
-        if one.row(place) != other.row(place) {
+    for rank in 0..one.len() {
+        if one.row(rank) != other.row(rank) {
             return false;
         }
     }
@@ -98,11 +98,11 @@ fn freezes_to_the_rows_of_the_register(rt: HostRuntime) -> Result<(), Fail> {
 fn freezes_in_age_order(rt: HostRuntime) -> Result<(), Fail> {
     let register = corrected(&rt, rt.alloc())?;
     let frozen = frozen_copy(rt.alloc(), &register, rt.alloc())?;
-    for (place, number) in [Cow(2).number(), Bull(1).number(), Bull(3).number()]
+    for (rank, number) in [Cow(2).number(), Bull(1).number(), Bull(3).number()]
         .iter()
         .enumerate()
     {
-        assert_eq!(rt; frozen.rank(number), Some(place as u32));
+        assert_eq!(rt; frozen.rank(number), Some(rank as u32));
     }
     assert!(rt; frozen.len() == 3);
     let calf = frozen.parents(2);

@@ -7,5 +7,5 @@ use Rattle.herdbook.proofs.desks.handed_in.Given as goal
 abbrev pub invariant-loop-clerk : goal.invariant-loop-clerk
 invariant-loop-clerk g l = record {
   counts : l.counts.items ≡ map (λ d. count_of d.number d.answered) l.desks.items;
-  numbers : map (λ d. d.number) l.desks.items ++ map (λ c. c.desk.number) (into_iter_items l.clerk-iterator) ≡ map (λ c. c.desk.number) l.fn.clerks.items;
+  desks : l.desks.items ++ map (λ c. c.desk) (into_iter_items l.clerk-iterator) ≡ map (λ c. c.desk) l.fn.clerks.items;
 }

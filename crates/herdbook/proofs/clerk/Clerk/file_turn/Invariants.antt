@@ -1,9 +1,20 @@
--- The places that are left.
-use Rattle.std.proofs.Common.{◌≡◌, ◌-◌, length}
+-- What is left of the turn.
+use Rattle.std.proofs.Common.{◌≡◌, ◌-◌, List, ◌++◌, drop, length}
+use Rattle.herd_register.specs.declared.command.Command.{Command}
+use Rattle.herdbook.specs.Deal.{HasFiled, every}
+use Rattle.herdbook.proofs.DealFacts.{Underway}
 use Rattle.herdbook.proofs.clerk.Clerk.file_turn.Given as goal
 
 abbrev pub invariant-loop-place : goal.invariant-loop-place
-invariant-loop-place g l = l.self.desk.number ≡ l.initial.self.desk.number
+invariant-loop-place g l =
+    let old = l.initial.self.desk in
+    let desk = l.self.desk in
+    let commands = l.turn.commands.now in
+    record {
+      number : desk.number ≡ old.number;
+      under : (before : List Command) → HasFiled old.number old.answered old.history before
+          → Underway desk.number desk.answered desk.history (every l.turn.step 0 (drop l.place commands)) (before ++ every l.turn.step l.turn.from commands);
+    }
 
 abbrev pub decreases-loop-place : goal.decreases-loop-place
 decreases-loop-place g l = length l.turn.commands.now - l.place

@@ -1,0 +1,266 @@
+-- What is left of a turn, what falls to all desks together, and what a desk has filed.
+use Rattle.std.proofs.Common.{◌≡◌, ◌∙◌, ℕ, zero, suc, ◌+◌, ◌-◌, ◌≤◌, ◌<◌, ◌==◌, true, false, List, [], ◌∷◌, ◌++◌, All, ap, append_assoc, arith, drop, filter, length, map, set, slice_get, Some, refl, subst, sym}
+use Rattle.std.specs.List.{range_with_len, sum_by}
+use Rattle.std.proofs.lemmas.Bool.Decides.{nat_tests}
+use Rattle.std.proofs.lemmas.Grind.{common_steps}
+use Rattle.std.proofs.lemmas.List.Elements.{All-cons, All-nil, filter-append}
+use Rattle.std.proofs.lemmas.List.Sums.{length-filter, sum_by-cons}
+use Rattle.std.proofs.lemmas.Option.{get_or_from_slice_get, slice_get_within}
+use mathlib.Core.List.{IsPrefix}
+use Rattle.herd_register.specs.declared.command.Command.{Command}
+use Rattle.herd_register.specs.declared.reply.Reply.{Reply}
+use Rattle.herd_register.specs.declared.step.Step.{Step}
+use Rattle.herd_register.specs.Run.{step_of}
+use Rattle.herd_office.specs.Closing.{BeginsWithAll}
+use Rattle.herd_office.specs.Filing.{EndsWith}
+use Rattle.herd_office.specs.Histories.{of_desk}
+use Rattle.herdbook.specs.Deal.{HasFiled, commands_at, dealt, dealt_first, every}
+use Rattle.herdbook.specs.Summary.{count_of}
+use Rattle.herdbook.specs.declared.summary.DeskCount.{DeskCount}
+
+-- what is left out may be dropped first
+pub every-drop : (step out : ℕ) (commands : List Command) → every step out commands ≡ every step 0 (drop out commands)
+every-drop step zero commands = refl
+every-drop step (suc out) [] = refl
+every-drop step (suc out) (command ∷ more) = every-drop step out more
+
+-- a turn goes on with the command at a place, and then as many places further on
+pub every-next : (step place : ℕ) (commands : List Command) (command : Command) → 1 ≤ step → slice_get commands place ≡ Some command
+    → every step 0 (drop place commands) ≡ command ∷ every step 0 (drop (place + step) commands)
+every-next zero place commands command some is = absurd (omega (arith, some))
+every-next (suc less) zero [] command some is = absurd (cc is)
+every-next (suc less) zero (first ∷ more) command some is =
+    let same : first ≡ command = cc is in
+    let minus : suc less - 1 ≡ less = omega arith in
+    let plus : suc less ≡ 0 + suc less = omega arith in
+    ap (λ n. first ∷ every (suc less) n more) minus ∙ ap (λ c. c ∷ every (suc less) less more) same
+    ∙ ap (λ l. command ∷ l) (every-drop (suc less) less more) ∙ ap (λ n. command ∷ every (suc less) 0 (drop n (first ∷ more))) plus
+every-next (suc less) (suc place) [] command some is = absurd (cc is)
+every-next (suc less) (suc place) (first ∷ more) command some is =
+    let plus : suc (place + suc less) ≡ suc place + suc less = omega arith in
+    every-next (suc less) place more command some is ∙ ap (λ n. command ∷ every (suc less) 0 (drop n (first ∷ more))) plus
+
+-- each one in turn is all of them
+pub every-one : (commands : List Command) → every 1 0 commands ≡ commands
+every-one [] = refl
+every-one (command ∷ more) = ap (λ l. command ∷ l) (every-one more)
+
+commands_at-append : (number : ℕ) (xs ys : List Step) → commands_at number (xs ++ ys) ≡ commands_at number xs ++ commands_at number ys
+commands_at-append number xs ys = ap (map (λ (s : Step). s.command)) (filter-append (λ (s : Step). s.desk == number) xs ys) ∙ search (common_steps)
+
+of_desk-append : (number : ℕ) (xs ys : List Step) → of_desk number (xs ++ ys) ≡ of_desk number xs + of_desk number ys
+of_desk-append number xs ys = search (arith, common_steps)
+
+none_of : {A : Type 0} (xs : List A) → length xs ≡ 0 → xs ≡ []
+none_of [] is = refl
+none_of (x ∷ xs) is = absurd (omega (arith, is))
+
+none_at : (number : ℕ) (steps : List Step) → of_desk number steps ≡ 0 → commands_at number steps ≡ []
+none_at number steps none =
+    ap (map (λ (s : Step). s.command)) (none_of (filter (λ (s : Step). s.desk == number) steps) (length-filter (λ (s : Step). s.desk == number) steps ∙ none))
+
+-- a longer history with no other step of the desk shows what it has filed
+pub shown : (number answered : ℕ) (history longer : List Step) (commands : List Command) → HasFiled number answered history commands
+    → IsPrefix history longer → of_desk number longer ≡ answered → commands_at number longer ≡ commands
+shown number answered history longer commands filed begins all =
+    let both : of_desk number history + of_desk number begins.0 ≡ answered =
+    sym (of_desk-append number history begins.0) ∙ ap (of_desk number) begins.1 ∙ all in
+    let just : of_desk number history ≡ answered = omega (arith, both, filed.stored) in
+    let none : of_desk number begins.0 ≡ 0 = omega (arith, both, filed.stored) in
+    let parts : commands_at number longer ≡ commands_at number history ++ commands_at number begins.0 =
+    sym (ap (commands_at number) begins.1) ∙ commands_at-append number history begins.0 in
+    parts ∙ ap (λ l. commands_at number history ++ l) (none_at number begins.0 none) ∙ search (common_steps) ∙ filed.known just
+
+-- a desk at which nothing was filed
+pub filed_none : (number : ℕ) → HasFiled number 0 [] []
+filed_none number = record { counted = refl; stored = omega arith; known = λ _. refl }
+
+-- a front of a list with one element more is one of the list, where it is no longer than that
+shorter_front : {A : Type 0} (front list : List A) (last : A) → IsPrefix front (list ++ last ∷ []) → length front ≤ length list → IsPrefix front list
+shorter_front [] list last begins le = (list, refl)
+shorter_front (x ∷ front) [] last begins le = absurd (omega (arith, le))
+shorter_front {A} (x ∷ front) (y ∷ list) last begins le =
+    let same : x ≡ y = cc (begins.1) in
+    let rest : front ++ begins.0 ≡ list ++ last ∷ [] = cc (begins.1) in
+    let more = shorter_front front list last (begins.0, rest) (omega (arith, le)) in
+    (more.0, ap (λ l. x ∷ l) more.1 ∙ ap (λ (z : A). z ∷ list) same)
+
+own_step : (number : ℕ) (step : Step) → step.desk ≡ number → commands_at number (step ∷ []) ≡ step.command ∷ []
+own_step number step is = let own : (step.desk == number) ≡ true = grind (arith, nat_tests) in rw own refl
+
+own_count : (number : ℕ) (step : Step) → step.desk ≡ number → of_desk number (step ∷ []) ≡ 1
+own_count number step is = grind (arith, nat_tests)
+
+-- a desk that was given a slip for a command more
+pub filed_more : (number answered : ℕ) (history longer : List Step) (before : List Command) (command : Command) (reply : Reply)
+    → IsPrefix history longer → length history < length longer → EndsWith longer number command reply → answered + 1 ≤ of_desk number longer
+    → HasFiled number answered history before → HasFiled number (answered + 1) longer (before ++ command ∷ [])
+filed_more number answered history longer before command reply begins more ends stored filed =
+    let front = ends.0 in
+    let step = step_of number command reply in
+    let is : longer ≡ front ++ step ∷ [] = ends.1 in
+    let len : length longer ≡ length front + 1 = ap length is ∙ search (arith, common_steps) in
+    let within : IsPrefix history front = shorter_front history front step (begins.0, begins.1 ∙ is) (omega (arith, more, len)) in
+    let one_more : length (before ++ command ∷ []) ≡ length before + 1 = search (arith, common_steps) in
+    let count : of_desk number longer ≡ of_desk number front + 1 =
+    ap (of_desk number) is ∙ of_desk-append number front (step ∷ []) ∙ ap (λ n. of_desk number front + n) (own_count number step refl) in
+    record {
+      counted = omega (arith, filed.counted, one_more);
+      stored = stored;
+      known = λ all.
+          let just : of_desk number front ≡ answered = omega (arith, count, all) in
+          ap (commands_at number) is ∙ commands_at-append number front (step ∷ [])
+          ∙ ap (λ l. l ++ commands_at number (step ∷ [])) (shown number answered history front before filed within just)
+          ∙ ap (λ l. before ++ l) (own_step number step refl);
+    }
+
+-- the sum of the values at 0 and so many numbers more, which end before a bound
+abbrev up_to : (ℕ → ℕ) → ℕ → ℕ
+up_to f zero = 0
+up_to f (suc bound) = up_to f bound + f bound
+
+up_to-first : (f : ℕ → ℕ) (bound : ℕ) → up_to f (suc bound) ≡ f 0 + up_to (λ k. f (suc k)) bound
+up_to-first f zero = omega arith
+up_to-first f (suc bound) = omega (arith, up_to-first f bound)
+
+up_to-plus : (f g : ℕ → ℕ) (bound : ℕ) → up_to (λ k. f k + g k) bound ≡ up_to f bound + up_to g bound
+up_to-plus f g zero = refl
+up_to-plus f g (suc bound) = omega (arith, up_to-plus f g bound)
+
+up_to-same : (f g : ℕ → ℕ) → ((k : ℕ) → f k ≡ g k) → (bound : ℕ) → up_to f bound ≡ up_to g bound
+up_to-same f g same zero = refl
+up_to-same f g same (suc bound) = omega (arith, up_to-same f g same bound, same bound)
+
+up_to-nothing : (f : ℕ → ℕ) → ((k : ℕ) → f k ≡ 0) → (bound : ℕ) → up_to f bound ≡ 0
+up_to-nothing f none zero = refl
+up_to-nothing f none (suc bound) = omega (arith, up_to-nothing f none bound, none bound)
+
+-- a sum over a range
+range_sum : (f : ℕ → ℕ) (from count : ℕ) → sum_by f (range_with_len from count) ≡ up_to (λ k. f (from + k)) count
+range_sum f from zero = refl
+range_sum f from (suc count) =
+    let later : sum_by f (range_with_len (from + 1) count) ≡ up_to (λ k. f (from + suc k)) count =
+    range_sum f (from + 1) count ∙ up_to-same (λ k. f (from + 1 + k)) (λ k. f (from + suc k)) (λ k. ap f (omega arith)) count in
+    let front : f (from + 0) ≡ f from = ap f (omega arith) in
+    omega (arith, sum_by-cons f from (range_with_len (from + 1) count), up_to-first (λ k. f (from + k)) count, later, front)
+
+-- turns of all desks have every command once
+turns : (desks : ℕ) (rest : List Command) → 1 ≤ desks → up_to (λ k. length (every desks k rest)) desks ≡ length rest
+turns desks [] some = up_to-nothing (λ k. length (every desks k [])) (λ k. refl) desks
+turns zero (command ∷ more) some = absurd (omega (arith, some))
+turns (suc less) (command ∷ more) some =
+    let own : length (every (suc less) 0 (command ∷ more)) ≡ length (every (suc less) less more) + 1 =
+    let minus : suc less - 1 ≡ less = omega arith in
+    omega (arith, ap (λ n. length (every (suc less) n more)) minus) in
+    omega (arith, turns (suc less) more some, own, up_to-first (λ k. length (every (suc less) k (command ∷ more))) less)
+
+-- and with the first commands, all of both
+pub dealt-all : (desks : ℕ) (first rest : List Command) → 1 ≤ desks
+    → sum_by (λ number. length (dealt desks first rest number)) (range_with_len 1 desks) ≡ length first + length rest
+dealt-all zero first rest some = absurd (omega (arith, some))
+dealt-all (suc less) first rest some =
+    let desks = suc less in
+    let front : ℕ → ℕ = λ k. length (dealt_first first (1 + k)) in
+    let turn : ℕ → ℕ = λ k. length (every desks k rest) in
+    let parts : (k : ℕ) → length (dealt desks first rest (1 + k)) ≡ front k + turn k =
+    λ k.
+    let back : 1 + k - 1 ≡ k = omega arith in
+    let both : length (dealt desks first rest (1 + k)) ≡ length (dealt_first first (1 + k)) + length (every desks (1 + k - 1) rest) =
+    search (arith, common_steps) in
+    both ∙ ap (λ n. front k + length (every desks n rest)) back in
+    let later : (k : ℕ) → front (suc k) ≡ 0 =
+    λ k. let apart : (1 + suc k == 1) ≡ false = grind (arith, nat_tests) in rw apart refl in
+    let fronts : up_to front desks ≡ length first =
+    omega (arith, up_to-first front less, up_to-nothing (λ k. front (suc k)) later less) in
+    range_sum (λ number. length (dealt desks first rest number)) 1 desks
+    ∙ up_to-same (λ k. length (dealt desks first rest (1 + k))) (λ k. front k + turn k) parts desks
+    ∙ up_to-plus front turn desks ∙ omega (arith, fronts, turns desks rest some)
+
+-- desks that have filed what fell to them have answered as many calls as fell to all
+pub all-counted : {D : Type 0} (number answered : D → ℕ) (fell : ℕ → List Command) (desks : List D)
+    → ((place : ℕ) (desk : D) → slice_get desks place ≡ Some desk → answered desk ≡ length (fell (number desk)))
+    → sum_by answered desks ≡ sum_by (λ n. length (fell n)) (map number desks)
+all-counted number answered fell [] counted = refl
+all-counted number answered fell (desk ∷ more) counted =
+    omega (
+      arith,
+      sum_by-cons answered desk more,
+      sum_by-cons (λ n. length (fell n)) (number desk) (map number more),
+      counted 0 desk refl,
+      all-counted number answered fell more (λ k other there. counted (suc k) other there),
+    )
+
+-- what was filed of a turn, and what is left of it
+pub record Underway (number answered : ℕ) (history : List Step) (left all : List Command) : Type 0 where
+  pub done : List Command
+  pub filed : HasFiled number answered history done
+  pub split : done ++ left ≡ all
+
+-- nothing was filed of it yet
+pub begun : (number answered : ℕ) (history : List Step) (step out : ℕ) (before commands : List Command) → HasFiled number answered history before
+    → Underway number answered history (every step 0 (drop out commands)) (before ++ every step out commands)
+begun number answered history step out before commands filed =
+    record { done = before; filed = filed; split = ap (λ l. before ++ l) (sym (every-drop step out commands)) }
+
+-- the command at a place was filed
+pub gone_on : (number answered : ℕ) (history : List Step) (number′ answered′ : ℕ) (history′ : List Step) (step place : ℕ) (commands all : List Command) (command : Command)
+    → 1 ≤ step → slice_get commands place ≡ Some command
+    → ((before : List Command) → HasFiled number answered history before → HasFiled number′ answered′ history′ (before ++ command ∷ []))
+    → Underway number answered history (every step 0 (drop place commands)) all
+    → Underway number′ answered′ history′ (every step 0 (drop (place + step) commands)) all
+gone_on number answered history number′ answered′ history′ step place commands all command some is more under =
+    record {
+      done = under.done ++ command ∷ [];
+      filed = more under.done under.filed;
+      split =
+          append_assoc under.done (command ∷ []) (every step 0 (drop (place + step) commands))
+          ∙ ap (λ l. under.done ++ l) (sym (every-next step place commands command some is)) ∙ under.split;
+    }
+
+-- desks but the first, at which nothing was filed
+others : {C : Type 0} (number answered : C → ℕ) (history : C → List Step) (first : List Command) (from : ℕ) (clerks : List C) → 2 ≤ from
+    → ((place : ℕ) (clerk : C) → slice_get clerks place ≡ Some clerk → (number clerk ≡ place + from) × (answered clerk ≡ 0) × (history clerk ≡ []))
+    → All (λ c. HasFiled (number c) (answered c) (history c) (dealt_first first (number c))) clerks
+others number answered history first from [] le fresh = All-nil (λ c. HasFiled (number c) (answered c) (history c) (dealt_first first (number c)))
+others number answered history first from (clerk ∷ more) le fresh =
+    let own = fresh 0 clerk refl in
+    let later : (number clerk == 1) ≡ false = grind (arith, nat_tests, own.0, le) in
+    let none : dealt_first first (number clerk) ≡ [] = rw later refl in
+    let here : HasFiled (number clerk) (answered clerk) (history clerk) (dealt_first first (number clerk)) =
+    rw (own.1, own.2, none) (filed_none (number clerk)) in
+    All-cons (λ c. HasFiled (number c) (answered c) (history c) (dealt_first first (number c))) clerk more here
+    (others number answered history first (from + 1) more (omega (arith, le))
+    (λ place c there. let known = fresh (suc place) c there in (omega (arith, known.0), known.1, known.2)))
+
+-- the first desk has filed the first commands, and the others nothing
+pub all_begun : {C : Type 0} (number answered : C → ℕ) (history : C → List Step) (first : List Command) (clerks : List C) (clerk : C)
+    → ((place : ℕ) (c : C) → slice_get clerks place ≡ Some c → (number c ≡ place + 1) × (answered c ≡ 0) × (history c ≡ []))
+    → number clerk ≡ 1 → HasFiled (number clerk) (answered clerk) (history clerk) first
+    → All (λ c. HasFiled (number c) (answered c) (history c) (dealt_first first (number c))) (set clerks 0 clerk)
+all_begun number answered history first [] clerk fresh one filed = All-nil (λ c. HasFiled (number c) (answered c) (history c) (dealt_first first (number c)))
+all_begun number answered history first (old ∷ more) clerk fresh one filed =
+    let all : first ≡ dealt_first first (number clerk) = sym (ap (dealt_first first) one) in
+    All-cons (λ c. HasFiled (number c) (answered c) (history c) (dealt_first first (number c))) clerk more
+    (subst (λ l. HasFiled (number clerk) (answered clerk) (history clerk) l) all filed)
+    (others number answered history first 2 more (omega arith)
+    (λ place c there. let known = fresh (suc place) c there in (omega (arith, known.0), known.1, known.2)))
+
+-- what holds of all holds of the one at a place
+pub all_at : {D : Type 0} (P : D → Type 0) (desks : List D) → All P desks → (place : ℕ) (desk : D) → slice_get desks place ≡ Some desk → P desk
+all_at P desks all place desk is = subst P (get_or_from_slice_get desks place desk desk is) (all place desk (slice_get_within desks place desk is))
+
+-- in the journal of a closed office each desk has the steps of what it has filed
+pub each-dealt : {D : Type 0} (number answered : D → ℕ) (history : D → List Step) (fell : ℕ → List Command) (journal : List Step) (desks : List D)
+    → ((place : ℕ) (desk : D) → slice_get desks place ≡ Some desk → HasFiled (number desk) (answered desk) (history desk) (fell (number desk)))
+    → ((place : ℕ) (desk : D) → slice_get desks place ≡ Some desk → answered desk ≡ of_desk (number desk) journal)
+    → BeginsWithAll history desks journal
+    → (place : ℕ) (count : DeskCount) → slice_get (map (λ d. count_of (number d) (answered d)) desks) place ≡ Some count
+    → commands_at count.number journal ≡ fell count.number
+each-dealt number answered history fell journal [] filed counted begins place count is = absurd cc
+each-dealt number answered history fell journal (desk ∷ more) filed counted begins zero count is =
+    let same : count_of (number desk) (answered desk) ≡ count = cc in
+    subst (λ (c : DeskCount). commands_at c.number journal ≡ fell c.number) same
+    (shown (number desk) (answered desk) (history desk) journal (fell (number desk)) (filed 0 desk refl) (begins 0 desk refl) (sym (counted 0 desk refl)))
+each-dealt number answered history fell journal (desk ∷ more) filed counted begins (suc place) count is =
+    each-dealt number answered history fell journal more (λ k d there. filed (suc k) d there) (λ k d there. counted (suc k) d there)
+    (λ k d there. begins (suc k) d there) place count is
