@@ -3,6 +3,7 @@
 use Rattle.std.specs.Prelude.{◌≡◌, ℕ, ◌<◌, ◌≤◌, List, length, slice_index_or, Option, None, Some}
 use Rattle.herd_pedigree.specs.declared.freezing.frozen.Row.{Row}
 use Rattle.herd_kinship.specs.Ranks.{sire_rank, dam_rank}
+use Rattle.herd_kinship.specs.declared.calves.Calves.{Calves}
 
 -- x is a calf of s and of a known dam
 abbrev pub IsCalf : List Row → ℕ → ℕ → Type 0
@@ -19,3 +20,7 @@ pub record AreLinked (rows : List Row) (border : ℕ) (latest earlier : List (Op
   pub each_calf : length earlier ≡ length rows
   pub latest_is : (s : ℕ) → s < length rows → IsLink rows s border (slice_index_or latest s None)
   pub earlier_is : (s x : ℕ) → x < border → IsCalf rows s x → IsLink rows s x (slice_index_or earlier x None)
+
+-- these are the links among all calves of a frozen book
+abbrev pub AreCalvesOf : {A : Type 0} → List Row → Calves A → Type 0
+AreCalvesOf rows calves = AreLinked rows (length rows) calves.latest.items calves.earlier.items

@@ -1,21 +1,25 @@
 -- Coefficients of inbreeding of a frozen book's animals, in unit 2^-2l, by ranks.
 use Rattle.std.specs.Prelude.{◌≡◌, ℕ, ◌+◌, ◌*◌, ◌/◌, ◌^◌, ◌<◌, List, length, slice_index, Option, None, Some}
 use Rattle.herd_pedigree.specs.declared.freezing.frozen.Row.{Row}
+use Rattle.herd_pedigree.specs.freezing.Frozen.{depth_at}
 use Rattle.herd_kinship.specs.Ancestry.{IsAncestor}
 use Rattle.herd_kinship.specs.Table.{coefficient, entry}
 use Rattle.herd_kinship.specs.FrozenAncestry.{ancestry_of, number_of_row}
 use Rattle.herd_kinship.specs.Ranks.{sire_rank, dam_rank}
 
+-- the coefficient of the animal at a rank
+abbrev pub coefficient_at : ℕ → List Row → ℕ → ℕ
+coefficient_at l rows rank = coefficient (ancestry_of rows) l (number_of_row rows rank)
+
 -- there is a numerator for each animal, and it is its coefficient
 pub record AreCoefficients (l : ℕ) (rows : List Row) (numerators : List ℕ) : Type 0 where
   pub each : length numerators ≡ length rows
-  pub right : (rank : ℕ) → rank < length rows → slice_index numerators rank ≡ coefficient (ancestry_of rows) l (number_of_row rows rank)
+  pub right : (rank : ℕ) → rank < length rows → slice_index numerators rank ≡ coefficient_at l rows rank
 
 -- there is a numerator for each animal, and at the ancestors of the animal at a rank it is their coefficient
 pub record KnowsAncestors (l : ℕ) (rows : List Row) (known : List ℕ) (rank : ℕ) : Type 0 where
   pub each : length known ≡ length rows
-  pub right : (p : ℕ) → p < length rows → IsAncestor (ancestry_of rows) (number_of_row rows p) (number_of_row rows rank) →
-      slice_index known p ≡ coefficient (ancestry_of rows) l (number_of_row rows p)
+  pub right : (p : ℕ) → p < length rows → IsAncestor (ancestry_of rows) (number_of_row rows p) (number_of_row rows rank) → slice_index known p ≡ coefficient_at l rows p
 
 -- the relationship of the animal at a rank with itself, which is the whole and its coefficient
 abbrev pub own_relationship : ℕ → List Row → ℕ → ℕ
@@ -31,11 +35,19 @@ pub record IsKnownParent (l : ℕ) (known : List ℕ) (parent : ℕ) : Type 0 wh
   pub within : parent < length known
   pub below_one : slice_index known parent < 2 ^ (2 * l)
 
--- a parent of the animal is unknown, or its sire stands below the border
-abbrev pub IsReached : List Row → ℕ → ℕ → Type 0
-IsReached rows border x = (s d : ℕ) → sire_rank rows x ≡ Some s → dam_rank rows x ≡ Some d → s < border
+-- the animals before a rank
+abbrev pub IsBefore : ℕ → ℕ → Type 0
+IsBefore border rank = rank < border
 
--- there is a numerator for each animal, and at those that are reached it is their coefficient
-pub record KnowsReached (l : ℕ) (rows : List Row) (border : ℕ) (known : List ℕ) : Type 0 where
+-- the animals of less depth
+abbrev pub IsLessDeep : List Row → ℕ → ℕ → Type 0
+IsLessDeep rows depth rank = depth_at rows rank < depth
+
+-- a parent of the animal is unknown, or its sire is one of these
+abbrev pub IsReached : List Row → (ℕ → Type 0) → ℕ → Type 0
+IsReached rows sires x = (s d : ℕ) → sire_rank rows x ≡ Some s → dam_rank rows x ≡ Some d → sires s
+
+-- there is a numerator for each animal, and at those that are reached from these sires it is their coefficient
+pub record KnowsReached (l : ℕ) (rows : List Row) (sires : ℕ → Type 0) (known : List ℕ) : Type 0 where
   pub each : length known ≡ length rows
-  pub right : (x : ℕ) → x < length rows → IsReached rows border x → slice_index known x ≡ coefficient (ancestry_of rows) l (number_of_row rows x)
+  pub right : (x : ℕ) → x < length rows → IsReached rows sires x → slice_index known x ≡ coefficient_at l rows x

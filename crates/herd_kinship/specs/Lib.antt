@@ -13,4 +13,5 @@ pub mod Mating
 pub mod Contributions
 pub mod Columns
 pub mod CalfLinks
+pub mod CalfCoefficients
 pub mod Mates

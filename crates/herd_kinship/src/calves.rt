@@ -1,21 +1,26 @@
-ghost use Rattle.std.specs.Prelude.{◌≡◌, ℕ, ◌+◌, ◌*◌, ◌-◌, ◌/◌, ◌<◌, ◌≤◌, ◌⊎◌, is_some, length, slice_index, true, IsFalse, IfOk, IfSome, IfNone, None, Some};
-ghost use Rattle.herd_kinship.specs.CalfLinks.{AreLinked, IsCalf};
+ghost use Rattle.std.specs.Prelude.{◌≡◌, ℕ, ◌+◌, ◌*◌, ◌-◌, ◌/◌, ◌<◌, ◌≤◌, ◌⊎◌, is_some, length, true, IsTrue, IsFalse, IfOk, IfSome, IfNone, None, Some};
+ghost use Rattle.herd_kinship.specs.CalfCoefficients.{GoesOnWith};
+ghost use Rattle.herd_kinship.specs.CalfLinks.{AreCalvesOf, IsCalf};
+ghost use Rattle.herd_kinship.specs.Columns.{at_parent};
 ghost use Rattle.herd_kinship.specs.Pending.{mark};
 ghost use Rattle.herd_kinship.specs.Ranks.{sire_rank, dam_rank};
 
+use crate::calf_coefficients::CalfCoefficient;
 use crate::columns::{mark_parent, with_parent};
 use crate::pending::Pending;
 use crate::tracing::parents_at;
 use herd_pedigree::{Frozen, PackedIndex, Parents};
 use std::alloc::{AllocError, Allocator};
 
-/// The calves of each sire, those of which the dam is known too, linked from the youngest to the oldest.
+/// The calves of each sire of a frozen book, those of which the dam is known too.
+///
+/// They are linked from the youngest to the oldest, and may be lent to several threads.
 #[derive(Drop)]
 pub struct Calves<A: Allocator> {
-    /// By the sire's rank, its youngest calf.
-    pub latest: Vec<PackedIndex, A>,
-    /// By the calf's rank, the next older calf of its sire.
-    pub earlier: Vec<PackedIndex, A>,
+    // By the sire's rank, its youngest calf.
+    latest: Vec<PackedIndex, A>,
+    // By the calf's rank, the next older calf of its sire.
+    earlier: Vec<PackedIndex, A>,
 }
 
 /// The sire, where the dam is known too.
@@ -31,8 +36,9 @@ fn sire_of_pair(parents: Parents) -> Option<u32>
 }
 
 /// Whether there is an animal of which both parents are known.
-pub fn has_calves<F: Allocator>(frozen: &Frozen<F>) -> bool
-    ensures { IsFalse result → (sire calf : ℕ) → IsCalf frozen.now sire calf → ⊥ }
+pub(crate) fn has_calves<F: Allocator>(frozen: &Frozen<F>) -> bool
+    ensures yes { IsTrue result → (sire : ℕ) × (calf : ℕ) × IsCalf frozen.now sire calf }
+    ensures no { IsFalse result → (sire calf : ℕ) → IsCalf frozen.now sire calf → ⊥ }
 {
     for calf in 0..frozen.len() {
         if sire_of_pair(parents_at(frozen, calf)).is_some() {
@@ -43,9 +49,9 @@ pub fn has_calves<F: Allocator>(frozen: &Frozen<F>) -> bool
 }
 
 impl<A: Allocator + Clone> Calves<A> {
-    /// The calves of a frozen book.
+    /// The calves of a frozen book. The only error is a growth of memory that is refused.
     pub fn of<F: Allocator>(alloc: A, frozen: &Frozen<F>) -> Result<Calves<A>, AllocError>
-        ensures { IfOk result (λ calves. AreLinked frozen.now (length frozen.now) calves.latest.items calves.earlier.items) }
+        ensures { IfOk result (AreCalvesOf frozen.now) }
     {
         let animals = frozen.len() as usize;
         let mut latest = vec![in alloc.clone()?; PackedIndex::none(); animals]?;
@@ -61,15 +67,26 @@ impl<A: Allocator + Clone> Calves<A> {
 }
 
 impl<A: Allocator> Calves<A> {
+    /// Whether the sire at a rank has a calf of a known dam.
+    pub fn has_calves<F: Allocator>(&self, frozen: &Frozen<F>, sire: u32) -> bool
+        requires calves { AreCalvesOf frozen.now self.now }
+        requires sire { sire < length frozen.now }
+        ensures yes { IsTrue result → (calf : ℕ) × IsCalf frozen.now sire calf }
+        ensures no { IsFalse result → (calf : ℕ) → IsCalf frozen.now sire calf → ⊥ }
+    {
+        prove!(sire < frozen.len());
+        self.latest[sire as usize].get().is_some()
+    }
+
     /// Marks the mates of a sire by their distances from the last rank.
-    pub fn mark_mates<F: Allocator, P: Allocator>(
+    pub(crate) fn mark_mates<F: Allocator, P: Allocator>(
         &self,
         frozen: &Frozen<F>,
         sire: u32,
         last: u32,
         marked: &mut Pending<P>,
     )
-        requires calves { AreLinked frozen.now (length frozen.now) self.now.latest.items self.now.earlier.items }
+        requires calves { AreCalvesOf frozen.now self.now }
         requires sire { sire < length frozen.now }
         requires last { last + 1 ≡ length frozen.now }
         requires room { last < 64 * length marked.old.chunks.items }
@@ -86,27 +103,26 @@ impl<A: Allocator> Calves<A> {
         }
     }
 
-    /// Writes the coefficients of a sire's calves, half its relationships with their dams.
-    pub fn write_coefficients<F: Allocator>(
+    /// Appends a sire's calves, each with half the sire's relationship with its dam.
+    pub(crate) fn append_halves<F: Allocator, L: Allocator>(
         &self,
         frozen: &Frozen<F>,
         sire: u32,
         column: &[u128],
-        known: &mut [u128],
-    )
-        requires calves { AreLinked frozen.now (length frozen.now) self.now.latest.items self.now.earlier.items }
+        list: &mut Vec<CalfCoefficient, L>,
+    ) -> Result<(), AllocError>
+        requires calves { AreCalvesOf frozen.now self.now }
         requires sire { sire < length frozen.now }
         requires column { length column.now ≡ length frozen.now }
-        requires known { length known.old ≡ length frozen.now }
-        ensures long { length known.new ≡ length known.old }
-        ensures calves { (calf dam : ℕ) → sire_rank frozen.now calf ≡ Some sire → dam_rank frozen.now calf ≡ Some dam → slice_index known.new calf ≡ slice_index column.now dam / 2 }
-        ensures others { (other : ℕ) → (IsCalf frozen.now sire other → ⊥) → slice_index known.new other ≡ slice_index known.old other }
+        ensures { IfOk result (λ _. GoesOnWith frozen.now (λ s. s ≡ sire) (λ calf. at_parent column.now (dam_rank frozen.now calf) / 2) list.old.items list.new.items) }
     {
         prove!(sire < frozen.len());
         let mut link = self.latest[sire as usize].get();
-        while let Some(calf) = link {
-            known[calf as usize] = with_parent(column, parents_at(frozen, calf).dam) / 2;
-            link = self.earlier[calf as usize].get();
+        while let Some(rank) = link {
+            let numerator = with_parent(column, parents_at(frozen, rank).dam) / 2;
+            list.push(CalfCoefficient { rank, numerator })?;
+            link = self.earlier[rank as usize].get();
         }
+        Ok(())
     }
 }

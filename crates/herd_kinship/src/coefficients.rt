@@ -1,9 +1,10 @@
-ghost use Rattle.std.specs.Prelude.{◌≡◌, ◌==◌, ◌+◌, ◌*◌, ◌^◌, ◌<◌, All, length, slice_index, IfOk};
+ghost use Rattle.std.specs.Prelude.{◌≡◌, ◌==◌, ℕ, ◌+◌, ◌*◌, ◌^◌, ◌<◌, All, length, slice_index, IfOk, IsOk};
 ghost use Rattle.herd_pedigree.specs.declared.TheConstants.{DEPTH_LIMIT};
-ghost use Rattle.herd_kinship.specs.CalfLinks.{AreLinked};
-ghost use Rattle.herd_kinship.specs.Coefficients.{AreCoefficients, KnowsReached};
+ghost use Rattle.herd_kinship.specs.CalfLinks.{AreCalvesOf, IsCalf};
+ghost use Rattle.herd_kinship.specs.Coefficients.{AreCoefficients, IsBefore, KnowsReached};
 ghost use Rattle.herd_kinship.specs.Mates.{IsReady};
 
+use crate::calf_coefficients::{CalfCoefficient, write_calves};
 use crate::calves::{Calves, has_calves};
 use crate::mates::Mates;
 use herd_pedigree::Frozen;
@@ -70,46 +71,64 @@ impl<A: Allocator> Coefficients<A> {
 }
 
 /// Writes the coefficients of a sire's calves, by those of its ancestors.
-fn write_calves<F: Allocator, C: Allocator, A: Allocator>(
+fn write_calves_of<F: Allocator, C: Allocator, A: Allocator>(
     frozen: &Frozen<F>,
     calves: &Calves<C>,
     mates: &mut Mates<A>,
+    list: &mut Vec<CalfCoefficient, A>,
     sire: u32,
     known: &mut [u128],
 ) -> Result<(), AllocError>
     requires sire { sire < length frozen.now }
-    requires calves { AreLinked frozen.now (length frozen.now) calves.now.latest.items calves.now.earlier.items }
+    requires calves { AreCalvesOf frozen.now calves.now }
     requires ready { IsReady (length frozen.now) mates.old }
-    requires known { KnowsReached DEPTH_LIMIT frozen.now sire known.old }
+    requires known { KnowsReached DEPTH_LIMIT frozen.now (IsBefore sire) known.old }
     ensures ready { IfOk result (λ _. IsReady (length frozen.now) mates.new) }
-    ensures known { IfOk result (λ _. KnowsReached DEPTH_LIMIT frozen.now (sire + 1) known.new) }
+    ensures known { IfOk result (λ _. KnowsReached DEPTH_LIMIT frozen.now (IsBefore (sire + 1)) known.new) }
 {
     prove!(sire < frozen.len());
-    if calves.latest[sire as usize].get().is_some() {
-        mates.relate_to(frozen, calves, known, sire)?;
-        calves.write_coefficients(frozen, sire, &mates.column, known);
+    if calves.has_calves(frozen, sire) {
+        list.clear();
+        mates.append_calves(frozen, calves, known, sire, list)?;
+        write_calves(list, known);
     }
     Ok(())
 }
 
-/// Writes the coefficients of all calves, sire by sire. It takes no memory where no animal has two known parents.
+/// Writes the coefficients of all calves, sire by sire.
+fn write_by_sires<F: Allocator, A: Allocator + Clone>(
+    alloc: A,
+    frozen: &Frozen<F>,
+    known: &mut [u128],
+) -> Result<(), AllocError>
+    requires { KnowsReached DEPTH_LIMIT frozen.now (IsBefore 0) known.old }
+    ensures { IfOk result (λ _. KnowsReached DEPTH_LIMIT frozen.now (IsBefore (length frozen.now)) known.new) }
+{
+    let calves = Calves::of(alloc.clone()?, frozen)?;
+    let mut mates = Mates::with_room(alloc.clone()?, frozen.len())?;
+    let mut list = Vec::new(alloc);
+    for sire in 0..frozen.len() {
+        write_calves_of(frozen, &calves, &mut mates, &mut list, sire, known)?;
+    }
+    Ok(())
+}
+
+/// Writes the coefficients of all animals, where there is 0 yet. It takes no memory where no animal has two known
+/// parents.
 fn write_all<F: Allocator, A: Allocator + Clone>(
     alloc: A,
     frozen: &Frozen<F>,
     known: &mut [u128],
 ) -> Result<(), AllocError>
-    requires { KnowsReached DEPTH_LIMIT frozen.now 0 known.old }
-    ensures { IfOk result (λ _. KnowsReached DEPTH_LIMIT frozen.now (length frozen.now) known.new) }
+    requires { KnowsReached DEPTH_LIMIT frozen.now (IsBefore 0) known.old }
+    ensures known { IfOk result (λ _. KnowsReached DEPTH_LIMIT frozen.now (IsBefore (length frozen.now)) known.new) }
+    ensures no_calves { ((sire calf : ℕ) → IsCalf frozen.now sire calf → ⊥) → IsOk result }
 {
-    if !has_calves(frozen) {
-        return Ok(());
+    if has_calves(frozen) {
+        write_by_sires(alloc, frozen, known)
+    } else {
+        Ok(())
     }
-    let calves = Calves::of(alloc.clone()?, frozen)?;
-    let mut mates = Mates::with_room(alloc, frozen.len())?;
-    for sire in 0..frozen.len() {
-        write_calves(frozen, &calves, &mut mates, sire, known)?;
-    }
-    Ok(())
 }
 
 /// The coefficients of inbreeding of all animals, on the calling thread.

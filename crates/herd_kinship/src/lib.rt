@@ -10,7 +10,8 @@
 //! - **Sire by sire** (`coefficients_plain`; Colleau 2002; Sargolzaei, Iwaisaki and Colleau 2005). For each sire, in
 //!   age order, its mates and their ancestors are collected, what it has of their Mendelian sampling variances is
 //!   traced, and its relationships are passed on from parents to offspring. Half of that with a mate is the
-//!   coefficient of their calf. It is the faster way on one thread.
+//!   coefficient of their calf. It is the faster way on one thread. `Calves` and `Mates` offer a sire by itself, which
+//!   asks for no more than its ancestors' coefficients, so threads can share this way too.
 //! - **Animal by animal** (`trace`, then `inbred`; Meuwissen and Luo 1992). An animal's ancestors are met from the
 //!   youngest to the oldest; its relationship with itself is the sum of its squared shares in them times their
 //!   Mendelian sampling variances. This needs no more than its ancestors' coefficients, so threads can share it.
@@ -20,13 +21,14 @@
 //! | A, coefficients, Mendelian sampling variances | `Table` | | `Table`, `Depth`, `Bounds` |
 //! | shares, A = T D T', the laws | `Shares`, `Laws` | `laws` | `Shares`, `Exact`, `Decompose`, `LawFacts` |
 //! | a frozen book as an ancestry, by numbers and ranks | `FrozenAncestry`, `Ranks` | | `BookFacts`, `FrozenFacts`, `Renamed` |
-//! | sire by sire | `Columns`, `CalfLinks`, `Mates` | `coefficients`, `mates`, `columns`, `calves` | `BySires`, `PassedOn`, `Collecting`, `CalfFacts` |
+//! | sire by sire | `Columns`, `CalfLinks`, `CalfCoefficients`, `Mates` | `coefficients`, `mates`, `columns`, `calves` | `BySires`, `PassedOn`, `Collecting`, `CalfFacts`, `CalfListFacts` |
 //! | animal by animal | `Tracing`, `Pending` | `tracing`, `pending` | `TermSums`, `TracingFacts`, `UnderWayFacts` |
 //! | one animal's relationships, mating advice | `Columns`, `Mating` | `relationships`, `mating_advice` | `RelationshipFacts`, `MatingFacts` |
 //! | the inverse of A | `InverseRows`, `Contributions` | `inverse`, `contribution` | `RowProducts`, `ContributionFacts` |
 //! | fractions and percentages | `Fraction` | `numerators`, `fractions` | `FractionFacts` |
 #![tactic(auto)]
 
+mod calf_coefficients;
 mod calves;
 mod coefficients;
 mod columns;
@@ -41,11 +43,14 @@ mod pending;
 mod relationships;
 mod tracing;
 
+pub use calf_coefficients::{CalfCoefficient, write_calves};
+pub use calves::Calves;
 pub use coefficients::{Coefficients, coefficients_plain};
 pub use contribution::{Contribution, Contributions};
 pub use fractions::Fraction;
 use herd_pedigree::DEPTH_LIMIT;
 pub use inverse::contributions;
+pub use mates::Mates;
 pub use mating_advice::{MatingFault, mating, mating_by};
 pub use numerators::{fraction, hundredths};
 pub use relationships::Relationships;

@@ -1,11 +1,13 @@
 ghost use Rattle.std.specs.Prelude.{◌≡◌, ℕ, ◌<◌, length, slice_index, IfOk, Some};
 ghost use Rattle.herd_pedigree.specs.declared.TheConstants.{DEPTH_LIMIT};
-ghost use Rattle.herd_kinship.specs.CalfLinks.{AreLinked};
-ghost use Rattle.herd_kinship.specs.Coefficients.{KnowsAncestors};
+ghost use Rattle.herd_kinship.specs.CalfCoefficients.{GoesOnWith};
+ghost use Rattle.herd_kinship.specs.CalfLinks.{AreCalvesOf};
+ghost use Rattle.herd_kinship.specs.Coefficients.{KnowsAncestors, coefficient_at};
 ghost use Rattle.herd_kinship.specs.Columns.{related};
 ghost use Rattle.herd_kinship.specs.Mates.{IsReady};
 ghost use Rattle.herd_kinship.specs.Ranks.{sire_rank, dam_rank};
 
+use crate::calf_coefficients::CalfCoefficient;
 use crate::calves::Calves;
 use crate::columns::{collect, relate};
 use crate::pending::Pending;
@@ -13,19 +15,21 @@ use crate::tracing::Tracing;
 use herd_pedigree::Frozen;
 use std::alloc::{AllocError, Allocator};
 
-/// The mates of a sire and all their ancestors, and its relationships with them.
+/// The mates of a sire and all their ancestors, and its relationships with them: scratch that is kept from one sire to
+/// the next.
 #[derive(Drop)]
 pub struct Mates<A: Allocator> {
-    pub marked: Pending<A>,
-    pub tracing: Tracing<A>,
-    /// From the youngest to the oldest.
-    pub collected: Vec<u32, A>,
-    /// By ranks. What stands at a rank that isn't collected doesn't count.
-    pub column: Vec<u128, A>,
+    marked: Pending<A>,
+    tracing: Tracing<A>,
+    // From the youngest to the oldest.
+    collected: Vec<u32, A>,
+    // By ranks. What stands at a rank that isn't collected doesn't count.
+    column: Vec<u128, A>,
 }
 
 impl<A: Allocator + Clone> Mates<A> {
-    /// Of no sire yet, with room for so many animals.
+    /// Of no sire yet, with room for so many animals, some 26 bytes for each. The only error is a growth of memory that
+    /// is refused.
     pub fn with_room(alloc: A, animals: u32) -> Result<Mates<A>, AllocError>
         ensures { IfOk result (IsReady animals) }
     {
@@ -40,7 +44,7 @@ impl<A: Allocator + Clone> Mates<A> {
 
 impl<A: Allocator> Mates<A> {
     /// Makes the relationships of a sire with its mates, by the coefficients of its ancestors.
-    pub fn relate_to<F: Allocator, C: Allocator>(
+    pub(crate) fn relate_to<F: Allocator, C: Allocator>(
         &mut self,
         frozen: &Frozen<F>,
         calves: &Calves<C>,
@@ -48,7 +52,7 @@ impl<A: Allocator> Mates<A> {
         sire: u32,
     ) -> Result<(), AllocError>
         requires ready { IsReady (length frozen.now) self.old }
-        requires calves { AreLinked frozen.now (length frozen.now) calves.now.latest.items calves.now.earlier.items }
+        requires calves { AreCalvesOf frozen.now calves.now }
         requires known { KnowsAncestors DEPTH_LIMIT frozen.now known.now sire }
         requires sire { sire < length frozen.now }
         ensures ready { IfOk result (λ _. IsReady (length frozen.now) self.new) }
@@ -66,5 +70,30 @@ impl<A: Allocator> Mates<A> {
             &mut self.column,
         );
         Ok(())
+    }
+
+    /// Appends the coefficients of a sire's calves by known dams to a list, in no promised order.
+    ///
+    /// Each is half the sire's relationship with the calf's dam (Colleau 2002). Only the numerators of the sire's
+    /// ancestors need be right in `known`. The only error is a growth of memory that is refused; the scratch is of no
+    /// use then, and the list may have some of the calves.
+    pub fn append_calves<F: Allocator, C: Allocator, L: Allocator>(
+        &mut self,
+        frozen: &Frozen<F>,
+        calves: &Calves<C>,
+        known: &[u128],
+        sire: u32,
+        list: &mut Vec<CalfCoefficient, L>,
+    ) -> Result<(), AllocError>
+        requires ready { IsReady (length frozen.now) self.old }
+        requires calves { AreCalvesOf frozen.now calves.now }
+        requires known { KnowsAncestors DEPTH_LIMIT frozen.now known.now sire }
+        requires sire { sire < length frozen.now }
+        ensures ready { IfOk result (λ _. IsReady (length frozen.now) self.new) }
+        ensures calves { IfOk result (λ _. GoesOnWith frozen.now (λ s. s ≡ sire) (coefficient_at DEPTH_LIMIT frozen.now) list.old.items list.new.items) }
+    {
+        prove!(sire < frozen.len());
+        self.relate_to(frozen, calves, known, sire)?;
+        calves.append_halves(frozen, sire, &self.column, list)
     }
 }

@@ -1,13 +1,18 @@
-use Rattle.std.proofs.Common.{◌≡◌, ℕ, ◌<◌, ◌≤◌, ◌⊎◌, ⊎_elim, false, is_some, IfNone, Option, None, Some, arith, subst}
+use Rattle.std.proofs.Common.{◌≡◌, ℕ, ◌<◌, ◌≤◌, ◌⊎◌, ⊎_elim, false, is_some, IfNone, IfSome, true, Option, None, Some, arith, subst}
 use Rattle.std.proofs.lemmas.Bool.{cases_lt}
 use Rattle.herd_kinship.specs.CalfLinks.{IsCalf}
-use Rattle.herd_kinship.proofs.CalfFacts.{calf-within, no-calf}
+use Rattle.herd_kinship.proofs.CalfFacts.{calf-pair, calf-within, no-calf}
 use Rattle.herd_kinship.proofs.calves.has_calves.Goals as goal
 
 -- what holds where there is no sire
 if-none : {P : Type 0} (o : Option ℕ) → is_some o ≡ false → IfNone o P → P
 if-none None none p = p
 if-none (Some s) none p = absurd (cc)
+
+-- and what holds where there is one
+if-some : (P : ℕ → Type 0) (o : Option ℕ) → is_some o ≡ true → IfSome o P → (s : ℕ) × P s
+if-some P None some p = absurd (cc)
+if-some P (Some s) some p = (s, p)
 
 pub loop-calf-preserved : goal.loop-calf-preserved
 loop-calf-preserved g c =
@@ -23,9 +28,16 @@ loop-calf-preserved g c =
     no-calf rows i c.parents_at.result c.parents_at.ensures unknown s (subst (λ v. IsCalf rows s v) same calf))
     (cases_lt x i)
 
-pub returns : goal.returns
-returns g c = λ _ s x calf.
+pub returns-clause-no : goal.returns-clause-no
+returns-clause-no g c = λ _ s x calf.
     let within = calf-within c.args.frozen.now s x calf in
     let end = c.len-calf-end.ensures.value in
     let past = c.loop-calf-test.false in
     c.loop-calf.invariant s x (omega arith) calf
+
+pub returns-then-is_some-clause-yes : goal.returns-then-is_some-clause-yes
+returns-then-is_some-clause-yes g c = λ _.
+    let some : is_some c.sire_of_pair.result ≡ true = cc in
+    let sire = if-some (λ s. c.parents_at.result.sire ≡ Some s) c.sire_of_pair.result some c.sire_of_pair.ensures.sire in
+    let dam = if-some (λ s. is_some c.parents_at.result.dam ≡ true) c.sire_of_pair.result some c.sire_of_pair.ensures.dam in
+    (sire.0, c.loop-calf.calf, calf-pair c.args.frozen.now c.loop-calf.calf sire.0 c.parents_at.result c.parents_at.ensures sire.1 dam.1)

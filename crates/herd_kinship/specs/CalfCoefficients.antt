@@ -1,0 +1,28 @@
+-- The calves of some sires and of known dams, each by its rank with a numerator.
+use Rattle.std.specs.Prelude.{◌≡◌, ℕ, ◌⊎◌, ◌++◌, All, Any, List, slice_index}
+use Rattle.herd_pedigree.specs.declared.freezing.frozen.Row.{Row}
+use Rattle.herd_kinship.specs.CalfLinks.{IsCalf}
+use Rattle.herd_kinship.specs.declared.calf_coefficients.CalfCoefficient.{CalfCoefficient}
+
+-- a calf of one of these sires, with f of its rank
+pub record IsCalfWith (rows : List Row) (sires : ℕ → Type 0) (f : ℕ → ℕ) (calf : CalfCoefficient) : Type 0 where
+  pub sire : ℕ
+  pub of_these : sires sire
+  pub is_calf : IsCalf rows sire calf.rank
+  pub value : calf.numerator ≡ f calf.rank
+
+-- all calves of these sires, each with f of its rank
+pub record AreCalvesWith (rows : List Row) (sires : ℕ → Type 0) (f : ℕ → ℕ) (calves : List CalfCoefficient) : Type 0 where
+  pub each : All (IsCalfWith rows sires f) calves
+  pub all : (s x : ℕ) → sires s → IsCalf rows s x → Any (λ calf. calf.rank ≡ x) calves
+
+-- the list goes on with all calves of these sires, each with f of its rank
+pub record GoesOnWith (rows : List Row) (sires : ℕ → Type 0) (f : ℕ → ℕ) (old new : List CalfCoefficient) : Type 0 where
+  pub more : List CalfCoefficient
+  pub appended : new ≡ old ++ more
+  pub calves : AreCalvesWith rows sires f more
+
+-- each number is kept or is f of its rank, and at each of these calves' ranks it is f of it
+pub record HasWritten (f : ℕ → ℕ) (calves : List CalfCoefficient) (old new : List ℕ) : Type 0 where
+  pub kept : (rank : ℕ) → (slice_index new rank ≡ slice_index old rank) ⊎ (slice_index new rank ≡ f rank)
+  pub written : All (λ calf. slice_index new calf.rank ≡ f calf.rank) calves
