@@ -1,0 +1,136 @@
+"""The animals of a sheet: what its rows say, cell by cell."""
+from __future__ import annotations
+
+import collections
+import datetime
+from dataclasses import dataclass
+
+from society.columns import KNOWN_NO, KNOWN_SEXES, KNOWN_YES, plain
+from society.dates import ANY_DAY, MonthFirst, Span, Unreadable, read_span
+from society.report import INFERRED, LEFT_OUT, Mistake, Report
+from society.sheet import Sheet, squeezed
+
+ROLES = {"sire": "M", "dam": "F"}
+
+
+@dataclass(slots=True)
+class Animal:
+    """An animal as it is to stand in the book. Parents are ids, and empty where they are unknown."""
+
+    id: str
+    line: int = 0
+    name: str = ""
+    sex: str = ""
+    birth: Span = ANY_DAY
+    sire: str = ""
+    dam: str = ""
+    owner: str = ""
+    left: datetime.date | None = None
+    embryo: bool = False
+    # what is found for it later: its birth day, its number, and what was inferred and from what
+    born: datetime.date = ANY_DAY.first
+    number: str = ""
+    birth_inferred: str = ""
+    left_inferred: str = ""
+    sex_inferred: str = ""
+
+    def parents(self) -> list[tuple[str, str]]:
+        """The known parents, each with its role."""
+        return [(role, parent) for role, parent in (("sire", self.sire), ("dam", self.dam)) if parent]
+
+    def has_day(self) -> bool:
+        return self.birth.is_day
+
+
+class Rows:
+    """Reads the rows of a sheet."""
+
+    def __init__(self, sheet: Sheet, columns: dict[str, int], unknown: set[str], report: Report) -> None:
+        self.sheet, self.columns, self.unknown, self.report = sheet, columns, unknown, report
+        self.unread: collections.defaultdict[str, list[int]] = collections.defaultdict(list)
+        self.read: collections.Counter[str] = collections.Counter()
+
+    def animals(self) -> dict[str, Animal]:
+        """The animals by id, in the order of the rows."""
+        found: dict[str, Animal] = {}
+        titles = len(self.sheet.titles)
+        # many sheets have empty cells at the end of all rows
+        lengths = collections.Counter(len(cells) for _, cells in self.sheet.rows)
+        usual = max([titles, *(length for length, count in lengths.items() if 2 * count > len(self.sheet.rows))])
+        for line, cells in self.sheet.rows:
+            id = self.cell(cells, "id")
+            if len(cells) > usual or any(squeezed(cell) for cell in cells[titles:]):
+                why = f"the row has {len(cells)} cells, and there are {titles} titles: is there a separator too many?"
+            elif id.casefold() in self.unknown:
+                why = f"'{id}' is a word for an unknown animal" if id else "the row has no id"
+            elif id in found:
+                why = f"line {found[id].line} has this id too: the row is left out"
+            else:
+                found[id] = self.animal(line, id, cells)
+                continue
+            self.report.tell(LEFT_OUT, line, id, why)
+        self.mostly_unread()
+        return found
+
+    def cell(self, cells: list[str], field: str) -> str:
+        at = self.columns.get(field)
+        return squeezed(cells[at]) if at is not None and at < len(cells) else ""
+
+    def animal(self, line: int, id: str, cells: list[str]) -> Animal:
+        animal = Animal(id, line, name=self.cell(cells, "name"), owner=self.cell(cells, "owner"))
+        animal.sire, animal.dam = (self.parent(cells, role) for role in ROLES)
+        animal.sex = self.sex(animal, self.cell(cells, "sex"))
+        animal.birth = self.span(animal, "birth", self.cell(cells, "birth")) or ANY_DAY
+        left = self.span(animal, "exit", self.cell(cells, "exit"))
+        if left:
+            animal.left = left.last
+            animal.left_inferred = "" if left.is_day else left.words()
+        if animal.left_inferred:
+            self.report.tell(INFERRED, line, id, f"exit on {animal.left}, the last day of {animal.left_inferred}")
+        animal.embryo = self.is_embryo(animal, self.cell(cells, "embryo"))
+        return animal
+
+    def parent(self, cells: list[str], role: str) -> str:
+        parent = self.cell(cells, role)
+        return "" if parent.casefold() in self.unknown else parent
+
+    def leave_out(self, animal: Animal, field: str, why: str) -> None:
+        self.unread[field].append(animal.line)
+        self.report.tell(LEFT_OUT, animal.line, animal.id, why)
+
+    def sex(self, animal: Animal, text: str) -> str:
+        if text.casefold() in self.unknown:
+            return ""
+        self.read["sex"] += 1
+        sex = KNOWN_SEXES.get(plain(text), "")
+        if not sex:
+            self.leave_out(animal, "sex", f"the sex '{text}' isn't known: write M or F")
+        return sex
+
+    def span(self, animal: Animal, field: str, text: str) -> Span | None:
+        if text.casefold() in self.unknown:
+            return None
+        self.read[field] += 1
+        name = {"birth": "birth day", "exit": "exit"}[field]
+        try:
+            return read_span(text)
+        except MonthFirst as why:
+            raise Mistake(
+                f"line {animal.line}: {animal.id}: {name}: {why}, so days with / can't be told from months: "
+                "write all days as 2001-03-01 or 01.03.2001"
+            ) from None
+        except Unreadable as why:
+            self.leave_out(animal, field, f"{name}: {why}")
+            return None
+
+    def is_embryo(self, animal: Animal, text: str) -> bool:
+        if text and text.casefold() not in KNOWN_YES | KNOWN_NO | self.unknown:
+            self.leave_out(animal, "embryo", f"the cell '{text}' for a calf from a stored embryo isn't known: write 1 or nothing")
+        return text.casefold() in KNOWN_YES
+
+    def mostly_unread(self) -> None:
+        """A column most of whose cells can't be read is a mistake: hardly anything of it would be taken."""
+        for field, lines in self.unread.items():
+            if len(lines) > max(2, self.read[field] // 2):
+                first = next(entry for entry in self.report.entries if entry.line == lines[0] and entry.what == LEFT_OUT)
+                raise Mistake(f"{len(lines)} cells for {field} can't be read, the first in {first.sentence()}")

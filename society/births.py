@@ -1,0 +1,159 @@
+"""Days for animals without one: cycles are cut first, then each gets a day between its parents' and its calves'."""
+from __future__ import annotations
+
+import datetime
+
+from society.animals import Animal
+from society.dates import ANY_DAY, FIRST_DAY
+from society.report import INFERRED, LEFT_OUT, Report
+
+# days between a parent's birth and a calf's, where only one of the two is known
+GENERATION = 730
+
+
+def age_levels(animals: dict[str, Animal]) -> list[str]:
+    """The ids, parents before their offspring, else in the order of the animals; those in or below a cycle are absent."""
+    calves = calves_of(animals)
+    waiting = {id: len(animal.parents()) for id, animal in animals.items()}
+    order = [id for id, count in waiting.items() if count == 0]
+    for id in order:
+        for calf in calves.get(id, ()):
+            waiting[calf] -= 1
+            if waiting[calf] == 0:
+                order.append(calf)
+    return order
+
+
+def calves_of(animals: dict[str, Animal]) -> dict[str, list[str]]:
+    """The calves of each parent; twice where it is both parents."""
+    calves: dict[str, list[str]] = {}
+    for id, animal in animals.items():
+        for _, parent in animal.parents():
+            calves.setdefault(parent, []).append(id)
+    return calves
+
+
+def cut_cycles(animals: dict[str, Animal], report: Report) -> None:
+    """Leaves out one parent of each animal that would be its own ancestor: of a cycle the link whose days can't be, or
+    else that of the latest row."""
+    left = set(animals) - set(age_levels(animals))
+    while left:
+        left = {id for id in left if any(parent in left for _, parent in animals[id].parents())}
+        cycle = find_cycle(animals, left)
+        calf, role, parent = faulty_link(animals, cycle)
+        path = " > ".join([calf, *ancestors_round(cycle, calf)])
+        setattr(animals[calf], role, "")
+        why = f"it would be its own ancestor ({path}): {parent} is left out as its {role}"
+        report.tell(LEFT_OUT, animals[calf].line, calf, why)
+        part = {id: animals[id] for id in left}
+        left = part.keys() - ordered_within(part)
+
+
+def ordered_within(part: dict[str, Animal]) -> set[str]:
+    """The animals of a part that no cycle of it keeps from an order, with parents outside it counted as ordered."""
+    waiting = {id: sum(parent in part for _, parent in animal.parents()) for id, animal in part.items()}
+    calves = calves_of(part)
+    order = [id for id, count in waiting.items() if count == 0]
+    for id in order:
+        for calf in calves.get(id, ()):
+            waiting[calf] -= 1
+            if waiting[calf] == 0:
+                order.append(calf)
+    return set(order)
+
+
+Link = tuple[str, str, str]
+
+
+def find_cycle(animals: dict[str, Animal], left: set[str]) -> list[Link]:
+    """A cycle of links (calf, role, parent). Each of those left has a parent among them."""
+    links: list[Link] = []
+    at: dict[str, int] = {}
+    id = min(left, key=lambda one: (animals[one].line, one))
+    while id not in at:
+        at[id] = len(links)
+        role, parent = next((role, parent) for role, parent in animals[id].parents() if parent in left)
+        links.append((id, role, parent))
+        id = parent
+    return links[at[id] :]
+
+
+def faulty_link(animals: dict[str, Animal], cycle: list[Link]) -> Link:
+    def is_younger(link: Link) -> bool:
+        calf, parent = animals[link[0]], animals[link[2]]
+        return parent.birth.first >= calf.birth.last
+
+    candidates = [link for link in cycle if is_younger(link)] or cycle
+    return max(candidates, key=lambda link: animals[link[0]].line)
+
+
+def ancestors_round(cycle: list[Link], calf: str) -> list[str]:
+    """The parents along a cycle, from a calf back to it."""
+    begin = next(at for at, link in enumerate(cycle) if link[0] == calf)
+    return [parent for _, _, parent in cycle[begin:] + cycle[:begin]]
+
+
+class Days:
+    """Infers the days that the sheet doesn't give. Days are counted here, as `date.toordinal` counts them."""
+
+    def __init__(self, animals: dict[str, Animal], kept: dict[str, datetime.date]) -> None:
+        self.animals, self.kept = animals, kept
+        self.order = age_levels(animals)
+        self.calves = calves_of(animals)
+        self.low: dict[str, int] = {}
+        self.high: dict[str, int] = {}
+        self.likely: dict[str, int] = {}
+
+    def infer(self, report: Report) -> None:
+        """Sets `born` of all animals, which have no cycle, and tells each day that was inferred."""
+        for id in self.order:
+            self.set_low(id)
+        for id in reversed(self.order):
+            self.set_high(id)
+        for id in self.order:
+            animal = self.animals[id]
+            if animal.has_day():
+                animal.born = animal.birth.first
+            else:
+                animal.born, animal.birth_inferred = self.day_for(animal)
+                report.tell(INFERRED, animal.line, id, f"birth day {animal.born}, {animal.birth_inferred}")
+
+    def set_low(self, id: str) -> None:
+        animal = self.animals[id]
+        first = animal.birth.first.toordinal()
+        after = [self.low[parent] + 1 for _, parent in animal.parents()]
+        self.low[id] = first if animal.has_day() else max([first, *after])
+
+    def set_high(self, id: str) -> None:
+        """The last day that calves leave open, and a likely one."""
+        animal, calves = self.animals[id], self.calves.get(id, ())
+        if animal.has_day():
+            self.high[id] = self.likely[id] = animal.birth.first.toordinal()
+            return
+        last = animal.birth.last.toordinal()
+        self.high[id] = min([last, *(self.high[calf] - 1 for calf in calves)])
+        if animal.birth != ANY_DAY:
+            self.likely[id] = (animal.birth.first.toordinal() + last + 1) // 2
+        else:
+            by_calves = [self.likely[calf] - GENERATION for calf in calves if calf in self.likely]
+            if by_calves:
+                self.likely[id] = min(by_calves)
+
+    def day_for(self, animal: Animal) -> tuple[datetime.date, str]:
+        parents = [self.animals[parent].born.toordinal() for _, parent in animal.parents()]
+        low = max([self.low[animal.id], *(day + 1 for day in parents)])
+        kept = self.kept.get(animal.id)
+        if animal.birth != ANY_DAY:
+            day, why = self.likely[animal.id], f"from {animal.birth.words()}"
+        elif animal.id in self.likely:
+            day, why = self.likely[animal.id], "from its calves"
+        elif parents:
+            day, why = max(parents) + GENERATION, "from its parents"
+        else:
+            day, why = FIRST_DAY.toordinal(), "the first that there is, since nothing tells more"
+        if kept and animal.birth.first <= kept <= animal.birth.last:
+            day = kept.toordinal()
+        day = min(max(day, low), self.high[animal.id])
+        # where parents and calves leave no day open, that of the cell holds, and the program refuses a parent
+        day = min(max(day, animal.birth.first.toordinal()), animal.birth.last.toordinal())
+        return datetime.date.fromordinal(day), why

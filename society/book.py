@@ -1,0 +1,164 @@
+"""The folder of a book: the command file, the ids and owners that its numbers stand for, and the report."""
+from __future__ import annotations
+
+import csv
+import difflib
+import io
+import os
+import pathlib
+from dataclasses import astuple, dataclass, fields
+
+from society.commands import Command, Record, read_commands, replay, text_of
+from society.program import REFUSALS, Herdbook
+from society.report import Entry, Mistake
+
+COMMANDS, IDS, OWNERS, REPORT = "commands.csv", "ids.csv", "owners.csv", "report.csv"
+NO_OWNER = 99_999_999
+
+
+@dataclass(slots=True)
+class Known:
+    """What an animal's number stands for, and what was inferred of it: a line of `ids.csv`. `row` is `yes` where the
+    animal has had a row in a sheet, and `no` for a parent without one."""
+
+    number: str
+    id: str
+    name: str = ""
+    row: str = "yes"
+    birth: str = ""
+    exit: str = ""
+    sex: str = ""
+
+    def birth_mark(self) -> str:
+        return " (inferred)" if self.birth else ""
+
+    def exit_mark(self) -> str:
+        return " (inferred)" if self.exit else ""
+
+
+class Book:
+    """A book as its folder has it."""
+
+    def __init__(self, folder: pathlib.Path) -> None:
+        self.folder = folder
+        self.commands: list[Command] = []
+        self.records: dict[str, Record] = {}
+        self.known: dict[str, Known] = {}
+        self.owners: dict[str, int] = {}
+        self.names_of_herds: dict[int, str] = {}
+
+    @property
+    def path(self) -> pathlib.Path:
+        return self.folder / COMMANDS
+
+    def load(self, program: Herdbook) -> None:
+        """Reads the folder, where there is a book in it."""
+        if not self.path.exists():
+            return
+        self.commands = read_commands(self.path)
+        refused = program.file(self.commands)
+        if refused:
+            place, refusal = next(iter(refused.items()))
+            raise Mistake(
+                f"{self.path}: command {place + 1} is refused: {REFUSALS[refusal]} (refusal {refusal}). "
+                "Somebody has changed this file: restore it, or take the sheet into another folder"
+            )
+        self.records = replay(self.commands)
+        for row in self.read_table(IDS, [field.name for field in fields(Known)]):
+            known = Known(*row)
+            if known.number in self.records:
+                self.known[known.id] = known
+        named = {known.number for known in self.known.values()}
+        self.known |= {number: Known(number, number) for number in self.records if number not in named}
+        self.owners = {owner: int(herd) for herd, owner in self.read_table(OWNERS, ["herd", "owner"])}
+
+    def read_table(self, name: str, titles: list[str]) -> list[list[str]]:
+        path = self.folder / name
+        try:
+            with open(path, newline="", encoding="utf-8-sig") as file:
+                found, *rows = csv.reader(file)
+        except (OSError, ValueError):
+            found = []
+        if found != titles or any(len(row) != len(titles) for row in rows):
+            raise Mistake(f"{path} is missing or was changed: restore it, or take the sheet into another folder")
+        return rows
+
+    def save(self, entries: list[Entry]) -> None:
+        """Writes all files beside the old ones first, and then puts each in its place, the command file last."""
+        ids = [astuple(known) for known in sorted(self.known.values(), key=lambda known: known.number[7:])]
+        owners = [(herd, owner) for owner, herd in self.owners.items()]
+        report = [(entry.line or "", entry.id, entry.what, entry.why) for entry in entries]
+        texts = {
+            IDS: table([field.name for field in fields(Known)], ids),
+            OWNERS: table(["herd", "owner"], owners),
+            REPORT: table(["line", "id", "what", "why"], report),
+            COMMANDS: text_of(self.commands),
+        }
+        write_all(self.folder, texts)
+
+    def owner_of(self, herd: int) -> str:
+        """The owner's name; a herd that has none stands for itself."""
+        if herd == NO_OWNER:
+            return ""
+        if len(self.names_of_herds) != len(self.owners):
+            self.names_of_herds = {number: owner for owner, number in self.owners.items()}
+        return self.names_of_herds.get(herd, str(herd))
+
+    def by_number(self) -> dict[str, Known]:
+        return {known.number: known for known in self.known.values()}
+
+    def find(self, word: str) -> Known:
+        """The animal of an id, a number or a name; a mistake where there is none, or several of a name."""
+        word = " ".join(word.split())
+        if word in self.known:
+            return self.known[word]
+        named = [known for known in self.known.values() if word in (known.number, known.name)]
+        if not named:
+            folded = word.casefold()
+            named = [known for known in self.known.values() if folded in (known.id.casefold(), known.name.casefold())]
+        if len(named) == 1:
+            return named[0]
+        if named:
+            raise Mistake(f"{len(named)} animals have the name '{word}': name one by its id: {', '.join(sorted(one.id for one in named)[:9])}")
+        names = [*self.known, *(known.name for known in self.known.values() if known.name)]
+        close = difflib.get_close_matches(word, names, 3, 0.75) if len(names) < 20_000 else []
+        hint = f": is {' or '.join(close)} meant?" if close else f": {self.folder / IDS} has the ids"
+        raise Mistake(f"the book has no animal '{word}'{hint}")
+
+
+def open_book(folder: pathlib.Path, program: Herdbook) -> Book:
+    """The book of a folder, which has to be there."""
+    book = Book(folder)
+    if not book.path.exists():
+        raise Mistake(f"there is no book in the folder {folder}: take a sheet first, as society/society take SHEET --book {folder}")
+    book.load(program)
+    return book
+
+
+def table(titles: list[str], rows: list[tuple[object, ...]]) -> bytes:
+    text = io.StringIO()
+    writer = csv.writer(text, lineterminator="\n")
+    writer.writerow(titles)
+    writer.writerows(rows)
+    return text.getvalue().encode()
+
+
+def write_all(folder: pathlib.Path, texts: dict[str, bytes]) -> None:
+    """Writes files so that on any fault none of them is changed."""
+    written: list[pathlib.Path] = []
+    try:
+        folder.mkdir(parents=True, exist_ok=True)
+        for name, text in texts.items():
+            beside = folder / f"{name}.new"
+            written.append(beside)
+            beside.write_bytes(text)
+        for name in texts:
+            os.replace(folder / f"{name}.new", folder / name)
+    except OSError as error:
+        for beside in written:
+            beside.unlink(missing_ok=True)
+        raise Mistake(f"the folder {folder} can't be written ({error.strerror or error}): nothing is changed") from None
+
+
+def write_file(path: pathlib.Path, text: bytes) -> None:
+    write_all(path.parent, {path.name: text})

@@ -1,0 +1,136 @@
+"""An animal's certificate as a page for the printer, with the pedigree drawn."""
+from __future__ import annotations
+
+from society.book import Book, Known
+from society.listing import Coefficient
+from society.pages import DAM, FONT, GREY, INBRED, INBRED_INK, INFERRED, INK, LINE, NOTE, PAPER, SIRE, escape, percent_of
+from society.program import Herdbook
+
+# the fourteen ancestors, line by line of the drawn pedigree: each stands in the line where it begins
+LINES = [
+    ["S", "SS", "SSS"],
+    ["SSD"],
+    ["SD", "SDS"],
+    ["SDD"],
+    ["D", "DS", "DSS"],
+    ["DSD"],
+    ["DD", "DDS"],
+    ["DDD"],
+]
+RELATIONS = {"S": "Sire", "D": "Dam", "SS": "Sire's sire", "SD": "Sire's dam", "DS": "Dam's sire", "DD": "Dam's dam"}
+
+STYLE = f"""
+@page {{ size: A4 portrait; margin: 14mm; }}
+* {{ box-sizing: border-box; }}
+html {{ background: #e9ecef; }}
+body {{ margin: 0; font: 10.5pt/1.35 {FONT}; color: {INK}; -webkit-print-color-adjust: exact; print-color-adjust: exact; }}
+main {{ width: 182mm; min-height: 262mm; margin: 8mm auto; padding: 0; background: {PAPER}; display: flex; flex-direction: column; }}
+header {{ border-bottom: 0.8mm solid {INK}; padding-bottom: 3mm; display: flex; justify-content: space-between; align-items: flex-end; gap: 8mm; }}
+h1 {{ font-size: 23pt; line-height: 1.1; margin: 0; overflow-wrap: anywhere; }}
+.kind {{ font-size: 10pt; letter-spacing: 0.12em; text-transform: uppercase; color: {GREY}; margin: 0 0 1.5mm; }}
+.called {{ font-size: 13pt; color: {GREY}; margin: 1mm 0 0; overflow-wrap: anywhere; }}
+.coefficient {{ text-align: right; white-space: nowrap; }}
+.coefficient b {{ display: block; font-size: 19pt; line-height: 1.1; }}
+h2 {{ font-size: 12pt; margin: 8mm 0 3mm; }}
+dl {{ display: grid; grid-template-columns: 38mm 1fr 38mm 1fr; gap: 1.6mm 3mm; margin: 5mm 0 0; }}
+dt {{ color: {GREY}; }}
+dd {{ margin: 0; overflow-wrap: anywhere; }}
+table {{ width: 100%; border-collapse: separate; border-spacing: 0; table-layout: fixed; }}
+td {{ position: relative; padding: 1mm 4mm 1mm 4mm; height: 17.5mm; vertical-align: middle; }}
+td:first-child.one {{ padding-left: 0; }}
+td.three {{ padding-right: 0; }}
+td.two::before, td.three::before {{ content: ""; position: absolute; left: 0; width: 4mm; border-left: 0.3mm solid {LINE}; }}
+td.sire.two::before, td.sire.three::before {{ top: 50%; bottom: 0; border-top: 0.3mm solid {LINE}; }}
+td.dam.two::before, td.dam.three::before {{ top: 0; bottom: 50%; border-bottom: 0.3mm solid {LINE}; }}
+td.one::after, td.two::after {{ content: ""; position: absolute; right: 0; top: 50%; width: 4mm; border-top: 0.3mm solid {LINE}; }}
+.box {{ position: relative; border: 0.3mm solid {LINE}; border-radius: 1.2mm; padding: 1mm 2mm; font-size: 8.5pt; line-height: 1.25; overflow-wrap: anywhere; }}
+.box b {{ display: block; font-size: 9.5pt; }}
+.box small {{ font-size: 8pt; color: {GREY}; }}
+.sire .box {{ background: {SIRE}; }}
+.dam .box {{ background: {DAM}; }}
+.box.unknown {{ background: {PAPER}; color: {GREY}; border-style: dashed; }}
+.inbred {{ color: {INBRED_INK}; background: {INBRED}; border-radius: 0.8mm; padding: 0 1mm; font-weight: bold; white-space: nowrap; }}
+footer {{ margin-top: auto; padding-top: 8mm; font-size: 8.5pt; color: {GREY}; }}
+.sign {{ display: grid; grid-template-columns: 1fr 1fr; gap: 14mm; margin-bottom: 6mm; }}
+.sign div {{ border-top: 0.3mm solid {INK}; padding-top: 1mm; margin-top: 14mm; }}
+footer p {{ margin: 0.6mm 0; }}
+@media screen {{ main {{ padding: 14mm; width: 210mm; min-height: 297mm; box-shadow: 0 1mm 5mm #0003; }} }}
+@media print {{ html {{ background: none; }} main {{ margin: 0; width: auto; }} }}
+"""
+
+
+def read_certificate(text: str) -> dict[str, str]:
+    """The lines of the program's certificate: a word, and what follows it."""
+    return {word: rest for word, _, rest in (line.partition(" ") for line in text.splitlines())}
+
+
+def certificate_page(book: Book, program: Herdbook, known: Known, coefficients: dict[str, Coefficient], title: str) -> str:
+    told = read_certificate(program.run(["certificate", known.number], book.path.read_bytes()))
+    names = book.by_number()
+    fraction, percent = told["inbreeding"].split(" ")
+    own = Coefficient(fraction, percent)
+    rows = []
+    for line in LINES:
+        cells = [ancestor_cell(letters, told[letters], book, names, coefficients) for letters in line]
+        rows.append(f"<tr>{''.join(cells)}</tr>\n")
+    marks = [known] + [names[told[letters]] for line in LINES for letters in line if told[letters] != "0"]
+    notes = [NOTE] + ([INFERRED] if any(one.birth or one.exit for one in marks) else [])
+    called = f'<p class="called">{escape(known.name)}</p>' if known.name else ""
+    return f"""<!DOCTYPE html>
+<html lang="en" xmlns="http://www.w3.org/1999/xhtml">
+<head>
+<meta charset="utf-8"/>
+<meta name="viewport" content="width=device-width, initial-scale=1"/>
+<title>{escape(title)}: {escape(known.id)}</title>
+<style>{STYLE}</style>
+</head>
+<body>
+<main>
+<header>
+<div><p class="kind">{escape(title)}</p><h1>{escape(known.id)}</h1>{called}</div>
+<div class="coefficient">Coefficient of inbreeding<b>{escape(own.fraction)}</b>{escape(own.decimal())} &#183; {escape(own.percent)} %</div>
+</header>
+<dl>
+{facts_of(book, known, told)}</dl>
+<h2>Pedigree</h2>
+<table>
+{''.join(rows)}</table>
+<footer>
+<div class="sign"><div>Place and date</div><div>For the society</div></div>
+{''.join(f'<p>{escape(note)}</p>' for note in notes)}
+</footer>
+</main>
+</body>
+</html>
+"""
+
+
+def facts_of(book: Book, known: Known, told: dict[str, str]) -> str:
+    """The animal's record. The owner has no name where the sheet gave none."""
+    left = "" if told["left"] == "-" else told["left"] + known.exit_mark()
+    since = told["since"] + (known.birth_mark() if told["since"] == told["born"] else "")
+    pairs = [
+        ("Number", told["animal"]),
+        ("Sex", told["sex"] + (" (inferred)" if known.sex else "")),
+        ("Born", told["born"] + known.birth_mark()),
+        ("Left", left or "has not left"),
+        ("Owner", book.owner_of(int(told["herd"])) or "not known"),
+        ("Owner since", since),
+    ]
+    return "".join(f"<dt>{escape(what)}</dt><dd>{escape(value)}</dd>\n" for what, value in pairs)
+
+
+def ancestor_cell(letters: str, number: str, book: Book, names: dict[str, Known], coefficients: dict[str, Coefficient]) -> str:
+    kind = f"{['one', 'two', 'three'][len(letters) - 1]} {'sire' if letters[-1] == 'S' else 'dam'}"
+    span = {1: 4, 2: 2, 3: 1}[len(letters)]
+    relation = f"<small>{escape(RELATIONS[letters])}</small>" if letters in RELATIONS else ""
+    if number == "0":
+        box = f'<div class="box unknown">{relation} unknown</div>'
+    else:
+        known = names[number]
+        name = f"{escape(known.name)}<br/>" if known.name else ""
+        inbred = coefficients[number].is_inbred
+        mark = f' <span class="inbred">{escape(percent_of(coefficients[number]))}</span>' if inbred else ""
+        day = f"{book.records[number].born}{known.birth_mark()}"
+        box = f'<div class="box">{relation}<b>{escape(known.id)}</b>{name}{escape(day)}{mark}</div>'
+    return f'<td class="{kind}" rowspan="{span}">{box}</td>'

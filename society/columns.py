@@ -1,0 +1,110 @@
+"""Which column of a sheet has what, and the words in its cells, in English, German and French."""
+from __future__ import annotations
+
+import unicodedata
+
+from society.report import Mistake
+
+# The usual titles, the likelier first. They are compared in small letters, without accents, blanks and signs.
+TITLES = {
+    "id": "id, animal id, ear tag, tag, tag number, animal, animal number, registration, registration number, reg no, "
+    "herd book number, identification, ident, number, no, nr, "
+    "Ohrmarke, Ohrmarkennummer, Ohrmarken-Nr, Lebensnummer, Herdbuchnummer, Tiernummer, Tier-Nr, Tier, Kennzeichen, Nummer, "
+    "numéro, n°, numéro national, numéro d'identification, identifiant, identification, boucle, matricule",
+    "name": "name, animal name, Tiername, Rufname, nom, nom de l'animal",
+    "sex": "sex, gender, Geschlecht, sexe",
+    "birth": "born, birth, birth date, date of birth, birthday, birth day, dob, Geburtsdatum, Geburtstag, geboren, "
+    "geboren am, Geburt, geb, geb. am, geb-Datum, naissance, date de naissance, né le, née le, né, née, né(e) le, "
+    "birth year, year of birth, year, Geburtsjahr, Jahrgang, année de naissance, année",
+    "sire": "sire, father, sire id, father id, Vater, Vatertier, Vater-Nr, Vater Ohrmarke, père, numéro du père",
+    "dam": "dam, mother, dam id, mother id, Mutter, Muttertier, Mutter-Nr, Mutter Ohrmarke, mère, numéro de la mère",
+    "owner": "owner, herd, farm, holding, Besitzer, Eigentümer, Halter, Betrieb, propriétaire, détenteur, élevage, "
+    "exploitation",
+    "exit": "exit, left, exit date, date of exit, departure, died, death, date of death, Abgang, Abgangsdatum, abgegangen, "
+    "abgegangen am, Abgang am, Todesdatum, gestorben, gestorben am, sortie, date de sortie, mort, mort le, décès, "
+    "date de décès",
+    "embryo": "embryo, embryo calf, stored embryo, embryo transfer, et, et calf, Embryotransfer, ET-Kalb, Embryokalb, "
+    "embryon, transfert d'embryon",
+}  # fmt: skip
+# Columns that a sheet has to have; `--columns sire=` says that there is none.
+NEEDED = ("id", "birth", "sire", "dam")
+
+UNKNOWN = "0, -, --, ?, ., n/a, na, nan, none, null, unknown, unbekannt, unbek, unbek., k.A., keine Angabe, inconnu, inconnue"
+SEXES = {
+    "M": "m, male, bull, ram, buck, stallion, ox, steer, wether, gelding, ♂, männlich, männl, Bulle, Stier, Bock, Widder, "
+    "Hengst, Ochse, Hammel, Wallach, mâle, taureau, bélier, bouc, étalon, boeuf",
+    "F": "f, female, cow, heifer, ewe, doe, mare, ♀, w, weiblich, weibl, Kuh, Färse, Mutterschaf, Zibbe, Ziege, Stute, "
+    "femelle, vache, génisse, brebis, chèvre, jument",
+}
+YES = "1, x, yes, y, true, et, embryo, ja, j, wahr, oui, o, vrai"
+NO = "0, -, no, n, false, nein, falsch, non, faux"
+
+
+def plain(text: str) -> str:
+    """The text in small letters, without accents, blanks and signs but `°`, `♂` and `♀`."""
+    apart = unicodedata.normalize("NFKD", text.casefold().replace("°", "o"))
+    return "".join(one for one in apart if one.isalnum() or one in "♂♀")
+
+
+def listed(text: str) -> list[str]:
+    return [one.strip() for one in text.split(",")]
+
+
+KNOWN_TITLES = {field: [plain(title) for title in listed(titles)] for field, titles in TITLES.items()}
+KNOWN_SEXES = {plain(word): sex for sex, words in SEXES.items() for word in listed(words)}
+KNOWN_YES = {word.casefold() for word in listed(YES)}
+KNOWN_NO = {word.casefold() for word in listed(NO)}
+
+
+def known_titles(titles: list[str]) -> int:
+    """How many titles are known."""
+    known = {one for usual in KNOWN_TITLES.values() for one in usual}
+    return sum(plain(title) in known for title in titles)
+
+
+def find_columns(titles: list[str], given: dict[str, str]) -> dict[str, int]:
+    """For each field its column, by the titles that are given, and else by the usual ones."""
+    found = {}
+    for field in TITLES:
+        if field in given:
+            if given[field]:
+                found[field] = given_column(titles, field, given[field])
+            continue
+        plain_titles = [plain(title) for title in titles]
+        at = next((plain_titles.index(usual) for usual in KNOWN_TITLES[field] if usual in plain_titles), None)
+        if at is not None and at not in found.values():
+            found[field] = at
+    missing = [field for field in NEEDED if field not in found and (field == "id" or given.get(field) != "")]
+    if missing:
+        shown = ", ".join(f"'{title}'" for title in titles if title)
+        raise Mistake(
+            f"line 1: no column for {' or '.join(missing)} is found. The titles are {shown}. "
+            f"Say which it is, as --columns {','.join(f'{field}=TITLE' for field in missing)}"
+            + (f" (or {missing[-1]}= where there is none)" if missing != ["id"] else "")
+        )
+    return found
+
+
+def given_column(titles: list[str], field: str, title: str) -> int:
+    for same in (lambda one: one == title, lambda one: plain(one) == plain(title)):
+        places = [at for at, one in enumerate(titles) if same(one)]
+        if places:
+            return places[0]
+    shown = ", ".join(f"'{one}'" for one in titles if one)
+    raise Mistake(f"line 1: there is no column '{title}', which --columns names for {field}. The titles are {shown}")
+
+
+def read_given(words: list[str]) -> dict[str, str]:
+    """The fields and titles of `--columns id=Ohrmarke,sire=Vater`."""
+    given = {}
+    for part in (part for word in words for part in word.split(",")):
+        field, equals, title = (piece.strip() for piece in part.partition("="))
+        if not equals or field not in TITLES:
+            raise Mistake(f"--columns {part}: write FIELD=TITLE, where FIELD is one of {', '.join(TITLES)}")
+        given[field] = title
+    return given
+
+
+def unknown_words(more: list[str]) -> set[str]:
+    """The words for an unknown parent, in small letters: the usual ones and those of `--unknown`."""
+    return {""} | {word.casefold() for word in listed(UNKNOWN)} | {word.casefold() for one in more for word in listed(one)}

@@ -1,0 +1,38 @@
+"""What pages and pictures share: escaping, colours, numbers in words, and the facts that they show of an animal."""
+from __future__ import annotations
+
+import html
+
+from society.book import Book, Known
+from society.listing import Coefficient
+
+FONT = "'Helvetica Neue', Arial, 'Liberation Sans', 'DejaVu Sans', sans-serif"
+INK, GREY, LINE, PAPER = "#1d2733", "#66717e", "#98a2ad", "#ffffff"
+SIRE, DAM = "#e8f0f8", "#fbeef0"
+INBRED, INBRED_INK = "#fff3cf", "#b4560c"
+NOTE = "An unknown parent counts as unrelated to all animals. Coefficients are Wright's, computed exactly."
+INFERRED = "(inferred): this day isn't known; it was inferred when the sheet was taken."
+
+
+def escape(text: object) -> str:
+    """The text for a page: characters that no page may have are left out."""
+    kept = "".join(one for one in str(text) if one >= " " and not 0xD800 <= ord(one) < 0xE000 and one not in "\ufffe\uffff")
+    return html.escape(kept, quote=True)
+
+
+def shortened(text: str, most: int) -> str:
+    return text if len(text) <= most else text[: most - 1] + "…"
+
+
+def year_of(book: Book, known: Known) -> str:
+    """The birth year, with a mark where the day was inferred."""
+    return f"{book.records[known.number].born.year}{known.birth_mark()}"
+
+
+def percent_of(coefficient: Coefficient) -> str:
+    return f"F {coefficient.percent} %"
+
+
+def file_name(kind: str, id: str, suffix: str) -> str:
+    """A file name for an animal's page."""
+    return f"{kind}-{''.join(one if one.isalnum() or one in '._-' else '-' for one in id)}{suffix}"

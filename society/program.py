@@ -1,0 +1,94 @@
+"""Runs `herdbook`, from which every refusal and coefficient comes."""
+from __future__ import annotations
+
+import os
+import pathlib
+import subprocess
+import sys
+from typing import Iterator
+
+from society.commands import Command, text_of
+from society.report import Mistake
+
+TOP = pathlib.Path(__file__).resolve().parent.parent
+
+REFUSALS = {
+    1: "the number is in the book already",
+    2: "the book is full: it holds at most 60,000 animals",
+    3: "its sire isn't in the book",
+    4: "its dam isn't in the book",
+    5: "its sire isn't male",
+    6: "its dam isn't female",
+    7: "its sire isn't at least a day older",
+    8: "its dam isn't at least a day older",
+    9: "its dam left on a day before the birth",
+    10: "a path of parents would be longer than 60 steps",
+    11: "it isn't in the book",
+    12: "it has left already",
+    13: "the giver isn't its owner",
+    14: "the day is before its owner's first day",
+    15: "giver and taker are the same owner",
+    16: "it has a calf born after the day",
+}
+MATING_FAULTS = {
+    1: "the sire isn't in the book",
+    2: "the dam isn't in the book",
+    3: "the sire isn't male",
+    4: "the dam isn't female",
+    5: "a calf would have a path of parents longer than 60 steps",
+}
+
+
+class Herdbook:
+    """The program: that of the variable HERDBOOK, else the script `herdbook` beside this folder."""
+
+    def __init__(self) -> None:
+        named = os.environ.get("HERDBOOK")
+        self.path = pathlib.Path(named).absolute() if named else TOP / "herdbook"
+        if not self.path.exists():
+            raise Mistake(f"{self.path}, the program of the herd book, isn't there: put its path into the variable HERDBOOK")
+        if not named and (TOP / "crates").exists() and not (TOP / "crates/herdbook/out/herdbook").exists():
+            print("society: the program herdbook is built first, which takes half an hour or more", file=sys.stderr, flush=True)
+            self.version(tell=True)
+
+    def version(self, tell: bool = False) -> str:
+        done = self.start(["--version"], subprocess.DEVNULL, None if tell else subprocess.PIPE)
+        text = done.communicate()[0]
+        if done.returncode:
+            raise Mistake(f"{self.path} --version ended with status {done.returncode}: is it the program herdbook?")
+        return text.decode(errors="replace").strip()
+
+    def start(self, words: list[str], given: object, errors: object) -> subprocess.Popen[bytes]:
+        try:
+            return subprocess.Popen([str(self.path), *words], stdin=given, stdout=subprocess.PIPE, stderr=errors)
+        except OSError as error:
+            raise Mistake(f"{self.path} can't be run: {error.strerror or error}") from None
+
+    def run(self, words: list[str], book: bytes) -> str:
+        """What it writes of a command file."""
+        running = self.start(words, subprocess.PIPE, subprocess.PIPE)
+        out, err = running.communicate(book)
+        self.ended(running.returncode, err, words)
+        return out.decode()
+
+    def lines(self, words: list[str], path: pathlib.Path) -> Iterator[str]:
+        """Line by line what it writes of a command file, for long lists."""
+        with open(path, "rb") as book:
+            running = self.start(words, book, subprocess.PIPE)
+            for line in running.stdout:
+                yield line.decode().rstrip("\n")
+            err = running.stderr.read()
+            self.ended(running.wait(), err, words)
+
+    def ended(self, status: int, err: bytes, words: list[str]) -> None:
+        if status:
+            told = err.decode(errors="replace").strip() or f"it ended with status {status}"
+            raise Mistake(f"the program `herdbook {words[0]}` can't do it: {told.removeprefix('herdbook: ')}")
+
+    def file(self, commands: list[Command]) -> dict[int, int]:
+        """The refusals of commands: for each refused one its place, from 0 on, and the refusal's number."""
+        replies = self.run(["file"], text_of(commands)).splitlines()
+        if len(replies) != len(commands):
+            raise Mistake(f"the program answered {len(replies)} of {len(commands)} commands: is {self.path} the right one?")
+        refused = (line.split(",") for line in replies if line.endswith(",accepted") is False)
+        return {int(serial) - 1: int(refusal) for serial, _, refusal in refused}

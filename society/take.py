@@ -1,0 +1,108 @@
+"""The word `take`: from a sheet, or a geneticist's pedigree, to a book in its folder."""
+from __future__ import annotations
+
+import datetime
+import pathlib
+from dataclasses import dataclass, field
+
+from society.animals import Rows
+from society.book import REPORT, Book
+from society.columns import find_columns, known_titles, read_given, unknown_words
+from society.pedigree import invent_days, invent_sexes, read_triples
+from society.program import Herdbook
+from society.report import ADDED, CHANGED, GONE, INFERRED, LEFT_OUT, NEW, ORDER, Mistake, Report
+from society.sheet import read_sheet
+from society.taking import Taking, file_all
+
+# so many entries of a kind are printed; the report has all
+MOST_SHOWN = 25
+
+
+@dataclass
+class Wishes:
+    """The options of `take`."""
+
+    book: pathlib.Path
+    columns: list[str] = field(default_factory=list)
+    unknown: list[str] = field(default_factory=list)
+    breed: str = ""
+    country: str = ""
+    day: datetime.date = field(default_factory=datetime.date.today)
+    strict: bool = False
+
+
+def take_sheet(path: pathlib.Path, wishes: Wishes) -> None:
+    given = read_given(wishes.columns)
+    sheet = read_sheet(path, lambda titles: known_titles(titles) + sum(title in given.values() for title in titles))
+    columns = find_columns(sheet.titles, given)
+    report = Report()
+    animals = Rows(sheet, columns, unknown_words(wishes.unknown), report).animals()
+    if not animals:
+        raise Mistake(f"{path} has no row that can be taken", *(entry.sentence() for entry in report.entries[:9]))
+    program = Herdbook()
+    book = Book(wishes.book)
+    book.load(program)
+    taking = Taking(book, animals, set(columns), report)
+    taking.complete()
+    taking.find_sexes()
+    taking.find_days()
+    used = [f"{name} from '{sheet.titles[at]}'" for name, at in columns.items()]
+    unread = [f"'{title}'" for at, title in enumerate(sheet.titles) if title and at not in columns.values()]
+    about = [
+        f"{path}: {len(sheet.rows)} rows, {sheet.how}",
+        f"columns: {', '.join(used)}" + (f"; not read: {', '.join(unread)}" if unread else ""),
+    ]
+    finish(taking, program, wishes, about, 0)
+
+
+def take_pedigree(path: pathlib.Path, wishes: Wishes) -> None:
+    report = Report()
+    animals = read_triples(path, unknown_words(wishes.unknown), report)
+    program = Herdbook()
+    book = Book(wishes.book)
+    book.load(program)
+    taking = Taking(book, animals, {"sire", "dam"}, report)
+    taking.complete()
+    for animal in animals.values():
+        animal.sex = ""
+    invent_sexes(animals, report)
+    invent_days(animals, report)
+    about = [f"{path}: the sexes and birth days of all {len(animals)} animals are invented: parents are older than their offspring"]
+    finish(taking, program, wishes, about, len(animals))
+
+
+def finish(taking: Taking, program: Herdbook, wishes: Wishes, about: list[str], invented: int) -> None:
+    """Files the book, and writes it only where nothing is refused. What is told comes last, first of all what it is about."""
+    book, report = taking.book, taking.report
+    taking.give_numbers(wishes.breed, wishes.country)
+    taking.leave_out_faulty_parents(program)
+    left_out = [entry for entry in report.in_order() if entry.what == LEFT_OUT]
+    if wishes.strict and left_out:
+        more = [f"and {len(left_out) - MOST_SHOWN} more"] if len(left_out) > MOST_SHOWN else []
+        sentences = [entry.sentence() for entry in left_out[:MOST_SHOWN]] + more
+        raise Mistake(*sentences, f"{len(left_out)} left out: with --strict nothing is taken")
+    before = len(book.records)
+    commands, is_anew = file_all(taking, program, wishes.day)
+    taking.tell_changes()
+    new = sum(1 for animal in taking.animals.values() if animal.line and animal.id not in book.known)
+    book.commands, book.known = commands, taking.known_animals()
+    book.save(report.in_order())
+    print("\n".join(about))
+    show(report)
+    if before and is_anew:
+        print("the command file is written anew, since a birth, an exit or the order of changes was corrected")
+    counts = report.counts()
+    print(
+        f"{book.folder}: {len(taking.animals)} animals, {new} new, {counts[CHANGED]} changed, {counts[INFERRED] + invented} inferred, "
+        f"{counts[LEFT_OUT]} left out, {counts[ADDED]} added, {counts[GONE]} gone: {book.folder / REPORT} has each"
+    )
+
+
+def show(report: Report) -> None:
+    """The entries, but for new animals, which are as the sheet has them."""
+    for what in ORDER:
+        entries = [entry for entry in report.in_order() if entry.what == what and what != NEW]
+        for entry in entries[:MOST_SHOWN]:
+            print(entry.sentence())
+        if len(entries) > MOST_SHOWN:
+            print(f"and {len(entries) - MOST_SHOWN} more {what}")

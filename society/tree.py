@@ -1,0 +1,129 @@
+"""A picture of an animal with its known ancestors, inbred ones marked."""
+from __future__ import annotations
+
+import collections
+from dataclasses import dataclass, field
+
+from society.book import Book, Known
+from society.listing import Coefficient
+from society.pages import DAM, FONT, GREY, INBRED, INBRED_INK, INK, LINE, PAPER, SIRE, escape, percent_of, shortened, year_of
+
+BOX_WIDTH, BOX_HEIGHT, COLUMN, ROW, MARGIN = 196, 58, 232, 68, 24
+HEAD, FOOT = 64, 62
+
+
+@dataclass(slots=True)
+class Node:
+    """An animal in its place in the drawing. `y` is the middle of its box, counted in rows."""
+
+    number: str
+    generation: int
+    y: float = 0.0
+    parents: list[Node] = field(default_factory=list)
+
+
+def grow(book: Book, number: str, generation: int, most: int, top: float) -> tuple[Node, float]:
+    """The node of an animal with those of its ancestors, from a row on; and the row below all of them."""
+    node = Node(number, generation)
+    record = book.records[number]
+    if generation == most or not (record.sire or record.dam):
+        node.y = top + 0.5
+        return node, top + 1
+    middles = []
+    for parent in (record.sire, record.dam):
+        if parent:
+            child, below = grow(book, parent, generation + 1, most, top)
+            node.parents.append(child)
+            middles.append(child.y)
+        else:
+            # an unknown parent leaves half a row free
+            below = top + 0.5
+            middles.append(top + 0.25)
+        top = below
+    node.y = sum(middles) / 2
+    return node, top
+
+
+def nodes_of(node: Node) -> list[Node]:
+    return [node, *(one for parent in node.parents for one in nodes_of(parent))]
+
+
+def all_ancestors(book: Book, number: str) -> set[str]:
+    found, new = set(), [number]
+    while new:
+        record = book.records[new.pop()]
+        for parent in (record.sire, record.dam):
+            if parent and parent not in found:
+                found.add(parent)
+                new.append(parent)
+    return found
+
+
+def tree_picture(book: Book, known: Known, coefficients: dict[str, Coefficient], generations: int) -> str:
+    names = book.by_number()
+    root, rows = grow(book, known.number, 0, generations, 0.0)
+    nodes = nodes_of(root)
+    times = collections.Counter(node.number for node in nodes)
+    width = MARGIN * 2 + max(node.generation for node in nodes) * COLUMN + BOX_WIDTH
+    width = max(width, 620)
+    height = HEAD + rows * ROW + FOOT
+    parts = [link(node, parent) for node in nodes for parent in node.parents]
+    parts += [box(book, node, names[node.number], coefficients[node.number], times[node.number]) for node in nodes]
+    hidden = len(all_ancestors(book, known.number) - set(times))
+    return picture(parts, known, width, height, len(times) - 1, hidden)
+
+
+def corner(node: Node) -> tuple[float, float]:
+    return MARGIN + node.generation * COLUMN, HEAD + node.y * ROW - BOX_HEIGHT / 2
+
+
+def link(node: Node, parent: Node) -> str:
+    x1, y1 = corner(node)
+    x2, y2 = corner(parent)
+    x1, middle = x1 + BOX_WIDTH, (x1 + BOX_WIDTH + x2) / 2
+    return (
+        f'<path d="M{x1:.1f} {y1 + BOX_HEIGHT / 2:.1f}H{middle:.1f}V{y2 + BOX_HEIGHT / 2:.1f}H{x2:.1f}" '
+        f'fill="none" stroke="{LINE}" stroke-width="1.5"/>'
+    )
+
+
+def box(book: Book, node: Node, known: Known, coefficient: Coefficient, times: int) -> str:
+    x, y = corner(node)
+    inbred = coefficient.is_inbred
+    fill, edge = (INBRED, INBRED_INK) if inbred else ({"M": SIRE, "F": DAM}[known.number[6]], LINE)
+    # a male has corners, a female is round
+    round_by = 3 if known.number[6] == "M" else 16
+    facts = [year_of(book, known)] + ([f"drawn {times} times"] if times > 1 else [])
+    tip = f"{known.id} {known.name}".strip() + f", {known.number}, born {book.records[known.number].born}{known.birth_mark()}, F {coefficient.fraction}"
+    told = [shortened(known.name, 27)] * bool(known.name) + [", ".join(facts)]
+    lines = [
+        f'<g><title>{escape(tip)}</title><rect x="{x:.1f}" y="{y:.1f}" width="{BOX_WIDTH}" height="{BOX_HEIGHT}" rx="{round_by}" '
+        f'fill="{fill}" stroke="{edge}" stroke-width="{2 if inbred else 1.2}"/>',
+        label(x + 12, y + 19, shortened(known.id, 15 if inbred else 22), INK, 14, "bold"),
+    ]
+    lines += [label(x + 12, y + 36 + 15 * at, what, GREY, 12.5) for at, what in enumerate(told)]
+    if inbred:
+        lines.append(label(x + BOX_WIDTH - 10, y + 19, percent_of(coefficient), INBRED_INK, 13, "bold", "end"))
+    return "".join(lines) + "</g>"
+
+
+def label(x: float, y: float, what: str, colour: str, size: float, weight: str = "normal", anchor: str = "start") -> str:
+    if not what:
+        return ""
+    return f'<text x="{x:.1f}" y="{y:.1f}" fill="{colour}" font-size="{size}" font-weight="{weight}" text-anchor="{anchor}">{escape(what)}</text>'
+
+
+def picture(parts: list[str], known: Known, width: float, height: float, drawn: int, hidden: int) -> str:
+    title = f"Pedigree of {known.id}" + (f", {known.name}" if known.name else "")
+    note = f"{drawn} known ancestors" + (f"; {hidden} more lie further back and aren't drawn" if hidden else "")
+    y = height - 34
+    head = [
+        label(MARGIN, 36, shortened(title, int(width / 11)), INK, 20, "bold"),
+        f'<rect x="{MARGIN}" y="{y - 11:.1f}" width="20" height="14" rx="3" fill="{INBRED}" stroke="{INBRED_INK}" stroke-width="2"/>',
+        label(MARGIN + 28, y, "inbred, with its coefficient; males have corners, females are round", GREY, 13),
+        label(MARGIN, y + 20, note + ".", GREY, 13),
+    ]
+    return (
+        f'<svg xmlns="http://www.w3.org/2000/svg" viewBox="0 0 {width:.0f} {height:.0f}" width="{width:.0f}" height="{height:.0f}" '
+        f'font-family="{escape(FONT)}">\n<rect width="100%" height="100%" fill="{PAPER}"/>\n' + "\n".join(head + parts) + "\n</svg>\n"
+    )

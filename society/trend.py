@@ -1,0 +1,118 @@
+"""A picture of the mean coefficient of inbreeding by birth year, with how many animals each year has."""
+from __future__ import annotations
+
+import collections
+import math
+from fractions import Fraction
+from typing import NamedTuple
+
+from society.book import Book, Known
+from society.listing import Coefficient
+from society.pages import FONT, GREY, INBRED_INK, INK, PAPER, escape
+from society.report import Mistake
+
+WIDTH, HEIGHT = 1000, 520
+LEFT, RIGHT, TOP, BOTTOM = 70, 70, 84, 92
+BARS = "#d5dfe9"
+
+
+class Year(NamedTuple):
+    year: int
+    count: int
+    mean: Fraction
+
+
+def has_year(known: Known) -> bool:
+    """Is the birth year known, though the day may not be?"""
+    return not known.birth or " the year " in known.birth or " the month " in known.birth
+
+
+def years_of(book: Book, coefficients: dict[str, Coefficient]) -> tuple[list[Year], int]:
+    """The years that have animals, and how many animals have no known year."""
+    names = book.by_number()
+    values: dict[int, list[Fraction]] = collections.defaultdict(list)
+    without = 0
+    for number, coefficient in coefficients.items():
+        if has_year(names[number]):
+            values[book.records[number].born.year].append(coefficient.value)
+        else:
+            without += 1
+    return [Year(year, len(those), sum(those) / len(those)) for year, those in sorted(values.items())], without
+
+
+def scale_for(value: float, least: float) -> float:
+    """The end of a scale of four steps, each a round number."""
+    step = max(value, least) / 4
+    unit = 10.0 ** math.floor(math.log10(step))
+    return 4 * next(part * unit for part in (1, 2, 3, 4, 5, 6, 8, 10) if part * unit >= step * 0.999999)
+
+
+def trend_picture(book: Book, coefficients: dict[str, Coefficient]) -> str:
+    years, without = years_of(book, coefficients)
+    if not years:
+        raise Mistake("no animal of the book has a known birth year, so there is no trend to draw")
+    first, last = years[0].year, years[-1].year
+    step = (WIDTH - LEFT - RIGHT) / (last - first + 1)
+    most_percent = scale_for(float(max(year.mean for year in years)) * 100, 0.04)
+    most_count = scale_for(max(year.count for year in years), 4)
+    x = lambda year: LEFT + (year - first + 0.5) * step
+    y = lambda part: HEIGHT - BOTTOM - part * (HEIGHT - TOP - BOTTOM)
+    parts = axes(most_percent, most_count, y)
+    for year in years:
+        parts.append(bar(year, x(year.year), y(year.count / most_count), y(0), step))
+    parts += year_names(first, last, x, step)
+    at = {year.year: (x(year.year), y(float(year.mean) * 100 / most_percent)) for year in years}
+    for one in years:
+        if one.year + 1 in at:
+            (x1, y1), (x2, y2) = at[one.year], at[one.year + 1]
+            parts.append(f'<line x1="{x1:.1f}" y1="{y1:.1f}" x2="{x2:.1f}" y2="{y2:.1f}" stroke="{INBRED_INK}" stroke-width="2.5"/>')
+    for one in years:
+        tip = f"{one.year}: {float(one.mean) * 100:.2f} % in the mean of {one.count}"
+        px, py = at[one.year]
+        parts.append(f'<circle cx="{px:.1f}" cy="{py:.1f}" r="4" fill="{PAPER}" stroke="{INBRED_INK}" stroke-width="2.5"><title>{escape(tip)}</title></circle>')
+    return picture(parts, sum(year.count for year in years), without)
+
+
+def axes(most_percent: float, most_count: float, y) -> list[str]:
+    parts = []
+    for at in range(5):
+        height = y(at / 4)
+        parts.append(f'<line x1="{LEFT}" y1="{height:.1f}" x2="{WIDTH - RIGHT}" y2="{height:.1f}" stroke="#e3e7eb"/>')
+        parts.append(text(LEFT - 10, height + 5, f"{most_percent * at / 4:.4g} %", "end", INBRED_INK))
+        parts.append(text(WIDTH - RIGHT + 10, height + 5, f"{most_count * at / 4:.6g}", "start", GREY))
+    return parts
+
+
+def bar(year: Year, x: float, top: float, bottom: float, step: float) -> str:
+    width = max(1.0, step * 0.7)
+    tip = f"{year.year}: {year.count} animals"
+    return (
+        f'<rect x="{x - width / 2:.1f}" y="{top:.1f}" width="{width:.1f}" height="{bottom - top:.1f}" fill="{BARS}">'
+        f"<title>{escape(tip)}</title></rect>"
+    )
+
+
+def year_names(first: int, last: int, x, step: float) -> list[str]:
+    """As many years as have room, the same number of years apart."""
+    apart = next(one for one in (1, 2, 5, 10, 20, 50, 100) if one * step >= 46)
+    return [text(x(year), HEIGHT - BOTTOM + 24, str(year), "middle", INK) for year in range(first, last + 1) if (year - first) % apart == 0]
+
+
+def text(x: float, y: float, what: str, anchor: str, colour: str, size: int = 15, weight: str = "normal") -> str:
+    return f'<text x="{x:.1f}" y="{y:.1f}" text-anchor="{anchor}" fill="{colour}" font-size="{size}" font-weight="{weight}">{escape(what)}</text>'
+
+
+def picture(parts: list[str], count: int, without: int) -> str:
+    note = f"{count:,} animals by birth year" + (f"; {without:,} more have no known birth year and aren't drawn" if without else "")
+    head = [
+        text(LEFT, 34, "Mean coefficient of inbreeding by birth year", "start", INK, 21, "bold"),
+        f'<circle cx="{LEFT + 6}" cy="57" r="4" fill="{PAPER}" stroke="{INBRED_INK}" stroke-width="2.5"/>',
+        text(LEFT + 18, 62, "mean coefficient, in percent (left)", "start", INBRED_INK),
+        f'<rect x="{LEFT + 300}" y="50" width="14" height="14" fill="{BARS}"/>',
+        text(LEFT + 322, 62, "animals born (right)", "start", GREY),
+        text(LEFT, HEIGHT - 26, note + ". An unknown parent counts as unrelated.", "start", GREY, 14),
+    ]
+    return (
+        f'<svg xmlns="http://www.w3.org/2000/svg" viewBox="0 0 {WIDTH} {HEIGHT}" width="{WIDTH}" height="{HEIGHT}" '
+        f'font-family="{escape(FONT)}">\n<rect width="{WIDTH}" height="{HEIGHT}" fill="{PAPER}"/>\n' + "\n".join(head + parts) + "\n</svg>\n"
+    )
