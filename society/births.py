@@ -125,13 +125,16 @@ class Days:
         self.low[id] = first if animal.has_day() else max([first, *after])
 
     def set_high(self, id: str) -> None:
-        """The last day that calves leave open, and a likely one."""
+        """The last day that calves, its own exit and its dam's leave open, and a likely one."""
         animal, calves = self.animals[id], self.calves.get(id, ())
         if animal.has_day():
             self.high[id] = self.likely[id] = animal.birth.first.toordinal()
             return
         last = animal.birth.last.toordinal()
-        self.high[id] = min([last, *(self.high[calf] - 1 for calf in calves)])
+        dam = self.animals.get(animal.dam) if not animal.embryo else None
+        exits = [animal.left, dam.left if dam else None]
+        before = [self.high[calf] - 1 for calf in calves] + [left.toordinal() for left in exits if left]
+        self.high[id] = min([last, *before])
         if animal.birth != ANY_DAY:
             self.likely[id] = (animal.birth.first.toordinal() + last + 1) // 2
         else:

@@ -16,8 +16,10 @@ TITLES = {
     "birth": "born, birth, birth date, date of birth, birthday, birth day, dob, Geburtsdatum, Geburtstag, geboren, "
     "geboren am, Geburt, geb, geb. am, geb-Datum, naissance, date de naissance, né le, née le, né, née, né(e) le, "
     "birth year, year of birth, year, Geburtsjahr, Jahrgang, année de naissance, année",
-    "sire": "sire, father, sire id, father id, Vater, Vatertier, Vater-Nr, Vater Ohrmarke, père, numéro du père",
-    "dam": "dam, mother, dam id, mother id, Mutter, Muttertier, Mutter-Nr, Mutter Ohrmarke, mère, numéro de la mère",
+    "sire": "sire id, father id, sire number, sire, father, Vater Ohrmarke, Ohrmarke Vater, Vater-Nr, Vaternummer, Vater, Vatertier, "
+    "numéro du père, numéro père, père",
+    "dam": "dam id, mother id, dam number, dam, mother, Mutter Ohrmarke, Ohrmarke Mutter, Mutter-Nr, Mutternummer, Mutter, Muttertier, "
+    "numéro de la mère, numéro mère, mère",
     "owner": "owner, herd, farm, holding, Besitzer, Eigentümer, Halter, Betrieb, propriétaire, détenteur, élevage, "
     "exploitation",
     "exit": "exit, left, exit date, date of exit, departure, died, death, date of death, Abgang, Abgangsdatum, abgegangen, "

@@ -14,6 +14,8 @@ TITLES = ["id", "name", "number", "birth", "coefficient", "decimal", "percent"]
 PLACES = 10
 # so many sires are asked for at once: a command line has an end
 SIRES_AT_ONCE = 5_000
+# the faults of a mating that are the dam's
+DAM_FAULTS = (2, 4)
 
 
 class Coefficient(NamedTuple):
@@ -87,17 +89,21 @@ def advise(book: Book, program: Herdbook, dam: Known, sires: list[Known], everyo
         if not sires:
             raise Mistake(f"the book has no {'' if everyone else 'living '}male" + ("" if everyone else ": ask with --all for those that left"))
     numbers = list(dict.fromkeys(known.number for known in sires))
+    names = book.by_number()
     book_text = book.path.read_bytes()
     found: list[tuple[str, Coefficient]] = []
-    refused = []
+    refused: list[tuple[str, int]] = []
     for first in range(0, len(numbers), SIRES_AT_ONCE):
         words = ["mating", "--dam", dam.number, *numbers[first : first + SIRES_AT_ONCE]]
         for line in program.run(words, book_text).splitlines():
             number, fraction, percent = line.split(",")
             if fraction == "refused":
-                refused.append(f"{book.by_number()[number].id}: refused: {MATING_FAULTS[int(percent)]} (fault {percent})")
+                refused.append((names[number].id, int(percent)))
             else:
                 found.append((number, Coefficient(fraction, percent)))
-    names = book.by_number()
+    of_dam = [fault for _, fault in refused if fault in DAM_FAULTS]
+    if of_dam:
+        raise Mistake(f"{dam.id}: {MATING_FAULTS[of_dam[0]]} (fault {of_dam[0]}): name a cow as the dam")
     found.sort(key=lambda pair: (pair[1].value, names[pair[0]].id))
-    return Advice(rows_of(book, found), refused, left)
+    told = [f"{id}: refused: {MATING_FAULTS[fault]} (fault {fault})" for id, fault in refused]
+    return Advice(rows_of(book, found), told, left)

@@ -7,6 +7,8 @@ from typing import NamedTuple
 # what an entry is about, in the order in which the report has them
 LEFT_OUT, INFERRED, CHANGED, GONE, ADDED, NEW = "left out", "inferred", "changed", "gone", "added", "new"
 ORDER = (LEFT_OUT, INFERRED, CHANGED, GONE, ADDED, NEW)
+# so many of a kind are printed; the report has all
+MOST_SHOWN = 25
 
 
 class Mistake(Exception):

@@ -40,6 +40,8 @@ def read_sheet(path: pathlib.Path, score: Callable[[list[str]], int]) -> Sheet:
         raise Mistake(f"{path} is a folder: name the sheet's file") from None
     except OSError as error:
         raise Mistake(f"{path} can't be read: {error.strerror or error}. Is the name right?") from None
+    if data.startswith(b"PK") and path.suffix.lower() == ".ods":
+        raise Mistake(f"{path} is an .ods file: save the sheet as CSV or .xlsx, and take that")
     if data.startswith(b"PK"):
         rows, how = read_workbook(path, data), "an .xlsx file"
     else:

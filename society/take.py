@@ -8,14 +8,13 @@ from dataclasses import dataclass, field
 from society.animals import Rows
 from society.book import REPORT, Book
 from society.columns import find_columns, known_titles, read_given, unknown_words
+from society.faults import leave_out_faulty_parents
+from society.filing import Filing
 from society.pedigree import invent_days, invent_sexes, read_triples
 from society.program import Herdbook
-from society.report import ADDED, CHANGED, GONE, INFERRED, LEFT_OUT, NEW, ORDER, Mistake, Report
+from society.report import ADDED, CHANGED, GONE, INFERRED, LEFT_OUT, MOST_SHOWN, NEW, ORDER, Mistake, Report
 from society.sheet import read_sheet
-from society.taking import Taking, file_all
-
-# so many entries of a kind are printed; the report has all
-MOST_SHOWN = 25
+from society.taking import Taking
 
 
 @dataclass
@@ -75,15 +74,16 @@ def finish(taking: Taking, program: Herdbook, wishes: Wishes, about: list[str], 
     """Files the book, and writes it only where nothing is refused. What is told comes last, first of all what it is about."""
     book, report = taking.book, taking.report
     taking.give_numbers(wishes.breed, wishes.country)
-    taking.leave_out_faulty_parents(program)
+    leave_out_faulty_parents(taking, program)
     left_out = [entry for entry in report.in_order() if entry.what == LEFT_OUT]
     if wishes.strict and left_out:
         more = [f"and {len(left_out) - MOST_SHOWN} more"] if len(left_out) > MOST_SHOWN else []
         sentences = [entry.sentence() for entry in left_out[:MOST_SHOWN]] + more
         raise Mistake(*sentences, f"{len(left_out)} left out: with --strict nothing is taken")
     before = len(book.records)
-    commands, is_anew = file_all(taking, program, wishes.day)
-    taking.tell_changes()
+    filing = Filing(taking, wishes.day)
+    commands, is_anew = filing.filed(program)
+    filing.tell_changes()
     new = sum(1 for animal in taking.animals.values() if animal.line and animal.id not in book.known)
     book.commands, book.known = commands, taking.known_animals()
     book.save(report.in_order())

@@ -1,0 +1,57 @@
+"""Parents that the program refuses: each is left out, alone, and told."""
+from __future__ import annotations
+
+from society.animals import Animal
+from society.commands import birth, leave
+from society.program import REFUSALS, Herdbook
+from society.report import LEFT_OUT, MOST_SHOWN, Mistake
+from society.taking import Taking
+
+MOST_STEPS = 60
+# the refusals of parents, by the link that each is about
+SIRE_FAULTS, DAM_FAULTS, TOO_DEEP = (5, 7), (6, 8, 9), 10
+
+
+def leave_out_faulty_parents(taking: Taking, program: Herdbook) -> None:
+    """Files all animals without parents, and then asks for the parents of each, the oldest first, until none is refused."""
+    by_age = taking.by_birth()
+    first = [birth(animal.number, animal.born, "", "", 1, animal.embryo) for animal in by_age]
+    first += [leave(animal.number, animal.left) for animal in by_age if animal.left]
+    while True:
+        calves = [animal for animal in by_age if animal.sire or animal.dam]
+        refused = program.file(first + [taking.parents_of(animal) for animal in calves])
+        # an exit may be refused too: that is told when the book itself is filed
+        faults = [(calves[place - len(first)], refusal) for place, refusal in refused.items() if place >= len(first)]
+        if not faults:
+            return
+        too_deep([animal for animal, refusal in faults if refusal == TOO_DEEP])
+        for animal, refusal in faults:
+            leave_out_parent(taking, animal, refusal)
+
+
+def too_deep(animals: list[Animal]) -> None:
+    if animals:
+        raise Mistake(
+            *(f"{one.where()}{REFUSALS[TOO_DEEP]}, which is the limit (refusal {TOO_DEEP})" for one in animals[:MOST_SHOWN]),
+            f"there are paths of parents of more than {MOST_STEPS} steps: leave out the oldest animals, and take the rest",
+        )
+
+
+def leave_out_parent(taking: Taking, animal: Animal, refusal: int) -> None:
+    if refusal not in SIRE_FAULTS + DAM_FAULTS:
+        raise Mistake(f"{animal.where()}{REFUSALS[refusal]} (refusal {refusal})")
+    role = "sire" if refusal in SIRE_FAULTS else "dam"
+    parent = taking.animals[getattr(animal, role)]
+    facts = [f"line {parent.line}"] if parent.line else []
+    if refusal in (7, 8):
+        facts.append(f"born {parent.born_marked()}")
+    if refusal == 9:
+        facts.append(f"left {parent.left}{' (inferred)' if parent.left_inferred else ''}")
+    of_parent = f"{parent.id} ({', '.join(facts)})" if facts else parent.id
+    why = f"{REFUSALS[refusal]} (refusal {refusal}): {of_parent} is left out as its {role}"
+    if refusal not in (5, 6):
+        why += f"; it was born {animal.born_marked()}"
+    if refusal == 9:
+        why += "; a calf from a stored embryo needs 1 in the column embryo"
+    taking.report.tell(LEFT_OUT, animal.line, animal.id, why)
+    setattr(animal, role, "")
