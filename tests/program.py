@@ -1,15 +1,14 @@
 #!/usr/bin/env python3
 """program.py PROGRAM: tries the built herd book program from outside.
 
-It runs the examples of the README as they stand there, the script and the recipes of `examples/`, each order on the
-sample books beside `reference.py`, help, whose texts stand in `help/`, and its examples, the limits, each status and
-text of the README's table but for `no reader's place`, and then each order on a small book with the nth growth of
+It runs the examples of README and `docs/` as they stand there, the spreadsheet and the recipes of `examples/`, each order
+on the sample books beside `reference.py`, help, whose texts stand in `help/`, and its examples, the limits, each status
+and text of the table of statuses but for `no reader's place`, and then each order on a small book with the nth growth of
 memory, read, write or start of a thread refused (`refuse.c`), for n from 1 until a run meets no refusal; writes of long
 texts too. Last come the programs that are to be timed, which the gate built too. The last line is `N passed, M failed`;
 the status is 1 if anything failed.
 """
 import concurrent.futures
-import csv
 import fractions
 import importlib.util
 import itertools
@@ -46,7 +45,7 @@ RACES = [
     "three of six births fit, all from desk 1",
 ]
 
-# The texts of the README's table, and the check that provokes each here.
+# The texts of the table of statuses, and the check that provokes each here.
 TEXTS = {
     "herdbook: record NUMBER: fault CAUSE NAME": "line_faults",
     "herdbook: not registered": "other_statuses",
@@ -137,96 +136,65 @@ class Checks:
         found = self.run(words, given, **how)
         self.count(found == wanted, f"{what}: {' '.join(map(repr, words))}: {found}; wanted {wanted}")
 
-    # -- the README
+    # -- the documents
 
-    def readme(self):
-        text = (TOP / "README.md").read_text()
-        room = self.example_room()
+    def pages(self):
+        """The examples of each page as they stand there, in a folder of the page's own; and the table of statuses."""
+        pages = [TOP / "README.md", *sorted((TOP / "docs").glob("*.md"))]
+        counts = [self.page(path) for path in pages]
+        shown, ran = (sum(count) for count in zip(*counts))
+        self.count(shown >= 2 and ran > shown, f"the pages: {ran} commands and {shown} printed texts were found")
+        texts = "\n".join(path.read_text() for path in pages)
+        table = re.search(r"\| status \| when \| standard error \|\n(.*?)\n\n", texts, re.S).group(1)
+        for told in re.findall("`(herdbook: [^`]*)`", table):
+            self.count(told in TEXTS, f"the table of statuses: no check of `{told}`")
+
+    def page(self, path):
+        """How many of a page's commands have a text that they print, and how many there are."""
+        text = path.read_text()
         blocks = re.findall(r"((?:^    .*\n)+)((?:(?!    ).*\n)*)", text, re.M)
         shown = ran = 0
         for at, (block, between) in enumerate(blocks):
             line = block.strip()
-            if not re.match(r"(\./herdbook|python3 examples/)", line):
+            if not re.match(r"(\./herdbook|society/society)", line):
                 continue
-            done = self.shell(line, room)
+            done = self.shell(line, self.example_room(path.stem))
             ran += 1
-            self.count(done.status == 0, f"README: {line}: {done}")
+            self.count(done.status == 0, f"{path.name}: {line}: {done}")
             if "print" in between:
                 wanted = re.sub("(?m)^    ", "", blocks[at + 1][0])
-                self.count(done == wrote(wanted), f"README: {line}: {done}; wanted {wanted!r}")
+                self.count(done == wrote(wanted), f"{path.name}: {line}: {done}; wanted {wanted!r}")
                 shown += 1
-        self.count(shown >= 2 and ran > shown, f"README: {ran} commands and {shown} printed texts were found")
-        table = re.search(r"\| status \| when \| standard error \|\n(.*?)\n\n", text, re.S).group(1)
-        for told in re.findall("`(herdbook: [^`]*)`", table):
-            self.count(told in TEXTS, f"README: no check of `{told}`")
+        return shown, ran
 
-    def example_room(self):
+    def example_room(self, name):
         """A folder in which commands run as they do at the top of the repository."""
-        room = self.room / "top"
+        room = self.room / f"top-{name}"
         if not room.exists():
             room.mkdir()
-            shutil.copytree(TOP / "examples", room / "examples")
+            for folder in "examples", "society":
+                shutil.copytree(TOP / folder, room / folder)
             (room / "herdbook").symlink_to(self.program)
         return room
 
     def shell(self, line, room):
         env = {"PATH": os.environ["PATH"], "HOME": str(room), "LANG": "C.UTF-8"}
         done = subprocess.run(["sh", "-c", line], cwd=room, env=env, capture_output=True, timeout=SECONDS)
-        # what a script says of its spreadsheet isn't the program's
+        # what the front desk tells beside what it writes isn't the program's
         return Done(done.returncode, done.stdout, done.stderr if line.startswith("./herdbook") else b"")
 
     # -- examples/
 
     def examples(self):
-        room = self.example_room()
-        script = [sys.executable, "examples/command_file.py", "--map", "map.csv", "--herds", "herds.csv"]
-        with open(room / "examples/society.csv") as society:
-            made = subprocess.run(script, cwd=room, stdin=society, capture_output=True, text=True, timeout=SECONDS)
-        births = made.stdout.splitlines()[1:]
-        said = made.stderr.splitlines()
-        self.count(made.returncode == 0 and len(births) == 501 and len(said) == 7, f"command_file.py: {len(births)} births, {said}")
-        for about in "GK-10/301b has the birth day", "GK-98/021c has a row already", "GK-10/311c has the sex", "IMP-7 (imported), the sire of", "has the wrong sex":
-            self.count(sum(about in line for line in said) == 1, f"command_file.py: {about}: {said}")
-        with open(room / "examples/society.csv") as society, open(room / "map.csv") as kept:
-            ids = {row["id"].strip() for row in csv.DictReader(society)}
-            numbers = {row["number"]: row["id"] for row in csv.DictReader(kept)}
-        self.count([line.split(",")[1] for line in births] == list(numbers), "command_file.py: the map has the births' numbers")
-        kept_ids = (ids - {"GK-10/311c"}) | {"GK-90/011c", "IMP-7 (imported)"}
-        self.count(set(numbers.values()) == kept_ids, "command_file.py: the map has the ids of the spreadsheet and of added founders")
-        (room / "book.csv").write_text(made.stdout)
-        accepted = "".join(f"{serial},accepted\n" for serial in range(1, 502))
-        self.expect("the society's book", wrote(accepted), ["file"], made.stdout)
-        self.encodings(script, room, made)
-        self.unknown_parents(script, room)
-        self.letters(script, room)
-        self.recipes(room, made.stdout)
-
-    def encodings(self, script, room, made):
-        """The spreadsheet with a byte-order mark makes the same book; one that isn't UTF-8 is told."""
-        society = (room / "examples/society.csv").read_bytes()
-        for given, wanted in [
-            (b"\xef\xbb\xbf" + society, wrote(made.stdout, made.stderr)),
-            (b"\xfc" + society, wrote("", "command_file: the spreadsheet isn't UTF-8 text\n", 2)),
-        ]:  # fmt: skip
-            done = subprocess.run(script, cwd=room, input=given, capture_output=True, timeout=SECONDS)
-            found = Done(done.returncode, done.stdout, done.stderr)
-            self.count(found == wanted, f"command_file.py: {given[:4]!r}: {found}")
-
-    def unknown_parents(self, script, room):
-        """An unknown parent's cell is empty, `0` or `-`, and no founder is made of it."""
-        for unknown in "", "0", "-":
-            rows = f"id,sex,born,sire,dam,owner\na,M,2000-01-01,{unknown},{unknown},x\nb,F,2001-01-01,a,{unknown},x\n"
-            done = subprocess.run(script, cwd=room, input=rows, capture_output=True, text=True, timeout=SECONDS)
-            first, second = animal("M", 1), animal("F", 2)
-            wanted = HEADER + f"birth,{first},2000-01-01,0,0,,1\nbirth,{second},2001-01-01,{first},0,,1\n"
-            self.count((done.stdout, done.stderr) == (wanted, ""), f"command_file.py: unknown as {unknown!r}: {done}")
-
-    def letters(self, script, room):
-        """A breed or a country that isn't three letters is refused, and nothing is written."""
-        for words in ["--breed", "hol"], ["--breed", "HOLX"], ["--country", "G1B"], ["--country", ""]:
-            done = subprocess.run(script + words, cwd=room, input="", capture_output=True, text=True, timeout=SECONDS)
-            told = "isn't three letters A to Z" in done.stderr
-            self.count((done.returncode, done.stdout, told) == (2, "", True), f"command_file.py: {words}: {done}")
+        """The society's spreadsheet becomes a book of which nothing is refused; the recipes on it."""
+        room = self.example_room("examples")
+        taken = self.shell("society/society take examples/society.csv", room)
+        told = b"book: 502 animals, 500 new, 0 changed, 4 inferred, 3 left out, 2 added, 0 gone: book/report.csv has each"
+        self.count(taken.status == 0 and taken.out.splitlines()[-1:] == [told], f"the society's spreadsheet: {taken}")
+        book = (room / "book/commands.csv").read_text()
+        accepted = "".join(f"{serial},accepted\n" for serial in range(1, 503))
+        self.expect("the society's book", wrote(accepted), ["file"], book)
+        self.recipes(room, book)
 
     def recipes(self, room, book):
         listed = self.run(["inbreeding"], book).out.decode()
@@ -236,26 +204,15 @@ class Checks:
         wanted = f"{len(rows)} animals, {sum(of != '0' for _, of, _ in rows)} inbred, mean {mean:.2f} %\n"
         self.recipe(room, ["awk", "-f", "examples/recipes/summary.awk", "list.csv"], lambda out: out == wanted)
 
-        dam = next(number for number, _, _ in reversed(rows) if number[6] == "F")
-        advice = self.run(["mating", "--dam", dam, *(number for number, _, _ in rows)], book).out.decode()
-        sires = [line.split(",") for line in advice.splitlines() if ",refused," not in line]
-        best = sorted(sires, key=lambda row: (float(row[2]), row[0]))
-        self.count(len(best) > 100 and len({row[2] for row in best}) > 3, "advice: some matings are closer than others")
-        wanted_best = "".join(",".join(row) + "\n" for row in best)
-        self.recipe(room, ["sh", "examples/recipes/best_matings.sh"], lambda out: out == wanted_best, advice)
-
-        inverse = self.run(["inverse"], book).out.decode()
-        (room / "inverse.csv").write_text(inverse)
-        highest = max(rows, key=lambda row: float(row[2]))
-        last = inverse_element(inverse, rows[-1][0], rows[-1][0])
-        with_highest = lambda out: highest[0] in out and len(out.splitlines()) == 6
-        with_last = lambda out: rows[-1][0] in out and f"{float(last):.3f}"[:5] in out
-        if importlib.util.find_spec("pandas"):
-            self.recipe(room, [sys.executable, "examples/recipes/list_pandas.py", "list.csv"], with_highest)
-            self.recipe(room, [sys.executable, "examples/recipes/inverse_pandas.py", "inverse.csv"], with_last)
+        last = inverse_element(self.run(["inverse"], book).out.decode(), rows[-1][0], rows[-1][0])
+        written = self.shell("society/society inverse --matrix-market inverse.mtx", room)
+        id = (room / "inverse.mtx.ids").read_text().splitlines()[-1]
+        self.count(written.status == 0 and f"502 502 {float(last)!r}" in (room / "inverse.mtx").read_text(), f"the inverse: {written}")
+        with_last = lambda out: id in out and f"{float(last):.3f}"[:5] in out
+        if importlib.util.find_spec("scipy"):
+            self.recipe(room, [sys.executable, "examples/recipes/inverse_scipy.py", "inverse.mtx"], with_last)
         if shutil.which("Rscript"):
-            self.recipe(room, ["Rscript", "examples/recipes/list.R", "list.csv"], with_highest)
-            self.recipe(room, ["Rscript", "examples/recipes/inverse.R", "inverse.csv"], with_last)
+            self.recipe(room, ["Rscript", "examples/recipes/inverse.R", "inverse.mtx"], with_last)
 
     def recipe(self, room, words, is_right, given=""):
         env = {"PATH": os.environ["PATH"], "LC_ALL": "C", "HOME": str(room)}
@@ -683,7 +640,7 @@ def main(program):
         subprocess.run(["cc", "-O1", "-shared", "-fPIC", "-o", f"{room}/refuse.so", TOP / "tests/refuse.c", "-ldl"], check=True)
         checks = Checks(program, room)
         for group in [
-            checks.readme, checks.examples, checks.help, checks.orders, checks.clerks, checks.limits, checks.words, checks.wrong_numbers, checks.line_faults, checks.other_statuses,
+            checks.pages, checks.examples, checks.help, checks.orders, checks.clerks, checks.limits, checks.words, checks.wrong_numbers, checks.line_faults, checks.other_statuses,
             checks.failing_writes, checks.refused_growths, checks.refused_growths_before_a_line_fault, checks.refused_reads, checks.refused_writes, checks.refused_threads,
             checks.long_texts, checks.little_memory, checks.timed_offices, checks.timed_pedigrees, checks.races,
         ]:  # fmt: skip
