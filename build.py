@@ -72,7 +72,7 @@ class Told:
 
 
 def prove(names, room):
-    """Runs the gate in the copy, and returns what it told, and whether all was proved and the program built."""
+    """Runs the gate in the copy, and returns what it told, and its status."""
     told, lines = Told(names), queue.Queue()
     with subprocess.Popen(["rt", "ci"], cwd=room, stdin=subprocess.DEVNULL, stdout=subprocess.PIPE, stderr=subprocess.STDOUT, text=True, errors="replace") as gate:
 
@@ -94,7 +94,7 @@ def prove(names, room):
         except BaseException:
             gate.terminate()
             raise
-    return told, gate.returncode == 0
+    return told, gate.returncode
 
 
 def build(program):
@@ -102,12 +102,13 @@ def build(program):
         room, start = pathlib.Path(room), time.time()
         lines = needed(program)
         copy(lines, room)
-        told, is_well = prove(lines, room)
-        if not is_well:
-            for name in told.unproved[:1]:
-                told.say(f"rt check in crates/{name} says why")
-            if not told.unproved:
+        told, status = prove(lines, room)
+        if status:
+            if told.unproved:
+                told.say(f"rt check in crates/{told.unproved[0]} says why")
+            else:
                 sys.stderr.writelines(told.lines[-20:])
+                told.say(f"the gate ended with status {status}")
             return 1
         out = TOP / "crates" / program / "out"
         out.mkdir(exist_ok=True)
