@@ -4,7 +4,7 @@ ghost use Rattle.indexmap.specs.IndexMap.{set_value_at};
 ghost use Rattle.herd_pedigree.specs.rules.Book.{IsDepthOf, changed, has_calved_after, record_of, with_left, with_owner, with_parents};
 ghost use Rattle.herd_pedigree.specs.freezing.Frozen.{IsFrozenFrom};
 ghost use Rattle.herd_pedigree.specs.rules.Lawful.{IsLawful};
-ghost use Rattle.herd_pedigree.specs.rules.ParentFault.{is_too_deep, parent_fault};
+ghost use Rattle.herd_pedigree.specs.rules.ParentFault.{fault_by_records, is_too_deep, parent_fault};
 ghost use Rattle.herd_pedigree.specs.store.Places.{IsIndexIn};
 ghost use Rattle.herd_pedigree.specs.Pedigree.{IsBirth, IsCorrection, IsExit, IsNewborn, IsPresentOn, changed_to};
 ghost use Rattle.herd_pedigree.specs.declared.TheConstants.{DEPTH_LIMIT, MOST_ANIMALS};
@@ -75,7 +75,9 @@ impl<A: Allocator + Copy> Pedigree<A> {
         dam: Option<AnimalNumber>,
         embryo: bool,
     ) -> Result<Option<ParentFault>, AllocError>
-        ensures { IfOk result (λ fault. fault ≡ parent_fault DEPTH_LIMIT self.now.book number birth sire dam embryo) }
+        ensures fault { IfOk result (λ fault. fault ≡ parent_fault DEPTH_LIMIT self.now.book number birth sire dam embryo) }
+        // What the parents' records show needs no memory.
+        ensures by_records { IfSome (fault_by_records self.now.book birth sire dam embryo) (λ fault. result ≡ Ok (Some fault)) }
     {
         let parents = match sound_parents(&self.records, birth, &sire, &dam, embryo) {
             Ok(parents) => parents,
@@ -141,54 +143,55 @@ impl<A: Allocator + Copy> Pedigree<A> {
     ) -> Result<Option<ParentFault>, AllocError>
         requires { IsNewborn MOST_ANIMALS self.old.book number animal }
         ensures fault { IfOk result (λ fault. fault ≡ parent_fault DEPTH_LIMIT self.old.book number animal.birth animal.sire animal.dam animal.embryo) }
+        // What the parents' records show needs no memory.
+        ensures by_records { IfSome (fault_by_records self.old.book animal.birth animal.sire animal.dam animal.embryo) (λ fault. result ≡ Ok (Some fault)) }
         ensures added { result ≡ Ok None → self.new ≡ changed_to self.old (self.old.book ++ (number, animal) ∷ []) }
         ensures refused { IfOk result (λ fault. IsSome fault → self.new ≡ self.old) }
         ensures err { OnErr result (self.new ≡ self.old) }
     {
-        let parents = match sound_parents(
+        match sound_parents(
             &self.records,
             animal.birth,
             &animal.sire,
             &animal.dam,
             animal.embryo,
         ) {
-            Ok(parents) => parents,
-            Err(fault) => return Ok(Some(fault)),
-        };
-        if depth_with(&self.depths, parents.sire, parents.dam) > u16::from(DEPTH_LIMIT) {
-            return Ok(Some(ParentFault::TooDeep));
+            Ok(parents) => self.add_unless_too_deep(number, animal, parents.sire, parents.dam),
+            Err(fault) => Ok(Some(fault)),
         }
-        self.add_below(number, animal, parents.sire, parents.dam)?;
-        Ok(None)
     }
 
-    // Adds an animal whose parents stand at these places.
-    fn add_below(
+    // Adds an animal whose parents stand at these places, unless its depth is above the limit.
+    fn add_unless_too_deep(
         &mut self,
         number: AnimalNumber,
         animal: Animal,
         sire: Option<u32>,
         dam: Option<u32>,
-    ) -> Result<(), AllocError>
-        requires birth { IsBirth DEPTH_LIMIT MOST_ANIMALS self.old.book number animal }
+    ) -> Result<Option<ParentFault>, AllocError>
+        requires newborn { IsNewborn MOST_ANIMALS self.old.book number animal }
+        requires sound { fault_by_records self.old.book animal.birth animal.sire animal.dam animal.embryo ≡ None }
         requires sire { IsIndexIn (keys_of self.old.book) sire animal.sire }
         requires dam { IsIndexIn (keys_of self.old.book) dam animal.dam }
-        ensures added { OnOk result (self.new ≡ changed_to self.old (self.old.book ++ (number, animal) ∷ [])) }
+        ensures fault { IfOk result (λ fault. fault ≡ parent_fault DEPTH_LIMIT self.old.book number animal.birth animal.sire animal.dam animal.embryo) }
+        ensures added { result ≡ Ok None → self.new ≡ changed_to self.old (self.old.book ++ (number, animal) ∷ []) }
+        ensures refused { IfOk result (λ fault. IsSome fault → self.new ≡ self.old) }
         ensures err { OnErr result (self.new ≡ self.old) }
     {
-        let depth = depth_with(&self.depths, sire, dam) as u8;
+        let depth = depth_with(&self.depths, sire, dam);
+        if depth > u16::from(DEPTH_LIMIT) {
+            return Ok(Some(ParentFault::TooDeep));
+        }
         self.records.reserve()?;
         self.depths.reserve(1)?;
         self.sires.reserve()?;
         self.dams.reserve()?;
         self.records.push(number, animal, sire, dam);
-        if self.depths.push(depth).is_err() {
-            unreachable!();
-        }
+        self.depths.push_reserved(depth as u8);
         self.sires.push(sire);
         self.dams.push(dam);
         self.undo = Undo::Birth;
-        Ok(())
+        Ok(None)
     }
 
     /// Sets both parents of an animal, also to unknown, and carries depths on to its descendants. The only error is a
@@ -220,6 +223,8 @@ impl<A: Allocator + Copy> Pedigree<A> {
     ) -> Result<Option<ParentFault>, AllocError>
         requires { IsSome (record_of self.old.book number) }
         ensures fault { IfOk result (λ fault. IfSome (record_of self.old.book number) (λ animal. fault ≡ parent_fault DEPTH_LIMIT self.old.book number animal.birth sire dam animal.embryo)) }
+        // What the parents' records show needs no memory.
+        ensures by_records { IfSome (record_of self.old.book number) (λ animal. IfSome (fault_by_records self.old.book animal.birth sire dam animal.embryo) (λ fault. result ≡ Ok (Some fault))) }
         ensures set { result ≡ Ok None → self.new ≡ changed_to self.old (changed self.old.book number (with_parents sire dam)) }
         ensures refused { IfOk result (λ fault. IsSome fault → self.new ≡ self.old) }
         ensures err { OnErr result (self.new ≡ self.old) }

@@ -68,7 +68,9 @@ fn above<A: Allocator>(rows: &Rows<A>, parent: Option<u32>) -> u8
     }
 }
 
-// The row of the record whose turn it is, once the rows of all the older ones are made.
+// The row of the record whose turn it is, once the rows of all the older ones are made. Inlined: the numbers of its
+// parents, which are not kept, are then not looked up.
+#[inline(always)]
 fn next_row<A: Allocator, S: Registered>(
     records: &S,
     keys: &[AgeKey],

@@ -87,11 +87,22 @@ impl<A: Allocator> Frozen<A> {
         self.rows.row(rank)
     }
 
+    /// The number at a rank. It reads less memory than `row`.
+    #[inline(always)]
+    pub fn number(&self, rank: u32) -> AnimalNumber
+        requires { rank < length self.now }
+        ensures number { slice_get (numbers_of self.now) rank ≡ Some result }
+        ensures frozen { IsFrozen DEPTH_LIMIT MOST_ANIMALS self.now }
+    {
+        *self.rows.number(rank)
+    }
+
     /// The rank of an animal. It reads an index, and takes no memory.
     pub fn rank(&self, number: &AnimalNumber) -> Option<u32>
         ensures rank { IfSome result (λ rank. slice_get (numbers_of self.now) rank ≡ Some number.now) }
         ensures within { IfSome result (λ rank. rank < length self.now) }
         ensures absent { IfNone result (is_there (book_of self.now) number.now ≡ false) }
+        ensures frozen { IsFrozen DEPTH_LIMIT MOST_ANIMALS self.now }
     {
         self.index.rank(&self.rows, number)
     }

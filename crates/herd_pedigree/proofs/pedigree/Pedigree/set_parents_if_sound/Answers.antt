@@ -1,4 +1,4 @@
-use Rattle.std.proofs.Common.{◌+◌, sym, ap, ◌∙◌, subst, arith, ◌≡◌, ◌<◌, ℕ, List, [], ◌∷◌, Option, Some, None, IfSome, IsFalse, IsTrue, true, false, All, length, slice_index, slice_get, slice_set}
+use Rattle.std.proofs.Common.{◌+◌, refl, sym, ap, ◌∙◌, subst, arith, ◌≡◌, ◌<◌, ℕ, List, [], ◌∷◌, Option, Some, None, IfSome, IsFalse, IsTrue, true, false, All, length, slice_index, slice_get, slice_set}
 use Rattle.std.specs.Map.{keys_of}
 use Rattle.std.specs.Vec.{with_items}
 use Rattle.std.proofs.lemmas.List.{with_items_is}
@@ -10,7 +10,7 @@ use Rattle.herd_pedigree.specs.rules.Paths.{has_path}
 use Rattle.herd_pedigree.specs.rules.Book.{Book, changed, record_of, with_parents}
 use Rattle.herd_pedigree.specs.Pedigree.{IsCorrection, changed_to}
 use Rattle.herd_pedigree.specs.store.Places.{IsIndexIn, parentage_at}
-use Rattle.herd_pedigree.specs.rules.ParentFault.{is_too_deep, parent_fault}
+use Rattle.herd_pedigree.specs.rules.ParentFault.{fault_by_records, is_too_deep, parent_fault}
 use Rattle.herd_pedigree.specs.declared.rules.parent_fault.ParentFault.TheVariants.{TooDeep}
 use Rattle.herd_pedigree.specs.store.Carry.{IsSettled}
 use Rattle.herd_pedigree.specs.store.Undo.{IsHeld}
@@ -164,3 +164,47 @@ returns-clause-set g c =
     λ _.
     subst (λ b. record { book = b; before = Some (set_value_at b place a) } ≡ changed_to c.args.self.now (changed c.args.self.now.book number change)) (sym written)
     (record-view c.args.self.now book c.self.invariant.kept.lawful.once place number a change entry (ap (λ p. p.book) c.self.view_is))
+
+pub returns-in-Err-clause-by_records : goal.returns-in-Err-clause-by_records
+returns-in-Err-clause-by_records g c =
+    let book : Book = c.self.inside.records.book in
+    let number : List ℕ = c.args.number in
+    let place : ℕ = c.in-Some.index in
+    let a : Animal = c.animal_at-animal.result in
+    let entry : slice_get book place ≡ Some (number, a) = entry_found book number place a c.in-Some.ensures.index c.animal_at-animal.ensures in
+    let there : record_of c.args.self.now.book number ≡ Some a = subst (λ p. record_of p.book number ≡ Some a) c.self.view_is (lookup_at book c.self.invariant.kept.lawful.once place number a entry) in
+    let shown : fault_by_records c.args.self.now.book a.birth c.args.sire c.args.dam a.embryo ≡ Some c.in-Err.fault = subst (λ p. fault_by_records p.book a.birth c.args.sire c.args.dam a.embryo ≡ Some c.in-Err.fault) c.self.view_is c.in-Err.ensures.fault in
+    rw (there, shown) refl
+
+pub returns-in_default-2-clause-by_records : goal.returns-in_default-2-clause-by_records
+returns-in_default-2-clause-by_records g c =
+    let book : Book = c.self.inside.records.book in
+    let number : List ℕ = c.args.number in
+    let place : ℕ = c.in-Some.index in
+    let a : Animal = c.animal_at-animal.result in
+    let entry : slice_get book place ≡ Some (number, a) = entry_found book number place a c.in-Some.ensures.index c.animal_at-animal.ensures in
+    let there : record_of c.args.self.now.book number ≡ Some a = subst (λ p. record_of p.book number ≡ Some a) c.self.view_is (lookup_at book c.self.invariant.kept.lawful.once place number a entry) in
+    let shown : fault_by_records c.args.self.now.book a.birth c.args.sire c.args.dam a.embryo ≡ None = subst (λ p. fault_by_records p.book a.birth c.args.sire c.args.dam a.embryo ≡ None) c.self.view_is c.in-Ok.ensures.sound in
+    rw (there, shown) tt
+
+pub returns-in_err-log-clause-by_records : goal.returns-in_err-log-clause-by_records
+returns-in_err-log-clause-by_records g c =
+    let book : Book = c.self.inside.records.book in
+    let number : List ℕ = c.args.number in
+    let place : ℕ = c.in-Some.index in
+    let a : Animal = c.animal_at-animal.result in
+    let entry : slice_get book place ≡ Some (number, a) = entry_found book number place a c.in-Some.ensures.index c.animal_at-animal.ensures in
+    let there : record_of c.args.self.now.book number ≡ Some a = subst (λ p. record_of p.book number ≡ Some a) c.self.view_is (lookup_at book c.self.invariant.kept.lawful.once place number a entry) in
+    let shown : fault_by_records c.args.self.now.book a.birth c.args.sire c.args.dam a.embryo ≡ None = subst (λ p. fault_by_records p.book a.birth c.args.sire c.args.dam a.embryo ≡ None) c.self.view_is c.in-Ok.ensures.sound in
+    rw (there, shown) tt
+
+pub returns-clause-by_records : goal.returns-clause-by_records
+returns-clause-by_records g c =
+    let book : Book = c.self.inside.records.book in
+    let number : List ℕ = c.args.number in
+    let place : ℕ = c.in-Some.index in
+    let a : Animal = c.animal_at-animal.result in
+    let entry : slice_get book place ≡ Some (number, a) = entry_found book number place a c.in-Some.ensures.index c.animal_at-animal.ensures in
+    let there : record_of c.args.self.now.book number ≡ Some a = subst (λ p. record_of p.book number ≡ Some a) c.self.view_is (lookup_at book c.self.invariant.kept.lawful.once place number a entry) in
+    let shown : fault_by_records c.args.self.now.book a.birth c.args.sire c.args.dam a.embryo ≡ None = subst (λ p. fault_by_records p.book a.birth c.args.sire c.args.dam a.embryo ≡ None) c.self.view_is c.in-Ok.ensures.sound in
+    rw (there, shown) tt
