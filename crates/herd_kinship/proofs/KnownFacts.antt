@@ -1,5 +1,7 @@
 -- What follows where the coefficients at an animal's ancestors are known.
-use Rattle.std.proofs.Common.{ℕ, suc, ◌+◌, ◌*◌, ◌-◌, ◌/◌, ◌^◌, ◌<◌, ◌≤◌, ◌≡◌, ◌⊎◌, ⊎_elim, inl, inr, List, length, slice_get, get_or, set, min, Option, Some, None, is_some, ◌&&◌, false, arith, sym, ◌∙◌, ap, subst, refl}
+use Rattle.std.proofs.Common.{ℕ, suc, ◌+◌, ◌*◌, ◌-◌, ◌/◌, ◌^◌, ◌<◌, ◌≤◌, ◌≡◌, ◌⊎◌, ⊎_elim, inl, inr, List, length, slice_get, get_or, set, min, Option, Some, None, is_some, ◌&&◌, false, true, arith, sym, ◌∙◌, ap, subst, refl}
+use Rattle.std.specs.Option.{ForSome}
+use Rattle.herd_pedigree.specs.declared.freezing.frozen.Parents.{Parents}
 use Rattle.herd_pedigree.specs.declared.freezing.frozen.Row.{Row}
 use Rattle.herd_pedigree.specs.freezing.Frozen.{IsFrozen, depth_at}
 use Rattle.herd_kinship.specs.Ancestry.{IsAncestor, IsParentIn, PathTo}
@@ -7,7 +9,7 @@ use Rattle.herd_kinship.specs.Table.{coefficient, entry, mendelian}
 use Rattle.herd_kinship.specs.Shares.{share}
 use Rattle.herd_kinship.specs.FrozenAncestry.{ancestry_of, number_of_row}
 use Rattle.herd_kinship.specs.Coefficients.{IsKnownParent, KnowsAncestors, own_relationship, quarter_of}
-use Rattle.herd_kinship.specs.Ranks.{sire_rank, dam_rank, ranked}
+use Rattle.herd_kinship.specs.Ranks.{AreParentsAt, HasUnknownParent, sire_rank, dam_rank, ranked}
 use Rattle.herd_kinship.specs.Tracing.{IsNext}
 use Rattle.herd_kinship.proofs.Ancestors.{share-reached, ancestor-before, path-joined}
 use Rattle.herd_kinship.proofs.Bounds.{entry-itself, coefficient-bound, inbred-is, quarter-is, coefficient-none}
@@ -126,6 +128,13 @@ module _ (l most : ℕ) (rows : List Row) (f : IsFrozen l most rows) where
       2 ^ (2 * l) - quarter_of l known row.sire - quarter_of l known row.dam ≡ mendelian (ancestry_of rows) l (number_of_row rows x)
   mendelian-row known x row lx k e = rw (← sire-row x row e, ← dam-row x row e) (mendelian-known known x lx k)
 
+  -- the same of parents that are read by themselves
+  pub parents-known : (known : List ℕ) (x : ℕ) (parents : Parents) → x < length rows → KnowsAncestors l rows known x → AreParentsAt rows x parents →
+      ForSome parents.sire (IsKnownParent l known) × ForSome parents.dam (IsKnownParent l known)
+      × (2 ^ (2 * l) - quarter_of l known parents.sire - quarter_of l known parents.dam ≡ mendelian (ancestry_of rows) l (number_of_row rows x))
+  parents-known known x parents lx k at =
+      rw at.same (sire-known known x at.row lx k at.there, dam-known known x at.row lx k at.there, mendelian-row known x at.row lx k at.there)
+
   -- the Mendelian sampling variance of a rank is that of its number
   pub mendelian-rank : (x : ℕ) → x < length rows → mendelian (ranked rows) l x ≡ mendelian (ancestry_of rows) l (number_of_row rows x)
   mendelian-rank x lx =
@@ -157,13 +166,13 @@ module _ (l most : ℕ) (rows : List Row) (f : IsFrozen l most rows) where
   no_number (Some q) p at e = absurd (cc)
 
   -- where a parent is unknown the coefficient is 0
-  pub coefficient-unknown : (x : ℕ) → x < length rows → (sire_rank rows x ≡ None) ⊎ (dam_rank rows x ≡ None) → coefficient (ancestry_of rows) l (number_of_row rows x) ≡ 0
+  pub coefficient-unknown : (x : ℕ) → x < length rows → HasUnknownParent rows x → coefficient (ancestry_of rows) l (number_of_row rows x) ≡ 0
   coefficient-unknown x lx none =
       coefficient-none (ancestry_of rows) l (number_of_row rows x)
       (⊎_elim (λ s. inl (no_number (sire_rank rows x) _ (sire_at l most rows f x lx) s)) (λ d. inr (no_number (dam_rank rows x) _ (dam_at l most rows f x lx) d)) none)
 
   -- where a parent is unknown the entry of the animal with itself is the whole
-  entry-unknown : (x : ℕ) → x < length rows → (sire_rank rows x ≡ None) ⊎ (dam_rank rows x ≡ None) →
+  entry-unknown : (x : ℕ) → x < length rows → HasUnknownParent rows x →
       own_relationship l rows x ≡ 2 ^ (2 * l)
   entry-unknown x lx none =
       entry-itself (ancestry_of rows) (frozen-lawful l most rows f) l (number_of_row rows x) (below_limit x lx)
@@ -173,6 +182,15 @@ module _ (l most : ℕ) (rows : List Row) (f : IsFrozen l most rows) where
   no_parent None d e = inl refl
   no_parent (Some s) None e = inr refl
   no_parent (Some s) (Some d) e = absurd (cc)
+
+  both-known : (s d : Option ℕ) → (is_some s && is_some d) ≡ true → (s ≡ None) ⊎ (d ≡ None) → ⊥
+  both-known None d both none = absurd (cc)
+  both-known (Some s) None both none = absurd (cc)
+  both-known (Some s) (Some d) both none = ⊎_elim (λ (e : Some s ≡ None). absurd (cc)) (λ (e : Some d ≡ None). absurd (cc)) none
+
+  -- a row that names both parents
+  pub row-known : (x : ℕ) (row : Row) → slice_get rows x ≡ Some row → (is_some row.sire && is_some row.dam) ≡ true → HasUnknownParent rows x → ⊥
+  row-known x row e both none = both-known row.sire row.dam both (⊎_elim (λ s. inl (sym (sire-row x row e) ∙ s)) (λ d. inr (sym (dam-row x row e) ∙ d)) none)
 
   -- the same, by the row
   pub entry-row_unknown : (x : ℕ) (row : Row) → slice_get rows x ≡ Some row → (is_some row.sire && is_some row.dam) ≡ false →

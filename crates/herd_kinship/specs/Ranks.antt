@@ -1,5 +1,5 @@
 -- The ancestry of a frozen book, its animals named by their ranks.
-use Rattle.std.specs.Prelude.{◌≡◌, ℕ, List, length, nat_eq, nat_lt, slice_get, Option, Some}
+use Rattle.std.specs.Prelude.{◌≡◌, ℕ, ◌⊎◌, List, length, nat_eq, nat_lt, slice_get, Option, None, Some}
 use Rattle.std.specs.List.{range_with_len}
 use Rattle.std.specs.Option.{option_and_then}
 use Rattle.herd_pedigree.specs.declared.freezing.frozen.Parents.{Parents}
@@ -13,6 +13,10 @@ sire_rank rows rank = option_and_then (λ row. row.sire) (slice_get rows rank)
 
 abbrev pub dam_rank : List Row → ℕ → Option ℕ
 dam_rank rows rank = option_and_then (λ row. row.dam) (slice_get rows rank)
+
+-- the sire or the dam of the animal at a rank isn't known
+abbrev pub HasUnknownParent : List Row → ℕ → Type 0
+HasUnknownParent rows rank = (sire_rank rows rank ≡ None) ⊎ (dam_rank rows rank ≡ None)
 
 -- the parents and the depth are those of the row at a rank
 pub record AreParentsAt (rows : List Row) (rank : ℕ) (parents : Parents) : Type 0 where

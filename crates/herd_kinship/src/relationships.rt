@@ -1,4 +1,6 @@
-ghost use Rattle.std.specs.Prelude.{◌≡◌, ℕ, ◌<◌, length, slice_index, IfOk, Some};
+ghost use Rattle.std.specs.Prelude.{◌≡◌, ℕ, ◌<◌, [], false, length, slice_index, IfOk, MatchResult, Some};
+ghost use Rattle.herd_pedigree.specs.rules.Book.{is_there};
+ghost use Rattle.herd_pedigree.specs.freezing.Frozen.{book_of};
 ghost use Rattle.herd_pedigree.specs.declared.TheConstants.{DEPTH_LIMIT};
 ghost use Rattle.herd_kinship.specs.Coefficients.{AreCoefficients};
 ghost use Rattle.herd_kinship.specs.Columns.{related, inherited, AreRelationships};
@@ -47,7 +49,7 @@ impl<A: Allocator + Clone> Relationships<A> {
         Ok(Relationships { column })
     }
 
-    /// The relationships of an animal, as by `of`, and an empty column where it isn't in the book.
+    /// The relationships of an animal, as by `of`, and an empty column where it isn't in the book, which takes no memory.
     pub fn of_number<F: Allocator, C: Allocator>(
         alloc: A,
         frozen: &Frozen<F>,
@@ -55,7 +57,8 @@ impl<A: Allocator + Clone> Relationships<A> {
         number: &AnimalNumber,
     ) -> Result<Relationships<A>, AllocError>
         requires { AreCoefficients DEPTH_LIMIT frozen.now coefficients.now }
-        ensures { IfOk result (AreRelationshipsOf DEPTH_LIMIT frozen.now number.now) }
+        ensures relationships { IfOk result (AreRelationshipsOf DEPTH_LIMIT frozen.now number.now) }
+        ensures absent { is_there (book_of frozen.now) number.now ≡ false → MatchResult result (λ relationships. relationships ≡ []) (λ _. ⊥) }
     {
         // Taking the length ensures that the rows are those of a frozen book.
         frozen.len();

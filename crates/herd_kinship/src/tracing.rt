@@ -3,7 +3,7 @@ ghost use Rattle.std.specs.Option.{ForSome};
 ghost use Rattle.herd_pedigree.specs.declared.TheConstants.{DEPTH_LIMIT};
 ghost use Rattle.herd_kinship.specs.Coefficients.{IsKnownParent, KnowsAncestors, own_relationship, quarter_of};
 ghost use Rattle.herd_kinship.specs.FrozenAncestry.{ancestry_of, number_of_row};
-ghost use Rattle.herd_kinship.specs.Ranks.{AreParentsAt, ranked};
+ghost use Rattle.herd_kinship.specs.Ranks.{AreParentsAt, HasUnknownParent, ranked};
 ghost use Rattle.herd_kinship.specs.Shares.{share};
 ghost use Rattle.herd_kinship.specs.Table.{mendelian as mendelian_variance};
 ghost use Rattle.herd_kinship.specs.Tracing.{given, GivesMark, HasRoom, IsIdle, IsNext, IsUnderWay};
@@ -17,6 +17,8 @@ use std::alloc::{AllocError, Allocator};
 #[derive(Clone, Copy)]
 pub struct Met {
     pub rank: u32,
+    /// The ancestor's own parents and depth.
+    pub parents: Parents,
     pub share: u64,
 }
 
@@ -73,6 +75,7 @@ impl<A: Allocator> Tracing<A> {
         ensures marks { length self.new.pending.chunks.items ≡ length self.old.pending.chunks.items }
         ensures tracing { IsUnderWay DEPTH_LIMIT frozen.now self.new.rank self.new.border self.new.shares.items self.new.pending.chunks.items }
         ensures next { IfSome result (λ met. IsNext DEPTH_LIMIT frozen.now self.old.rank self.old.border met.rank met.share) }
+        ensures parents { IfSome result (λ met. AreParentsAt frozen.now met.rank met.parents) }
         ensures border { IfSome result (λ met. self.new.border ≡ met.rank) }
         ensures ended { IfNone result (self.new.border ≡ 0) }
         ensures all { IfNone result ((j : ℕ) → j < self.old.border → share (ranked frozen.now) DEPTH_LIMIT (Some self.old.rank) j ≡ 0) }
@@ -81,27 +84,24 @@ impl<A: Allocator> Tracing<A> {
             self.border = 0;
             return None;
         };
+        let rank = self.rank - distance as u32;
+        let parents = parents_at(frozen, rank);
+        let share = self.shares[distance];
         let met = Met {
-            rank: self.rank - distance as u32,
-            share: self.shares[distance],
+            rank,
+            parents,
+            share,
         };
         self.shares[distance] = 0;
-        self.border = met.rank;
-        let parents = parents_at(frozen, met.rank);
-        self.give(frozen, parents, met, parents.sire);
-        self.give(frozen, parents, met, parents.dam);
+        self.border = rank;
+        self.give(frozen, met, parents.sire);
+        self.give(frozen, met, parents.dam);
         Some(met)
     }
 
     /// Gives half of an animal's share to its parent, in the parent's unit.
-    fn give<F: Allocator>(
-        &mut self,
-        frozen: &Frozen<F>,
-        parents: Parents,
-        met: Met,
-        parent: Option<u32>,
-    )
-        requires row { AreParentsAt frozen.now met.rank parents }
+    fn give<F: Allocator>(&mut self, frozen: &Frozen<F>, met: Met, parent: Option<u32>)
+        requires row { AreParentsAt frozen.now met.rank met.parents }
         requires room { ForSome parent (HasRoom DEPTH_LIMIT frozen.now self.old.rank self.old.shares.items met.rank met.share) }
         requires marks { self.old.rank < 64 * length self.old.pending.chunks.items }
         ensures rank { self.new.rank ≡ self.old.rank }
@@ -110,7 +110,7 @@ impl<A: Allocator> Tracing<A> {
         ensures marks { GivesMark self.old.rank self.old.pending.chunks.items self.new.pending.chunks.items parent }
     {
         if let Some(rank) = parent {
-            let steps = parents.depth - parents_at(frozen, rank).depth;
+            let steps = met.parents.depth - parents_at(frozen, rank).depth;
             let distance = (self.rank - rank) as usize;
             self.shares[distance] += met.share << (steps - 1);
             self.pending.insert(distance);
@@ -138,6 +138,15 @@ fn quarter(known: &[u128], parent: Option<u32>) -> u128
     }
 }
 
+/// The whole less a quarter of each parent's relationship with itself.
+pub fn variance_by(known: &[u128], parents: Parents) -> u128
+    requires sire { ForSome parents.sire (IsKnownParent DEPTH_LIMIT known.now) }
+    requires dam { ForSome parents.dam (IsKnownParent DEPTH_LIMIT known.now) }
+    ensures { result ≡ 2 ^ (2 * DEPTH_LIMIT) - quarter_of DEPTH_LIMIT known.now parents.sire - quarter_of DEPTH_LIMIT known.now parents.dam }
+{
+    ONE - quarter(known, parents.sire) - quarter(known, parents.dam)
+}
+
 /// The Mendelian sampling variance of the animal at a rank, by the coefficients of its parents.
 ///
 /// It is a whole number of units of 2^-120 of the additive variance: 1 less a quarter of each known parent's
@@ -151,8 +160,7 @@ pub fn mendelian<F: Allocator>(frozen: &Frozen<F>, known: &[u128], rank: u32) ->
     ensures at_most_one { result ≤ 2 ^ (2 * DEPTH_LIMIT) }
 {
     prove!(rank < frozen.len());
-    let parents = parents_at(frozen, rank);
-    ONE - quarter(known, parents.sire) - quarter(known, parents.dam)
+    variance_by(known, parents_at(frozen, rank))
 }
 
 /// What an ancestor adds to a relationship: its Mendelian sampling variance times the two shares, which are in units
@@ -188,13 +196,9 @@ fn trace_ancestors<F: Allocator, A: Allocator + Clone>(
     tracing.start(frozen, rank);
     let mut sum = 0;
     while let Some(met) = tracing.meet_next(frozen) {
-        let steps = 2 * depth - 2 * parents_at(frozen, met.rank).depth;
-        sum += term(
-            mendelian(frozen, known, met.rank),
-            steps,
-            met.share,
-            met.share,
-        );
+        let steps = 2 * depth - 2 * met.parents.depth;
+        let variance = variance_by(known, met.parents);
+        sum += term(variance, steps, met.share, met.share);
     }
     Ok(sum)
 }
@@ -213,7 +217,8 @@ pub fn trace<F: Allocator, A: Allocator + Clone>(
 ) -> Result<u128, AllocError>
     requires rank { rank < length frozen.now }
     requires known { KnowsAncestors DEPTH_LIMIT frozen.now known.now rank }
-    ensures { IfOk result (λ value. value ≡ own_relationship DEPTH_LIMIT frozen.now rank) }
+    ensures value { IfOk result (λ value. value ≡ own_relationship DEPTH_LIMIT frozen.now rank) }
+    ensures unknown { HasUnknownParent frozen.now rank → result ≡ Ok (2 ^ (2 * DEPTH_LIMIT)) }
 {
     prove!(rank < frozen.len());
     let row = frozen.row(rank);

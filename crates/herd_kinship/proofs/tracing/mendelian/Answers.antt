@@ -1,18 +1,21 @@
+use Rattle.std.proofs.Common.{◌∙◌}
 use Rattle.herd_pedigree.specs.declared.TheConstants.{DEPTH_LIMIT, MOST_ANIMALS}
-use Rattle.herd_kinship.proofs.KnownFacts.{sire-known, dam-known, mendelian-row}
+use Rattle.herd_kinship.proofs.KnownFacts.{parents-known}
 use Rattle.herd_kinship.proofs.LawFacts.{frozen-bound}
 use Rattle.herd_kinship.proofs.tracing.mendelian.Goals as goal
 
-pub quarter-requires : goal.quarter-requires
-quarter-requires g c = rw c.parents_at-parents.ensures.same (sire-known DEPTH_LIMIT MOST_ANIMALS c.args.frozen.now c.len.ensures.frozen c.args.known.now c.args.rank c.parents_at-parents.ensures.row c.requires.rank c.requires.known c.parents_at-parents.ensures.there)
+pub variance_by-requires-clause-sire : goal.variance_by-requires-clause-sire
+variance_by-requires-clause-sire g c =
+    (parents-known DEPTH_LIMIT MOST_ANIMALS c.args.frozen.now c.len.ensures.frozen c.args.known.now c.args.rank c.parents_at.result c.requires.rank c.requires.known c.parents_at.ensures).0
 
-pub quarter-requires-2 : goal.quarter-requires-2
-quarter-requires-2 g c = rw c.parents_at-parents.ensures.same (dam-known DEPTH_LIMIT MOST_ANIMALS c.args.frozen.now c.len.ensures.frozen c.args.known.now c.args.rank c.parents_at-parents.ensures.row c.requires.rank c.requires.known c.parents_at-parents.ensures.there)
+pub variance_by-requires-clause-dam : goal.variance_by-requires-clause-dam
+variance_by-requires-clause-dam g c =
+    (parents-known DEPTH_LIMIT MOST_ANIMALS c.args.frozen.now c.len.ensures.frozen c.args.known.now c.args.rank c.parents_at.result c.requires.rank c.requires.known c.parents_at.ensures).1
 
 pub returns-clause-value : goal.returns-clause-value
 returns-clause-value g c =
-    rw (c.quarter.ensures.value, c.quarter-2.ensures.value, c.parents_at-parents.ensures.same)
-    (mendelian-row DEPTH_LIMIT MOST_ANIMALS c.args.frozen.now c.len.ensures.frozen c.args.known.now c.args.rank c.parents_at-parents.ensures.row c.requires.rank c.requires.known c.parents_at-parents.ensures.there)
+    c.variance_by.ensures
+    ∙ (parents-known DEPTH_LIMIT MOST_ANIMALS c.args.frozen.now c.len.ensures.frozen c.args.known.now c.args.rank c.parents_at.result c.requires.rank c.requires.known c.parents_at.ensures).2
 
 pub returns-clause-positive : goal.returns-clause-positive
 returns-clause-positive g c =

@@ -1,14 +1,23 @@
+use Rattle.std.proofs.Common.{◌≡◌, true}
 use Rattle.std.proofs.lemmas.Result.{IfOk-weaker}
 use Rattle.herd_pedigree.specs.declared.TheConstants.{DEPTH_LIMIT}
+use Rattle.herd_pedigree.specs.rules.Book.{is_there}
+use Rattle.herd_pedigree.specs.freezing.Frozen.{book_of}
 use Rattle.herd_kinship.specs.Columns.{AreRelationships}
 use Rattle.herd_kinship.specs.Mating.{AreRelationshipsOf}
+use Rattle.herd_kinship.proofs.MatingFacts.{rank-there}
 use Rattle.herd_kinship.proofs.RelationshipFacts.{relationships-absent, relationships-of}
 use Rattle.herd_kinship.proofs.relationships.Relationships.of_number.Goals as goal
 
-pub returns-in-Some : goal.returns-in-Some
-returns-in-Some g c =
+pub returns-in-Some-clause-relationships : goal.returns-in-Some-clause-relationships
+returns-in-Some-clause-relationships g c =
     IfOk-weaker c.of.result (AreRelationships DEPTH_LIMIT c.args.frozen.now c.in-Some.rank) (AreRelationshipsOf DEPTH_LIMIT c.args.frozen.now c.args.number.now)
     (λ relationships are. relationships-of DEPTH_LIMIT c.args.frozen.now c.len.ensures.frozen c.in-Some.rank c.args.number.now relationships c.in-Some.ensures.rank are) c.of.ensures
 
-pub returns-in-None : goal.returns-in-None
-returns-in-None g c = relationships-absent DEPTH_LIMIT c.args.frozen.now c.len.ensures.frozen c.args.number.now c.new.result.items c.in-None.ensures.absent
+pub returns-in-Some-clause-absent : goal.returns-in-Some-clause-absent
+returns-in-Some-clause-absent g c = λ absent.
+    let there : is_there (book_of c.args.frozen.now) c.args.number.now ≡ true = rank-there DEPTH_LIMIT c.args.frozen.now c.len.ensures.frozen c.args.number.now c.in-Some.rank c.in-Some.ensures.rank in
+    absurd (cc)
+
+pub returns-in-None-clause-relationships : goal.returns-in-None-clause-relationships
+returns-in-None-clause-relationships g c = relationships-absent DEPTH_LIMIT c.args.frozen.now c.len.ensures.frozen c.args.number.now c.new.result.items c.in-None.ensures.absent

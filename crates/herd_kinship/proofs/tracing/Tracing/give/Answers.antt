@@ -13,9 +13,9 @@ parents_at-requires g c =
 
 -- what the parent gets
 gift : (g : Over) (c : After-parents_at g) →
-    IsGift DEPTH_LIMIT c.args.frozen.now c.args.self.now.rank c.args.self.now.shares.items c.args.met.rank c.args.met.share c.in-Some.rank c.args.parents.depth c.parents_at.result.depth
+    IsGift DEPTH_LIMIT c.args.frozen.now c.args.self.now.rank c.args.self.now.shares.items c.args.met.rank c.args.met.share c.in-Some.rank c.args.met.parents.depth c.parents_at.result.depth
 gift g c =
-    gift-is DEPTH_LIMIT c.args.frozen.now c.args.self.now.rank c.args.self.now.shares.items c.args.met.rank c.args.met.share c.in-Some.rank c.args.parents c.parents_at.result
+    gift-is DEPTH_LIMIT c.args.frozen.now c.args.self.now.rank c.args.self.now.shares.items c.args.met.rank c.args.met.share c.in-Some.rank c.args.met.parents c.parents_at.result
     (lit< tt) (lit< tt) (c.requires.room c.in-Some.rank c.in-Some.is) c.requires.row c.parents_at.ensures
 
 pub overflow_sub-steps : goal.overflow_sub-steps

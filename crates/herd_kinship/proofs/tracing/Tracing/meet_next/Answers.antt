@@ -5,7 +5,7 @@ use Rattle.herd_kinship.specs.Tracing.{given, GivesMark}
 use Rattle.herd_kinship.proofs.TracingFacts.{length-given}
 use Rattle.herd_kinship.proofs.UnderWayFacts.{IsMet, none-left, taken-met, under_way-end}
 use Rattle.herd_kinship.proofs.tracing.Tracing.meet_next.Given.{Over}
-use Rattle.herd_kinship.proofs.tracing.Tracing.meet_next.Goals.{After-parents_at-parents}
+use Rattle.herd_kinship.proofs.tracing.Tracing.meet_next.Goals.{After-index-share}
 use Rattle.herd_kinship.proofs.tracing.Tracing.meet_next.Goals as goal
 
 pub returns-in_default-clause-tracing : goal.returns-in_default-clause-tracing
@@ -20,28 +20,28 @@ returns-in_default-clause-all g c =
     c.requires c.in_default.ensures.empty
 
 -- what is met at the distance that is taken
-met : (g : Over) (c : After-parents_at-parents g) →
+met : (g : Over) (c : After-index-share g) →
     IsMet DEPTH_LIMIT c.args.frozen.now c.args.self.now.rank c.args.self.now.border c.args.self.now.shares.items c.take_nearest.new.self.chunks.items c.in-Some.distance
-    c.index.result.now c.parents_at-parents.result
+    c.index-share.result.now c.parents_at-parents.result
 met g c =
     let d : ℕ = c.in-Some.distance in
     let shares = c.args.self.now.shares.items in
     let chunks = c.args.self.now.pending.chunks.items in
     let near = (c.requires.marks.pending d c.in-Some.ensures.found).near in
     let long = c.requires.tracing.long in
-    taken-met DEPTH_LIMIT c.args.frozen.now c.args.self.now.rank c.args.self.now.border shares chunks c.requires c.take_nearest.new.self.chunks.items d c.index.result.now
+    taken-met DEPTH_LIMIT c.args.frozen.now c.args.self.now.rank c.args.self.now.border shares chunks c.requires c.take_nearest.new.self.chunks.items d c.index-share.result.now
     (record {
       distance = record { found = c.in-Some.ensures.found; nearest = c.in-Some.ensures.nearest; taken = c.in-Some.ensures.taken };
-      own_is = get_or_read shares d c.index.result.now (omega (arith, near, long)) c.index.ensures 0;
+      own_is = get_or_read shares d c.index-share.result.now (omega (arith, near, long)) c.index-share.ensures 0;
     })
     c.parents_at-parents.result c.parents_at-parents.ensures
 
 pub give-requires-clause-room : goal.give-requires-clause-room
-give-requires-clause-room g c = (met g (goal.at.give-requires-clause-room g c).After-parents_at-parents).room_sire
+give-requires-clause-room g c = (met g (goal.at.give-requires-clause-room g c).After-index-share).room_sire
 
 pub give-requires-2-clause-room : goal.give-requires-2-clause-room
 give-requires-2-clause-room g c =
-    rw (c.give.ensures.rank, c.give.ensures.shares) (met g (goal.at.give-requires-2-clause-room g c).After-parents_at-parents).room_dam
+    rw (c.give.ensures.rank, c.give.ensures.shares) (met g (goal.at.give-requires-2-clause-room g c).After-index-share).room_dam
 
 pub returns-clause-shares : goal.returns-clause-shares
 returns-clause-shares g c =
@@ -49,7 +49,7 @@ returns-clause-shares g c =
     let x : ℕ = c.args.self.now.rank in
     let shares = c.args.self.now.shares.items in
     let d : ℕ = c.in-Some.distance in
-    let own : ℕ = c.index.result.now in
+    let own : ℕ = c.index-share.result.now in
     let sire = c.parents_at-parents.result.sire in
     ap length c.give-2.ensures.shares
     ∙ (length-given rows c.give.new.self.rank c.give.new.self.shares.items (x - d) own c.parents_at-parents.result.dam
@@ -61,7 +61,7 @@ returns-clause-tracing g c =
     let x : ℕ = c.args.self.now.rank in
     let shares = c.args.self.now.shares.items in
     let d : ℕ = c.in-Some.distance in
-    let own : ℕ = c.index.result.now in
+    let own : ℕ = c.index-share.result.now in
     let parents = c.parents_at-parents.result in
     let first = c.give.new.self.pending.chunks.items in
     let last = c.give-2.new.self.pending.chunks.items in
@@ -70,7 +70,7 @@ returns-clause-tracing g c =
     let second : GivesMark x first last parents.dam = subst (λ v. GivesMark v first last parents.dam) c.give.ensures.rank c.give-2.ensures.marks in
     let all : c.give-2.new.self.shares.items ≡ given rows x (given rows x (set shares d 0) (x - d) own parents.sire) (x - d) own parents.dam =
     c.give-2.ensures.shares ∙ rw (c.give.ensures.shares, c.give.ensures.rank) refl in
-    rw (rank, border, all) ((met g (goal.at.returns-clause-tracing g c).After-parents_at-parents).under_way first last c.give.ensures.marks second)
+    rw (rank, border, all) ((met g (goal.at.returns-clause-tracing g c).After-index-share).under_way first last c.give.ensures.marks second)
 
 pub returns-clause-next : goal.returns-clause-next
-returns-clause-next g c = (met g (goal.at.returns-clause-next g c).After-parents_at-parents).next
+returns-clause-next g c = (met g (goal.at.returns-clause-next g c).After-index-share).next
