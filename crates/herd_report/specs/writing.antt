@@ -1,5 +1,6 @@
 -- What is printed, as text.
 pub mod Output
+pub mod RefusedText
 pub mod Replies
 pub mod CoefficientText
 pub mod InbreedingList

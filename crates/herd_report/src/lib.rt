@@ -25,6 +25,7 @@
 //! | filing them | `Run` (`HasFiled`) | `command_filing` | `RunFacts` |
 //! | how a text goes to a writer | `Output` | `output` | `OutputFacts`, `Pieces` |
 //! | replies | `Replies` | `replies` | `ReplyLines` |
+//! | refusals, in replies and in advice | `RefusedText` | `refused_text` | |
 //! | fractions and percentages | `CoefficientText` | `coefficient_text` | `CoefficientFacts` |
 //! | the list of coefficients | `InbreedingList` | `inbreeding_list` | `CoefficientFacts` |
 //! | certificates | `Certificate`, `Ancestors` | `certificate`, `ancestors` | `CertificateFacts`, `AncestorFacts` |

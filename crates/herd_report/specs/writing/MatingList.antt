@@ -1,5 +1,5 @@
 -- Mating advice for a dam as text.
-use Rattle.std.specs.Prelude.{ℕ, ◌*◌, ◌-◌, List, ◌++◌, Some, codes, decimal}
+use Rattle.std.specs.Prelude.{ℕ, ◌*◌, ◌-◌, List, ◌++◌, Some}
 use Rattle.std.specs.List.{flat_map}
 use Rattle.std.specs.Option.{option_map_or}
 use Rattle.herd_pedigree.specs.declared.TheConstants.{DEPTH_LIMIT}
@@ -9,10 +9,11 @@ use Rattle.herd_kinship.specs.FrozenAncestry.{book_ancestry}
 use Rattle.herd_kinship.specs.Mating.{mating_fault, number_of_mating_fault}
 use Rattle.herd_kinship.specs.Table.{entry}
 use Rattle.herd_report.specs.writing.CoefficientText.{coefficient_line}
+use Rattle.herd_report.specs.writing.RefusedText.{refused_line_end}
 
 -- the line of a sire with which the mating is refused
 abbrev pub refused_line : List ℕ → MatingFault → List ℕ
-refused_line sire fault = sire ++ codes ",refused," ++ decimal (number_of_mating_fault fault) ++ codes "\n"
+refused_line sire fault = sire ++ refused_line_end (number_of_mating_fault fault)
 
 -- the line of a sire: the coefficient of a calf, half the entry of the two, or why there is none
 abbrev pub mating_line : Book → List ℕ → List ℕ → List ℕ

@@ -4,14 +4,16 @@ use Rattle.herd_register.specs.declared.reply.Reply.{Reply}
 use Rattle.herd_register.specs.declared.reply.Reply.TheVariants.{Accepted, Refused}
 use Rattle.herd_register.specs.declared.step.Step.{Step}
 use Rattle.herd_register.specs.Refusal.{refusal_number}
+use Rattle.herd_report.specs.writing.RefusedText.{refused_line_end}
 
-abbrev pub reply_text : Reply → List ℕ
-reply_text Accepted = codes "accepted"
-reply_text (Refused refusal) = codes "refused," ++ decimal (refusal_number refusal)
+-- what stands in the line of a reply after the serial
+abbrev pub reply_line_end : Reply → List ℕ
+reply_line_end Accepted = codes ",accepted\n"
+reply_line_end (Refused refusal) = refused_line_end (refusal_number refusal)
 
 -- the line of the step with this serial
 abbrev pub reply_line : ℕ → Reply → List ℕ
-reply_line serial reply = decimal serial ++ codes "," ++ reply_text reply ++ codes "\n"
+reply_line serial reply = decimal serial ++ reply_line_end reply
 
 -- the lines of steps, the first of which has this serial
 abbrev pub reply_lines_from : ℕ → List Step → List ℕ

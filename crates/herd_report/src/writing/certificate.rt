@@ -113,7 +113,6 @@ fn sex_word(sex: Sex) -> &'static [u8]
 }
 
 // Adds a line of a name and a value.
-#[tactic(auto, unfolding(crate::specs::writing::Certificate::labelled_line))]
 fn push_entry<A: Allocator>(
     output: &mut Output<A>,
     name: &[u8],

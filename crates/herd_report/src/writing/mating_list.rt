@@ -9,6 +9,7 @@ ghost use Rattle.herd_report.specs.writing.Output.{AppendsFront};
 
 use crate::writing::coefficient_text::push_coefficient_line;
 use crate::writing::output::Output;
+use crate::writing::refused_text::push_refused_line_end;
 use crate::writing::report_fault::ReportFault;
 use herd_animal::AnimalNumber;
 use herd_kinship::{Coefficients, MatingFault, Relationships, mating_by};
@@ -68,7 +69,5 @@ fn push_refused<A: Allocator>(
     ensures { OnOk result (output.new ≡ output.old ++ refused_line sire fault) }
 {
     output.push(&sire.bytes())?;
-    output.push(b",refused,")?;
-    output.push_number(fault.number())?;
-    output.push(b"\n")
+    push_refused_line_end(output, fault.number())
 }

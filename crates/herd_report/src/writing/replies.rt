@@ -4,6 +4,7 @@ ghost use Rattle.herd_report.specs.writing.Output.{AppendsFront};
 ghost use Rattle.herd_report.specs.writing.Replies.{reply_line, replies_text};
 
 use crate::writing::output::Output;
+use crate::writing::refused_text::push_refused_line_end;
 use crate::writing::report_fault::ReportFault;
 use herd_register::{Reply, Step};
 use std::alloc::{AllocError, Allocator};
@@ -36,10 +37,6 @@ fn push_reply<A: Allocator>(
     output.push_number(serial)?;
     match reply {
         Reply::Accepted => output.push(b",accepted\n"),
-        Reply::Refused(refusal) => {
-            output.push(b",refused,")?;
-            output.push_number(refusal.number())?;
-            output.push(b"\n")
-        }
+        Reply::Refused(refusal) => push_refused_line_end(output, refusal.number()),
     }
 }

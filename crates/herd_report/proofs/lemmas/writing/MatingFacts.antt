@@ -1,6 +1,5 @@
 -- The lines of mating advice.
 use Rattle.std.proofs.Common.{ℕ, ◌*◌, ◌-◌, ◌<◌, List, ◌++◌, length, Option, Some, None, arith}
-use Rattle.std.specs.Prelude.{codes, decimal}
 use Rattle.std.specs.Option.{option_map_or}
 use Rattle.herd_pedigree.specs.declared.TheConstants.{DEPTH_LIMIT}
 use Rattle.herd_pedigree.specs.rules.Book.{Book}
@@ -12,10 +11,11 @@ use Rattle.herd_report.proofs.lemmas.writing.CoefficientFacts.{some_coefficient_
 use Rattle.herd_report.proofs.lemmas.writing.OutputFacts.{some_after}
 use Rattle.herd_report.specs.writing.CoefficientText.{coefficient_line}
 use Rattle.herd_report.specs.writing.MatingList.{mating_line, refused_line}
+use Rattle.herd_report.specs.writing.RefusedText.{refused_line_end}
 
 some_line : (sire advised : List ℕ) (fault : Option MatingFault) → 0 < length advised → 0 < length (option_map_or (refused_line sire) fault advised)
 some_line sire advised None some = some
-some_line sire advised (Some fault) some = some_after (sire ++ codes ",refused," ++ decimal (number_of_mating_fault fault)) (codes "\n") (omega arith)
+some_line sire advised (Some fault) some = some_after sire (refused_line_end (number_of_mating_fault fault)) (omega arith)
 
 -- a line isn't empty
 pub some_mating_line : (book : Book) (dam sire : List ℕ) → 0 < length (mating_line book dam sire)

@@ -1,10 +1,11 @@
 -- The lines of replies, one after the other.
 use Rattle.std.proofs.Common.{◌≡◌, ◌∙◌, ℕ, ◌+◌, ◌<◌, List, ◌++◌, length, get_or, drop, ap, sym, arith}
 use Rattle.std.proofs.lemmas.List.{drop_more}
-use Rattle.std.specs.Prelude.{codes, decimal}
+use Rattle.std.specs.Prelude.{decimal}
 use Rattle.herd_register.specs.declared.reply.Reply.{Reply}
+use Rattle.herd_register.specs.declared.reply.Reply.TheVariants.{Accepted, Refused}
 use Rattle.herd_register.specs.declared.step.Step.{Step}
-use Rattle.herd_report.specs.writing.Replies.{reply_line, reply_lines_from, reply_text}
+use Rattle.herd_report.specs.writing.Replies.{reply_line, reply_line_end, reply_lines_from}
 use Rattle.herd_report.proofs.lemmas.writing.OutputFacts.{some_after}
 
 -- the line of the step at a place, and those after it
@@ -16,4 +17,5 @@ reply_lines_from-drop steps place step within there =
 
 -- a line isn't empty
 pub some_reply_line : (serial : ℕ) (reply : Reply) → 0 < length (reply_line serial reply)
-some_reply_line serial reply = some_after (decimal serial ++ codes "," ++ reply_text reply) (codes "\n") (omega arith)
+some_reply_line serial Accepted = some_after (decimal serial) (reply_line_end Accepted) (omega arith)
+some_reply_line serial (Refused refusal) = some_after (decimal serial) (reply_line_end (Refused refusal)) (omega arith)
