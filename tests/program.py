@@ -31,20 +31,6 @@ SECONDS = 60
 # the bytes of a part, in which long texts are written
 PART = 65_536
 
-RACES = [
-    "a calf gets its sire, then its dam",
-    "a calf gets its dam, then its sire",
-    "a cow leaves, then her calf is refused",
-    "a cow calves, then her leaving is refused",
-    "a bull goes to herd 2, then not to herd 3",
-    "a bull goes to herd 3, then not to herd 2",
-    "one birth at sixteen desks: accepted once",
-    "three of six births fit, none from desk 1",
-    "three of six births fit, one from desk 1",
-    "three of six births fit, two from desk 1",
-    "three of six births fit, all from desk 1",
-]
-
 # The texts of the table of statuses, and the check that provokes each here.
 TEXTS = {
     "herdbook: record NUMBER: fault CAUSE NAME": "line_faults",
@@ -504,7 +490,7 @@ class Checks:
             longest, total = map(int, times.groups()) if times else (0, 0)
             right = (done.status, done.out) == (0, told.encode()) and 0 < longest <= total <= births * longest
             office.count(right, f"beside: {before}, {births}, {inspectors}: {done}")
-        self.no_tasks(office, "births 9 17 0", "births 9 0 0", "births 9 1 16", "births 9 1", "beside 7 8 2", "beside 7 8", "races", "races -1", "race 9", "")
+        self.no_tasks(office, "births 9 17 0", "births 9 0 0", "births 9 1 16", "births 9 1", "beside 7 8 2", "beside 7 8", "births -1 1 0", "races 3", "")
         self.passed, self.failed = self.passed + office.passed, self.failed + office.failed
 
     def timed_pedigrees(self):
@@ -522,15 +508,6 @@ class Checks:
         for line in lines:
             done = program.run(line.split())
             program.count(done.status == 1 and not done.out and done.err, f"no task: {line}: {done}")
-
-    def races(self):
-        """The program of the office's timing runs each of its races three times."""
-        done = self.timing("office_timing").run(["races", "3"])
-        lines = [line.rpartition(" ") for line in done.out.decode().splitlines()]
-        self.count(done.status == 0 and [text for text, _, _ in lines] == RACES, f"races: {done}")
-        counts = [int(count) for _, _, count in lines]
-        sums = [sum(counts[:2]), sum(counts[2:4]), sum(counts[4:6]), counts[6], sum(counts[7:])]
-        self.count(sums == [3] * 5, f"races: {done}")
 
     def refused_threads(self):
         """Each start of a thread is refused in turn: there are as many as desks, and in a level as workers or as blocks."""
@@ -642,7 +619,7 @@ def main(program):
         for group in [
             checks.pages, checks.examples, checks.help, checks.orders, checks.clerks, checks.limits, checks.words, checks.wrong_numbers, checks.line_faults, checks.other_statuses,
             checks.failing_writes, checks.refused_growths, checks.refused_growths_before_a_line_fault, checks.refused_reads, checks.refused_writes, checks.refused_threads,
-            checks.long_texts, checks.little_memory, checks.timed_offices, checks.timed_pedigrees, checks.races,
+            checks.long_texts, checks.little_memory, checks.timed_offices, checks.timed_pedigrees,
         ]:  # fmt: skip
             before = checks.passed, checks.failed
             try:

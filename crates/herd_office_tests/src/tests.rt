@@ -2,9 +2,10 @@
 
 mod closings;
 mod commands;
-mod crowds;
 mod filing;
 mod memory;
 mod outlived;
 mod races;
+mod racing;
 mod readings;
+mod start;

@@ -1,20 +1,23 @@
 //! Births at many desks beside inspectors, each on a thread of its own.
 
-ghost use Rattle.std.specs.Prelude.{◌≡◌, ◌≤◌, IfOk};
+ghost use Rattle.std.specs.Prelude.{◌≡◌, IfOk};
 ghost use Rattle.herd_office.specs.Parts.{AreNamed};
 
-use crate::desk_births::{Told, file_births, part, steps_at_close, told_of};
+use crate::filing::{Told, file_births, told_at_close};
 use crate::founders::Founders;
 use crate::freezing::freeze_until;
-use crate::returned::{Returned, gathered};
 use anyhow::Result;
 use herd_office::{Desk, FreezeFault, Inspector, Office, OfficeName, OfficeParts};
+use herd_register::FileFault;
 use std::alloc::Global;
 use std::sync::Wait;
 use std::sync::atomic::{AtomicBool, Ordering};
 use std::thread::{Threads, join, map_vec};
 
-type Froze<N> = Result<(Inspector<N>, bool), FreezeFault>;
+// A desk, and how many of its births were accepted.
+type Filed<N> = Result<(Desk<N>, u64), FileFault>;
+
+type Froze<N> = Result<Inspector<N>, FreezeFault>;
 
 /// Births in as many parts as there are desks, while all inspectors freeze, or none where `freezing` is false. Each was
 /// answered.
@@ -26,64 +29,71 @@ pub fn file_crowded<N: OfficeName + Send + Sync, R: Threads + Wait + Sync>(
     freezing: bool,
 ) -> Result<Told>
     requires { AreNamed N.name N.parts N.all N.book N.limits parts }
-    ensures steps { IfOk result (λ told. told.steps ≡ births) }
-    ensures accepted { IfOk result (λ told. told.accepted ≤ told.steps) }
+    ensures { IfOk result (λ told. told.steps ≡ births) }
 {
     let founders = Founders::new()?;
-    let (office, desks, mut inspectors) = Office::<N, &R>::open(alloc, parts)?;
-    let mut idle = Vec::new(alloc);
-    if !freezing {
-        idle.append(&mut inspectors)?;
-    }
-    let count = desks.len() as u16;
-    let shared = &office;
-    let done = AtomicBool::new(false);
-    let flag = &done;
+    let (office, desks, inspectors) = Office::<N, &R>::open(alloc, parts)?;
+    let count = desks.len() as u64;
+    let (shared, done) = (&office, &AtomicBool::new(!freezing));
     // Where no thread can be made, the second closure runs before the first.
     let (frozen, filed) = join(
         rt,
         move || map_vec(
             rt,
             inspectors,
-            &|inspector| freeze_until(alloc, inspector, flag),
+            &|inspector| freeze_until(alloc, inspector, done),
         ),
         move || {
             let filed = map_vec(
                 rt,
                 desks,
-                &|desk| file_part(rt, shared, desk, founders, births, count),
+                &|desk| file_part(rt, shared, desk, founders, (births, count)),
             );
-            flag.store(true, Ordering::SeqCst);
+            done.store(true, Ordering::SeqCst);
             filed
         },
     );
-    let (desks, accepted) = gathered(alloc, filed?)?;
-    let inspectors = handed_back(idle, frozen?)?;
-    let steps = steps_at_close(rt, office, desks, inspectors)?;
-    told_of(u64::from(births), accepted, steps)
+    let inspectors = all_froze(alloc, frozen?)?;
+    let (desks, accepted) = all_filed(alloc, filed?)?;
+    told_at_close(
+        rt,
+        office,
+        desks,
+        inspectors,
+        u64::from(births),
+        accepted,
+    )
 }
 
+// Files one of as many parts of the births as there are desks.
 fn file_part<N: OfficeName, R: Wait>(
     rt: &R,
     office: &Office<N, &R>,
     desk: Desk<N>,
     founders: Founders,
-    births: u32,
-    desks: u16,
-) -> Returned<N> {
-    let places = part(births, desk.number().max(1), desks.max(1));
+    (births, desks): (u32, u64),
+) -> Filed<N> {
+    let (births, number, desks) = (u64::from(births), u64::from(desk.number()), desks.max(1));
+    let places = (births * number.saturating_sub(1) / desks, births * number / desks);
     file_births(rt, office, desk, founders, places)
 }
 
-// All inspectors: those that were idle, and those that froze.
-fn handed_back<N: OfficeName>(
-    idle: Vec<Inspector<N>>,
-    frozen: Vec<Froze<N>>,
-) -> Result<Vec<Inspector<N>>> {
-    let mut all = idle;
-    for one in frozen {
-        let (inspector, _froze) = one?;
-        all.push(inspector)?;
+// The desks, and how many of their births were accepted.
+fn all_filed<N: OfficeName>(alloc: Global, filed: Vec<Filed<N>>) -> Result<(Vec<Desk<N>>, u64)> {
+    let mut desks = Vec::new(alloc);
+    let mut accepted = 0_u64;
+    for one in filed {
+        let (desk, more) = one?;
+        desks.push(desk)?;
+        accepted = accepted.saturating_add(more);
     }
-    Ok(all)
+    Ok((desks, accepted))
+}
+
+fn all_froze<N: OfficeName>(alloc: Global, frozen: Vec<Froze<N>>) -> Result<Vec<Inspector<N>>> {
+    let mut inspectors = Vec::new(alloc);
+    for one in frozen {
+        inspectors.push(one?)?;
+    }
+    Ok(inspectors)
 }

@@ -1,7 +1,7 @@
 //! What the words of the command line ask for.
 
-ghost use Rattle.std.specs.Prelude.{◌≤◌, IfOk, map, string_bytes};
-ghost use Rattle.office_timing.specs.Task.{AsksFor, HasNumber, IsWithin};
+ghost use Rattle.std.specs.Prelude.{◌≤◌, IfOk};
+ghost use Rattle.herd_office.specs.declared.limits.TheConstants.{MOST_DESKS, MOST_INSPECTORS};
 
 use anyhow::{Context, Result, bail};
 use herd_office::MOST_DESKS;
@@ -12,66 +12,58 @@ pub const MOST_FREEZING: u16 = 15;
 /// What is done, with how many births.
 #[derive(Clone, Copy, Debug, PartialEq, Eq)]
 pub enum Task {
-    /// Births at so many desks, while so many inspectors freeze.
-    Births {
-        births: u32,
-        desks: u16,
-        inspectors: u16,
-    },
-    /// Births at one desk, and then timed ones, while so many inspectors freeze: one or none.
+    /// Births at many desks.
+    Births(Crowd),
+    /// Births at one desk, and then timed ones, while an inspector freezes or none does.
     Beside {
         before: u32,
         births: u32,
-        inspectors: u16,
+        freezing: bool,
     },
-    /// Each race of desks so many times.
-    Races {
-        times: u32,
-    },
+}
+
+/// Births at so many desks, while so many inspectors freeze.
+#[derive(Clone, Copy, Debug, PartialEq, Eq)]
+pub struct Crowd {
+    pub births: u32,
+    pub desks: u16,
+    pub inspectors: u16,
+    pub ghost some: { 1 ≤ desks },
+    pub ghost most: { desks ≤ MOST_DESKS },
+    pub ghost freezing: { inspectors ≤ MOST_INSPECTORS },
 }
 
 impl Task {
     /// Reads the words, the program's own name first.
-    pub fn read(words: &[String]) -> Result<Task>
-        ensures asked { IfOk result (AsksFor (map string_bytes words.now)) }
-        ensures within { IfOk result IsWithin }
-    {
-        let task = words.get(1).context("births, beside or races?")?;
+    pub fn read(words: &[String]) -> Result<Task> {
+        let task = words.get(1).context("births or beside?")?;
         match task.as_str() {
-            "births" => Ok(Task::Births {
+            "births" => Ok(Task::Births(Crowd {
                 births: number(words, 2)?,
                 desks: within(words, 3, 1, MOST_DESKS)?,
                 inspectors: within(words, 4, 0, MOST_FREEZING)?,
-            }),
+            })),
             "beside" => Ok(Task::Beside {
                 before: number(words, 2)?,
                 births: number(words, 3)?,
-                inspectors: within(words, 4, 0, 1)?,
+                freezing: within(words, 4, 0, 1)? == 1,
             }),
-            "races" => Ok(Task::Races {
-                times: number(words, 2)?,
-            }),
-            _ => bail!("births, beside or races?"),
+            _ => bail!("births or beside?"),
         }
     }
 }
 
 fn within(words: &[String], place: usize, least: u16, most: u16) -> Result<u16>
-    ensures found { IfOk result (HasNumber (map string_bytes words.now) place) }
-    ensures range { IfOk result (λ number. (least ≤ number) × (number ≤ most)) }
+    ensures { IfOk result (λ number. (least ≤ number) × (number ≤ most)) }
 {
     let number = number(words, place)?;
     if number < u32::from(least) || u32::from(most) < number {
-        bail!(
-            "1 to {MOST_DESKS} desks, 0 to {MOST_FREEZING} inspectors, and 0 or 1 beside timed births"
-        )
+        bail!("1 to {MOST_DESKS} desks, 0 to {MOST_FREEZING} inspectors, and 0 or 1 beside timed births")
     }
     Ok(number as u16)
 }
 
-fn number(words: &[String], place: usize) -> Result<u32>
-    ensures { IfOk result (HasNumber (map string_bytes words.now) place) }
-{
+fn number(words: &[String], place: usize) -> Result<u32> {
     let word = words.get(place).context("how many?")?;
     Ok(word.as_str().parse::<u32>()?)
 }

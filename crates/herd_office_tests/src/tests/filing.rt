@@ -7,7 +7,6 @@ use std::alloc::{Allocator, Global};
 use std::process::Abort;
 use std::sync::Wait;
 use std::test::Fail;
-use std::thread::{Threads, join};
 
 pub(super) fn limits(steps: u32) -> Limits
     ensures { (result.animals ≡ 2000) × (result.steps ≡ steps) }
@@ -27,26 +26,6 @@ pub(super) fn file_one<N: OfficeName, R: Wait>(
 ) -> (Desk<N>, Result<Filed<N>, FileFault>) {
     let filed = desk.file(rt, office, *command);
     (desk, filed)
-}
-
-/// Two desks file a command each, at the same time.
-pub(super) fn file_both<N: OfficeName + Send + Sync, R: Threads + Wait + Abort + Sync>(
-    rt: &R,
-    office: &Office<N, &R>,
-    desks: (Desk<N>, Desk<N>),
-    commands: (&Command, &Command),
-) -> ((Desk<N>, Filed<N>), (Desk<N>, Filed<N>)) {
-    let (left, right) = desks;
-    let (first, second) = commands;
-    let ((left, a), (right, b)) = join(
-        rt,
-        move || file_one(rt, office, left, first),
-        move || file_one(rt, office, right, second),
-    );
-    (
-        (left, a.expect(rt, "filed")),
-        (right, b.expect(rt, "filed")),
-    )
 }
 
 /// The register of an office that is closed with all of these.

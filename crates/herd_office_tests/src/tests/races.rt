@@ -1,155 +1,246 @@
-//! Desks that race, each on a thread of its own.
-ghost use Rattle.std.specs.Prelude.{◌≡◌, ◌≤◌};
-ghost use Rattle.herd_office.specs.Parts.{AreNamed};
+//! Races of desks, each run until two desks were first. Every end is compared.
 
 use super::commands::{birth, exit, founder, transfer};
-use super::filing::{closed, file_both, file_one, limits};
+use super::racing::{MOST_RACES, Race, Raced, Winners};
+use herd_animal::{AnimalNumber, Day};
 use herd_fixtures::Name::{Bull, Cow};
 use herd_fixtures::{Birth, Pair, UNKNOWN, herd_of};
-use herd_office::*;
-use herd_register::{Command, FileFault, Refusal, Register, Reply};
+use herd_office::MOST_DESKS;
+use herd_pedigree::Animal;
+use herd_register::{Command, Refusal, Reply, Step};
 use std::alloc::Global;
-use std::marker::Brand;
 use std::process::Abort;
 use std::sync::Wait;
 use std::test::*;
-use std::thread;
 use std::thread::Threads;
 
-// The register in which desk 1 filed the first commands, and then each desk its own, at the same time.
-fn raced<R: Threads + Wait + Abort + Sync>(
-    rt: &R,
-    alloc: Global,
-    first: &[Command],
-    left: &Command,
-    right: &Command,
-) -> Result<Register<Global>, Fail> {
-    let parts = OfficeParts::new(rt, alloc, limits(2000), 2, 1)?;
-    race::<Brand, _>(rt, alloc, parts, first, (left, right))
+// What two desks file at once, and how it ends by the desk whose command comes first: what the other desk is told, and
+// the record of the animal that both are about.
+#[derive(Clone, Copy)]
+struct Duel<'a> {
+    before: &'a [Command],
+    one: Command,
+    two: Command,
+    animal: AnimalNumber,
+    one_first: (Reply, Animal),
+    two_first: (Reply, Animal),
 }
 
-fn race<N: OfficeName + Send + Sync, R: Threads + Wait + Abort + Sync>(
-    rt: &R,
-    alloc: Global,
-    parts: OfficeParts<&R>,
-    first: &[Command],
-    both: (&Command, &Command),
-) -> Result<Register<Global>, Fail>
-    requires { AreNamed N.name N.parts N.all N.book N.limits parts }
-{
-    let (office, mut desks, inspectors) = Office::<N, &R>::open(alloc, parts)?;
-    let right = desks.pop().expect(rt, "two desks");
-    let mut left = desks.pop().expect(rt, "two desks");
-    for command in first {
-        left.file(rt, &office, *command).expect(rt, "filed");
+impl Duel<'_> {
+    fn expect_ends<R: Threads + Wait + Abort + Sync>(
+        &self,
+        rt: &R,
+        alloc: Global,
+    ) -> Result<(), Fail> {
+        let turns: [&[Command]; 2] = [&[self.one], &[self.two]];
+        let race = Race {
+            steps: 20,
+            before: self.before,
+            turns: &turns,
+        };
+        let mut winners = Winners::None;
+        for count in 0..MOST_RACES {
+            let raced = race.run(rt, alloc, count % 2 == 1)?;
+            winners = winners.add(self.expect_end(rt, &raced));
+            if winners == Winners::More {
+                break;
+            }
+        }
+        winners.expect_more(rt);
+        Ok(())
     }
-    let ((left, a), (right, b)) = file_both(rt, &office, (left, right), both);
-    let before = first.len() as u64;
-    assert_eq!(rt;
-        u64::from(a.serial) + u64::from(b.serial),
-        before.wrapping_mul(2).wrapping_add(3)
-    );
-    assert_eq!(rt;
-        (left.answered(), right.answered()),
-        (before.wrapping_add(1), 1)
-    );
-    desks.push(left).expect(rt, "room");
-    desks.push(right).expect(rt, "room");
-    closed(rt, office, desks, inspectors)
-}
 
-// The replies to the two desks' last commands, and the desk whose command came last.
-fn ended(register: &Register<Global>) -> Option<(Reply, Reply, u16)> {
-    let [.., earlier, later] = register.journal() else {
-        return None;
-    };
-    if later.desk == 2 {
-        return Some((earlier.reply, later.reply, 2));
+    // The desk whose command came first, in a race that ended as it may.
+    fn expect_end(&self, rt: &impl Abort, raced: &Raced) -> u16 {
+        let [before @ .., earlier, later] = raced.register.journal() else {
+            panic!(rt; "a race without two steps");
+        };
+        let one = step(1, self.one, Reply::Accepted);
+        let two = step(2, self.two, Reply::Accepted);
+        let (steps, record) = if earlier.desk == 1 {
+            let (reply, record) = self.one_first;
+            ([one, Step { reply, ..two }], record)
+        } else {
+            let (reply, record) = self.two_first;
+            ([two, Step { reply, ..one }], record)
+        };
+        assert_eq!(rt; [*earlier, *later], steps);
+        assert_eq!(rt; (before.len(), raced.full), (self.before.len(), 0));
+        assert_eq!(rt; raced.register.pedigree().get(&self.animal), Some(record));
+        earlier.desk
     }
-    Some((later.reply, earlier.reply, later.desk))
 }
 
-#[test]
-fn one_birth_is_accepted_once(rt: HostRuntime) -> Result<(), Fail> {
-    let calf = founder(&rt, Bull(1));
-    let register = raced(&rt, rt.alloc(), &[], &calf, &calf)?;
-    let there = Reply::Refused(Refusal::AlreadyThere);
-    let expected = match ended(&register) {
-        Some((_, _, 2)) => (Reply::Accepted, there, 2),
-        _ => (there, Reply::Accepted, 1),
-    };
-    assert_eq!(rt; ended(&register), Some(expected));
-    assert_eq!(rt;
-        (register.journal().len(), register.pedigree().len()),
-        (2, 1)
-    );
-    Ok(())
+fn step(desk: u16, command: Command, reply: Reply) -> Step {
+    Step {
+        command,
+        desk,
+        reply,
+    }
+}
+
+// The record of a founder at its birth.
+fn born(rt: &impl Abort, birth: Birth) -> Animal {
+    birth.newborn().expect(rt, "a day")
+}
+
+fn day(rt: &impl Abort, text: &[u8]) -> Day {
+    Day::parse(text).expect(rt, "a day")
 }
 
 #[test]
 fn the_later_correction_stands(rt: HostRuntime) -> Result<(), Fail> {
-    let (bull, cow, calf) = (Bull(1).number(), Cow(2).number(), Bull(3).number());
-    let first = [
-        founder(&rt, Bull(1)),
-        founder(&rt, Cow(2)),
-        birth(&rt, Birth(Bull(3), *b"2002-01-01", UNKNOWN)),
-    ];
-    let by_sire = Command::Parents {
-        animal: calf,
-        sire: Some(bull),
-        dam: None,
+    let calf = Birth(Bull(3), *b"2002-01-01", UNKNOWN);
+    let (animal, sire, dam) = (calf.0.number(), Some(Bull(1).number()), Some(Cow(2).number()));
+    let record = born(&rt, calf);
+    let duel = Duel {
+        before: &[
+            founder(&rt, Bull(1)),
+            founder(&rt, Cow(2)),
+            birth(&rt, calf),
+        ],
+        one: Command::Parents {
+            animal,
+            sire,
+            dam: None,
+        },
+        two: Command::Parents {
+            animal,
+            sire: None,
+            dam,
+        },
+        animal,
+        one_first: (Reply::Accepted, Animal { dam, ..record }),
+        two_first: (Reply::Accepted, Animal { sire, ..record }),
     };
-    let by_dam = Command::Parents {
-        animal: calf,
-        sire: None,
-        dam: Some(cow),
-    };
-    let register = raced(&rt, rt.alloc(), &first, &by_sire, &by_dam)?;
-    let (left, right, last) = ended(&register).ok_or("no steps")?;
-    assert_eq!(rt; (left, right), (Reply::Accepted, Reply::Accepted));
-    let animal = register.pedigree().get(&calf).ok_or("no calf")?;
-    let parents = if last == 1 {
-        (Some(bull), None)
-    } else {
-        (None, Some(cow))
-    };
-    assert_eq!(rt; (animal.sire, animal.dam), parents);
-    Ok(())
+    duel.expect_ends(&rt, rt.alloc())
 }
 
 #[test]
 fn a_cow_leaves_or_calves(rt: HostRuntime) -> Result<(), Fail> {
-    let leaves = exit(&rt, Cow(1), b"2003-03-01");
-    let calves = birth(&rt, Birth(Cow(2), *b"2003-03-02", Pair::of_dam(Cow(1))));
-    let register = raced(&rt, rt.alloc(), &[founder(&rt, Cow(1))], &leaves, &calves)?;
-    let (left, right, last) = ended(&register).ok_or("no steps")?;
-    let expected = if last == 2 {
-        (Reply::Accepted, Reply::Refused(Refusal::DamGone))
-    } else {
-        (Reply::Refused(Refusal::CalvedLater), Reply::Accepted)
+    let cow = Birth(Cow(1), *b"2000-01-01", UNKNOWN);
+    let record = born(&rt, cow);
+    let left = Some(day(&rt, b"2003-03-01"));
+    let calf = Birth(Cow(2), *b"2003-03-02", Pair::of_dam(Cow(1)));
+    let duel = Duel {
+        before: &[birth(&rt, cow)],
+        one: exit(&rt, Cow(1), b"2003-03-01"),
+        two: birth(&rt, calf),
+        animal: Cow(1).number(),
+        one_first: (
+            Reply::Refused(Refusal::DamGone),
+            Animal { left, ..record },
+        ),
+        two_first: (Reply::Refused(Refusal::CalvedLater), record),
     };
-    assert_eq!(rt; (left, right), expected);
-    Ok(())
+    duel.expect_ends(&rt, rt.alloc())
 }
 
 #[test]
 fn one_herd_gets_the_bull(rt: HostRuntime) -> Result<(), Fail> {
-    let to_two = transfer(&rt, Bull(1), herd_of(2));
-    let to_three = transfer(&rt, Bull(1), herd_of(3));
-    let register = raced(
-        &rt,
-        rt.alloc(),
-        &[founder(&rt, Bull(1))],
-        &to_two,
-        &to_three,
-    )?;
-    let (left, right, last) = ended(&register).ok_or("no steps")?;
-    let not_owner = Reply::Refused(Refusal::NotOwner);
-    let expected = if last == 2 {
-        (Reply::Accepted, not_owner)
-    } else {
-        (not_owner, Reply::Accepted)
+    let bull = Birth(Bull(1), *b"2000-01-01", UNKNOWN);
+    let since = day(&rt, b"2001-05-01");
+    let record = Animal {
+        since,
+        ..born(&rt, bull)
     };
-    assert_eq!(rt; (left, right), expected);
+    let not_owner = Reply::Refused(Refusal::NotOwner);
+    let duel = Duel {
+        before: &[birth(&rt, bull)],
+        one: transfer(&rt, Bull(1), herd_of(2)),
+        two: transfer(&rt, Bull(1), herd_of(3)),
+        animal: Bull(1).number(),
+        one_first: (
+            not_owner,
+            Animal {
+                herd: herd_of(2),
+                ..record
+            },
+        ),
+        two_first: (
+            not_owner,
+            Animal {
+                herd: herd_of(3),
+                ..record
+            },
+        ),
+    };
+    duel.expect_ends(&rt, rt.alloc())
+}
+
+#[test]
+fn sixteen_desks_file_one_birth(rt: HostRuntime) -> Result<(), Fail> {
+    let turn = [founder(&rt, Bull(1))];
+    let turns: [&[Command]; MOST_DESKS as usize] = [&turn; MOST_DESKS as usize];
+    let race = Race {
+        steps: 20,
+        before: &[],
+        turns: &turns,
+    };
+    let mut winners = Winners::None;
+    for count in 0..MOST_RACES {
+        let raced = race.run(&rt, rt.alloc(), count % 2 == 1)?;
+        winners = winners.add(expect_one_birth(&rt, &raced));
+        if winners == Winners::More {
+            break;
+        }
+    }
+    winners.expect_more(&rt);
     Ok(())
+}
+
+// The desk whose birth was accepted, the first of sixteen.
+fn expect_one_birth(rt: &impl Abort, raced: &Raced) -> u16 {
+    let [first, rest @ ..] = raced.register.journal() else {
+        panic!(rt; "a race without a step");
+    };
+    let there = Reply::Refused(Refusal::AlreadyThere);
+    assert_eq!(rt; first.reply, Reply::Accepted);
+    assert!(rt; rest.iter().all(|step| step.reply == there));
+    assert_eq!(rt;
+        (rest.len(), raced.full, raced.register.pedigree().len()),
+        (15, 0, 1)
+    );
+    first.desk
+}
+
+#[test]
+fn three_steps_are_all_that_fit(rt: HostRuntime) -> Result<(), Fail> {
+    let one = [1, 2, 3].map(|k| founder(&rt, Bull(k)));
+    let two = [1, 2, 3].map(|k| founder(&rt, Cow(k)));
+    let turns: [&[Command]; 2] = [&one, &two];
+    let race = Race {
+        steps: 3,
+        before: &[],
+        turns: &turns,
+    };
+    let mut winners = Winners::None;
+    for count in 0..MOST_RACES {
+        let raced = race.run(&rt, rt.alloc(), count % 2 == 1)?;
+        winners = winners.add(expect_three(&rt, &raced, turns));
+        if winners == Winners::More {
+            break;
+        }
+    }
+    winners.expect_more(&rt);
+    Ok(())
+}
+
+// The desk that filed the first of three births. Each desk's are the first of its turn, in order.
+fn expect_three(rt: &impl Abort, raced: &Raced, [one, two]: [&[Command]; 2]) -> u16 {
+    let journal = raced.register.journal();
+    let (mut ones, mut twos) = (one.iter(), two.iter());
+    for filed in journal {
+        let next = if filed.desk == 1 {
+            ones.next()
+        } else {
+            twos.next()
+        };
+        assert_eq!(rt; (next, filed.reply), (Some(&filed.command), Reply::Accepted));
+    }
+    assert_eq!(rt;
+        (journal.len(), raced.full, raced.register.pedigree().len()),
+        (3, 3, 3)
+    );
+    journal.first().expect(rt, "a step").desk
 }

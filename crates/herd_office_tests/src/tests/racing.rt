@@ -1,0 +1,198 @@
+//! Desks that file at once, each on a thread of its own: all threads are started alike and wait for one another.
+ghost use Rattle.std.specs.Prelude.{◌≡◌, ◌≤◌};
+ghost use Rattle.herd_office.specs.Parts.{AreNamed};
+ghost use Rattle.herd_office.specs.declared.limits.TheConstants.{MOST_DESKS};
+
+use super::filing::closed;
+use super::start::Start;
+use herd_office::*;
+use herd_register::{Command, FileFault, Limits, MOST_STEPS, Register};
+use std::alloc::Global;
+use std::marker::Brand;
+use std::process::Abort;
+use std::sync::Wait;
+use std::test::Fail;
+use std::thread;
+use std::thread::{JoinHandle, Scope, Threads};
+
+/// A race is run so often at most. In one of a hundred the rarer order comes, or in more.
+pub(super) const MOST_RACES: u32 = 10_000;
+
+/// What desks file.
+#[derive(Clone, Copy)]
+pub(super) struct Race<'a> {
+    /// How many steps fit.
+    pub steps: u32,
+    /// What desk 1 files before the race.
+    pub before: &'a [Command],
+    /// What each desk files in the race, from desk 1 on.
+    pub turns: &'a [&'a [Command]],
+}
+
+/// How a race ended.
+#[derive(Drop)]
+pub(super) struct Raced {
+    pub register: Register<Global>,
+    /// How many calls found the journal full.
+    pub full: u32,
+}
+
+// A desk whose commands are filed, and how many of its calls found the journal full.
+type Returned<N> = (Desk<N>, u32);
+
+impl Race<'_> {
+    /// Runs the race in an office of its own, with a book of ten animals. The thread of desk 1 is started first, or
+    /// that of the last desk.
+    pub(super) fn run<R: Threads + Wait + Abort + Sync>(
+        &self,
+        rt: &R,
+        alloc: Global,
+        last_first: bool,
+    ) -> Result<Raced, Fail> {
+        let desks = self.turns.len();
+        assert!(rt; 1 <= desks && desks <= usize::from(MOST_DESKS));
+        assert!(rt; 1 <= self.steps && self.steps <= MOST_STEPS);
+        let limits = Limits {
+            animals: 10,
+            steps: self.steps,
+        };
+        let parts = OfficeParts::new(rt, alloc, limits, desks as u16, 1)?;
+        self.run_in::<Brand, _>(rt, alloc, parts, last_first)
+    }
+
+    fn run_in<N: OfficeName + Send + Sync, R: Threads + Wait + Abort + Sync>(
+        &self,
+        rt: &R,
+        alloc: Global,
+        parts: OfficeParts<&R>,
+        last_first: bool,
+    ) -> Result<Raced, Fail>
+        requires { AreNamed N.name N.parts N.all N.book N.limits parts }
+    {
+        let (office, mut desks, inspectors) = Office::<N, &R>::open(alloc, parts)?;
+        let first = desks.first_mut().expect(rt, "a desk");
+        let before = file_each(rt, &office, first, self.before);
+        assert_eq!(rt; before, 0);
+        if last_first {
+            desks.reverse();
+        }
+        let (desks, full) = self.file_at_once(rt, alloc, &office, desks);
+        let register = closed(rt, office, desks, inspectors)?;
+        Ok(Raced { register, full })
+    }
+
+    // Each desk files its turn. The desks, and how many calls found the journal full.
+    fn file_at_once<N: OfficeName + Send + Sync, R: Threads + Wait + Abort + Sync>(
+        &self,
+        rt: &R,
+        alloc: Global,
+        office: &Office<N, &R>,
+        desks: Vec<Desk<N>>,
+    ) -> (Vec<Desk<N>>, u32) {
+        let start = Start::of(desks.len());
+        let (race, line) = (*self, &start);
+        thread::scope(thread::scope_env(), rt, |scope| {
+            let threads = race.start_all(rt, alloc, scope, office, desks, line);
+            join_all(rt, alloc, threads)
+        })
+    }
+}
+
+impl<'a> Race<'a> {
+    fn start_all<'r, N: OfficeName + Send + Sync, E, R: Wait + Abort + Sync>(
+        self,
+        rt: &'a R,
+        alloc: Global,
+        scope: &'a Scope<'a, E>,
+        office: &'a Office<N, &'r R>,
+        desks: Vec<Desk<N>>,
+        line: &'a Start,
+    ) -> Vec<JoinHandle<Returned<N>>> {
+        let mut threads = Vec::new(alloc);
+        for desk in desks {
+            let turn = self.turn(desk.number());
+            match scope.spawn(move || file_turn(rt, office, desk, turn, line)) {
+                Ok(thread) => threads.push(thread).expect(rt, "room"),
+                Err(_) => panic!(rt; "no thread"),
+            }
+        }
+        threads
+    }
+
+    // What the desk of this number files.
+    fn turn(self, number: u16) -> &'a [Command] {
+        match self.turns.get(usize::from(number).wrapping_sub(1)) {
+            Some(turn) => turn,
+            None => &[],
+        }
+    }
+}
+
+fn join_all<N: OfficeName, R: Threads + Abort>(
+    rt: &R,
+    alloc: Global,
+    threads: Vec<JoinHandle<Returned<N>>>,
+) -> (Vec<Desk<N>>, u32) {
+    let mut desks = Vec::new(alloc);
+    let mut full: u32 = 0;
+    for thread in threads {
+        let (desk, more) = thread.join(rt);
+        desks.push(desk).expect(rt, "room");
+        full = full.wrapping_add(more);
+    }
+    (desks, full)
+}
+
+// Waits for the other desks, and files the turn.
+fn file_turn<N: OfficeName, R: Wait + Abort>(
+    rt: &R,
+    office: &Office<N, &R>,
+    mut desk: Desk<N>,
+    turn: &[Command],
+    line: &Start,
+) -> Returned<N> {
+    line.wait();
+    let full = file_each(rt, office, &mut desk, turn);
+    (desk, full)
+}
+
+// How many of the calls found the journal full.
+fn file_each<N: OfficeName, R: Wait + Abort>(
+    rt: &R,
+    office: &Office<N, &R>,
+    desk: &mut Desk<N>,
+    commands: &[Command],
+) -> u32 {
+    let mut full: u32 = 0;
+    for command in commands {
+        if let Err(fault) = desk.file(rt, office, *command) {
+            assert_eq!(rt; fault, FileFault::JournalFull);
+            full = full.wrapping_add(1);
+        }
+    }
+    full
+}
+
+/// The desks whose commands came first in races: none yet, always one, or more than one.
+#[derive(Clone, Copy, Debug, PartialEq, Eq)]
+pub(super) enum Winners {
+    None,
+    One(u16),
+    More,
+}
+
+impl Winners {
+    pub(super) fn add(self, desk: u16) -> Winners {
+        match self {
+            Winners::None => Winners::One(desk),
+            Winners::One(other) if other == desk => self,
+            Winners::One(_) | Winners::More => Winners::More,
+        }
+    }
+
+    /// With one processor a thread may always file before the others run.
+    pub(super) fn expect_more<R: Threads + Abort>(self, rt: &R) {
+        let processors = thread::available_parallelism(rt).expect(rt, "processors");
+        assert!(rt; self == Winners::More || processors.get() == 1, "{self:?}");
+    }
+}

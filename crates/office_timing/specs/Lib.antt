@@ -1,5 +1,0 @@
-pub mod Cast
-pub mod Founders
-pub mod Plan
-pub mod Race
-pub mod Task
