@@ -1,10 +1,9 @@
 //! Races of desks, each run until two desks were first. Every end is compared.
 
-use super::commands::{birth, exit, founder, transfer};
+use super::commands::{birth, day, exit, founder, transfer};
 use super::racing::{MOST_RACES, Race, Raced, Winners};
-use herd_animal::{AnimalNumber, Day};
 use herd_fixtures::Name::{Bull, Cow};
-use herd_fixtures::{Birth, Pair, UNKNOWN, herd_of};
+use herd_fixtures::{Birth, Name, Pair, UNKNOWN, herd_of};
 use herd_office::MOST_DESKS;
 use herd_pedigree::Animal;
 use herd_register::{Command, Refusal, Reply, Step};
@@ -14,19 +13,80 @@ use std::sync::Wait;
 use std::test::*;
 use std::thread::Threads;
 
-// What two desks file at once, and how it ends by the desk whose command comes first: what the other desk is told, and
-// the record of the animal that both are about.
+// What two desks file at once, once bull, cow and calf are born, and how it ends by the desk whose command comes first:
+// what the other desk is told, and the record of the animal that both are about.
 #[derive(Clone, Copy)]
-struct Duel<'a> {
-    before: &'a [Command],
+struct Duel {
     one: Command,
     two: Command,
-    animal: AnimalNumber,
+    animal: Name,
     one_first: (Reply, Animal),
     two_first: (Reply, Animal),
 }
 
-impl Duel<'_> {
+const BULL: Birth = Birth(Bull(1), *b"2000-01-01", UNKNOWN);
+const COW: Birth = Birth(Cow(2), *b"2000-01-01", UNKNOWN);
+const CALF: Birth = Birth(Bull(3), *b"2002-01-01", UNKNOWN);
+
+impl Duel {
+    // The calf gets its sire, and the other parent as unknown, or its dam.
+    fn of_parents(rt: &impl Abort) -> Duel {
+        let animal = CALF.0.number();
+        let (sire, dam) = (Some(BULL.0.number()), Some(COW.0.number()));
+        let record = CALF.newborn().expect(rt, "a day");
+        Duel {
+            one: Command::Parents {
+                animal,
+                sire,
+                dam: None,
+            },
+            two: Command::Parents {
+                animal,
+                sire: None,
+                dam,
+            },
+            animal: CALF.0,
+            one_first: (Reply::Accepted, Animal { dam, ..record }),
+            two_first: (Reply::Accepted, Animal { sire, ..record }),
+        }
+    }
+
+    // The cow leaves, or has a calf on the day after.
+    fn of_calving(rt: &impl Abort) -> Duel {
+        let record = COW.newborn().expect(rt, "a day");
+        let left = Some(day(rt, b"2003-03-01"));
+        let calf = Birth(Cow(4), *b"2003-03-02", Pair::of_dam(COW.0));
+        Duel {
+            one: exit(rt, COW.0, b"2003-03-01"),
+            two: birth(rt, calf),
+            animal: COW.0,
+            one_first: (
+                Reply::Refused(Refusal::DamGone),
+                Animal { left, ..record },
+            ),
+            two_first: (Reply::Refused(Refusal::CalvedLater), record),
+        }
+    }
+
+    // The bull goes to herd 2 or to herd 3.
+    fn of_sale(rt: &impl Abort) -> Duel {
+        let record = BULL.newborn().expect(rt, "a day");
+        let since = day(rt, b"2001-05-01");
+        let not_owner = Reply::Refused(Refusal::NotOwner);
+        let sold = |herd| Animal {
+            herd,
+            since,
+            ..record
+        };
+        Duel {
+            one: transfer(rt, BULL.0, herd_of(2)),
+            two: transfer(rt, BULL.0, herd_of(3)),
+            animal: BULL.0,
+            one_first: (not_owner, sold(herd_of(2))),
+            two_first: (not_owner, sold(herd_of(3))),
+        }
+    }
+
     fn expect_ends<R: Threads + Wait + Abort + Sync>(
         &self,
         rt: &R,
@@ -35,7 +95,7 @@ impl Duel<'_> {
         let turns: [&[Command]; 2] = [&[self.one], &[self.two]];
         let race = Race {
             steps: 20,
-            before: self.before,
+            before: &[birth(rt, BULL), birth(rt, COW), birth(rt, CALF)],
             turns: &turns,
         };
         let mut winners = Winners::None;
@@ -52,11 +112,11 @@ impl Duel<'_> {
 
     // The desk whose command came first, in a race that ended as it may.
     fn expect_end(&self, rt: &impl Abort, raced: &Raced) -> u16 {
-        let [before @ .., earlier, later] = raced.register.journal() else {
+        let [_, _, _, earlier, later] = raced.register.journal() else {
             panic!(rt; "a race without two steps");
         };
-        let one = step(1, self.one, Reply::Accepted);
-        let two = step(2, self.two, Reply::Accepted);
+        let one = accepted(1, self.one);
+        let two = accepted(2, self.two);
         let (steps, record) = if earlier.desk == 1 {
             let (reply, record) = self.one_first;
             ([one, Step { reply, ..two }], record)
@@ -65,107 +125,27 @@ impl Duel<'_> {
             ([two, Step { reply, ..one }], record)
         };
         assert_eq!(rt; [*earlier, *later], steps);
-        assert_eq!(rt; (before.len(), raced.full), (self.before.len(), 0));
-        assert_eq!(rt; raced.register.pedigree().get(&self.animal), Some(record));
+        let found = raced.register.pedigree().get(&self.animal.number());
+        assert_eq!(rt; (found, raced.full), (Some(record), 0));
         earlier.desk
     }
 }
 
-fn step(desk: u16, command: Command, reply: Reply) -> Step {
+fn accepted(desk: u16, command: Command) -> Step {
     Step {
         command,
         desk,
-        reply,
+        reply: Reply::Accepted,
     }
 }
 
-// The record of a founder at its birth.
-fn born(rt: &impl Abort, birth: Birth) -> Animal {
-    birth.newborn().expect(rt, "a day")
-}
-
-fn day(rt: &impl Abort, text: &[u8]) -> Day {
-    Day::parse(text).expect(rt, "a day")
-}
-
 #[test]
-fn the_later_correction_stands(rt: HostRuntime) -> Result<(), Fail> {
-    let calf = Birth(Bull(3), *b"2002-01-01", UNKNOWN);
-    let (animal, sire, dam) = (calf.0.number(), Some(Bull(1).number()), Some(Cow(2).number()));
-    let record = born(&rt, calf);
-    let duel = Duel {
-        before: &[
-            founder(&rt, Bull(1)),
-            founder(&rt, Cow(2)),
-            birth(&rt, calf),
-        ],
-        one: Command::Parents {
-            animal,
-            sire,
-            dam: None,
-        },
-        two: Command::Parents {
-            animal,
-            sire: None,
-            dam,
-        },
-        animal,
-        one_first: (Reply::Accepted, Animal { dam, ..record }),
-        two_first: (Reply::Accepted, Animal { sire, ..record }),
-    };
-    duel.expect_ends(&rt, rt.alloc())
-}
-
-#[test]
-fn a_cow_leaves_or_calves(rt: HostRuntime) -> Result<(), Fail> {
-    let cow = Birth(Cow(1), *b"2000-01-01", UNKNOWN);
-    let record = born(&rt, cow);
-    let left = Some(day(&rt, b"2003-03-01"));
-    let calf = Birth(Cow(2), *b"2003-03-02", Pair::of_dam(Cow(1)));
-    let duel = Duel {
-        before: &[birth(&rt, cow)],
-        one: exit(&rt, Cow(1), b"2003-03-01"),
-        two: birth(&rt, calf),
-        animal: Cow(1).number(),
-        one_first: (
-            Reply::Refused(Refusal::DamGone),
-            Animal { left, ..record },
-        ),
-        two_first: (Reply::Refused(Refusal::CalvedLater), record),
-    };
-    duel.expect_ends(&rt, rt.alloc())
-}
-
-#[test]
-fn one_herd_gets_the_bull(rt: HostRuntime) -> Result<(), Fail> {
-    let bull = Birth(Bull(1), *b"2000-01-01", UNKNOWN);
-    let since = day(&rt, b"2001-05-01");
-    let record = Animal {
-        since,
-        ..born(&rt, bull)
-    };
-    let not_owner = Reply::Refused(Refusal::NotOwner);
-    let duel = Duel {
-        before: &[birth(&rt, bull)],
-        one: transfer(&rt, Bull(1), herd_of(2)),
-        two: transfer(&rt, Bull(1), herd_of(3)),
-        animal: Bull(1).number(),
-        one_first: (
-            not_owner,
-            Animal {
-                herd: herd_of(2),
-                ..record
-            },
-        ),
-        two_first: (
-            not_owner,
-            Animal {
-                herd: herd_of(3),
-                ..record
-            },
-        ),
-    };
-    duel.expect_ends(&rt, rt.alloc())
+fn two_desks_are_about_one_animal(rt: HostRuntime) -> Result<(), Fail> {
+    let duels = [Duel::of_parents(&rt), Duel::of_calving(&rt), Duel::of_sale(&rt)];
+    for duel in &duels {
+        duel.expect_ends(&rt, rt.alloc())?;
+    }
+    Ok(())
 }
 
 #[test]

@@ -15,7 +15,7 @@ use std::test::Fail;
 use std::thread;
 use std::thread::{JoinHandle, Scope, Threads};
 
-/// A race is run so often at most. In one of a hundred the rarer order comes, or in more.
+/// A race is run so often at most, since the rarer of two orders may come in few of a hundred runs.
 pub(super) const MOST_RACES: u32 = 10_000;
 
 /// What desks file.
