@@ -55,14 +55,7 @@ pub fn file_crowded<N: OfficeName + Send + Sync, R: Threads + Wait + Sync>(
     );
     let inspectors = all_froze(alloc, frozen?)?;
     let (desks, accepted) = all_filed(alloc, filed?)?;
-    told_at_close(
-        rt,
-        office,
-        desks,
-        inspectors,
-        u64::from(births),
-        accepted,
-    )
+    told_at_close(rt, office, desks, inspectors, u64::from(births), accepted)
 }
 
 // Files one of as many parts of the births as there are desks.
@@ -74,7 +67,10 @@ fn file_part<N: OfficeName, R: Wait>(
     (births, desks): (u32, u64),
 ) -> Filed<N> {
     let (births, number, desks) = (u64::from(births), u64::from(desk.number()), desks.max(1));
-    let places = (births * number.saturating_sub(1) / desks, births * number / desks);
+    let places = (
+        births * number.saturating_sub(1) / desks,
+        births * number / desks,
+    );
     file_births(rt, office, desk, founders, places)
 }
 

@@ -58,7 +58,9 @@ fn within(words: &[String], place: usize, least: u16, most: u16) -> Result<u16>
 {
     let number = number(words, place)?;
     if number < u32::from(least) || u32::from(most) < number {
-        bail!("1 to {MOST_DESKS} desks, 0 to {MOST_FREEZING} inspectors, and 0 or 1 beside timed births")
+        bail!(
+            "1 to {MOST_DESKS} desks, 0 to {MOST_FREEZING} inspectors, and 0 or 1 beside timed births"
+        )
     }
     Ok(number as u16)
 }

@@ -2,6 +2,7 @@
 
 use super::commands::{birth, day, exit, founder, transfer};
 use super::racing::{MOST_RACES, Race, Raced, Winners};
+use herd_animal::Herd;
 use herd_fixtures::Name::{Bull, Cow};
 use herd_fixtures::{Birth, Name, Pair, UNKNOWN, herd_of};
 use herd_office::MOST_DESKS;
@@ -25,36 +26,45 @@ struct Duel {
 }
 
 const BULL: Birth = Birth(Bull(1), *b"2000-01-01", UNKNOWN);
+
 const COW: Birth = Birth(Cow(2), *b"2000-01-01", UNKNOWN);
+
 const CALF: Birth = Birth(Bull(3), *b"2002-01-01", UNKNOWN);
 
 impl Duel {
     // The calf gets its sire, and the other parent as unknown, or its dam.
     fn of_parents(rt: &impl Abort) -> Duel {
-        let animal = CALF.0.number();
-        let (sire, dam) = (Some(BULL.0.number()), Some(COW.0.number()));
-        let record = CALF.newborn().expect(rt, "a day");
         Duel {
             one: Command::Parents {
-                animal,
-                sire,
+                animal: CALF.0.number(),
+                sire: Some(BULL.0.number()),
                 dam: None,
             },
             two: Command::Parents {
-                animal,
+                animal: CALF.0.number(),
                 sire: None,
-                dam,
+                dam: Some(COW.0.number()),
             },
             animal: CALF.0,
-            one_first: (Reply::Accepted, Animal { dam, ..record }),
-            two_first: (Reply::Accepted, Animal { sire, ..record }),
+            one_first: (
+                Reply::Accepted,
+                Animal {
+                    dam: Some(COW.0.number()),
+                    ..born(rt, CALF)
+                },
+            ),
+            two_first: (
+                Reply::Accepted,
+                Animal {
+                    sire: Some(BULL.0.number()),
+                    ..born(rt, CALF)
+                },
+            ),
         }
     }
 
     // The cow leaves, or has a calf on the day after.
     fn of_calving(rt: &impl Abort) -> Duel {
-        let record = COW.newborn().expect(rt, "a day");
-        let left = Some(day(rt, b"2003-03-01"));
         let calf = Birth(Cow(4), *b"2003-03-02", Pair::of_dam(COW.0));
         Duel {
             one: exit(rt, COW.0, b"2003-03-01"),
@@ -62,28 +72,24 @@ impl Duel {
             animal: COW.0,
             one_first: (
                 Reply::Refused(Refusal::DamGone),
-                Animal { left, ..record },
+                Animal {
+                    left: Some(day(rt, b"2003-03-01")),
+                    ..born(rt, COW)
+                },
             ),
-            two_first: (Reply::Refused(Refusal::CalvedLater), record),
+            two_first: (Reply::Refused(Refusal::CalvedLater), born(rt, COW)),
         }
     }
 
     // The bull goes to herd 2 or to herd 3.
     fn of_sale(rt: &impl Abort) -> Duel {
-        let record = BULL.newborn().expect(rt, "a day");
-        let since = day(rt, b"2001-05-01");
         let not_owner = Reply::Refused(Refusal::NotOwner);
-        let sold = |herd| Animal {
-            herd,
-            since,
-            ..record
-        };
         Duel {
             one: transfer(rt, BULL.0, herd_of(2)),
             two: transfer(rt, BULL.0, herd_of(3)),
             animal: BULL.0,
-            one_first: (not_owner, sold(herd_of(2))),
-            two_first: (not_owner, sold(herd_of(3))),
+            one_first: (not_owner, sold(rt, herd_of(2))),
+            two_first: (not_owner, sold(rt, herd_of(3))),
         }
     }
 
@@ -131,6 +137,18 @@ impl Duel {
     }
 }
 
+fn born(rt: &impl Abort, birth: Birth) -> Animal {
+    birth.newborn().expect(rt, "a day")
+}
+
+fn sold(rt: &impl Abort, herd: Herd) -> Animal {
+    Animal {
+        herd,
+        since: day(rt, b"2001-05-01"),
+        ..born(rt, BULL)
+    }
+}
+
 fn accepted(desk: u16, command: Command) -> Step {
     Step {
         command,
@@ -141,7 +159,11 @@ fn accepted(desk: u16, command: Command) -> Step {
 
 #[test]
 fn two_desks_are_about_one_animal(rt: HostRuntime) -> Result<(), Fail> {
-    let duels = [Duel::of_parents(&rt), Duel::of_calving(&rt), Duel::of_sale(&rt)];
+    let duels = [
+        Duel::of_parents(&rt),
+        Duel::of_calving(&rt),
+        Duel::of_sale(&rt),
+    ];
     for duel in &duels {
         duel.expect_ends(&rt, rt.alloc())?;
     }
@@ -197,7 +219,7 @@ fn three_steps_are_all_that_fit(rt: HostRuntime) -> Result<(), Fail> {
     let mut winners = Winners::None;
     for count in 0..MOST_RACES {
         let raced = race.run(&rt, rt.alloc(), count % 2 == 1)?;
-        winners = winners.add(expect_three(&rt, &raced, turns));
+        winners = winners.add(expect_three(&rt, &raced, (&one, &two)));
         if winners == Winners::More {
             break;
         }
@@ -207,20 +229,24 @@ fn three_steps_are_all_that_fit(rt: HostRuntime) -> Result<(), Fail> {
 }
 
 // The desk that filed the first of three births. Each desk's are the first of its turn, in order.
-fn expect_three(rt: &impl Abort, raced: &Raced, [one, two]: [&[Command]; 2]) -> u16 {
+fn expect_three(rt: &impl Abort, raced: &Raced, (one, two): (&[Command], &[Command])) -> u16 {
     let journal = raced.register.journal();
-    let (mut ones, mut twos) = (one.iter(), two.iter());
-    for filed in journal {
-        let next = if filed.desk == 1 {
-            ones.next()
-        } else {
-            twos.next()
-        };
-        assert_eq!(rt; (next, filed.reply), (Some(&filed.command), Reply::Accepted));
-    }
+    expect_turn(rt, journal, 1, one);
+    expect_turn(rt, journal, 2, two);
     assert_eq!(rt;
         (journal.len(), raced.full, raced.register.pedigree().len()),
         (3, 3, 3)
     );
     journal.first().expect(rt, "a step").desk
+}
+
+// The desk's steps are of the first commands of its turn, each accepted.
+fn expect_turn(rt: &impl Abort, journal: &[Step], desk: u16, turn: &[Command]) {
+    let mut count = 0_usize;
+    for filed in journal {
+        if filed.desk == desk && count < turn.len() {
+            assert_eq!(rt; *filed, accepted(desk, turn[count]));
+            count += 1;
+        }
+    }
 }
