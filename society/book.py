@@ -70,7 +70,10 @@ class Book:
                 self.known[known.id] = known
         named = {known.number for known in self.known.values()}
         self.known |= {number: Known(number, number) for number in self.records if number not in named}
-        self.owners = {owner: int(herd) for herd, owner in self.read_table(OWNERS, ["herd", "owner"])}
+        owners = self.read_table(OWNERS, ["herd", "owner"])
+        if not all(herd.isdecimal() for herd, _ in owners):
+            raise changed(self.folder / OWNERS)
+        self.owners = {owner: int(herd) for herd, owner in owners}
 
     def read_table(self, name: str, titles: list[str]) -> list[list[str]]:
         path = self.folder / name
@@ -80,7 +83,7 @@ class Book:
         except (OSError, ValueError):
             found = []
         if found != titles or any(len(row) != len(titles) for row in rows):
-            raise Mistake(f"{path} is missing or was changed: restore it, or take the sheet into another folder")
+            raise changed(path)
         return rows
 
     def save(self, entries: list[Entry]) -> None:
@@ -135,6 +138,10 @@ def open_book(folder: pathlib.Path, program: Herdbook) -> Book:
     return book
 
 
+def changed(path: pathlib.Path) -> Mistake:
+    return Mistake(f"{path} is missing or was changed: restore it, or take the sheet into another folder")
+
+
 def table(titles: list[str], rows: list[tuple[object, ...]]) -> bytes:
     text = io.StringIO()
     writer = csv.writer(text, lineterminator="\n")
@@ -149,9 +156,11 @@ def write_all(folder: pathlib.Path, texts: dict[str, bytes]) -> None:
     try:
         folder.mkdir(parents=True, exist_ok=True)
         for name, text in texts.items():
+            if (folder / name).is_dir():
+                raise IsADirectoryError(f"{name} is a folder")
             beside = folder / f"{name}.new"
-            written.append(beside)
             beside.write_bytes(text)
+            written.append(beside)
         for name in texts:
             os.replace(folder / f"{name}.new", folder / name)
     except OSError as error:

@@ -32,11 +32,11 @@ h1 {{ font-size: 23pt; line-height: 1.1; margin: 0; overflow-wrap: anywhere; }}
 .coefficient {{ text-align: right; white-space: nowrap; }}
 .coefficient b {{ display: block; font-size: 19pt; line-height: 1.1; }}
 h2 {{ font-size: 12pt; margin: 8mm 0 3mm; }}
-dl {{ display: grid; grid-template-columns: 38mm 1fr 38mm 1fr; gap: 1.6mm 3mm; margin: 5mm 0 0; }}
+dl {{ display: grid; grid-template-columns: 18mm 1.35fr 26mm 1fr; gap: 1.6mm 3mm; margin: 5mm 0 0; }}
 dt {{ color: {GREY}; }}
 dd {{ margin: 0; overflow-wrap: anywhere; }}
 table {{ width: 100%; border-collapse: separate; border-spacing: 0; table-layout: fixed; }}
-td {{ position: relative; padding: 1mm 4mm 1mm 4mm; height: 17.5mm; vertical-align: middle; }}
+td {{ position: relative; padding: 1mm 4mm 1mm 4mm; height: 18.5mm; vertical-align: middle; }}
 td:first-child.one {{ padding-left: 0; }}
 td.three {{ padding-right: 0; }}
 td.two::before, td.three::before {{ content: ""; position: absolute; left: 0; width: 4mm; border-left: 0.3mm solid {LINE}; }}
@@ -46,11 +46,12 @@ td.one::after, td.two::after {{ content: ""; position: absolute; right: 0; top: 
 .box {{ position: relative; border: 0.3mm solid {LINE}; border-radius: 1.2mm; padding: 1mm 2mm; font-size: 8.5pt; line-height: 1.25; overflow-wrap: anywhere; }}
 .box b {{ display: block; font-size: 9.5pt; }}
 .box small {{ font-size: 8pt; color: {GREY}; }}
+.box .name {{ display: block; overflow: hidden; white-space: nowrap; text-overflow: ellipsis; }}
 .sire .box {{ background: {SIRE}; }}
 .dam .box {{ background: {DAM}; }}
 .box.unknown {{ background: {PAPER}; color: {GREY}; border-style: dashed; }}
 .inbred {{ color: {INBRED_INK}; background: {INBRED}; border-radius: 0.8mm; padding: 0 1mm; font-weight: bold; white-space: nowrap; }}
-footer {{ margin-top: auto; padding-top: 8mm; font-size: 8.5pt; color: {GREY}; }}
+footer {{ break-inside: avoid; margin-top: auto; padding-top: 8mm; font-size: 8.5pt; color: {GREY}; }}
 .sign {{ display: grid; grid-template-columns: 1fr 1fr; gap: 14mm; margin-bottom: 6mm; }}
 .sign div {{ border-top: 0.3mm solid {INK}; padding-top: 1mm; margin-top: 14mm; }}
 footer p {{ margin: 0.6mm 0; }}
@@ -128,7 +129,7 @@ def ancestor_cell(letters: str, number: str, book: Book, names: dict[str, Known]
         box = f'<div class="box unknown">{relation} unknown</div>'
     else:
         known = names[number]
-        name = f"{escape(known.name)}<br/>" if known.name else ""
+        name = f'<span class="name">{escape(known.name)}</span>' if known.name else ""
         inbred = coefficients[number].is_inbred
         mark = f' <span class="inbred">{escape(percent_of(coefficients[number]))}</span>' if inbred else ""
         day = f"{book.records[number].born}{known.birth_mark()}"

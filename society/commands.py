@@ -88,7 +88,7 @@ def text_of(commands: Iterable[Command]) -> bytes:
 
 
 def read_commands(path: pathlib.Path) -> list[Command]:
-    with open(path, newline="", encoding="utf-8-sig") as file:
+    with open(path, newline="", encoding="utf-8-sig", errors="replace") as file:
         reader = csv.reader(file)
         titles = next(reader, [])
         if titles not in (COLUMNS, COLUMNS[:-1]):

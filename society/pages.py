@@ -20,6 +20,16 @@ def escape(text: object) -> str:
     return html.escape(kept, quote=True)
 
 
+def svg(width: int, height: int, parts: list[str]) -> str:
+    """A picture, which fits on a page where it is printed."""
+    return (
+        f'<svg xmlns="http://www.w3.org/2000/svg" viewBox="0 0 {width} {height}" width="{width}" height="{height}" font-family="{escape(FONT)}">\n'
+        f"<style>@page {{ size: A4 {'landscape' if width > height else 'portrait'}; margin: 10mm; }} "
+        "@media print { svg { width: 100%; height: 100%; } }</style>\n"
+        f'<rect width="{width}" height="{height}" fill="{PAPER}"/>\n' + "\n".join(parts) + "\n</svg>\n"
+    )
+
+
 def shortened(text: str, most: int) -> str:
     return text if len(text) <= most else text[: most - 1] + "…"
 

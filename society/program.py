@@ -82,8 +82,9 @@ class Herdbook:
 
     def ended(self, status: int, err: bytes, words: list[str]) -> None:
         if status:
-            told = err.decode(errors="replace").strip() or f"it ended with status {status}"
-            raise Mistake(f"the program `herdbook {words[0]}` can't do it: {told.removeprefix('herdbook: ')}")
+            told = err.decode(errors="replace").strip().removeprefix("herdbook: ") or f"it ended with status {status}"
+            hint = ". Somebody has changed the command file: restore it" if told.startswith("record ") else ""
+            raise Mistake(f"the program `herdbook {words[0]}` can't do it: {told}{hint}")
 
     def file(self, commands: list[Command]) -> dict[int, int]:
         """The refusals of commands: for each refused one its place, from 0 on, and the refusal's number."""

@@ -90,7 +90,7 @@ class Taking:
             for role, parent in animal.parents():
                 if parent in self.animals:
                     continue
-                hint = alike.get(folded(parent)) if folded(parent) else None
+                hint = alike.get(folded(parent.removesuffix(".0")) or parent)
                 why = f"the {role} of {animal.id} has no row: added without parents" + (f" (is {hint} meant?)" if hint else "")
                 self.report.tell(ADDED, animal.line, parent, why)
                 self.animals[parent] = Animal(parent, sex="")

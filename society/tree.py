@@ -6,9 +6,9 @@ from dataclasses import dataclass, field
 
 from society.book import Book, Known
 from society.listing import Coefficient
-from society.pages import DAM, FONT, GREY, INBRED, INBRED_INK, INK, LINE, PAPER, SIRE, escape, percent_of, shortened, year_of
+from society.pages import DAM, GREY, INBRED, INBRED_INK, INK, LINE, SIRE, escape, percent_of, shortened, svg, year_of
 
-BOX_WIDTH, BOX_HEIGHT, COLUMN, ROW, MARGIN = 196, 58, 232, 68, 24
+BOX_WIDTH, BOX_HEIGHT, COLUMN, ROW, MARGIN = 200, 62, 236, 72, 24
 HEAD, FOOT = 64, 62
 
 
@@ -95,22 +95,24 @@ def box(book: Book, node: Node, known: Known, coefficient: Coefficient, times: i
     round_by = 3 if known.number[6] == "M" else 16
     facts = [year_of(book, known)] + ([f"drawn {times} times"] if times > 1 else [])
     tip = f"{known.id} {known.name}".strip() + f", {known.number}, born {book.records[known.number].born}{known.birth_mark()}, F {coefficient.fraction}"
-    told = [shortened(known.name, 27)] * bool(known.name) + [", ".join(facts)]
+    # a coefficient stands at the end of the second line
+    told = [shortened(known.name, 14 if inbred else 24)] * bool(known.name or inbred) + [", ".join(facts)]
+    id_size = max(10.0, min(15.0, 15 * 20 / len(known.id)))
     lines = [
         f'<g><title>{escape(tip)}</title><rect x="{x:.1f}" y="{y:.1f}" width="{BOX_WIDTH}" height="{BOX_HEIGHT}" rx="{round_by}" '
         f'fill="{fill}" stroke="{edge}" stroke-width="{2 if inbred else 1.2}"/>',
-        label(x + 12, y + 19, shortened(known.id, 15 if inbred else 22), INK, 14, "bold"),
+        label(x + 12, y + 20, shortened(known.id, 30), INK, id_size, "bold"),
     ]
-    lines += [label(x + 12, y + 36 + 15 * at, what, GREY, 12.5) for at, what in enumerate(told)]
+    lines += [label(x + 12, y + 37 + 16 * at, what, GREY, 13) for at, what in enumerate(told)]
     if inbred:
-        lines.append(label(x + BOX_WIDTH - 10, y + 19, percent_of(coefficient), INBRED_INK, 13, "bold", "end"))
+        lines.append(label(x + BOX_WIDTH - 10, y + 37, percent_of(coefficient), INBRED_INK, 13.5, "bold", "end"))
     return "".join(lines) + "</g>"
 
 
 def label(x: float, y: float, what: str, colour: str, size: float, weight: str = "normal", anchor: str = "start") -> str:
     if not what:
         return ""
-    return f'<text x="{x:.1f}" y="{y:.1f}" fill="{colour}" font-size="{size}" font-weight="{weight}" text-anchor="{anchor}">{escape(what)}</text>'
+    return f'<text x="{x:.1f}" y="{y:.1f}" fill="{colour}" font-size="{size:.3g}" font-weight="{weight}" text-anchor="{anchor}">{escape(what)}</text>'
 
 
 def picture(parts: list[str], known: Known, width: float, height: float, drawn: int, hidden: int) -> str:
@@ -123,7 +125,4 @@ def picture(parts: list[str], known: Known, width: float, height: float, drawn: 
         label(MARGIN + 28, y, "inbred, with its coefficient; males have corners, females are round", GREY, 13),
         label(MARGIN, y + 20, note + ".", GREY, 13),
     ]
-    return (
-        f'<svg xmlns="http://www.w3.org/2000/svg" viewBox="0 0 {width:.0f} {height:.0f}" width="{width:.0f}" height="{height:.0f}" '
-        f'font-family="{escape(FONT)}">\n<rect width="100%" height="100%" fill="{PAPER}"/>\n' + "\n".join(head + parts) + "\n</svg>\n"
-    )
+    return svg(round(width), round(height), head + parts)

@@ -8,7 +8,7 @@ from typing import NamedTuple
 
 from society.book import Book, Known
 from society.listing import Coefficient
-from society.pages import FONT, GREY, INBRED_INK, INK, PAPER, escape
+from society.pages import GREY, INBRED_INK, INK, PAPER, escape, svg
 from society.report import Mistake
 
 WIDTH, HEIGHT = 1000, 520
@@ -40,11 +40,11 @@ def years_of(book: Book, coefficients: dict[str, Coefficient]) -> tuple[list[Yea
     return [Year(year, len(those), sum(those) / len(those)) for year, those in sorted(values.items())], without
 
 
-def scale_for(value: float, least: float) -> float:
-    """The end of a scale of four steps, each a round number."""
+def scale_for(value: float, least: float, steps: tuple[float, ...]) -> float:
+    """The end of a scale of four steps, each a round number: one of these times a power of ten."""
     step = max(value, least) / 4
     unit = 10.0 ** math.floor(math.log10(step))
-    return 4 * next(part * unit for part in (1, 2, 3, 4, 5, 6, 8, 10) if part * unit >= step * 0.999999)
+    return 4 * next(part * unit for part in steps if part * unit >= step * 0.999999)
 
 
 def trend_picture(book: Book, coefficients: dict[str, Coefficient]) -> str:
@@ -53,8 +53,8 @@ def trend_picture(book: Book, coefficients: dict[str, Coefficient]) -> str:
         raise Mistake("no animal of the book has a known birth year, so there is no trend to draw")
     first, last = years[0].year, years[-1].year
     step = (WIDTH - LEFT - RIGHT) / (last - first + 1)
-    most_percent = scale_for(float(max(year.mean for year in years)) * 100, 0.04)
-    most_count = scale_for(max(year.count for year in years), 4)
+    most_percent = scale_for(float(max(year.mean for year in years)) * 100, 0.04, (1, 1.5, 2, 2.5, 3, 4, 5, 6, 8, 10))
+    most_count = scale_for(max(year.count for year in years), 4, (1, 2, 3, 4, 5, 6, 8, 10))
     x = lambda year: LEFT + (year - first + 0.5) * step
     y = lambda part: HEIGHT - BOTTOM - part * (HEIGHT - TOP - BOTTOM)
     parts = axes(most_percent, most_count, y)
@@ -112,7 +112,4 @@ def picture(parts: list[str], count: int, without: int) -> str:
         text(LEFT + 322, 62, "animals born (right)", "start", GREY),
         text(LEFT, HEIGHT - 26, note + ". An unknown parent counts as unrelated.", "start", GREY, 14),
     ]
-    return (
-        f'<svg xmlns="http://www.w3.org/2000/svg" viewBox="0 0 {WIDTH} {HEIGHT}" width="{WIDTH}" height="{HEIGHT}" '
-        f'font-family="{escape(FONT)}">\n<rect width="{WIDTH}" height="{HEIGHT}" fill="{PAPER}"/>\n' + "\n".join(head + parts) + "\n</svg>\n"
-    )
+    return svg(WIDTH, HEIGHT, head + parts)

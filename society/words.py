@@ -50,6 +50,12 @@ def day(text: str) -> datetime.date:
         raise argparse.ArgumentTypeError(f"'{text}' is no day as 2001-03-01") from None
 
 
+def file(text: str) -> pathlib.Path:
+    if pathlib.Path(text).is_dir():
+        raise argparse.ArgumentTypeError(f"'{text}' is a folder: name a file")
+    return pathlib.Path(text)
+
+
 def generations(text: str) -> int:
     if not text.isdigit() or not 1 <= int(text) <= 10:
         raise argparse.ArgumentTypeError(f"'{text}' isn't 1 to 10")
@@ -82,7 +88,7 @@ def parser() -> Parser:
     mating.add_argument("--all", action="store_true", help="all males, those that left too")
     for one in listing, mating:
         one.add_argument("--semicolons", action="store_true", help="semicolons between cells, and commas in decimals")
-        one.add_argument("--out", type=pathlib.Path, metavar="FILE", help="write to this file, not to the screen")
+        one.add_argument("--out", type=file, metavar="FILE", help="write to this file, not to the screen")
 
     certificate = word("certificate", "write an animal's certificate, a page of HTML for the printer")
     certificate.add_argument("--title", default="Certificate of pedigree", help="what stands above the animal")
@@ -92,10 +98,10 @@ def parser() -> Parser:
         one.add_argument("id", metavar="ID", help="the animal, by id, name or number")
     trend = word("trend", "draw the mean coefficient by birth year, with how many animals each year has")
     for one in certificate, tree, trend:
-        one.add_argument("--out", type=pathlib.Path, metavar="FILE", help="write to this file [one in the book's folder]")
+        one.add_argument("--out", type=file, metavar="FILE", help="write to this file [one in the book's folder]")
 
     inverse = word("inverse", "write the summed inverse of the numerator relationship matrix")
-    inverse.add_argument("--matrix-market", type=pathlib.Path, required=True, metavar="FILE", help="its lower triangle; the ids of the rows go to FILE.ids")
+    inverse.add_argument("--matrix-market", type=file, required=True, metavar="FILE", help="its lower triangle; the ids of the rows go to FILE.ids")
     return top
 
 

@@ -174,7 +174,7 @@ class Desk:
         return done
 
     def files(self) -> dict[str, bytes]:
-        return {str(path): path.read_bytes() for path in sorted(self.room.rglob("*")) if path.is_file()}
+        return {str(path.relative_to(self.room)): path.read_bytes() for path in sorted(self.room.rglob("*")) if path.is_file()}
 
     def commands(self) -> list[str]:
         return (self.room / "book/commands.csv").read_text().splitlines()[1:]
@@ -401,6 +401,9 @@ class Checks:
             chain3,M,2001-01-02,chain2,
             """
         )
+        exits = Desk(self, "exits")
+        taken = exits.take("id,sex,born,sire,dam,exit\ncow,F,2001-01-01,,,2006-03-04\ncalf,F,,,cow,\nown,F,,,cow,2002-01-01\nlater,F,2010-01-01,,calf,\n")
+        self.count(exits.born()["calf"] == "2006-03-04" and exits.born()["own"] == "2002-01-01" and " 0 left out" in taken.last, f"{exits.born()}")
         born = desk.born()
         wanted = {
             "year": "2001-07-02", "month": "2002-03-16", "squeezed": "2001-12-31", "calves": "2008-05-06", "parents": "2004-03-15", "between": "2001-12-31",
@@ -582,6 +585,8 @@ class Checks:
             (["mating", "--dam", "a", "HOLGBRM000000000009"], "the book has no animal 'HOLGBRM000000000009': book/ids.csv has the ids"),
             (["mating", "--dam", "a"], "the book has no living male: ask with --all for those that left"),
             (["mating", "--dam", "a", "a", "--all"], "not both"),
+            (["list", "--out", "book"], "'book' is a folder: name a file"),
+            (["inverse", "--matrix-market", "."], "'.' is a folder: name a file"),
             (["pedigree", "a", "--generations", "11"], "'11' isn't 1 to 10"),
             (["inverse"], "the following arguments are required: --matrix-market"),
             (["certificate", "a", "--out", "file/x.html"], "the folder file can't be written"),
@@ -600,13 +605,21 @@ class Checks:
         pipe = f"'{sys.executable}' '{TOP}/society/society' list | true"
         done = subprocess.run(["sh", "-c", pipe], cwd=desk.room, env=os.environ | {"HERDBOOK": PROGRAM}, capture_output=True, timeout=SECONDS)
         self.count(not done.stderr, f"a closed pipe: {done}")
+        (desk.room / "book/commands.csv.new").mkdir()
+        desk.wrong("the folder book can't be written", "take", "good.csv")
+        (desk.room / "book/commands.csv.new").rmdir()
+        desk.write("bull.csv", "id,sex,born,sire,dam\nbull,M,2001,,\nson,M,2005,bull,\n")
+        desk.good("take", "bull.csv", "--book", "bulls")
+        desk.wrong("bull: the dam isn't female (fault 4): name a cow as the dam", "mating", "--dam", "bull", "--book", "bulls")
         kept = desk.files()
         commands = desk.room / "book/commands.csv"
         commands.write_text(commands.read_text() + "exit,HOLGBRF000000000009,2001-01-01,,,,,\n")
         desk.wrong("book/commands.csv: command 2 is refused: it isn't in the book (refusal 11). Somebody has changed this file", "list")
+        commands.write_text(kept["book/commands.csv"].decode() + "exit,HOLGBRF000000000001,2001-02-30,,,,,\n")
+        desk.wrong("the program `herdbook file` can't do it: record 2: fault 5 Day. Somebody has changed the command file: restore it", "list")
         commands.write_text("birth\n")
         desk.wrong("book/commands.csv: line 1 isn't the header of a command file", "take", "good.csv")
-        commands.write_bytes(kept[str(commands)])
+        commands.write_bytes(kept["book/commands.csv"])
         (desk.room / "book/ids.csv").unlink()
         desk.wrong("book/ids.csv is missing or was changed", "take", "good.csv")
 
