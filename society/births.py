@@ -38,7 +38,6 @@ def cut_cycles(animals: dict[str, Animal], report: Report) -> None:
     else that of the latest row."""
     left = set(animals) - set(age_levels(animals))
     while left:
-        left = {id for id in left if any(parent in left for _, parent in animals[id].parents())}
         cycle = find_cycle(animals, left)
         calf, role, parent = faulty_link(animals, cycle)
         path = " > ".join([calf, *ancestors_round(cycle, calf)])
@@ -66,7 +65,7 @@ Link = tuple[str, str, str]
 
 
 def find_cycle(animals: dict[str, Animal], left: set[str]) -> list[Link]:
-    """A cycle of links (calf, role, parent). Each of those left has a parent among them."""
+    """A cycle of links (calf, role, parent). Each of those left, which no order reached, has a parent among them."""
     links: list[Link] = []
     at: dict[str, int] = {}
     id = min(left, key=lambda one: (animals[one].line, one))

@@ -14,6 +14,8 @@ from society.report import Entry, Mistake
 
 COMMANDS, IDS, OWNERS, REPORT = "commands.csv", "ids.csv", "owners.csv", "report.csv"
 NO_OWNER = 99_999_999
+# what is inferred from nothing, for a pedigree that has neither days nor sexes
+INVENTED = "invented"
 
 
 @dataclass(slots=True)
@@ -30,10 +32,18 @@ class Known:
     sex: str = ""
 
     def birth_mark(self) -> str:
-        return " (inferred)" if self.birth else ""
+        return mark(self.birth)
 
     def exit_mark(self) -> str:
-        return " (inferred)" if self.exit else ""
+        return mark(self.exit)
+
+    def sex_mark(self) -> str:
+        return mark(self.sex)
+
+
+def mark(inferred_from: str) -> str:
+    """What stands behind a day or a sex that the sheet doesn't give."""
+    return {"": "", INVENTED: " (invented)"}.get(inferred_from, " (inferred)")
 
 
 class Book:

@@ -3,7 +3,7 @@ from __future__ import annotations
 
 from society.book import Book, Known
 from society.listing import Coefficient
-from society.pages import DAM, FONT, GREY, INBRED, INBRED_INK, INFERRED, INK, LINE, NOTE, PAPER, SIRE, escape, percent_of
+from society.pages import DAM, FONT, GREY, INBRED, INBRED_INK, INFERRED_NOTE, INK, INVENTED_NOTE, LINE, NOTE, PAPER, SIRE, escape, percent_of
 from society.program import Herdbook
 
 # the fourteen ancestors, line by line of the drawn pedigree: each stands in the line where it begins
@@ -74,8 +74,9 @@ def certificate_page(book: Book, program: Herdbook, known: Known, coefficients: 
     for line in LINES:
         cells = [ancestor_cell(letters, told[letters], book, names, coefficients) for letters in line]
         rows.append(f"<tr>{''.join(cells)}</tr>\n")
-    marks = [known] + [names[told[letters]] for line in LINES for letters in line if told[letters] != "0"]
-    notes = [NOTE] + ([INFERRED] if any(one.birth or one.exit for one in marks) else [])
+    shown = [names[told[letters]] for line in LINES for letters in line if told[letters] != "0"]
+    marks = {known.exit_mark(), known.sex_mark(), *(one.birth_mark() for one in [known, *shown])}
+    notes = [NOTE] + [note for note in (INFERRED_NOTE, INVENTED_NOTE) if " " + note.split(":")[0] in marks]
     called = f'<p class="called">{escape(known.name)}</p>' if known.name else ""
     return f"""<!DOCTYPE html>
 <html lang="en" xmlns="http://www.w3.org/1999/xhtml">
@@ -112,7 +113,7 @@ def facts_of(book: Book, known: Known, told: dict[str, str]) -> str:
     since = told["since"] + (known.birth_mark() if told["since"] == told["born"] else "")
     pairs = [
         ("Number", told["animal"]),
-        ("Sex", told["sex"] + (" (inferred)" if known.sex else "")),
+        ("Sex", told["sex"] + known.sex_mark()),
         ("Born", told["born"] + known.birth_mark()),
         ("Left", left or "has not left"),
         ("Owner", book.owner_of(int(told["herd"])) or "not known"),

@@ -4,7 +4,7 @@ from __future__ import annotations
 import datetime
 
 from society.animals import Animal
-from society.book import NO_OWNER, Known
+from society.book import INVENTED, NO_OWNER, Known
 from society.commands import Command, Record, birth, leave, transfer
 from society.program import REFUSALS, Herdbook
 from society.report import CHANGED, MOST_SHOWN, NEW, Mistake
@@ -108,7 +108,7 @@ class Filing:
             ("exit", str(record.left or ""), str(animal.left or "")),
             ("stored embryo", "yes" if record.embryo else "", "yes" if animal.embryo else ""),
         ]
-        if known.birth == animal.birth_inferred == "invented":
+        if known.birth == animal.birth_inferred == INVENTED:
             # invented days are invented anew each time
             del pairs[1]
         return [f"{what}: {after or 'none'}, before {before or 'none'}" for what, before, after in pairs if before != after]

@@ -11,7 +11,8 @@ INK, GREY, LINE, PAPER = "#1d2733", "#66717e", "#98a2ad", "#ffffff"
 SIRE, DAM = "#e8f0f8", "#fbeef0"
 INBRED, INBRED_INK = "#fff3cf", "#b4560c"
 NOTE = "An unknown parent counts as unrelated to all animals. Coefficients are Wright's, computed exactly."
-INFERRED = "(inferred): this day isn't known; it was inferred when the sheet was taken."
+INFERRED_NOTE = "(inferred): not known; inferred from the year, the parents or the calves when the sheet was taken."
+INVENTED_NOTE = "(invented): the pedigree has neither birth days nor sexes; these were invented."
 
 
 def escape(text: object) -> str:

@@ -8,12 +8,11 @@ import pathlib
 
 from society.animals import ROLES, Animal
 from society.births import calves_of, cut_cycles
+from society.book import INVENTED
 from society.columns import KNOWN_TITLES, plain
 from society.dates import FIRST_DAY
 from society.report import CHANGED, LEFT_OUT, Mistake, Report
 from society.sheet import decoded
-
-INVENTED = "invented"
 
 
 def read_triples(path: pathlib.Path, unknown: set[str], report: Report) -> dict[str, Animal]:

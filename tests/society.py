@@ -268,7 +268,7 @@ class Checks:
             unknown = [box for box in page.iter() if box.get("class") == "box unknown"]
             self.count(len(boxes) + len(unknown) == 14, f"certificate of {id}: {len(unknown)} unknown")
             inferred = {her.undated, her.imported} & {id, *ancestors}
-            self.count(words.count(" (inferred)") >= len(inferred) and ("it was inferred when" in words) == bool(inferred), f"certificate of {id}: the mark")
+            self.count(words.count(" (inferred)") >= len(inferred) and ("(inferred): not known; inferred from" in words) == bool(inferred), f"certificate of {id}: the mark")
         self.count("<Zürich>" not in (desk.room / "book/certificate-IMP-7--Zürich-.html").read_text(), "an id is escaped")
         desk.good("certificate", her.rows[0]["Name"], "--out", "page.html")
         self.count(her.rows[0]["Ohrmarke"] in (desk.room / "page.html").read_text(), "a certificate by name")
@@ -742,6 +742,10 @@ class Checks:
     def odd_pedigrees(self) -> None:
         """Animals that are sires and dams, cycles, one parent twice, and what isn't a pedigree."""
         desk = Desk(self, "odd")
+        desk.good("take", "--pedigree", desk.write("one.txt", "x 0 0\n"), "--book", "one")
+        desk.good("certificate", "x", "--book", "one", "--out", "x.html")
+        words = "".join(desk.page("x.html").itertext())
+        self.count(words.count(" (invented)") == 3 and "(invented): the pedigree has neither" in words, f"invented: {words}")
         done = desk.good("take", "--pedigree", desk.write("both.txt", "a 0 0\nb 0 0\nc a b\nd c a\ne d c\nf 0 d\n"))
         self.count(" 0 left out" in done.last, f"{done}")
         found = {row["id"]: row["coefficient"] for row in desk.listed("list")}
