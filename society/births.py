@@ -4,7 +4,7 @@ from __future__ import annotations
 import datetime
 
 from society.animals import Animal
-from society.dates import ANY_DAY, FIRST_DAY
+from society.dates import ANY_DAY, FIRST_DAY, Span
 from society.report import INFERRED, LEFT_OUT, Report
 
 # days between a parent's birth and a calf's, where only one of the two is known
@@ -101,7 +101,8 @@ class Days:
         self.calves = calves_of(animals)
         self.low: dict[str, int] = {}
         self.high: dict[str, int] = {}
-        self.likely: dict[str, int] = {}
+        # a likely day, and from what
+        self.likely: dict[str, tuple[int, str]] = {}
 
     def infer(self, report: Report) -> None:
         """Sets `born` of all animals, which have no cycle, and tells each day that was inferred."""
@@ -127,28 +128,29 @@ class Days:
         """The last day that calves, its own exit and its dam's leave open, and a likely one."""
         animal, calves = self.animals[id], self.calves.get(id, ())
         if animal.has_day():
-            self.high[id] = self.likely[id] = animal.birth.first.toordinal()
+            self.high[id] = animal.birth.first.toordinal()
+            self.likely[id] = self.high[id], ""
             return
         last = animal.birth.last.toordinal()
         dam = self.animals.get(animal.dam) if not animal.embryo else None
         exits = [animal.left, dam.left if dam else None]
         before = [self.high[calf] - 1 for calf in calves] + [left.toordinal() for left in exits if left]
         self.high[id] = min([last, *before])
+        by_calves = [self.likely[calf][0] - GENERATION for calf in calves if calf in self.likely]
+        dated = [parent for _, parent in animal.parents() if self.animals[parent].birth != ANY_DAY]
         if animal.birth != ANY_DAY:
-            self.likely[id] = (animal.birth.first.toordinal() + last + 1) // 2
-        else:
-            by_calves = [self.likely[calf] - GENERATION for calf in calves if calf in self.likely]
-            if by_calves:
-                self.likely[id] = min(by_calves)
+            self.likely[id] = middle(animal.birth), f"from {animal.birth.words()}"
+        elif by_calves:
+            self.likely[id] = min(by_calves), "from its calves"
+        elif dated:
+            self.likely[id] = max(middle(self.animals[parent].birth) for parent in dated) + GENERATION, "from its parents"
 
     def day_for(self, animal: Animal) -> tuple[datetime.date, str]:
         parents = [self.animals[parent].born.toordinal() for _, parent in animal.parents()]
         low = max([self.low[animal.id], *(day + 1 for day in parents)])
         kept = self.kept.get(animal.id)
-        if animal.birth != ANY_DAY:
-            day, why = self.likely[animal.id], f"from {animal.birth.words()}"
-        elif animal.id in self.likely:
-            day, why = self.likely[animal.id], "from its calves"
+        if animal.id in self.likely:
+            day, why = self.likely[animal.id]
         elif parents:
             day, why = max(parents) + GENERATION, "from its parents"
         else:
@@ -159,3 +161,7 @@ class Days:
         # where parents and calves leave no day open, that of the cell holds, and the program refuses a parent
         day = min(max(day, animal.birth.first.toordinal()), animal.birth.last.toordinal())
         return datetime.date.fromordinal(day), why
+
+
+def middle(span: Span) -> int:
+    return (span.first.toordinal() + span.last.toordinal() + 1) // 2

@@ -7,19 +7,20 @@ from society.report import Mistake
 
 # The usual titles, the likelier first. They are compared in small letters, without accents, blanks and signs.
 TITLES = {
-    "id": "id, animal id, ear tag, tag, tag number, animal, animal number, registration, registration number, reg no, "
-    "herd book number, identification, ident, number, no, nr, "
-    "Ohrmarke, Ohrmarkennummer, Ohrmarken-Nr, Lebensnummer, Herdbuchnummer, Tiernummer, Tier-Nr, Tier, Kennzeichen, Nummer, "
-    "numéro, n°, numéro national, numéro d'identification, identifiant, identification, boucle, matricule",
+    "id": "id, animal id, ear tag, eartag, ear tag number, ear tag no, tag, tag number, tag no, animal number, animal no, "
+    "registration, registration number, registration no, reg no, herd book number, herd book no, identification, ident, "
+    "Ohrmarke, Ohrmarkennummer, Ohrmarken-Nr, Ohrm, Lebensnummer, Lebensohrmarke, Herdbuchnummer, Herdbuch-Nr, Tiernummer, Tier-Nr, "
+    "Tier-ID, Kennzeichen, numéro national, n° national, numéro d'identification, identifiant, boucle, matricule, "
+    "animal, Tier, number, no, nr, Nummer, numéro, n°",
     "name": "name, animal name, Tiername, Rufname, nom, nom de l'animal",
-    "sex": "sex, gender, Geschlecht, sexe",
+    "sex": "sex, gender, Geschlecht, Geschl, sexe",
     "birth": "born, birth, birth date, date of birth, birthday, birth day, dob, Geburtsdatum, Geburtstag, geboren, "
-    "geboren am, Geburt, geb, geb. am, geb-Datum, naissance, date de naissance, né le, née le, né, née, né(e) le, "
+    "geboren am, Geburt, geb, geb. am, geb-Datum, Geb.-Dat, Geburtsdat, naissance, date de naissance, date naissance, né le, née le, né, née, né(e) le, "
     "birth year, year of birth, year, Geburtsjahr, Jahrgang, année de naissance, année",
-    "sire": "sire id, father id, sire number, sire, father, Vater Ohrmarke, Ohrmarke Vater, Vater-Nr, Vaternummer, Vater, Vatertier, "
-    "numéro du père, numéro père, père",
-    "dam": "dam id, mother id, dam number, dam, mother, Mutter Ohrmarke, Ohrmarke Mutter, Mutter-Nr, Mutternummer, Mutter, Muttertier, "
-    "numéro de la mère, numéro mère, mère",
+    "sire": "sire id, father id, sire tag, sire ear tag, sire number, sire no, sire, father, Vater Ohrmarke, Ohrmarke Vater, Vater-ID, "
+    "Vater-Nr, Vaternummer, Vater, Vatertier, numéro du père, numéro père, n° père, père",
+    "dam": "dam id, mother id, dam tag, dam ear tag, dam number, dam no, dam, mother, Mutter Ohrmarke, Ohrmarke Mutter, Mutter-ID, "
+    "Mutter-Nr, Mutternummer, Mutter, Muttertier, numéro de la mère, numéro mère, n° mère, mère",
     "owner": "owner, herd, farm, holding, Besitzer, Eigentümer, Halter, Betrieb, propriétaire, détenteur, élevage, "
     "exploitation",
     "exit": "exit, left, exit date, date of exit, departure, died, death, date of death, Abgang, Abgangsdatum, abgegangen, "
@@ -64,13 +65,13 @@ def known_titles(titles: list[str]) -> int:
     return sum(plain(title) in known for title in titles)
 
 
-def find_columns(titles: list[str], given: dict[str, str]) -> dict[str, int]:
-    """For each field its column, by the titles that are given, and else by the usual ones."""
+def find_columns(line: int, titles: list[str], given: dict[str, str]) -> dict[str, int]:
+    """For each field its column, by the titles that are given, and else by the usual ones. The titles stand in a line."""
     found = {}
     for field in TITLES:
         if field in given:
             if given[field]:
-                found[field] = given_column(titles, field, given[field])
+                found[field] = given_column(line, titles, field, given[field])
             continue
         plain_titles = [plain(title) for title in titles]
         at = next((plain_titles.index(usual) for usual in KNOWN_TITLES[field] if usual in plain_titles), None)
@@ -80,20 +81,20 @@ def find_columns(titles: list[str], given: dict[str, str]) -> dict[str, int]:
     if missing:
         shown = ", ".join(f"'{title}'" for title in titles if title)
         raise Mistake(
-            f"line 1: no column for {' or '.join(missing)} is found. The titles are {shown}. "
+            f"line {line}: no column for {' or '.join(missing)} is found. The titles are {shown}. "
             f"Say which it is, as --columns {','.join(f'{field}=TITLE' for field in missing)}"
             + (f" (or {missing[-1]}= where there is none)" if missing != ["id"] else "")
         )
     return found
 
 
-def given_column(titles: list[str], field: str, title: str) -> int:
+def given_column(line: int, titles: list[str], field: str, title: str) -> int:
     for same in (lambda one: one == title, lambda one: plain(one) == plain(title)):
         places = [at for at, one in enumerate(titles) if same(one)]
         if places:
             return places[0]
     shown = ", ".join(f"'{one}'" for one in titles if one)
-    raise Mistake(f"line 1: there is no column '{title}', which --columns names for {field}. The titles are {shown}")
+    raise Mistake(f"line {line}: there is no column '{title}', which --columns names for {field}. The titles are {shown}")
 
 
 def read_given(words: list[str]) -> dict[str, str]:

@@ -10,6 +10,8 @@ from typing import Callable, NamedTuple
 from society.report import Mistake
 
 SEPARATORS = ";\t,"
+# the titles stand in one of so many rows
+BEGINNING = 5
 # how files begin that are no text
 NOT_TEXT = {
     b"\xd0\xcf\x11\xe0": "an old Excel file (.xls)",
@@ -25,8 +27,9 @@ class Row(NamedTuple):
 
 
 class Sheet(NamedTuple):
-    """The row of titles, and the rows below it."""
+    """The row of titles with its line, the rows below it, and how the file was read, in words."""
 
+    line: int
     titles: list[str]
     rows: list[Row]
     how: str
@@ -50,7 +53,15 @@ def read_sheet(path: pathlib.Path, score: Callable[[list[str]], int]) -> Sheet:
         how = f"{encoding}, cells separated by " + {";": "semicolons", "\t": "tabs", ",": "commas"}[separator]
     if not rows:
         raise Mistake(f"{path} is empty: its first row has to have the titles of the columns")
-    return Sheet([squeezed(title) for title in rows[0].cells], rows[1:], how)
+    at = title_row([row.cells for row in rows[:BEGINNING]], score)
+    line, titles = rows[at]
+    return Sheet(line, [squeezed(title) for title in titles], rows[at + 1 :], how)
+
+
+def title_row(rows: list[list[str]], score: Callable[[list[str]], int]) -> int:
+    """The first row, or a later one that has the titles where the first has less of them, as below a heading."""
+    best = max(range(len(rows)), key=lambda at: score(rows[at]))
+    return best if score(rows[best]) >= 3 and score(rows[best]) > score(rows[0]) else 0
 
 
 def squeezed(text: str) -> str:
@@ -81,10 +92,14 @@ def read_text(text: str, score: Callable[[list[str]], int]) -> tuple[list[Row], 
     named = text[:4].lower() == "sep=" and text[4:5] in SEPARATORS and text[4:5]
     if named:
         return read_records(text, named)[1:], named
-    # the file's first line alone, with any separator
-    beginning = text.lstrip("\r\n").splitlines()[:1]
-    titles = {one: next(csv.reader(beginning, delimiter=one), []) for one in SEPARATORS}
-    separator = max(SEPARATORS, key=lambda one: (score(titles[one]), len(titles[one])))
+    # the file's first lines, each with any separator
+    beginning = [line for line in text[:20_000].splitlines() if line.strip()][:BEGINNING]
+
+    def likely(separator: str) -> tuple[int, int]:
+        rows = [next(csv.reader([line], delimiter=separator)) for line in beginning]
+        return max((score(row), len(row)) for row in rows) if rows else (0, 0)
+
+    separator = max(SEPARATORS, key=likely)
     return read_records(text, separator), separator
 
 

@@ -33,7 +33,7 @@ class Wishes:
 def take_sheet(path: pathlib.Path, wishes: Wishes) -> None:
     given = read_given(wishes.columns)
     sheet = read_sheet(path, lambda titles: known_titles(titles) + sum(title in given.values() for title in titles))
-    columns = find_columns(sheet.titles, given)
+    columns = find_columns(sheet.line, sheet.titles, given)
     report = Report()
     animals = Rows(sheet, columns, unknown_words(wishes.unknown), report).animals()
     if not animals:
@@ -48,7 +48,7 @@ def take_sheet(path: pathlib.Path, wishes: Wishes) -> None:
     used = [f"{name} from '{sheet.titles[at]}'" for name, at in columns.items()]
     unread = [f"'{title}'" for at, title in enumerate(sheet.titles) if title and at not in columns.values()]
     about = [
-        f"{path}: {len(sheet.rows)} rows, {sheet.how}",
+        f"{path}: {len(sheet.rows)} rows below the titles in line {sheet.line}, {sheet.how}",
         f"columns: {', '.join(used)}" + (f"; not read: {', '.join(unread)}" if unread else ""),
     ]
     finish(taking, program, wishes, about, 0)

@@ -341,7 +341,7 @@ class Checks:
         for name, text, words in [
             ("utf8", german_rows.encode(), ()), ("bom", b"\xef\xbb\xbf" + german_rows.encode(), ()), ("windows", german_rows.encode("cp1252"), ()),
             ("tabs", french.encode("cp1252"), ()), ("utf16", french.encode("utf-16"), ()), ("commas", english.encode(), ()),
-            ("named", b"sep=;\r\n" + german_rows.encode(), ()), ("odd", odd.encode(), columns), ("blank", german_rows.replace("\r\nB2", "\r\n;;;;;;;\r\n\r\nB2").encode(), ()),
+            ("heading", ("Zuchtverein Süd, Stand 2020\r\n;;;\r\n" + german_rows).encode(), ()), ("named", b"sep=;\r\n" + german_rows.encode(), ()), ("odd", odd.encode(), columns), ("blank", german_rows.replace("\r\nB2", "\r\n;;;;;;;\r\n\r\nB2").encode(), ()),
         ]:  # fmt: skip
             desk = Desk(self, f"form-{name}")
             done = desk.take(text, *words)
@@ -399,6 +399,8 @@ class Checks:
             chain1,M,,,
             chain2,M,,chain1,
             chain3,M,2001-01-02,chain2,
+            mate,F,,,
+            theirs,F,,month,mate
             """
         )
         exits = Desk(self, "exits")
@@ -407,10 +409,10 @@ class Checks:
         born = desk.born()
         wanted = {
             "year": "2001-07-02", "month": "2002-03-16", "squeezed": "2001-12-31", "calves": "2008-05-06", "parents": "2004-03-15", "between": "2001-12-31",
-            "first": "1900-01-01", "chain1": "1997-01-03", "chain2": "1999-01-03",
+            "first": "1900-01-01", "chain1": "1997-01-03", "chain2": "1999-01-03", "mate": "2002-03-16", "theirs": "2004-03-15",
         }  # fmt: skip
         self.count(wanted.items() <= born.items(), f"inferred days: {born}")
-        self.count(" 9 inferred, 0 left out" in done.last, done.last)
+        self.count(" 11 inferred, 0 left out" in done.last, done.last)
         marks = {row["id"]: row["birth"] for row in desk.table("book/ids.csv") if row["birth"]}
         self.count(marks.keys() == wanted.keys() and marks["year"] == "from the year 2001" and marks["calves"] == "from its calves", f"marks: {marks}")
         listed = {row["id"]: row["birth"] for row in desk.listed("list")}
