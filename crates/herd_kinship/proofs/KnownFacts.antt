@@ -32,6 +32,12 @@ right-more xs f i v li e right p lp =
     (λ (s : i ≡ p → ⊥). get_or-set_other xs i p v 0 (λ q. s (sym q)) ∙ right p (omega arith))
     (cases_eq i p)
 
+-- the numerators of the animal's known parents are below 1, and give its Mendelian sampling variance
+pub record AreKnownParents (l : ℕ) (rows : List Row) (known : List ℕ) (x : ℕ) (parents : Parents) : Type 0 where
+  pub sire : ForSome parents.sire (IsKnownParent l known)
+  pub dam : ForSome parents.dam (IsKnownParent l known)
+  pub variance : 2 ^ (2 * l) - quarter_of l known parents.sire - quarter_of l known parents.dam ≡ mendelian (ancestry_of rows) l (number_of_row rows x)
+
 module _ (l most : ℕ) (rows : List Row) (f : IsFrozen l most rows) where
   below_limit : (x : ℕ) → x < length rows → Below (ancestry_of rows) (suc l) (Some (number_of_row rows x))
   below_limit x lx =
@@ -62,7 +68,7 @@ module _ (l most : ℕ) (rows : List Row) (f : IsFrozen l most rows) where
   }
 
   -- those of the ancestors that a tracing meets
-  pub known-next : (known : List ℕ) (x b y own : ℕ) → x < length rows → KnowsAncestors l rows known x → IsNext l rows x b y own → KnowsAncestors l rows known y
+  known-next : (known : List ℕ) (x b y own : ℕ) → x < length rows → KnowsAncestors l rows known x → IsNext l rows x b y own → KnowsAncestors l rows known y
   known-next known x b y own lx k next =
       ⊎_elim
       (λ (z : share (ranked rows) (depth_at rows x - depth_at rows y) (Some x) y ≡ 0).
@@ -129,11 +135,18 @@ module _ (l most : ℕ) (rows : List Row) (f : IsFrozen l most rows) where
   mendelian-row known x row lx k e = rw (← sire-row x row e, ← dam-row x row e) (mendelian-known known x lx k)
 
   -- the same of parents that are read by themselves
-  pub parents-known : (known : List ℕ) (x : ℕ) (parents : Parents) → x < length rows → KnowsAncestors l rows known x → AreParentsAt rows x parents →
-      ForSome parents.sire (IsKnownParent l known) × ForSome parents.dam (IsKnownParent l known)
-      × (2 ^ (2 * l) - quarter_of l known parents.sire - quarter_of l known parents.dam ≡ mendelian (ancestry_of rows) l (number_of_row rows x))
-  parents-known known x parents lx k at =
-      rw at.same (sire-known known x at.row lx k at.there, dam-known known x at.row lx k at.there, mendelian-row known x at.row lx k at.there)
+  pub parents-known : (known : List ℕ) (x : ℕ) (parents : Parents) → x < length rows → KnowsAncestors l rows known x → AreParentsAt rows x parents → AreKnownParents l rows known x parents
+  parents-known known x parents lx k at = record {
+    sire = rw at.same (sire-known known x at.row lx k at.there);
+    dam = rw at.same (dam-known known x at.row lx k at.there);
+    variance = rw at.same (mendelian-row known x at.row lx k at.there);
+  }
+
+  -- and of those of the ancestor that a tracing meets
+  pub parents-known_next : (known : List ℕ) (x b y own : ℕ) (parents : Parents) → x < length rows → KnowsAncestors l rows known x → IsNext l rows x b y own → AreParentsAt rows y parents →
+      AreKnownParents l rows known y parents
+  parents-known_next known x b y own parents lx k next at =
+      parents-known known y parents (slice_get_within rows y at.row at.there) (known-next known x b y own lx k next) at
 
   -- the Mendelian sampling variance of a rank is that of its number
   pub mendelian-rank : (x : ℕ) → x < length rows → mendelian (ranked rows) l x ≡ mendelian (ancestry_of rows) l (number_of_row rows x)

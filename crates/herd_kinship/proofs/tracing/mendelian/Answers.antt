@@ -6,16 +6,16 @@ use Rattle.herd_kinship.proofs.tracing.mendelian.Goals as goal
 
 pub variance_by-requires-clause-sire : goal.variance_by-requires-clause-sire
 variance_by-requires-clause-sire g c =
-    (parents-known DEPTH_LIMIT MOST_ANIMALS c.args.frozen.now c.len.ensures.frozen c.args.known.now c.args.rank c.parents_at.result c.requires.rank c.requires.known c.parents_at.ensures).0
+    (parents-known DEPTH_LIMIT MOST_ANIMALS c.args.frozen.now c.len.ensures.frozen c.args.known.now c.args.rank c.parents_at.result c.requires.rank c.requires.known c.parents_at.ensures).sire
 
 pub variance_by-requires-clause-dam : goal.variance_by-requires-clause-dam
 variance_by-requires-clause-dam g c =
-    (parents-known DEPTH_LIMIT MOST_ANIMALS c.args.frozen.now c.len.ensures.frozen c.args.known.now c.args.rank c.parents_at.result c.requires.rank c.requires.known c.parents_at.ensures).1
+    (parents-known DEPTH_LIMIT MOST_ANIMALS c.args.frozen.now c.len.ensures.frozen c.args.known.now c.args.rank c.parents_at.result c.requires.rank c.requires.known c.parents_at.ensures).dam
 
 pub returns-clause-value : goal.returns-clause-value
 returns-clause-value g c =
     c.variance_by.ensures
-    ∙ (parents-known DEPTH_LIMIT MOST_ANIMALS c.args.frozen.now c.len.ensures.frozen c.args.known.now c.args.rank c.parents_at.result c.requires.rank c.requires.known c.parents_at.ensures).2
+    ∙ (parents-known DEPTH_LIMIT MOST_ANIMALS c.args.frozen.now c.len.ensures.frozen c.args.known.now c.args.rank c.parents_at.result c.requires.rank c.requires.known c.parents_at.ensures).variance
 
 pub returns-clause-positive : goal.returns-clause-positive
 returns-clause-positive g c =

@@ -1,11 +1,9 @@
-use Rattle.std.proofs.Common.{◌≡◌, ℕ, ◌-◌, ◌*◌, ◌^◌, lit<, arith, ◌∙◌}
-use Rattle.std.specs.Option.{ForSome}
+use Rattle.std.proofs.Common.{◌≡◌, ℕ, lit<, arith, ◌∙◌}
 use Rattle.herd_pedigree.specs.declared.TheConstants.{DEPTH_LIMIT, MOST_ANIMALS}
-use Rattle.herd_kinship.specs.Coefficients.{IsKnownParent, KnowsAncestors, quarter_of}
 use Rattle.herd_kinship.specs.FrozenAncestry.{ancestry_of, number_of_row}
 use Rattle.herd_kinship.specs.Table.{mendelian}
-use Rattle.herd_kinship.proofs.KnownFacts.{known-next, parents-known}
-use Rattle.herd_kinship.proofs.ParentsFacts.{parents-depth, parents-shallow, parents-within}
+use Rattle.herd_kinship.proofs.KnownFacts.{AreKnownParents, parents-known_next}
+use Rattle.herd_kinship.proofs.ParentsFacts.{parents-depth, parents-shallow}
 use Rattle.herd_kinship.proofs.TermSums.{IsAdded, added, summed-start, summed-end}
 use Rattle.herd_kinship.proofs.tracing.trace_ancestors.Given.{Over}
 use Rattle.herd_kinship.proofs.tracing.trace_ancestors.Goals.{After-variance_by-variance, In-Some}
@@ -39,23 +37,16 @@ overflow_sub-steps g c =
     omega (arith, dx, dy, less)
 
 -- the parents of the ancestor that is met are known
-known : (g : Over) (c : In-Some g) →
-    ForSome c.in-Some.met.parents.sire (IsKnownParent DEPTH_LIMIT c.args.known.now) × ForSome c.in-Some.met.parents.dam (IsKnownParent DEPTH_LIMIT c.args.known.now)
-    × (2 ^ (2 * DEPTH_LIMIT) - quarter_of DEPTH_LIMIT c.args.known.now c.in-Some.met.parents.sire - quarter_of DEPTH_LIMIT c.args.known.now c.in-Some.met.parents.dam
-    ≡ mendelian (ancestry_of c.args.frozen.now) DEPTH_LIMIT (number_of_row c.args.frozen.now c.in-Some.met.rank))
+known : (g : Over) (c : In-Some g) → AreKnownParents DEPTH_LIMIT c.args.frozen.now c.args.known.now c.in-Some.met.rank c.in-Some.met.parents
 known g c =
-    let rows = c.args.frozen.now in
-    let x : ℕ = c.loop-met.tracing.rank in
-    let knows : KnowsAncestors DEPTH_LIMIT rows c.args.known.now x = rw c.loop-met.invariant.same c.requires.known in
-    parents-known DEPTH_LIMIT MOST_ANIMALS rows c.len.ensures.frozen c.args.known.now c.in-Some.met.rank c.in-Some.met.parents (parents-within rows c.in-Some.met.rank c.in-Some.met.parents c.in-Some.ensures.parents)
-    (known-next DEPTH_LIMIT MOST_ANIMALS rows c.len.ensures.frozen c.args.known.now x c.loop-met.tracing.border c.in-Some.met.rank c.in-Some.met.share c.loop-met.invariant.tracing.tracing.rank knows c.in-Some.ensures.next)
-    c.in-Some.ensures.parents
+    parents-known_next DEPTH_LIMIT MOST_ANIMALS c.args.frozen.now c.len.ensures.frozen c.args.known.now c.loop-met.tracing.rank c.loop-met.tracing.border c.in-Some.met.rank c.in-Some.met.share c.in-Some.met.parents
+    c.loop-met.invariant.tracing.tracing.rank (rw c.loop-met.invariant.same c.requires.known) c.in-Some.ensures.next c.in-Some.ensures.parents
 
 pub variance_by-variance-requires-clause-sire : goal.variance_by-variance-requires-clause-sire
-variance_by-variance-requires-clause-sire g c = (known g (goal.at.variance_by-variance-requires-clause-sire g c).In-Some).0
+variance_by-variance-requires-clause-sire g c = (known g (goal.at.variance_by-variance-requires-clause-sire g c).In-Some).sire
 
 pub variance_by-variance-requires-clause-dam : goal.variance_by-variance-requires-clause-dam
-variance_by-variance-requires-clause-dam g c = (known g (goal.at.variance_by-variance-requires-clause-dam g c).In-Some).1
+variance_by-variance-requires-clause-dam g c = (known g (goal.at.variance_by-variance-requires-clause-dam g c).In-Some).dam
 
 -- what is added for the ancestor that is met
 met : (g : Over) (c : After-variance_by-variance g) → c.variance_by-variance.result ≡ mendelian (ancestry_of c.args.frozen.now) DEPTH_LIMIT (number_of_row c.args.frozen.now c.in-Some.met.rank) →
@@ -68,14 +59,14 @@ met g c variance =
     c.parents_at-depth.result c.in-Some.met.parents (lit< tt) (lit< tt) (rw c.loop-met.invariant.same c.parents_at-depth.ensures) c.in-Some.ensures.parents c.in-Some.ensures.next variance c.loop-met.invariant.summed
 
 pub term-sum-requires-clause-shift : goal.term-sum-requires-clause-shift
-term-sum-requires-clause-shift g c = (met g (goal.at.term-sum-requires-clause-shift g c).After-variance_by-variance (c.variance_by-variance.ensures ∙ (known g (goal.at.term-sum-requires-clause-shift g c).In-Some).2)).shift
+term-sum-requires-clause-shift g c = (met g (goal.at.term-sum-requires-clause-shift g c).After-variance_by-variance (c.variance_by-variance.ensures ∙ (known g (goal.at.term-sum-requires-clause-shift g c).In-Some).variance)).shift
 
 pub term-sum-requires-clause-fits : goal.term-sum-requires-clause-fits
-term-sum-requires-clause-fits g c = (met g (goal.at.term-sum-requires-clause-fits g c).After-variance_by-variance (c.variance_by-variance.ensures ∙ (known g (goal.at.term-sum-requires-clause-fits g c).In-Some).2)).fits
+term-sum-requires-clause-fits g c = (met g (goal.at.term-sum-requires-clause-fits g c).After-variance_by-variance (c.variance_by-variance.ensures ∙ (known g (goal.at.term-sum-requires-clause-fits g c).In-Some).variance)).fits
 
 pub overflow_add-sum : goal.overflow_add-sum
 overflow_add-sum g c =
-    let fits = (met g (goal.at.overflow_add-sum g c).After-variance_by-variance (c.variance_by-variance.ensures ∙ (known g (goal.at.overflow_add-sum g c).In-Some).2)).sum_fits in
+    let fits = (met g (goal.at.overflow_add-sum g c).After-variance_by-variance (c.variance_by-variance.ensures ∙ (known g (goal.at.overflow_add-sum g c).In-Some).variance)).sum_fits in
     rw c.term-sum.ensures (omega (arith, fits))
 
 pub loop-met-preserved : goal.loop-met-preserved
@@ -84,7 +75,7 @@ loop-met-preserved g c =
     record {
       same = rank ∙ c.loop-met.invariant.same;
       tracing = c.meet_next.ensures.tracing;
-      summed = rw (rank, c.in-Some.ensures.border, c.term-sum.ensures) (met g (goal.at.loop-met-preserved g c).After-variance_by-variance (c.variance_by-variance.ensures ∙ (known g (goal.at.loop-met-preserved g c).In-Some).2)).summed;
+      summed = rw (rank, c.in-Some.ensures.border, c.term-sum.ensures) (met g (goal.at.loop-met-preserved g c).After-variance_by-variance (c.variance_by-variance.ensures ∙ (known g (goal.at.loop-met-preserved g c).In-Some).variance)).summed;
     }
 
 pub returns : goal.returns
