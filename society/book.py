@@ -132,7 +132,8 @@ class Book:
         if len(named) == 1:
             return named[0]
         if named:
-            raise Mistake(f"{len(named)} animals have the name '{word}': name one by its id: {', '.join(sorted(one.id for one in named)[:9])}")
+            ids = ", ".join(sorted(one.id for one in named)[:9])
+            raise Mistake(f"{len(named)} animals have the name '{word}': name one by its id: {ids}")
         names = [*self.known, *(known.name for known in self.known.values() if known.name)]
         close = difflib.get_close_matches(word, names, 3, 0.75) if len(names) < 20_000 else []
         hint = f": is {' or '.join(close)} meant?" if close else f": {self.folder / IDS} has the ids"
@@ -143,7 +144,8 @@ def open_book(folder: pathlib.Path, program: Herdbook) -> Book:
     """The book of a folder, which has to be there."""
     book = Book(folder)
     if not book.path.exists():
-        raise Mistake(f"there is no book in the folder {folder}: take a sheet first, as society/society take SHEET --book {folder}")
+        how = f"society/society take SHEET --book {folder}"
+        raise Mistake(f"there is no book in the folder {folder}: take a sheet first, as {how}")
     book.load(program)
     return book
 

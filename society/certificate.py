@@ -3,7 +3,22 @@ from __future__ import annotations
 
 from society.book import Book, Known
 from society.listing import Coefficient
-from society.pages import DAM, FONT, GREY, INBRED, INBRED_INK, INFERRED_NOTE, INK, INVENTED_NOTE, LINE, NOTE, PAPER, SIRE, escape, percent_of
+from society.pages import (
+    DAM,
+    FONT,
+    GREY,
+    INBRED,
+    INBRED_INK,
+    INFERRED_NOTE,
+    INK,
+    INVENTED_NOTE,
+    LINE,
+    NOTE,
+    PAPER,
+    SIRE,
+    escape,
+    percent_of,
+)
 from society.program import Herdbook
 
 # the fourteen ancestors, line by line of the drawn pedigree: each stands in the line where it begins
@@ -24,8 +39,10 @@ STYLE = f"""
 * {{ box-sizing: border-box; }}
 html {{ background: #e9ecef; }}
 body {{ margin: 0; font: 10.5pt/1.35 {FONT}; color: {INK}; -webkit-print-color-adjust: exact; print-color-adjust: exact; }}
-main {{ width: 182mm; min-height: 262mm; margin: 8mm auto; padding: 0; background: {PAPER}; display: flex; flex-direction: column; }}
-header {{ border-bottom: 0.8mm solid {INK}; padding-bottom: 3mm; display: flex; justify-content: space-between; align-items: flex-end; gap: 8mm; }}
+main {{ width: 182mm; min-height: 262mm; margin: 8mm auto; padding: 0; background: {PAPER}; }}
+main {{ display: flex; flex-direction: column; }}
+header {{ border-bottom: 0.8mm solid {INK}; padding-bottom: 3mm; }}
+header {{ display: flex; justify-content: space-between; align-items: flex-end; gap: 8mm; }}
 h1 {{ font-size: 23pt; line-height: 1.1; margin: 0; overflow-wrap: anywhere; }}
 .kind {{ font-size: 10pt; letter-spacing: 0.12em; text-transform: uppercase; color: {GREY}; margin: 0 0 1.5mm; }}
 .called {{ font-size: 13pt; color: {GREY}; margin: 1mm 0 0; overflow-wrap: anywhere; }}
@@ -43,14 +60,16 @@ td.two::before, td.three::before {{ content: ""; position: absolute; left: 0; wi
 td.sire.two::before, td.sire.three::before {{ top: 50%; bottom: 0; border-top: 0.3mm solid {LINE}; }}
 td.dam.two::before, td.dam.three::before {{ top: 0; bottom: 50%; border-bottom: 0.3mm solid {LINE}; }}
 td.one::after, td.two::after {{ content: ""; position: absolute; right: 0; top: 50%; width: 4mm; border-top: 0.3mm solid {LINE}; }}
-.box {{ position: relative; border: 0.3mm solid {LINE}; border-radius: 1.2mm; padding: 1mm 2mm; font-size: 8.5pt; line-height: 1.25; overflow-wrap: anywhere; }}
+.box {{ position: relative; border: 0.3mm solid {LINE}; border-radius: 1.2mm; padding: 1mm 2mm; }}
+.box {{ font-size: 8.5pt; line-height: 1.25; overflow-wrap: anywhere; }}
 .box b {{ display: block; font-size: 9.5pt; }}
 .box small {{ font-size: 8pt; color: {GREY}; }}
 .box .name {{ display: block; overflow: hidden; white-space: nowrap; text-overflow: ellipsis; }}
 .sire .box {{ background: {SIRE}; }}
 .dam .box {{ background: {DAM}; }}
 .box.unknown {{ background: {PAPER}; color: {GREY}; border-style: dashed; }}
-.inbred {{ color: {INBRED_INK}; background: {INBRED}; border-radius: 0.8mm; padding: 0 1mm; font-weight: bold; white-space: nowrap; }}
+.inbred {{ color: {INBRED_INK}; background: {INBRED}; border-radius: 0.8mm; padding: 0 1mm; }}
+.inbred {{ font-weight: bold; white-space: nowrap; }}
 footer {{ break-inside: avoid; margin-top: auto; padding-top: 8mm; font-size: 8.5pt; color: {GREY}; }}
 .sign {{ display: grid; grid-template-columns: 1fr 1fr; gap: 14mm; margin-bottom: 6mm; }}
 .sign div {{ border-top: 0.3mm solid {INK}; padding-top: 1mm; margin-top: 14mm; }}
@@ -90,7 +109,8 @@ def certificate_page(book: Book, program: Herdbook, known: Known, coefficients: 
 <main>
 <header>
 <div><p class="kind">{escape(title)}</p><h1>{escape(known.id)}</h1>{called}</div>
-<div class="coefficient">Coefficient of inbreeding<b>{escape(own.fraction)}</b>{escape(own.decimal())} &#183; {escape(own.percent)} %</div>
+<div class="coefficient">Coefficient of inbreeding<b>{escape(own.fraction)}</b>
+{escape(own.decimal())} &#183; {escape(own.percent)} %</div>
 </header>
 <dl>
 {facts_of(book, known, told)}</dl>
@@ -122,7 +142,9 @@ def facts_of(book: Book, known: Known, told: dict[str, str]) -> str:
     return "".join(f"<dt>{escape(what)}</dt><dd>{escape(value)}</dd>\n" for what, value in pairs)
 
 
-def ancestor_cell(letters: str, number: str, book: Book, names: dict[str, Known], coefficients: dict[str, Coefficient]) -> str:
+def ancestor_cell(
+    letters: str, number: str, book: Book, names: dict[str, Known], coefficients: dict[str, Coefficient]
+) -> str:
     kind = f"{['one', 'two', 'three'][len(letters) - 1]} {'sire' if letters[-1] == 'S' else 'dam'}"
     span = {1: 4, 2: 2, 3: 1}[len(letters)]
     relation = f"<small>{escape(RELATIONS[letters])}</small>" if letters in RELATIONS else ""

@@ -15,7 +15,8 @@ TITLES = {
     "name": "name, animal name, Tiername, Rufname, nom, nom de l'animal",
     "sex": "sex, gender, Geschlecht, Geschl, sexe",
     "birth": "born, birth, birth date, date of birth, birthday, birth day, dob, Geburtsdatum, Geburtstag, geboren, "
-    "geboren am, Geburt, geb, geb. am, geb-Datum, Geb.-Dat, Geburtsdat, naissance, date de naissance, date naissance, né le, née le, né, née, né(e) le, "
+    "geboren am, Geburt, geb, geb. am, geb-Datum, Geb.-Dat, Geburtsdat, naissance, date de naissance, date naissance, "
+    "né le, née le, né, née, né(e) le, "
     "birth year, year of birth, year, Geburtsjahr, Jahrgang, année de naissance, année",
     "sire": "sire id, father id, sire tag, sire ear tag, sire number, sire no, sire, father, Vater Ohrmarke, Ohrmarke Vater, Vater-ID, "
     "Vater-Nr, Vaternummer, Vater, Vatertier, numéro du père, numéro père, n° père, père",

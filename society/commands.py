@@ -98,6 +98,7 @@ def read_commands(path: pathlib.Path) -> list[Command]:
             if not fields:
                 continue
             if len(fields) != len(titles):
-                raise Mistake(f"{path}: line {reader.line_num} has {len(fields)} cells, not {len(titles)}: mend it, or restore the file")
+                where = f"{path}: line {reader.line_num}"
+                raise Mistake(f"{where} has {len(fields)} cells, not {len(titles)}: mend it, or restore the file")
             commands.append(Command(*fields))
     return commands

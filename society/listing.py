@@ -87,7 +87,8 @@ def advise(book: Book, program: Herdbook, dam: Known, sires: list[Known], everyo
         sires = [known for known in males if everyone or not book.records[known.number].left]
         left = len(males) - len(sires)
         if not sires:
-            raise Mistake(f"the book has no {'' if everyone else 'living '}male" + ("" if everyone else ": ask with --all for those that left"))
+            hint = ": --all asks for those that left too" if males else ""
+            raise Mistake(f"the book has no {'living ' if males else ''}male{hint}")
     numbers = list(dict.fromkeys(known.number for known in sires))
     names = book.by_number()
     book_text = book.path.read_bytes()

@@ -21,10 +21,19 @@ def escape(text: object) -> str:
     return html.escape(kept, quote=True)
 
 
+def text_at(x: float, y: float, what: str, colour: str, size: float, anchor: str = "start", weight: str = "normal") -> str:
+    """A line of text in a picture, nothing where there is no text."""
+    if not what:
+        return ""
+    look = f'fill="{colour}" font-size="{size:.3g}" font-weight="{weight}" text-anchor="{anchor}"'
+    return f'<text x="{x:.1f}" y="{y:.1f}" {look}>{escape(what)}</text>'
+
+
 def svg(width: int, height: int, parts: list[str]) -> str:
     """A picture, which fits on a page where it is printed."""
     return (
-        f'<svg xmlns="http://www.w3.org/2000/svg" viewBox="0 0 {width} {height}" width="{width}" height="{height}" font-family="{escape(FONT)}">\n'
+        f'<svg xmlns="http://www.w3.org/2000/svg" viewBox="0 0 {width} {height}" width="{width}" height="{height}" '
+        f'font-family="{escape(FONT)}">\n'
         f"<style>@page {{ size: A4 {'landscape' if width > height else 'portrait'}; margin: 10mm; }} "
         "@media print { svg { width: 100%; height: 100%; } }</style>\n"
         f'<rect width="{width}" height="{height}" fill="{PAPER}"/>\n' + "\n".join(parts) + "\n</svg>\n"

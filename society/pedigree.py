@@ -28,7 +28,8 @@ def read_triples(path: pathlib.Path, unknown: set[str], report: Report) -> dict[
             columns = title_places(cells)
             continue
         if len(cells) <= max(columns):
-            raise Mistake(f"line {line}: '{' '.join(cells)}' has {len(cells)} cells: write an id, its sire and its dam, 0 for an unknown one")
+            row = f"line {line}: '{' '.join(cells)}' has {len(cells)} cells"
+            raise Mistake(f"{row}: write an id, its sire and its dam, 0 for an unknown one")
         id, sire, dam = (cells[at] for at in columns)
         if id.casefold() in unknown:
             raise Mistake(f"line {line}: '{id}' is a word for an unknown parent, and stands for an animal: give it another id")
@@ -44,7 +45,8 @@ def read_triples(path: pathlib.Path, unknown: set[str], report: Report) -> dict[
 
 def records(text: str) -> list[tuple[int, list[str]]]:
     """The cells of each line that has some; `#` begins a comment."""
-    lines = [(line, part) for line, part in enumerate(text.splitlines(), 1) if part.strip() and not part.lstrip().startswith("#")]
+    numbered = enumerate(text.splitlines(), 1)
+    lines = [(line, part) for line, part in numbered if part.strip() and not part.lstrip().startswith("#")]
     separator = next((one for one in ";\t," if lines and one in lines[0][1]), None)
     if separator is None:
         return [(line, [cell.strip('"') for cell in part.split()]) for line, part in lines]
@@ -57,7 +59,8 @@ def has_titles(cells: list[str]) -> bool:
 
 def title_places(cells: list[str]) -> list[int]:
     titles = [plain(cell) for cell in cells]
-    places = [next((at for at, title in enumerate(titles) if title in KNOWN_TITLES[field]), None) for field in ("id", "sire", "dam")]
+    known = [KNOWN_TITLES[field] for field in ("id", "sire", "dam")]
+    places = [next((at for at, title in enumerate(titles) if title in usual), None) for usual in known]
     if None in places:
         raise Mistake("line 1: the titles have to be id, sire and dam")
     return places
@@ -112,7 +115,8 @@ def place_parents(animal: Animal, animals: dict[str, Animal], report: Report) ->
         sexes = sexes[:1]
     if any(ROLES[role] != animals[parent].sex for role, parent in animal.parents()):
         animal.sire, animal.dam = animal.dam, animal.sire
-        why = f"taken with the sire {animal.sire or 'unknown'} and the dam {animal.dam or 'unknown'}, since an animal is a sire and a dam"
+        couple = f"the sire {animal.sire or 'unknown'} and the dam {animal.dam or 'unknown'}"
+        why = f"taken with {couple}, since an animal is a sire and a dam"
         report.tell(CHANGED, animal.line, animal.id, why)
 
 

@@ -66,7 +66,8 @@ def take_pedigree(path: pathlib.Path, wishes: Wishes) -> None:
         animal.sex = ""
     invent_sexes(animals, report)
     invent_days(animals, report)
-    about = [f"{path}: the sexes and birth days of all {len(animals)} animals are invented: parents are older than their offspring"]
+    what = f"the sexes and birth days of all {len(animals)} animals"
+    about = [f"{path}: {what} are invented: parents are older than their offspring"]
     finish(taking, program, wishes, about, len(animals))
 
 
@@ -93,8 +94,8 @@ def finish(taking: Taking, program: Herdbook, wishes: Wishes, about: list[str], 
         print("the command file is written anew, since a birth, an exit or the order of changes was corrected")
     counts = report.counts()
     print(
-        f"{book.folder}: {len(taking.animals)} animals, {new} new, {counts[CHANGED]} changed, {counts[INFERRED] + invented} inferred, "
-        f"{counts[LEFT_OUT]} left out, {counts[ADDED]} added, {counts[GONE]} gone: {book.folder / REPORT} has each"
+        f"{book.folder}: {len(taking.animals)} animals, {new} new, {counts[CHANGED]} changed, "
+        f"{counts[INFERRED] + invented} inferred, {counts[LEFT_OUT]} left out, {counts[ADDED]} added, {counts[GONE]} gone: {book.folder / REPORT} has each"
     )
 
 

@@ -31,7 +31,8 @@ class Taking:
         self.add_gone()
         self.add_parents()
         if len(self.animals) > MOST_ANIMALS:
-            raise Mistake(f"these are {len(self.animals):,} animals, with those that are in the book: it holds at most {MOST_ANIMALS:,}")
+            many = f"these are {len(self.animals):,} animals, with those that are in the book"
+            raise Mistake(f"{many}: it holds at most {MOST_ANIMALS:,}")
 
     def keep(self, animal: Animal) -> None:
         """What the sheet has no column for, or no text, stays as it is in the book."""
@@ -135,7 +136,8 @@ class Taking:
         for id, animal in self.animals.items():
             before = self.book.known.get(id)
             row = "yes" if animal.line or (before and before.row == "yes") else "no"
-            kept[id] = Known(animal.number, id, animal.name, row, animal.birth_inferred, animal.left_inferred, animal.sex_inferred)
+            inferred = animal.birth_inferred, animal.left_inferred, animal.sex_inferred
+            kept[id] = Known(animal.number, id, animal.name, row, *inferred)
         return kept
 
     # -- what commands name

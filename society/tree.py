@@ -6,7 +6,21 @@ from dataclasses import dataclass, field
 
 from society.book import Book, Known
 from society.listing import Coefficient
-from society.pages import DAM, GREY, INBRED, INBRED_INK, INK, LINE, SIRE, escape, percent_of, shortened, svg, year_of
+from society.pages import (
+    DAM,
+    GREY,
+    INBRED,
+    INBRED_INK,
+    INK,
+    LINE,
+    SIRE,
+    escape,
+    percent_of,
+    shortened,
+    svg,
+    text_at,
+    year_of,
+)
 
 BOX_WIDTH, BOX_HEIGHT, COLUMN, ROW, MARGIN = 200, 62, 236, 72, 24
 HEAD, FOOT = 64, 62
@@ -94,25 +108,21 @@ def box(book: Book, node: Node, known: Known, coefficient: Coefficient, times: i
     # a male has corners, a female is round
     round_by = 3 if known.number[6] == "M" else 16
     facts = [year_of(book, known)] + ([f"drawn {times} times"] if times > 1 else [])
-    tip = f"{known.id} {known.name}".strip() + f", {known.number}, born {book.records[known.number].born}{known.birth_mark()}, F {coefficient.fraction}"
+    day = f"{book.records[known.number].born}{known.birth_mark()}"
+    tip = f"{known.id} {known.name}".strip() + f", {known.number}, born {day}, F {coefficient.fraction}"
     # a coefficient stands at the end of the second line
     told = [shortened(known.name, 14 if inbred else 24)] * bool(known.name or inbred) + [", ".join(facts)]
     id_size = max(10.0, min(15.0, 15 * 20 / len(known.id)))
     lines = [
-        f'<g><title>{escape(tip)}</title><rect x="{x:.1f}" y="{y:.1f}" width="{BOX_WIDTH}" height="{BOX_HEIGHT}" rx="{round_by}" '
+        f'<g><title>{escape(tip)}</title>'
+        f'<rect x="{x:.1f}" y="{y:.1f}" width="{BOX_WIDTH}" height="{BOX_HEIGHT}" rx="{round_by}" '
         f'fill="{fill}" stroke="{edge}" stroke-width="{2 if inbred else 1.2}"/>',
-        label(x + 12, y + 20, shortened(known.id, 30), INK, id_size, "bold"),
+        text_at(x + 12, y + 20, shortened(known.id, 30), INK, id_size, weight="bold"),
     ]
-    lines += [label(x + 12, y + 37 + 16 * at, what, GREY, 13) for at, what in enumerate(told)]
+    lines += [text_at(x + 12, y + 37 + 16 * at, what, GREY, 13) for at, what in enumerate(told)]
     if inbred:
-        lines.append(label(x + BOX_WIDTH - 10, y + 37, percent_of(coefficient), INBRED_INK, 13.5, "bold", "end"))
+        lines.append(text_at(x + BOX_WIDTH - 10, y + 37, percent_of(coefficient), INBRED_INK, 13.5, "end", "bold"))
     return "".join(lines) + "</g>"
-
-
-def label(x: float, y: float, what: str, colour: str, size: float, weight: str = "normal", anchor: str = "start") -> str:
-    if not what:
-        return ""
-    return f'<text x="{x:.1f}" y="{y:.1f}" fill="{colour}" font-size="{size:.3g}" font-weight="{weight}" text-anchor="{anchor}">{escape(what)}</text>'
 
 
 def picture(parts: list[str], known: Known, width: float, height: float, drawn: int, hidden: int) -> str:
@@ -120,9 +130,10 @@ def picture(parts: list[str], known: Known, width: float, height: float, drawn: 
     note = f"{drawn} known ancestors" + (f"; {hidden} more lie further back and aren't drawn" if hidden else "")
     y = height - 34
     head = [
-        label(MARGIN, 36, shortened(title, int(width / 11)), INK, 20, "bold"),
-        f'<rect x="{MARGIN}" y="{y - 11:.1f}" width="20" height="14" rx="3" fill="{INBRED}" stroke="{INBRED_INK}" stroke-width="2"/>',
-        label(MARGIN + 28, y, "inbred, with its coefficient; males have corners, females are round", GREY, 13),
-        label(MARGIN, y + 20, note + ".", GREY, 13),
+        text_at(MARGIN, 36, shortened(title, int(width / 11)), INK, 20, weight="bold"),
+        f'<rect x="{MARGIN}" y="{y - 11:.1f}" width="20" height="14" rx="3" fill="{INBRED}" stroke="{INBRED_INK}" '
+        'stroke-width="2"/>',
+        text_at(MARGIN + 28, y, "inbred, with its coefficient; males have corners, females are round", GREY, 13),
+        text_at(MARGIN, y + 20, note + ".", GREY, 13),
     ]
     return svg(round(width), round(height), head + parts)

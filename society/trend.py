@@ -8,7 +8,7 @@ from typing import NamedTuple
 
 from society.book import Book, Known
 from society.listing import Coefficient
-from society.pages import GREY, INBRED_INK, INK, PAPER, escape, svg
+from society.pages import GREY, INBRED_INK, INK, PAPER, escape, svg, text_at
 from society.report import Mistake
 
 WIDTH, HEIGHT = 1000, 520
@@ -61,16 +61,21 @@ def trend_picture(book: Book, coefficients: dict[str, Coefficient]) -> str:
     for year in years:
         parts.append(bar(year, x(year.year), y(year.count / most_count), y(0), step))
     parts += year_names(first, last, x, step)
-    at = {year.year: (x(year.year), y(float(year.mean) * 100 / most_percent)) for year in years}
-    for one in years:
-        if one.year + 1 in at:
-            (x1, y1), (x2, y2) = at[one.year], at[one.year + 1]
-            parts.append(f'<line x1="{x1:.1f}" y1="{y1:.1f}" x2="{x2:.1f}" y2="{y2:.1f}" stroke="{INBRED_INK}" stroke-width="2.5"/>')
-    for one in years:
-        tip = f"{one.year}: {float(one.mean) * 100:.2f} % in the mean of {one.count}"
-        px, py = at[one.year]
-        parts.append(f'<circle cx="{px:.1f}" cy="{py:.1f}" r="4" fill="{PAPER}" stroke="{INBRED_INK}" stroke-width="2.5"><title>{escape(tip)}</title></circle>')
+    parts += curve(years, {year.year: (x(year.year), y(float(year.mean) * 100 / most_percent)) for year in years})
     return picture(parts, sum(year.count for year in years), without)
+
+
+def curve(years: list[Year], at: dict[int, tuple[float, float]]) -> list[str]:
+    """The means, with a line between two years of which one follows the other."""
+    lines, dots = [], []
+    for one in years:
+        (x1, y1), (x2, y2) = at[one.year], at.get(one.year + 1, at[one.year])
+        if x1 != x2:
+            ends = f'x1="{x1:.1f}" y1="{y1:.1f}" x2="{x2:.1f}" y2="{y2:.1f}"'
+            lines.append(f'<line {ends} stroke="{INBRED_INK}" stroke-width="2.5"/>')
+        tip = f"{one.year}: {float(one.mean) * 100:.2f} % in the mean of {one.count}"
+        dots.append(dot(x1, y1, f"<title>{escape(tip)}</title>"))
+    return lines + dots
 
 
 def axes(most_percent: float, most_count: float, y) -> list[str]:
@@ -78,9 +83,13 @@ def axes(most_percent: float, most_count: float, y) -> list[str]:
     for at in range(5):
         height = y(at / 4)
         parts.append(f'<line x1="{LEFT}" y1="{height:.1f}" x2="{WIDTH - RIGHT}" y2="{height:.1f}" stroke="#e3e7eb"/>')
-        parts.append(text(LEFT - 10, height + 5, f"{most_percent * at / 4:.4g} %", "end", INBRED_INK))
-        parts.append(text(WIDTH - RIGHT + 10, height + 5, f"{most_count * at / 4:.6g}", "start", GREY))
+        parts.append(text_at(LEFT - 10, height + 5, f"{most_percent * at / 4:.4g} %", INBRED_INK, 15, "end"))
+        parts.append(text_at(WIDTH - RIGHT + 10, height + 5, f"{most_count * at / 4:.6g}", GREY, 15))
     return parts
+
+
+def dot(x: float, y: float, within: str) -> str:
+    return f'<circle cx="{x:.1f}" cy="{y:.1f}" r="4" fill="{PAPER}" stroke="{INBRED_INK}" stroke-width="2.5">{within}</circle>'
 
 
 def bar(year: Year, x: float, top: float, bottom: float, step: float) -> str:
@@ -95,21 +104,19 @@ def bar(year: Year, x: float, top: float, bottom: float, step: float) -> str:
 def year_names(first: int, last: int, x, step: float) -> list[str]:
     """As many years as have room, the same number of years apart."""
     apart = next(one for one in (1, 2, 5, 10, 20, 50, 100) if one * step >= 46)
-    return [text(x(year), HEIGHT - BOTTOM + 24, str(year), "middle", INK) for year in range(first, last + 1) if (year - first) % apart == 0]
-
-
-def text(x: float, y: float, what: str, anchor: str, colour: str, size: int = 15, weight: str = "normal") -> str:
-    return f'<text x="{x:.1f}" y="{y:.1f}" text-anchor="{anchor}" fill="{colour}" font-size="{size}" font-weight="{weight}">{escape(what)}</text>'
+    shown = range(first, last + 1, apart)
+    return [text_at(x(year), HEIGHT - BOTTOM + 24, str(year), INK, 15, "middle") for year in shown]
 
 
 def picture(parts: list[str], count: int, without: int) -> str:
-    note = f"{count:,} animals by birth year" + (f"; {without:,} more have no known birth year and aren't drawn" if without else "")
+    more = f"; {without:,} more have no known birth year and aren't drawn" if without else ""
+    note = f"{count:,} animals by birth year{more}"
     head = [
-        text(LEFT, 34, "Mean coefficient of inbreeding by birth year", "start", INK, 21, "bold"),
-        f'<circle cx="{LEFT + 6}" cy="57" r="4" fill="{PAPER}" stroke="{INBRED_INK}" stroke-width="2.5"/>',
-        text(LEFT + 18, 62, "mean coefficient, in percent (left)", "start", INBRED_INK),
+        text_at(LEFT, 34, "Mean coefficient of inbreeding by birth year", INK, 21, weight="bold"),
+        dot(LEFT + 6, 57, ""),
+        text_at(LEFT + 18, 62, "mean coefficient, in percent (left)", INBRED_INK, 15),
         f'<rect x="{LEFT + 300}" y="50" width="14" height="14" fill="{BARS}"/>',
-        text(LEFT + 322, 62, "animals born (right)", "start", GREY),
-        text(LEFT, HEIGHT - 26, note + ". An unknown parent counts as unrelated.", "start", GREY, 14),
+        text_at(LEFT + 322, 62, "animals born (right)", GREY, 15),
+        text_at(LEFT, HEIGHT - 26, note + ". An unknown parent counts as unrelated.", GREY, 14),
     ]
     return svg(WIDTH, HEIGHT, head + parts)

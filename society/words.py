@@ -19,8 +19,8 @@ from society.take import Wishes, take_pedigree, take_sheet
 from society.tree import tree_picture
 from society.trend import trend_picture
 
-ABOUT = """Keeps a society's herd book in a folder: takes its spreadsheet, and writes lists, certificates, mating advice and pictures.
-Every refusal and every coefficient comes from the program herdbook; the front desk around it isn't proved."""
+ABOUT = """Keeps a society's herd book in a folder: takes its spreadsheet, and writes lists, certificates, mating advice and
+pictures. Every refusal and every coefficient comes from the program herdbook; the front desk around it isn't proved."""
 EXAMPLES = """examples:
   society/society take sheet.csv                     from a spreadsheet to a book in the folder `book`
   society/society list --out list.csv                all animals with their coefficients
@@ -68,16 +68,34 @@ def parser() -> Parser:
 
     def word(name: str, help: str, more: str = "") -> Parser:
         one = words.add_parser(name, help=help, description=f"{help[0].upper()}{help[1:]}. {more}".strip())
-        one.add_argument("--book", type=pathlib.Path, default=pathlib.Path("book"), metavar="FOLDER", help="the book's folder [book]")
+        one.add_argument(
+            "--book", type=pathlib.Path, default=pathlib.Path("book"), metavar="FOLDER",
+            help="the book's folder [book]",
+        )
         return one
 
     take = word("take", "take a spreadsheet into the book", "The columns are known by their usual names in English, German and French.")
-    take.add_argument("sheet", nargs="?", type=pathlib.Path, metavar="SHEET", help="the spreadsheet: CSV, or .xlsx where openpyxl is installed")
-    take.add_argument("--pedigree", type=pathlib.Path, metavar="TRIPLES", help="a text file with `id sire dam` in each line, in place of a sheet")
-    take.add_argument("--columns", action="append", default=[], metavar="FIELD=TITLE,..", help="titles for id, name, sex, birth, sire, dam, owner, exit, embryo")
-    take.add_argument("--unknown", action="append", default=[], metavar="WORD,..", help="more words for an unknown parent")
+    take.add_argument(
+        "sheet", nargs="?", type=pathlib.Path, metavar="SHEET",
+        help="the spreadsheet: CSV, or .xlsx where openpyxl is installed",
+    )
+    take.add_argument(
+        "--pedigree", type=pathlib.Path, metavar="TRIPLES",
+        help="a text file with `id sire dam` in each line, in place of a sheet",
+    )
+    take.add_argument(
+        "--columns", action="append", default=[], metavar="FIELD=TITLE,..",
+        help="titles for id, name, sex, birth, sire, dam, owner, exit, embryo",
+    )
+    take.add_argument(
+        "--unknown", action="append", default=[], metavar="WORD,..",
+        help="more words for an unknown parent",
+    )
     take.add_argument("--breed", type=three_letters, metavar="ABC", help="the numbers' breed [HOL, or as in the book]")
-    take.add_argument("--country", type=three_letters, metavar="ABC", help="the numbers' country [GBR, or as in the book]")
+    take.add_argument(
+        "--country", type=three_letters, metavar="ABC",
+        help="the numbers' country [GBR, or as in the book]",
+    )
     take.add_argument("--day", type=day, default=datetime.date.today(), help="the day on which owners changed [today]")
     take.add_argument("--strict", action="store_true", help="take nothing where anything would be left out")
 
@@ -101,7 +119,10 @@ def parser() -> Parser:
         one.add_argument("--out", type=file, metavar="FILE", help="write to this file [one in the book's folder]")
 
     inverse = word("inverse", "write the summed inverse of the numerator relationship matrix")
-    inverse.add_argument("--matrix-market", type=file, required=True, metavar="FILE", help="its lower triangle; the ids of the rows go to FILE.ids")
+    inverse.add_argument(
+        "--matrix-market", type=file, required=True, metavar="FILE",
+        help="its lower triangle; the ids of the rows go to FILE.ids",
+    )
     return top
 
 

@@ -585,7 +585,7 @@ class Checks:
         for words, told in [
             (["certificate", "b"], "the book has no animal 'b': book/ids.csv has the ids"),
             (["mating", "--dam", "a", "HOLGBRM000000000009"], "the book has no animal 'HOLGBRM000000000009': book/ids.csv has the ids"),
-            (["mating", "--dam", "a"], "the book has no living male: ask with --all for those that left"),
+            (["mating", "--dam", "a"], "the book has no male"),
             (["mating", "--dam", "a", "a", "--all"], "not both"),
             (["list", "--out", "book"], "'book' is a folder: name a file"),
             (["inverse", "--matrix-market", "."], "'.' is a folder: name a file"),
