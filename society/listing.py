@@ -79,15 +79,15 @@ class Advice(NamedTuple):
     left: int
 
 
-def advise(book: Book, program: Herdbook, dam: Known, sires: list[Known], everyone: bool) -> Advice:
-    """Advice on given sires, or else on all living males, or on all males."""
+def advise(book: Book, program: Herdbook, dam: Known, sires: list[Known], also_left: bool) -> Advice:
+    """Advice on given sires, or else on all living males, or on those that left too."""
     left = 0
     if not sires:
         males = [known for known in book.known.values() if known.number[6] == "M"]
-        sires = [known for known in males if everyone or not book.records[known.number].left]
+        sires = [known for known in males if also_left or not book.records[known.number].left]
         left = len(males) - len(sires)
         if not sires:
-            hint = ": --all asks for those that left too" if males else ""
+            hint = ": --left asks for those that left too" if males else ""
             raise Mistake(f"the book has no {'living ' if males else ''}male{hint}")
     numbers = list(dict.fromkeys(known.number for known in sires))
     names = book.by_number()

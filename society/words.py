@@ -103,7 +103,8 @@ def parser() -> Parser:
     mating = word("mating", "write the coefficient that a calf would have by each sire, the least first")
     mating.add_argument("--dam", required=True, metavar="ID", help="the dam, by id, name or number")
     mating.add_argument("sires", nargs="*", metavar="SIRE", help="sires, by id, name or number [all living males]")
-    mating.add_argument("--all", action="store_true", help="all males, those that left too")
+    mating.add_argument("--all", action="store_true", help="all living males, as where no sire is named")
+    mating.add_argument("--left", action="store_true", help="with the males that left too")
     for one in listing, mating:
         one.add_argument("--semicolons", action="store_true", help="semicolons between cells, and commas in decimals")
         one.add_argument("--out", type=file, metavar="FILE", help="write to this file, not to the screen")
@@ -147,15 +148,15 @@ def give(asked: argparse.Namespace, rows: list[list[str]]) -> None:
 
 
 def mating(asked: argparse.Namespace, book: Book, program: Herdbook) -> None:
-    if asked.sires and asked.all:
-        raise Mistake("mating takes sires by name, or all of them with --all, not both")
+    if asked.sires and (asked.all or asked.left):
+        raise Mistake("mating takes sires that are named, or all of them, not both: leave out --all and --left")
     dam, sires = book.find(asked.dam), [book.find(sire) for sire in asked.sires]
-    advice = advise(book, program, dam, sires, asked.all)
+    advice = advise(book, program, dam, sires, asked.left)
     give(asked, advice.rows)
     for sentence in advice.refused:
         print(f"society: {sentence}", file=sys.stderr)
     if advice.left:
-        print(f"society: {advice.left} males that left aren't listed: --all lists them too", file=sys.stderr)
+        print(f"society: {advice.left} males that left aren't listed: --left lists them too", file=sys.stderr)
 
 
 def draw(asked: argparse.Namespace, book: Book, program: Herdbook) -> None:

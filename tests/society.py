@@ -280,14 +280,14 @@ class Checks:
         males = {row["Ohrmarke"] for row in her.rows if row["Geschlecht"] == "m"}
         living = {row["Ohrmarke"] for row in her.rows if row["Geschlecht"] == "m" and not row["Abgang"]} | {her.imported}
         entry = reference.filed(text)[0].relationships()
-        for words, wanted in ([], living), (["--all"], males | {her.imported}):
+        for words, wanted in ([], living), (["--all"], living), (["--left"], males | {her.imported}):
             rows = desk.listed("mating", "--dam", dam, *words)
             self.count({row["id"] for row in rows} == wanted, f"mating {words}: {len(rows)} rows")
             keys = [(fractions.Fraction(row["coefficient"]), row["id"]) for row in rows]
             self.count(keys == sorted(keys) and keys[-1][0] > 0, f"mating {words}: the order")
             self.count(all(value == entry(numbers[id], numbers[dam]) / 2 for value, id in keys), f"mating {words}: coefficients")
         told = desk.good("mating", "--dam", dam).err
-        self.count(told == f"society: {len(males - living)} males that left aren't listed: --all lists them too\n", f"mating: {told!r}")
+        self.count(told == f"society: {len(males - living)} males that left aren't listed: --left lists them too\n", f"mating: {told!r}")
         gone = min(males - living)
         done = desk.good("mating", "--dam", dam, gone, her.cow, "Löwe 2")
         self.count(len(done.out.splitlines()) == 3 and done.err == f"society: {her.cow}: refused: the sire isn't male (fault 3)\n", f"mating: {done}")
