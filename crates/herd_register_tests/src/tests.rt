@@ -2,9 +2,10 @@
 
 mod copies;
 mod copies_without_memory;
+mod families;
 mod filed;
 mod full;
-mod refusals;
 mod registers_without_memory;
+mod seen;
 mod texts;
 mod withdrawals;

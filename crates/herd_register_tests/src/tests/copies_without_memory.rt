@@ -1,24 +1,38 @@
 //! Copies on heaps that are too small.
 
-use super::copies::{are_same, corrected, frozen_copy, take_over_all};
+use super::copies::{freezes_to, full_register, rows};
 use herd_fixtures::{heap_of, spare_of};
-use herd_pedigree::Frozen;
-use herd_register::{Copybook, Register};
+use herd_pedigree::Row;
+use herd_register::{Copybook, Register, Step};
 use linked_list_allocator::LocalHeap;
-use std::alloc::Global;
+use std::alloc::{Allocator, Global};
 use std::process::Abort;
 use std::test::Fail;
 
-// Whether a heap has room for a copy of a register. Taking over takes no memory.
-fn is_copied(rt: &impl Abort, heap: &LocalHeap, register: &Register<Global>) -> Result<bool, Fail> {
-    let Ok(mut copybook) = Copybook::new(heap, register.limits()) else {
-        return Ok(false);
-    };
+fn take_over_each<A: Allocator>(copybook: &mut Copybook<A>, steps: &[Step]) {
+    for step in steps {
+        copybook.take_over(step);
+    }
+}
+
+// Whether a copy takes over eight steps, and no memory for them.
+fn takes_no_memory(heap: &LocalHeap, copybook: Copybook<&LocalHeap>, steps: &[Step]) -> bool {
+    let mut copybook = copybook;
     let used = heap.used();
-    take_over_all(&mut copybook, register.journal());
-    assert!(rt; copybook.steps() == 4);
-    assert!(rt; heap.used() == used);
-    Ok(true)
+    take_over_each(&mut copybook, steps);
+    copybook.steps() == 8 && heap.used() == used
+}
+
+// Whether a heap has room for a copy of a register.
+fn is_copied(rt: &impl Abort, heap: &LocalHeap, register: &Register<Global>) -> bool {
+    let copied = Copybook::new(heap, register.limits());
+    match copied.map(|copybook| takes_no_memory(heap, copybook, register.journal())) {
+        Ok(right) => {
+            assert!(rt; right);
+            true
+        }
+        Err(_) => false,
+    }
 }
 
 // Whether a heap with so many bytes is too small for a copy, which is made once the spare bytes are given back.
@@ -29,15 +43,15 @@ fn is_too_small_to_copy(
 ) -> Result<bool, Fail> {
     let heap = heap_of(rt.alloc(), bytes)?;
     let spare = spare_of(&heap)?;
-    let is_small = !is_copied(rt, &heap, register)?;
+    let is_small = !is_copied(rt, &heap, register);
     drop(spare);
-    assert!(rt; is_copied(rt, &heap, register)?);
+    assert!(rt; is_copied(rt, &heap, register));
     Ok(is_small)
 }
 
 #[test]
 fn copies_with_memory_alone(rt: HostRuntime) -> Result<(), Fail> {
-    let register = corrected(&rt, rt.alloc())?;
+    let register = full_register(&rt, rt.alloc())?;
     assert!(rt; is_too_small_to_copy(&rt, 16, &register)?);
     for size in 1..512 {
         is_too_small_to_copy(&rt, 16 * size, &register)?;
@@ -46,46 +60,31 @@ fn copies_with_memory_alone(rt: HostRuntime) -> Result<(), Fail> {
     Ok(())
 }
 
-// Whether a heap has room for the frozen book of a copy, which is this one.
-fn is_frozen(
-    rt: &(impl Abort + AllocGlobal),
-    heap: &LocalHeap,
-    register: &Register<Global>,
-    wanted: &Frozen<Global>,
-) -> bool {
-    let frozen = frozen_copy(rt.alloc(), register, heap);
-    match frozen.map(|frozen| are_same(&frozen, wanted)) {
-        Ok(same) => {
-            assert!(rt; same);
-            true
-        }
-        Err(_) => false,
-    }
-}
-
-// Whether a heap with so many bytes is too small for it; it is frozen once the spare bytes are given back.
+// Whether a heap with so many bytes is too small for the frozen book of a copy, which has these rows; it is frozen once
+// the spare bytes are given back.
 fn is_too_small_to_freeze(
     rt: &(impl Abort + AllocGlobal),
     bytes: usize,
     register: &Register<Global>,
-    wanted: &Frozen<Global>,
+    rows: &[Row],
 ) -> Result<bool, Fail> {
     let heap = heap_of(rt.alloc(), bytes)?;
     let spare = spare_of(&heap)?;
-    let is_small = !is_frozen(rt, &heap, register, wanted);
+    let frozen = freezes_to(rt.alloc(), register, &heap, rows);
+    assert!(rt; frozen.unwrap_or(true));
     drop(spare);
-    assert!(rt; is_frozen(rt, &heap, register, wanted));
-    Ok(is_small)
+    assert!(rt; freezes_to(rt.alloc(), register, &heap, rows)?);
+    Ok(frozen.is_err())
 }
 
 #[test]
 fn freezes_with_memory_alone(rt: HostRuntime) -> Result<(), Fail> {
-    let register = corrected(&rt, rt.alloc())?;
-    let frozen = register.pedigree().freeze(rt.alloc())?;
-    assert!(rt; is_too_small_to_freeze(&rt, 16, &register, &frozen)?);
+    let register = full_register(&rt, rt.alloc())?;
+    let rows = rows()?;
+    assert!(rt; is_too_small_to_freeze(&rt, 16, &register, &rows)?);
     for size in 1..512 {
-        is_too_small_to_freeze(&rt, 16 * size, &register, &frozen)?;
+        is_too_small_to_freeze(&rt, 16 * size, &register, &rows)?;
     }
-    assert!(rt; !is_too_small_to_freeze(&rt, 8192, &register, &frozen)?);
+    assert!(rt; !is_too_small_to_freeze(&rt, 8192, &register, &rows)?);
     Ok(())
 }

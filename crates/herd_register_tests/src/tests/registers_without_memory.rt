@@ -1,10 +1,11 @@
 //! Registers on heaps that are too small.
 
-use super::filed::{answered, empty, expect_seen, family, one_of_each_kind, seen};
+use super::families::{birth, exit, line, transfer, with_dam, without_sire};
+use super::filed::answered;
+use super::seen::{expect_depths, is_seen, seen_of};
 use super::texts::Text;
-use herd_fixtures::Name::Bull;
-use herd_fixtures::{Pair, heap_of, spare_of};
-use herd_register::{FileFault, Register, Reply};
+use herd_fixtures::{heap_of, spare_of};
+use herd_register::{FileFault, Limits, Register, Reply};
 use std::alloc::Allocator;
 use std::process::Abort;
 use std::test::Fail;
@@ -15,7 +16,8 @@ fn is_answered<A: Allocator + Copy>(
     register: &mut Register<A>,
     text: Text,
 ) -> Result<bool, Fail> {
-    let before = seen(register);
+    let before = seen_of(register);
+    let steps = register.journal().len();
     let could_withdraw = register.can_withdraw();
     match answered(register, text.command()?) {
         Ok(reply) => {
@@ -24,8 +26,9 @@ fn is_answered<A: Allocator + Copy>(
         }
         Err(fault) => {
             assert!(rt; fault == FileFault::Memory);
+            assert!(rt; is_seen(register, &before));
+            assert_eq!(rt; register.journal().len(), steps);
             assert!(rt; register.can_withdraw() == could_withdraw);
-            expect_seen(rt, register, before);
             Ok(false)
         }
     }
@@ -35,21 +38,21 @@ fn is_answered<A: Allocator + Copy>(
 fn answered_first<A: Allocator + Copy>(
     rt: &impl Abort,
     register: &mut Register<A>,
-    texts: &[Text; 5],
+    texts: &[Text],
 ) -> Result<usize, Fail> {
     for (place, text) in texts.iter().enumerate() {
         if !is_answered(rt, register, *text)? {
             return Ok(place);
         }
     }
-    Ok(5)
+    Ok(texts.len())
 }
 
 // All but the first texts are answered.
 fn expect_answered<A: Allocator + Copy>(
     rt: &impl Abort,
     register: &mut Register<A>,
-    texts: &[Text; 5],
+    texts: &[Text],
     first: usize,
 ) -> Result<(), Fail> {
     for text in texts.iter().skip(first) {
@@ -58,47 +61,58 @@ fn expect_answered<A: Allocator + Copy>(
     Ok(())
 }
 
-// Whether a heap with so many bytes is too small for the texts. They are answered once the spare bytes are given back.
+// Whether a heap with so many bytes is too small for the texts. They are answered once the spare bytes are given back,
+// and the calf has this depth then, each bull of its line a step more.
 fn is_too_small(
     rt: &(impl Abort + AllocGlobal),
     bytes: usize,
-    texts: &[Text; 5],
+    texts: &[Text],
+    depth: u8,
 ) -> Result<bool, Fail> {
     let heap = heap_of(rt.alloc(), bytes)?;
     let spare = spare_of(&heap)?;
-    let mut register = empty(&heap);
+    let limits = Limits {
+        animals: 8,
+        steps: 9,
+    };
+    let mut register = Register::new(&heap, limits);
     let answered = answered_first(rt, &mut register, texts)?;
     drop(spare);
     expect_answered(rt, &mut register, texts, answered)?;
-    Ok(answered < 5)
+    expect_depths(rt, &register, depth);
+    Ok(answered < texts.len())
 }
 
-// The journal grows at the last.
-fn five(last: Text) -> [Text; 5] {
-    let [bull, cow, calf] = family();
-    [
-        bull,
-        cow,
-        calf,
-        Text::Parents(Bull(3), Pair::of_sire(Bull(1))),
-        last,
-    ]
+// The line, its calf's dam, and a last text, at which the journal grows.
+fn nine(last: Text) -> [Text; 9] {
+    let [bull, cow, calf, a, b, c, d] = line();
+    [bull, cow, calf, a, b, c, d, with_dam(), last]
 }
 
 // Every growth is refused in turn: the heap is a little larger each time.
-fn refuse_each_growth(rt: &(impl Abort + AllocGlobal), texts: &[Text; 5]) -> Result<(), Fail> {
-    assert!(rt; is_too_small(rt, 16, texts)?);
-    for size in 1..256 {
-        is_too_small(rt, 16 * size, texts)?;
+fn refuse_each_growth(
+    rt: &(impl Abort + AllocGlobal),
+    texts: &[Text],
+    depth: u8,
+) -> Result<(), Fail> {
+    assert!(rt; is_too_small(rt, 16, texts, depth)?);
+    for size in 1..512 {
+        is_too_small(rt, 16 * size, texts, depth)?;
     }
-    assert!(rt; !is_too_small(rt, 4096, texts)?);
+    assert!(rt; !is_too_small(rt, 8192, texts, depth)?);
     Ok(())
 }
 
+// The first takes a step of each depth of the line.
 #[test]
 fn changes_nothing_without_memory(rt: HostRuntime) -> Result<(), Fail> {
-    for last in one_of_each_kind() {
-        refuse_each_growth(&rt, &five(last))?;
+    for (last, depth) in [
+        (without_sire(), 0),
+        (birth(), 1),
+        (transfer(), 1),
+        (exit(), 1),
+    ] {
+        refuse_each_growth(&rt, &nine(last), depth)?;
     }
     Ok(())
 }

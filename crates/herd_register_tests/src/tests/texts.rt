@@ -11,6 +11,7 @@ pub enum Text {
     /// Born on the first day of 2000, of unknown parents.
     Founder(Name),
     Birth(Name, &'static str, Pair),
+    EmbryoBirth(Name, &'static str, Pair),
     Parents(Name, Pair),
     Transfer(Name, &'static str, &'static str, &'static str),
     Exit(Name, &'static str),
@@ -19,8 +20,9 @@ pub enum Text {
 impl Text {
     pub(crate) fn command(self) -> Result<Command, Fail> {
         match self {
-            Text::Founder(name) => birth(name, "2000-01-01", UNKNOWN),
-            Text::Birth(name, day, parents) => birth(name, day, parents),
+            Text::Founder(name) => birth(name, "2000-01-01", UNKNOWN, false),
+            Text::Birth(name, day, parents) => birth(name, day, parents, false),
+            Text::EmbryoBirth(name, day, parents) => birth(name, day, parents, true),
             Text::Parents(name, parents) => Ok(correction(name, parents)),
             Text::Transfer(name, day, giver, taker) => transfer(name, day, giver, taker),
             Text::Exit(name, day) => exit(name, day),
@@ -28,14 +30,14 @@ impl Text {
     }
 }
 
-fn birth(name: Name, day: &str, parents: Pair) -> Result<Command, Fail> {
+fn birth(name: Name, day: &str, parents: Pair, embryo: bool) -> Result<Command, Fail> {
     Ok(Command::Birth {
         animal: name.number(),
         day: Day::parse(day.as_bytes())?,
         sire: parents.sire_number(),
         dam: parents.dam_number(),
         herd: Herd::parse(b"1")?,
-        embryo: false,
+        embryo,
     })
 }
 
