@@ -44,23 +44,25 @@ pub(super) fn file<A: Allocator + Copy>(
 ) -> Result<Option<ParentFault>, AllocError> {
     match change {
         Change::Birth(name, day, parents) => {
-            file_birth(pedigree, name.number(), born(rt, day, parents, false))
+            let animal = born(rt, day, parents, false);
+            file_birth(rt, pedigree, name.number(), animal)
         }
         Change::EmbryoBirth(name, day, parents) => {
-            file_birth(pedigree, name.number(), born(rt, day, parents, true))
+            let animal = born(rt, day, parents, true);
+            file_birth(rt, pedigree, name.number(), animal)
         }
         Change::Parents(name, parents) => {
             let sire = parents.sire_number();
             let dam = parents.dam_number();
-            file_correction(pedigree, name.number(), sire, dam)
+            file_correction(rt, pedigree, name.number(), sire, dam)
         }
         Change::Transfer(name, text) => {
             let herd = Herd::parse(b"2").expect(rt, "a herd");
-            file_transfer(pedigree, name.number(), herd, day(rt, text));
+            file_transfer(rt, pedigree, name.number(), herd, day(rt, text));
             Ok(None)
         }
         Change::Exit(name, text) => {
-            file_exit(pedigree, name.number(), day(rt, text));
+            file_exit(rt, pedigree, name.number(), day(rt, text));
             Ok(None)
         }
     }

@@ -1,8 +1,9 @@
 //! Corrections of parents: what is asked of them, and what they leave.
 
 use super::changes::{Change, expect_faults, expect_filed, pedigree_of};
+use super::days::day;
 use super::family::family;
-use super::seen::{depth_of, has_calved_after, seen_of};
+use super::seen::{depth_of, seen_of};
 use herd_animal::AnimalNumber;
 use herd_fixtures::Name::{Bull, Cow};
 use herd_fixtures::{Pair, UNKNOWN};
@@ -26,15 +27,6 @@ fn corrected(rt: &impl Abort, alloc: Global) -> Result<Pedigree<Global>, Fail> {
     let correction = Change::Parents(Bull(3), Pair::of(Bull(1), Cow(2)));
     expect_filed(rt, &mut pedigree, correction, None)?;
     Ok(pedigree)
-}
-
-#[test]
-fn a_calf_gets_its_dam(rt: HostRuntime) -> Result<(), Fail> {
-    let pedigree = corrected(&rt, rt.alloc())?;
-    assert_eq!(rt; depth_of(&pedigree, Bull(3)), Some(1));
-    assert!(rt; has_calved_after(&rt, &pedigree, Cow(2), *b"2001-12-31"));
-    assert!(rt; !has_calved_after(&rt, &pedigree, Cow(2), *b"2002-01-01"));
-    Ok(())
 }
 
 fn freeze_corrected(rt: &impl Abort, alloc: Global) -> Result<Frozen<Global>, Fail> {
@@ -119,6 +111,13 @@ fn a_path_that_comes_back_is_too_deep(rt: HostRuntime) -> Result<(), Fail> {
     let mut pedigree = pedigree_of(&rt, rt.alloc(), &family())?;
     expect_faults(&rt, &mut pedigree, &returning())?;
     let parents = Pair::of(Bull(9), Cow(2));
-    let other = Change::Birth(Bull(1), *b"2006-01-01", parents);
-    expect_filed(&rt, &mut pedigree, other, None)
+    let fault = pedigree.check_parents(
+        Bull(1).number(),
+        day(&rt, *b"2006-01-01"),
+        parents.sire_number(),
+        parents.dam_number(),
+        false,
+    )?;
+    assert_eq!(rt; fault, None);
+    Ok(())
 }

@@ -90,17 +90,6 @@ fn set_sire(rt: &impl Abort, pedigree: &mut Pedigree<Global>) -> Result<(), Fail
 }
 
 #[test]
-fn a_founder_as_sire_just_fits(rt: HostRuntime) -> Result<(), Fail> {
-    let mut pedigree = deep_book(&rt, rt.alloc())?;
-    set_sire(&rt, &mut pedigree)?;
-    let calf = Change::Birth(Bull(103), *b"2060-01-01", Pair::of_sire(Bull(59)));
-    expect_filed(&rt, &mut pedigree, calf, Some(ParentFault::TooDeep))?;
-    expect_filed(&rt, &mut pedigree, Change::Parents(Bull(0), UNKNOWN), None)?;
-    expect_depths(&rt, &pedigree, 0);
-    Ok(())
-}
-
-#[test]
 fn sixty_depths_are_taken_back(rt: HostRuntime) -> Result<(), Fail> {
     let mut pedigree = deep_book(&rt, rt.alloc())?;
     set_sire(&rt, &mut pedigree)?;

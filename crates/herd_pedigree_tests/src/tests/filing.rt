@@ -1,76 +1,74 @@
-//! Changes of a pedigree that are checked first, as a register does.
+//! Changes of a pedigree that are checked first, as a register does. What isn't allowed is no change of a test.
 
 use herd_animal::{AnimalNumber, Day, Herd};
 use herd_pedigree::{Animal, MOST_ANIMALS, ParentFault, Pedigree};
 use std::alloc::{AllocError, Allocator};
+use std::process::Abort;
 
-/// Adds an animal, where it has no fault and isn't there yet.
+/// Adds an animal, where its parents have no fault.
 pub(super) fn file_birth<A: Allocator + Copy>(
+    rt: &impl Abort,
     pedigree: &mut Pedigree<A>,
     number: AnimalNumber,
     animal: Animal,
 ) -> Result<Option<ParentFault>, AllocError> {
-    let fault = pedigree.check_parents(
-        number,
-        animal.birth,
-        animal.sire,
-        animal.dam,
-        animal.embryo,
-    )?;
-    let is_new = pedigree.get(&number).is_none() && pedigree.len() < MOST_ANIMALS;
-    if fault.is_none() && is_new && animal.since == animal.birth && animal.left.is_none() {
+    let Animal {
+        birth,
+        sire,
+        dam,
+        embryo,
+        ..
+    } = animal;
+    let fault = pedigree.check_parents(number, birth, sire, dam, embryo)?;
+    if fault.is_none() {
+        assert!(rt; pedigree.get(&number).is_none() && pedigree.len() < MOST_ANIMALS);
+        assert!(rt; animal.since == birth && animal.left.is_none());
         pedigree.add(number, animal)?;
     }
     Ok(fault)
 }
 
-/// Sets the parents of an animal, where they have no fault.
+/// Sets the parents of an animal of the book, where they have no fault. Where they have one, they are told to be set
+/// all the same, and it is told again.
 pub(super) fn file_correction<A: Allocator + Copy>(
+    rt: &impl Abort,
     pedigree: &mut Pedigree<A>,
     number: AnimalNumber,
     sire: Option<AnimalNumber>,
     dam: Option<AnimalNumber>,
 ) -> Result<Option<ParentFault>, AllocError> {
-    let Some(animal) = pedigree.get(&number) else {
-        return Ok(None);
-    };
-    let animal = Animal {
-        sire,
-        dam,
-        ..animal
-    };
-    let fault = pedigree.check_parents(
-        number,
-        animal.birth,
-        animal.sire,
-        animal.dam,
-        animal.embryo,
-    )?;
+    let Animal { birth, embryo, .. } = pedigree.get(&number).expect(rt, "an animal");
+    let fault = pedigree.check_parents(number, birth, sire, dam, embryo)?;
     if fault.is_none() {
-        pedigree.set_parents(number, animal.sire, animal.dam)?;
+        pedigree.set_parents(number, sire, dam)?;
+    } else {
+        assert_eq!(rt; pedigree.set_parents_if_sound(number, sire, dam)?, fault);
     }
     Ok(fault)
 }
 
-/// Sets the owner, where the animal is present.
+/// Sets the owner of an animal that is present.
 pub(super) fn file_transfer<A: Allocator>(
+    rt: &impl Abort,
     pedigree: &mut Pedigree<A>,
     number: AnimalNumber,
     herd: Herd,
     day: Day,
 ) {
-    if let Some(animal) = pedigree.get(&number) {
-        if animal.left.is_none() && animal.since <= day {
-            pedigree.set_owner(number, herd, day);
-        }
-    }
+    let animal = pedigree.get(&number).expect(rt, "an animal");
+    assert!(rt; animal.left.is_none() && animal.since <= day);
+    pedigree.set_owner(number, herd, day);
 }
 
-/// Notes the exit, where the animal may leave.
-pub(super) fn file_exit<A: Allocator>(pedigree: &mut Pedigree<A>, number: AnimalNumber, day: Day) {
-    if let Some(animal) = pedigree.get(&number) {
-        if animal.left.is_none() && animal.since <= day && !pedigree.calved_after(&number, day) {
-            pedigree.set_left(number, day);
-        }
-    }
+/// Notes the exit of an animal that may leave.
+pub(super) fn file_exit<A: Allocator>(
+    rt: &impl Abort,
+    pedigree: &mut Pedigree<A>,
+    number: AnimalNumber,
+    day: Day,
+) {
+    let animal = pedigree.get(&number).expect(rt, "an animal");
+    assert!(rt; animal.left.is_none() && animal.since <= day);
+    assert!(rt; !pedigree.calved_after(&number, day));
+    pedigree.set_left(number, day);
 }

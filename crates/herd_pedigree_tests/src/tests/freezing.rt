@@ -92,26 +92,26 @@ fn finds_ranks(rt: HostRuntime) -> Result<(), Fail> {
     Ok(())
 }
 
-// Every growth is refused in turn: the heap is a little larger each time.
+// The heap is a block larger each time, so that each growth in turn is the first for which there is no room.
 #[test]
 fn answers_memory_or_the_family(rt: HostRuntime) -> Result<(), Fail> {
     let records = family(rt.alloc())?;
     let mut refused = 0u32;
-    for size in 1..200 {
-        let heap = LocalHeap::new(rt.alloc(), 64 * size)?;
+    for blocks in 1..400 {
+        let heap = LocalHeap::new(rt.alloc(), 16 * blocks)?;
         match freeze_list(&heap, &records) {
             Ok(frozen) => assert_eq!(rt; rows_in(&frozen), Some(family_rows(&records))),
             Err(_) => refused = refused.saturating_add(1),
         }
     }
-    assert!(rt; 0 < refused && refused < 199);
+    assert!(rt; 0 < refused && refused < 399);
     Ok(())
 }
 
 #[test]
 fn begins_empty(rt: HostRuntime) {
     let pedigree = Pedigree::new(rt.alloc());
-    assert!(rt; pedigree.is_empty());
+    assert!(rt; pedigree.is_empty() && !pedigree.can_take_back());
     let empty = pedigree.freeze(rt.alloc()).map(|frozen| frozen.is_empty());
     assert_eq!(rt; empty, Ok(true));
 }

@@ -40,11 +40,13 @@ fn refusals(
     change: Change,
 ) -> u32 {
     let before = family_seen(rt, pedigree);
+    let can_take_back = pedigree.can_take_back();
     for refused in 0..TIMES {
         if file(rt, pedigree, change).is_ok() {
             return refused;
         }
         assert_eq!(rt; family_seen(rt, pedigree), before, "{change:?}");
+        assert_eq!(rt; pedigree.can_take_back(), can_take_back, "{change:?}");
         drop(blocks.pop());
     }
     TIMES
@@ -86,23 +88,15 @@ fn expect_in_time(
     Ok(())
 }
 
-// The book has eight animals, and no room for a ninth.
+// A ninth animal, for which there is no room; a correction whose check searches the descendants; and two that ask the
+// check for no memory, as nobody gets deeper.
 #[test]
-fn adds_an_animal_in_time(rt: HostRuntime) -> Result<(), Fail> {
-    expect_in_time(&rt, rt.alloc(), &cows(), birth())
-}
-
-// The check is refused first: it searches the descendants.
-#[test]
-fn checks_parents_in_time(rt: HostRuntime) -> Result<(), Fail> {
-    expect_in_time(&rt, rt.alloc(), &[], older_sire())
-}
-
-// Neither asks the check for memory, as nobody gets deeper.
-#[test]
-fn sets_parents_in_time(rt: HostRuntime) -> Result<(), Fail> {
-    expect_in_time(&rt, rt.alloc(), &[], no_parents())?;
-    expect_in_time(&rt, rt.alloc(), &[], sire())
+fn changes_are_made_in_time(rt: HostRuntime) -> Result<(), Fail> {
+    expect_in_time(&rt, rt.alloc(), &cows(), birth())?;
+    for correction in [older_sire(), no_parents(), sire()] {
+        expect_in_time(&rt, rt.alloc(), &[], correction)?;
+    }
+    Ok(())
 }
 
 fn rows_of<A: Allocator>(frozen: &Frozen<A>) -> Option<[Row; 5]> {

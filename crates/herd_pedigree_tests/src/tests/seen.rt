@@ -2,7 +2,7 @@
 
 use super::days::day;
 use herd_fixtures::Name::{Bull, Cow};
-use herd_fixtures::{DayText, Name};
+use herd_fixtures::Name;
 use herd_pedigree::{Animal, Pedigree};
 use std::alloc::Allocator;
 use std::process::Abort;
@@ -38,13 +38,4 @@ pub(super) fn family_seen<A: Allocator>(rt: &impl Abort, pedigree: &Pedigree<A>)
 
 pub(super) fn depth_of<A: Allocator>(pedigree: &Pedigree<A>, name: Name) -> Option<u8> {
     pedigree.depth(&name.number())
-}
-
-pub(super) fn has_calved_after<A: Allocator>(
-    rt: &impl Abort,
-    pedigree: &Pedigree<A>,
-    name: Name,
-    text: DayText,
-) -> bool {
-    pedigree.calved_after(&name.number(), day(rt, text))
 }

@@ -2,8 +2,9 @@
 
 use super::changes::{Change, expect_filed, pedigree_of};
 use super::family::{birth, exit, family, no_parents, older_sire, sire, transfer};
-use super::seen::{Seen, depth_of, family_seen};
+use super::seen::{Seen, family_seen};
 use herd_fixtures::Name::{Bull, Cow};
+use herd_fixtures::Pair;
 use herd_pedigree::Pedigree;
 use std::alloc::Global;
 use std::process::Abort;
@@ -41,59 +42,39 @@ fn expect_taken_back(rt: &impl Abort, alloc: Global, change: Change) -> Result<(
 }
 
 #[test]
-fn a_birth_is_taken_back(rt: HostRuntime) -> Result<(), Fail> {
-    expect_taken_back(&rt, rt.alloc(), birth())
+fn each_change_is_taken_back(rt: HostRuntime) -> Result<(), Fail> {
+    let changes = [
+        birth(),
+        older_sire(),
+        no_parents(),
+        sire(),
+        transfer(),
+        exit(),
+    ];
+    for change in changes {
+        expect_taken_back(&rt, rt.alloc(), change)?;
+    }
+    Ok(())
 }
 
-#[test]
-fn corrections_are_taken_back(rt: HostRuntime) -> Result<(), Fail> {
-    expect_taken_back(&rt, rt.alloc(), older_sire())?;
-    expect_taken_back(&rt, rt.alloc(), no_parents())?;
-    expect_taken_back(&rt, rt.alloc(), sire())
-}
-
-#[test]
-fn a_transfer_and_an_exit_are_taken_back(rt: HostRuntime) -> Result<(), Fail> {
-    expect_taken_back(&rt, rt.alloc(), transfer())?;
-    expect_taken_back(&rt, rt.alloc(), exit())
-}
-
-// The depths of the bull, his daughter and her calf.
-fn depths(pedigree: &Pedigree<Global>) -> [Option<u8>; 3] {
-    [
-        depth_of(pedigree, Bull(1)),
-        depth_of(pedigree, Cow(3)),
-        depth_of(pedigree, Bull(4)),
-    ]
-}
-
-// A correction leaves these depths, and is taken back.
-fn expect_depths(
+// Files a change that sets what is there already, and takes it back.
+fn expect_nothing_new(
     rt: &impl Abort,
     pedigree: &mut Pedigree<Global>,
-    correction: Change,
-    wanted: [Option<u8>; 3],
+    change: Change,
 ) -> Result<(), Fail> {
-    expect_filed(rt, pedigree, correction, None)?;
-    assert_eq!(rt; depths(pedigree), wanted);
+    let before = family_seen(rt, pedigree);
+    assert_eq!(rt; seen_after(rt, pedigree, change)?, before, "{change:?}");
     take_back(rt, pedigree);
-    assert_eq!(rt; depths(pedigree), [Some(0), Some(1), Some(2)]);
+    assert_eq!(rt; family_seen(rt, pedigree), before, "{change:?}");
     Ok(())
 }
 
 #[test]
-fn depths_are_taken_back(rt: HostRuntime) -> Result<(), Fail> {
+fn values_that_were_there_are_taken_back(rt: HostRuntime) -> Result<(), Fail> {
     let mut pedigree = pedigree_of(&rt, rt.alloc(), &family())?;
-    let deeper = [Some(1), Some(2), Some(3)];
-    expect_depths(&rt, &mut pedigree, older_sire(), deeper)?;
-    let less_deep = [Some(0), Some(0), Some(1)];
-    expect_depths(&rt, &mut pedigree, no_parents(), less_deep)?;
-    let same = [Some(0), Some(1), Some(2)];
-    expect_depths(&rt, &mut pedigree, sire(), same)
-}
-
-#[test]
-fn a_new_book_has_nothing_to_take_back(rt: HostRuntime) {
-    let pedigree = Pedigree::new(rt.alloc());
-    assert!(rt; !pedigree.can_take_back());
+    expect_filed(&rt, &mut pedigree, transfer(), None)?;
+    expect_nothing_new(&rt, &mut pedigree, transfer())?;
+    let parents = Change::Parents(Cow(3), Pair::of_sire(Bull(1)));
+    expect_nothing_new(&rt, &mut pedigree, parents)
 }
