@@ -14,7 +14,8 @@ every step (suc out) (command ∷ more) = every step out more
 abbrev pub dealt_first : List Command → ℕ → List Command
 dealt_first first number = if number == 1 then first else []
 
--- what falls to a desk of so many: the first commands to desk 1, and then of the rest every so many-th, from the one at the desk's turn on
+-- what falls to a desk of so many: the first commands to desk 1, and then of the rest every so many-th, from the one at
+-- the desk's turn on
 abbrev pub dealt : ℕ → List Command → List Command → ℕ → List Command
 dealt desks first rest number = dealt_first first number ++ every desks (number - 1) rest
 
@@ -22,8 +23,8 @@ dealt desks first rest number = dealt_first first number ++ every desks (number 
 abbrev pub commands_at : ℕ → List Step → List Command
 commands_at number journal = map (λ s. s.command) (filter (λ s. s.desk == number) journal)
 
--- what is known of a desk that has filed these commands: it answered as many calls, its history has at least as many steps of the
--- desk, and where it has no more, they are of just these commands, in their order
+-- what is known of a desk that has filed these commands: it answered as many calls, its history has at least as many
+-- steps of the desk, and where it has no more, they are of just these commands, in their order
 pub record HasFiled (number answered : ℕ) (history : List Step) (commands : List Command) : Type 0 where
   pub counted : answered ≡ length commands
   pub stored : answered ≤ of_desk number history

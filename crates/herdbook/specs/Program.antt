@@ -81,5 +81,6 @@ CanEndTask (task.Clerks desks base) fault = CanEndClerks fault
 -- the ends that the words leave open, whatever is read
 abbrev pub CanEnd : List (List ℕ) → Ending → Type 0
 CanEnd words Done = Asks words (λ _. Unit {0})
-CanEnd words (Early fault) = Asks words (λ request. HasTask request (λ task. CanEndTask task fault)) ⊎ AsksNothing words (Early fault)
+CanEnd words (Early fault) =
+    Asks words (λ request. HasTask request (λ task. CanEndTask task fault)) ⊎ AsksNothing words (Early fault)
 CanEnd words ending = AsksNothing words ending

@@ -15,7 +15,8 @@ abbrev pub IsAdvice : List ℕ → List (List ℕ) → Order → Type 0
 IsAdvice dam sires (Mating d s) = (d ≡ dam) × (s.now ≡ sires)
 IsAdvice dam sires order = ⊥
 
--- what a run is ordered for a request: one worker at least and no more than share a book, and blocks of one animal at least
+-- what a run is ordered for a request: one worker at least and no more than share a book, and blocks of one animal at
+-- least
 abbrev pub IsOrderFor : Request → Order → Type 0
 IsOrderFor FileAsked order = order ≡ File
 IsOrderFor (InbreedingAsked workers block) order = order ≡ Inbreeding (max 1 (min MOST_WORKERS workers)) (max 1 block)

@@ -26,10 +26,10 @@ summary_text summary =
     ++ codes "steps " ++ decimal summary.steps ++ codes "\nanimals " ++ decimal summary.animals
     ++ codes "\nseen " ++ decimal summary.seen ++ codes "\n"
 
--- a summary of the closed office of so many desks for these commands, of which so many first ones fell to desk 1: a legal journal is as
--- long as they are, and each desk's steps in it are of the commands that fell to it, in their order; there is a count for each desk, from
--- 1 on, of its steps; the animals are those of the journal's book, and an inspector has seen as many steps as there are; in which order
--- different desks filed is left open
+-- a summary of the closed office of so many desks for these commands, of which so many first ones fell to desk 1: a
+-- legal journal is as long as they are, and each desk's steps in it are of the commands that fell to it, in their
+-- order; there is a count for each desk, from 1 on, of its steps; the animals are those of the journal's book, and an
+-- inspector has seen as many steps as there are; in which order different desks filed is left open
 pub record IsSummaryOf (limits : Limits) (desks base : ℕ) (commands : List Command) (summary : Summary) : Type 0 where
   pub journal : List Step
   pub legal : IsLegal limits journal
@@ -37,8 +37,10 @@ pub record IsSummaryOf (limits : Limits) (desks base : ℕ) (commands : List Com
   pub as_many : summary.steps ≡ length commands
   pub numbers_are : map (λ d. d.number) summary.desks.items ≡ range_with_len 1 desks
   pub sum_is : sum_by (λ d. d.answered) summary.desks.items ≡ summary.steps
-  pub each_is : (place : ℕ) (desk : DeskCount) → slice_get summary.desks.items place ≡ Some desk → desk.answered ≡ of_desk desk.number journal
-  pub dealt_are : (place : ℕ) (desk : DeskCount) → slice_get summary.desks.items place ≡ Some desk → commands_at desk.number journal ≡ dealt desks (take base commands) (drop base commands) desk.number
+  pub each_is : (place : ℕ) (desk : DeskCount) → slice_get summary.desks.items place ≡ Some desk
+      → desk.answered ≡ of_desk desk.number journal
+  pub dealt_are : (place : ℕ) (desk : DeskCount) → slice_get summary.desks.items place ≡ Some desk
+      → commands_at desk.number journal ≡ dealt desks (take base commands) (drop base commands) desk.number
   pub animals_are : summary.animals ≡ length (run_book limits (commands_of journal))
   pub all_seen : summary.seen ≡ summary.steps
 

@@ -223,7 +223,7 @@ fn runs<'a>(alloc: Global) -> Result<Command<'a>, AllocError>
     named(
         alloc,
         "herdbook",
-        "Keeps the herd book of a breed society",
+        "Reads the herd book of a breed society, and writes what is asked of it",
         help::PROGRAM,
     )
     .version(help::VERSION)

@@ -49,8 +49,10 @@ impl<N: OfficeName> Clerk<N> {
         command: Command,
     ) -> Result<(), ClerkFault>
         ensures number { self.new.desk.number ≡ self.old.desk.number }
-        ensures filed { (before : List Command) → HasFiled self.old.desk.number self.old.desk.answered self.old.desk.history before
-            → OnOk result (HasFiled self.new.desk.number self.new.desk.answered self.new.desk.history (before ++ command ∷ [])) }
+        ensures filed { (before : List Command)
+            → HasFiled self.old.desk.number self.old.desk.answered self.old.desk.history before
+            → OnOk result (HasFiled self.new.desk.number self.new.desk.answered self.new.desk.history
+            (before ++ command ∷ [])) }
     {
         let Filed {
             serial: _,
@@ -71,8 +73,10 @@ impl<N: OfficeName> Clerk<N> {
         requires step { (1 ≤ turn.step) × (turn.step ≤ MOST_DESKS) }
         requires few { length turn.commands.now ≤ MOST_STEPS }
         ensures number { self.new.desk.number ≡ self.old.desk.number }
-        ensures filed { (before : List Command) → HasFiled self.old.desk.number self.old.desk.answered self.old.desk.history before
-            → OnOk result (HasFiled self.new.desk.number self.new.desk.answered self.new.desk.history (before ++ every turn.entry.step turn.entry.from turn.entry.commands.now)) }
+        ensures filed { (before : List Command)
+            → HasFiled self.old.desk.number self.old.desk.answered self.old.desk.history before
+            → OnOk result (HasFiled self.new.desk.number self.new.desk.answered self.new.desk.history
+            (before ++ every turn.entry.step turn.entry.from turn.entry.commands.now)) }
     {
         let mut place = turn.from;
         while place < turn.commands.len() {

@@ -27,7 +27,8 @@ impl<'a, N: OfficeName> Promise<Result<Clerk<N>, ClerkFault>> for DeskTask<'a> {
     ghost use Rattle.herdbook.specs.Deal.{HasFiled, dealt};
 
     ghost kept_by = { λ task result. IfOk result (λ clerk. (clerk.desk.number ≡ task.number)
-        × HasFiled clerk.desk.number clerk.desk.answered clerk.desk.history (dealt task.deal.desks task.deal.first.now task.deal.rest.now clerk.desk.number)) };
+        × HasFiled clerk.desk.number clerk.desk.answered clerk.desk.history
+        (dealt task.deal.desks task.deal.first.now task.deal.rest.now clerk.desk.number)) };
 }
 
 type Started<'a, N> = PromisedHandle<Result<Clerk<N>, ClerkFault>, DeskTask<'a>>;
@@ -47,9 +48,12 @@ pub fn file_in_turn<
 ) -> Result<Vec<Clerk<N>>, ClerkFault>
     requires desks { (1 ≤ deal.desks) × (deal.desks ≤ MOST_DESKS) }
     requires few { length deal.rest.now ≤ MOST_STEPS }
-    requires first { All (λ c. HasFiled c.desk.number c.desk.answered c.desk.history (dealt_first deal.first.now c.desk.number)) clerks.items }
-    ensures numbers { IfOk result (λ done. map (λ c. c.desk.number) done.items ≡ map (λ c. c.desk.number) clerks.items) }
-    ensures filed { IfOk result (λ done. All (λ c. HasFiled c.desk.number c.desk.answered c.desk.history (dealt deal.entry.desks deal.entry.first.now deal.entry.rest.now c.desk.number)) done.items) }
+    requires first { All (λ c. HasFiled c.desk.number c.desk.answered c.desk.history
+        (dealt_first deal.first.now c.desk.number)) clerks.items }
+    ensures numbers { IfOk result
+        (λ done. map (λ c. c.desk.number) done.items ≡ map (λ c. c.desk.number) clerks.items) }
+    ensures filed { IfOk result (λ done. All (λ c. HasFiled c.desk.number c.desk.answered c.desk.history
+        (dealt deal.entry.desks deal.entry.first.now deal.entry.rest.now c.desk.number)) done.items) }
 {
     thread::scope(
         thread::scope_env(),
@@ -57,9 +61,12 @@ pub fn file_in_turn<
         |scope| -> Result<Vec<Clerk<N>>, ClerkFault>
             requires desks { (1 ≤ deal.desks) × (deal.desks ≤ MOST_DESKS) }
             requires few { length deal.rest.now ≤ MOST_STEPS }
-            requires first { All (λ c. HasFiled c.desk.number c.desk.answered c.desk.history (dealt_first deal.first.now c.desk.number)) clerks.items }
-            ensures numbers { IfOk result (λ done. map (λ c. c.desk.number) done.items ≡ map (λ c. c.desk.number) clerks.items) }
-            ensures filed { IfOk result (λ done. All (λ c. HasFiled c.desk.number c.desk.answered c.desk.history (dealt deal.entry.desks deal.entry.first.now deal.entry.rest.now c.desk.number)) done.items) }
+            requires first { All (λ c. HasFiled c.desk.number c.desk.answered c.desk.history
+                (dealt_first deal.first.now c.desk.number)) clerks.items }
+            ensures numbers { IfOk result
+                (λ done. map (λ c. c.desk.number) done.items ≡ map (λ c. c.desk.number) clerks.items) }
+            ensures filed { IfOk result (λ done. All (λ c. HasFiled c.desk.number c.desk.answered c.desk.history
+                (dealt deal.entry.desks deal.entry.first.now deal.entry.rest.now c.desk.number)) done.items) }
         {
             let started = start_all(scope, rt, alloc, office, clerks, deal)?;
             join_all(rt, alloc, started)
@@ -78,8 +85,10 @@ fn start_all<'s, N: OfficeName + Send + Sync, E, H: Wait + Sync, R: Wait + Drop 
 ) -> Result<Vec<Started<'s, N>>, ClerkFault>
     requires desks { (1 ≤ deal.desks) × (deal.desks ≤ MOST_DESKS) }
     requires few { length deal.rest.now ≤ MOST_STEPS }
-    requires first { All (λ c. HasFiled c.desk.number c.desk.answered c.desk.history (dealt_first deal.first.now c.desk.number)) clerks.items }
-    ensures numbers { IfOk result (λ started. map (λ s. s.promise.number) (vec_items started) ≡ map (λ c. c.desk.number) clerks.items) }
+    requires first { All (λ c. HasFiled c.desk.number c.desk.answered c.desk.history
+        (dealt_first deal.first.now c.desk.number)) clerks.items }
+    ensures numbers { IfOk result
+        (λ started. map (λ s. s.promise.number) (vec_items started) ≡ map (λ c. c.desk.number) clerks.items) }
     ensures deals { IfOk result (λ started. All (λ s. s.promise.deal ≡ deal.entry) (vec_items started)) }
 {
     let mut started = Vec::new(alloc);
@@ -100,7 +109,8 @@ fn start<'s, N: OfficeName + Send + Sync, E, H: Wait + Sync, R: Wait + Drop + Se
 ) -> Result<Started<'s, N>, ClerkFault>
     requires desks { (1 ≤ deal.desks) × (deal.desks ≤ MOST_DESKS) }
     requires few { length deal.rest.now ≤ MOST_STEPS }
-    requires first { HasFiled clerk.desk.number clerk.desk.answered clerk.desk.history (dealt_first deal.first.now clerk.desk.number) }
+    requires first { HasFiled clerk.desk.number clerk.desk.answered clerk.desk.history
+        (dealt_first deal.first.now clerk.desk.number) }
     ensures number { IfOk result (λ started. started.promise.number ≡ clerk.desk.number) }
     ensures deal { IfOk result (λ started. started.promise.deal ≡ deal.entry) }
 {
@@ -113,9 +123,11 @@ fn start<'s, N: OfficeName + Send + Sync, E, H: Wait + Sync, R: Wait + Drop + Se
         move || -> Result<Clerk<N>, ClerkFault>
             requires desks { (1 ≤ deal.desks) × (deal.desks ≤ MOST_DESKS) }
             requires few { length deal.rest.now ≤ MOST_STEPS }
-            requires first { HasFiled clerk.desk.number clerk.desk.answered clerk.desk.history (dealt_first deal.first.now clerk.desk.number) }
+            requires first { HasFiled clerk.desk.number clerk.desk.answered clerk.desk.history
+                (dealt_first deal.first.now clerk.desk.number) }
             ensures number { IfOk result (λ done. done.desk.number ≡ clerk.desk.number) }
-            ensures filed { IfOk result (λ done. HasFiled done.desk.number done.desk.answered done.desk.history (dealt deal.entry.desks deal.entry.first.now deal.entry.rest.now done.desk.number)) }
+            ensures filed { IfOk result (λ done. HasFiled done.desk.number done.desk.answered done.desk.history
+                (dealt deal.entry.desks deal.entry.first.now deal.entry.rest.now done.desk.number)) }
         { filed(rt, office, clerk, deal) },
     );
     match started {
@@ -133,9 +145,11 @@ fn filed<N: OfficeName, H: Wait, R: Wait + Drop>(
 ) -> Result<Clerk<N>, ClerkFault>
     requires desks { (1 ≤ deal.desks) × (deal.desks ≤ MOST_DESKS) }
     requires few { length deal.rest.now ≤ MOST_STEPS }
-    requires first { HasFiled clerk.desk.number clerk.desk.answered clerk.desk.history (dealt_first deal.first.now clerk.desk.number) }
+    requires first { HasFiled clerk.desk.number clerk.desk.answered clerk.desk.history
+        (dealt_first deal.first.now clerk.desk.number) }
     ensures number { IfOk result (λ done. done.desk.number ≡ clerk.desk.number) }
-    ensures filed { IfOk result (λ done. HasFiled done.desk.number done.desk.answered done.desk.history (dealt deal.entry.desks deal.entry.first.now deal.entry.rest.now done.desk.number)) }
+    ensures filed { IfOk result (λ done. HasFiled done.desk.number done.desk.answered done.desk.history
+        (dealt deal.entry.desks deal.entry.first.now deal.entry.rest.now done.desk.number)) }
 {
     let turn = deal.turn(clerk.number());
     clerk.file_turn(rt, office, turn)?;
@@ -148,9 +162,11 @@ fn join_all<N: OfficeName, H: Threads>(
     alloc: Global,
     started: Vec<Started<'_, N>>,
 ) -> Result<Vec<Clerk<N>>, ClerkFault>
-    ensures numbers { IfOk result (λ done. map (λ c. c.desk.number) done.items ≡ map (λ s. s.promise.number) (vec_items started.entry)) }
+    ensures numbers { IfOk result
+        (λ done. map (λ c. c.desk.number) done.items ≡ map (λ s. s.promise.number) (vec_items started.entry)) }
     ensures filed { (deal : Deal) → All (λ s. s.promise.deal ≡ deal) (vec_items started.entry)
-        → IfOk result (λ done. All (λ c. HasFiled c.desk.number c.desk.answered c.desk.history (dealt deal.desks deal.first.now deal.rest.now c.desk.number)) done.items) }
+        → IfOk result (λ done. All (λ c. HasFiled c.desk.number c.desk.answered c.desk.history
+        (dealt deal.desks deal.first.now deal.rest.now c.desk.number)) done.items) }
 {
     let mut done = Vec::new(alloc);
     for handle in started {

@@ -44,9 +44,11 @@ pub fn clerks<H: Threads + Wait + Sync, R: Read + Drop, W: Write>(
     requires limits { AreLimits limits }
     requires desks { (1 ≤ desks) × (desks ≤ MOST_DESKS) }
     ensures ok { OnOk result (IfSome (R.remaining reader)
-        (λ bytes. IsFiledBy limits desks base (commands bytes limits.steps) (W.contents writer.old) (W.contents writer.new))) }
+        (λ bytes. IsFiledBy limits desks base (commands bytes limits.steps)
+        (W.contents writer.old) (W.contents writer.new))) }
     ensures err { IfErr result (λ fault. IfSome (R.remaining reader)
-        (λ bytes. EndsClerks limits desks base (commands bytes limits.steps) (W.contents writer.old) (W.contents writer.new) fault)) }
+        (λ bytes. EndsClerks limits desks base (commands bytes limits.steps)
+        (W.contents writer.old) (W.contents writer.new) fault)) }
     ensures fault { IfErr result CanEndClerks }
 {
     let commands = read_commands(alloc, reader, limits.steps);
@@ -81,7 +83,8 @@ fn text_filed<H: Threads + Wait + Sync>(
     requires limits { AreLimits limits }
     requires desks { (1 ≤ desks) × (desks ≤ MOST_DESKS) }
     requires few { length commands.now ≤ limits.steps }
-    ensures { IfOk result (λ text. TellsOf (office_limits limits.animals (length commands.now)) desks base commands.now (string_bytes text)) }
+    ensures { IfOk result (λ text. TellsOf (office_limits limits.animals (length commands.now)) desks base commands.now
+        (string_bytes text)) }
 {
     let summary = summary_of(rt, alloc, limits, desks, base, commands)?;
     Ok(text_of(alloc, &summary)?)
@@ -99,7 +102,8 @@ fn summary_of<H: Threads + Wait + Sync>(
     requires limits { AreLimits limits }
     requires desks { (1 ≤ desks) × (desks ≤ MOST_DESKS) }
     requires few { length commands.now ≤ limits.steps }
-    ensures { IfOk result (IsSummaryOf (office_limits limits.animals (length commands.now)) desks base commands.now) }
+    ensures { IfOk result
+        (IsSummaryOf (office_limits limits.animals (length commands.now)) desks base commands.now) }
 {
     let limits = Limits {
         animals: limits.animals,
@@ -138,9 +142,11 @@ fn all_filed<N: OfficeName + Send + Sync, H: Threads + Wait + Sync, R: Wait + Dr
 ) -> Result<Vec<Clerk<N>>, ClerkFault>
     requires desks { (1 ≤ vec_len desks) × (vec_len desks ≤ MOST_DESKS) }
     requires few { length commands.now ≤ MOST_STEPS }
-    requires fresh { (place : ℕ) (desk : _) → slice_get desks.items place ≡ Some desk → (desk.number ≡ place + 1) × (desk.answered ≡ 0) × (desk.history ≡ []) }
+    requires fresh { (place : ℕ) (desk : _) → slice_get desks.items place ≡ Some desk
+        → (desk.number ≡ place + 1) × (desk.answered ≡ 0) × (desk.history ≡ []) }
     ensures numbers { IfOk result (λ clerks. map (λ c. c.desk.number) clerks.items ≡ map (λ d. d.number) desks.items) }
-    ensures filed { IfOk result (λ clerks. All (λ c. HasFiled c.desk.number c.desk.answered c.desk.history (dealt (vec_len desks) (take base commands.now) (drop base commands.now) c.desk.number)) clerks.items) }
+    ensures filed { IfOk result (λ clerks. All (λ c. HasFiled c.desk.number c.desk.answered c.desk.history
+        (dealt (vec_len desks) (take base commands.now) (drop base commands.now) c.desk.number)) clerks.items) }
 {
     let mut clerks = clerks_at(alloc, desks)?;
     let (first, rest) = commands.split_at(base.min(commands.len()));
@@ -180,14 +186,15 @@ fn closed<N: OfficeName, H: Wait, R: Wait + Drop>(
     requires desks { 1 ≤ N.all }
     requires numbers { map (λ c. c.desk.number) clerks.items ≡ range_with_len 1 N.all }
     ensures { (base : ℕ) (all : List Command)
-        → All (λ c. HasFiled c.desk.number c.desk.answered c.desk.history (dealt N.all (take base all) (drop base all) c.desk.number)) clerks.items
+        → All (λ c. HasFiled c.desk.number c.desk.answered c.desk.history
+        (dealt N.all (take base all) (drop base all) c.desk.number)) clerks.items
         → IfOk result (IsSummaryOf N.limits N.all base all) }
 {
     let Some(mut inspector) = inspectors.pop() else {
         return Err(ClerkFault::NoPlace);
     };
     let (desks, counts) = handed_in(alloc, clerks, &mut inspector)?;
-    inspector.freeze(alloc)?;
+    inspector.freeze(alloc).map(|_frozen| ())?;
     let seen = inspector.steps_seen();
     let mut inspectors = Vec::new(alloc);
     inspectors.push(inspector).map_err(AllocError::from)?;

@@ -7,11 +7,11 @@
 //!
 //! | | definition (`specs/`) | code (`src/`) | proof (`proofs/`) |
 //! |---|---|---|---|
-//! | the words, and what they ask for | `CommandLine`, `Words`, `Request` | `arguments` | `CommandFacts`, `WordsFacts` |
+//! | the words, what they ask for | `CommandLine`, `Words`, `Request` | `arguments` | `CommandFacts`, `WordsFacts` |
 //! | the texts of help and of the version | | `help` | |
 //! | what the program does for its words | `Program` | `program` | `ProgramFacts` |
 //! | how it ends, and what is told on standard error | `Ending`, `FaultText` | `ending`, `task_fault`, `fault_text` | |
-//! | clerks, their threads, one clerk's turn | `Clerks`, `Deal` | `desks`, `crew`, `clerk` | `DealFacts`, `SummaryFacts` |
+//! | clerks, their threads, one's turn | `Clerks`, `Deal` | `desks`, `crew`, `clerk` | `DealFacts`, `SummaryFacts` |
 //! | the desk of each command | `Deal` | `deal` | `DealFacts` |
 //! | how clerks end early | `Clerks` | `clerk_fault` | |
 //! | what each desk answered, as text | `Summary` | `summary` | `SummaryFacts` |

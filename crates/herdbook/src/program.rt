@@ -33,7 +33,8 @@ pub fn carry_out<H: Threads + Wait + Sync, R: Read + Drop, W: Write>(
     writer: &mut W,
 ) -> Ending
     ensures ended { IfSome (R.remaining reader)
-        (λ bytes. IsEnded LIMITS (map string_bytes words.now) bytes (W.contents writer.old) (W.contents writer.new) result) }
+        (λ bytes. IsEnded LIMITS (map string_bytes words.now) bytes
+        (W.contents writer.old) (W.contents writer.new) result) }
     ensures possible { CanEnd (map string_bytes words.now) result }
     ensures unasked { IsUntouchedUnlessAsked (writer.new ≡ writer.old) result }
 {
@@ -53,9 +54,11 @@ fn served<H: Threads + Wait + Sync, R: Read + Drop, W: Write>(
     writer: &mut W,
 ) -> Result<(), TaskFault>
     ensures ok { OnOk result (IfSome (R.remaining reader)
-        (λ bytes. IsServed request.now LIMITS (commands bytes LIMITS.steps) (W.contents writer.old) (W.contents writer.new))) }
+        (λ bytes. IsServed request.now LIMITS (commands bytes LIMITS.steps)
+        (W.contents writer.old) (W.contents writer.new))) }
     ensures err { IfErr result (λ fault. IfSome (R.remaining reader)
-        (λ bytes. EndsServing request.now LIMITS (commands bytes LIMITS.steps) (W.contents writer.old) (W.contents writer.new) fault)) }
+        (λ bytes. EndsServing request.now LIMITS (commands bytes LIMITS.steps)
+        (W.contents writer.old) (W.contents writer.new) fault)) }
     ensures possible { IfErr result (λ fault. HasTask request.now (λ task. CanEndTask task fault)) }
 {
     match request.task() {

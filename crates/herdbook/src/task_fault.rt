@@ -9,9 +9,8 @@ use herd_report::RunFault;
 pub enum TaskFault {
     /// As a run may end.
     Run(RunFault),
-    /// The clerks' office lacked a seat for a reader or room for a step, gave no reading, wasn't closed, or its inspector
-    /// hadn't seen every step.
-    /// Nothing was written.
+    /// The clerks' office lacked a seat for a reader or room for a step, gave no reading, wasn't closed, or its
+    /// inspector hadn't seen every step. Nothing was written.
     NoPlace,
 }
 
