@@ -1,11 +1,7 @@
 //! Books of small families.
 
 use herd_fixtures::Name::{Bull, Cow};
-use herd_fixtures::{
-    Birth, BirthFault, Pair, UNKNOWN, descendants_of_full_sibs, file_births, full_sibs, pedigree_of,
-};
-use herd_pedigree::Frozen;
-use std::alloc::Global;
+use herd_fixtures::{Birth, Pair, UNKNOWN, descendants_of_full_sibs, full_sibs};
 
 /// The calf of half sibs, and one whose dam isn't known.
 pub(super) fn half_sibs() -> [Birth; 7] {
@@ -46,8 +42,33 @@ pub(super) fn half_cousins() -> [Birth; 10] {
 }
 
 /// The full sibs, one more founder, its calf, and a calf with a sire alone.
-pub(super) fn with_one_parent(alloc: Global) -> Result<Frozen<Global>, BirthFault> {
-    let mut pedigree = pedigree_of(alloc, &full_sibs())?;
-    file_births(&mut pedigree, &descendants_of_full_sibs())?;
-    Ok(pedigree.freeze(alloc)?)
+pub(super) fn with_one_parent() -> [Birth; 9] {
+    let [bull, cow, son, daughter, grandson, granddaughter] = full_sibs();
+    let [founder, calf, of_sire] = descendants_of_full_sibs();
+    [
+        bull,
+        cow,
+        son,
+        daughter,
+        grandson,
+        granddaughter,
+        founder,
+        calf,
+        of_sire,
+    ]
+}
+
+/// The full sibs, a calf of the two youngest, and one of the cow alone.
+pub(super) fn with_inbred_parents() -> [Birth; 8] {
+    let [bull, cow, son, daughter, grandson, granddaughter] = full_sibs();
+    [
+        bull,
+        cow,
+        son,
+        daughter,
+        grandson,
+        granddaughter,
+        Birth(Bull(8), *b"2006-01-01", Pair::of(Bull(5), Cow(6))),
+        Birth(Bull(9), *b"2006-01-02", Pair::of_dam(Cow(6))),
+    ]
 }

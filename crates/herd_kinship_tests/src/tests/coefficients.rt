@@ -2,7 +2,7 @@
 
 use super::books::{father_and_daughter, half_cousins, half_sibs};
 use herd_fixtures::Name::{Bull, Cow};
-use herd_fixtures::{Name, frozen_of, full_sibs, generations};
+use herd_fixtures::{Birth, Name, frozen_of, full_sibs, generations};
 use herd_kinship::*;
 use herd_pedigree::Frozen;
 use std::alloc::Global;
@@ -34,62 +34,35 @@ fn has_coefficients(
 }
 
 #[test]
-fn finds_the_inbreeding_of_full_sibs(rt: HostRuntime) -> Result<(), Fail> {
-    let frozen = frozen_of(rt.alloc(), &full_sibs())?;
-    has_coefficients(
-        &rt,
-        rt.alloc(),
-        &frozen,
-        &[
-            (Cow(2), 0, 1),
-            (Bull(1), 0, 1),
-            (Cow(4), 0, 1),
-            (Bull(3), 0, 1),
-            (Cow(6), 1, 4),
-            (Bull(5), 1, 4),
-        ],
-    )
-}
-
-#[test]
-fn finds_the_inbreeding_of_five_generations(rt: HostRuntime) -> Result<(), Fail> {
-    let frozen = generations(rt.alloc(), 5)?;
-    has_coefficients(
-        &rt,
-        rt.alloc(),
-        &frozen,
-        &[
-            (Cow(2), 0, 1),
-            (Bull(1), 0, 1),
-            (Cow(4), 0, 1),
-            (Bull(3), 0, 1),
-            (Cow(6), 1, 4),
-            (Bull(5), 1, 4),
-            (Cow(8), 3, 8),
-            (Bull(7), 3, 8),
-            (Cow(10), 1, 2),
-            (Bull(9), 1, 2),
-        ],
-    )
-}
-
-#[test]
-fn finds_the_inbreeding_of_half_sibs(rt: HostRuntime) -> Result<(), Fail> {
-    let frozen = frozen_of(rt.alloc(), &half_sibs())?;
-    has_coefficients(
-        &rt,
-        rt.alloc(),
-        &frozen,
-        &[
-            (Cow(2), 0, 1),
-            (Cow(3), 0, 1),
-            (Bull(1), 0, 1),
-            (Bull(4), 0, 1),
-            (Cow(5), 0, 1),
-            (Bull(6), 1, 8),
-            (Bull(7), 0, 1),
-        ],
-    )
+fn finds_coefficients(rt: HostRuntime) -> Result<(), Fail> {
+    let of_full_sibs = [
+        (Cow(2), 0, 1),
+        (Bull(1), 0, 1),
+        (Cow(4), 0, 1),
+        (Bull(3), 0, 1),
+        (Cow(6), 1, 4),
+        (Bull(5), 1, 4),
+    ];
+    let of_half_sibs = [
+        (Cow(2), 0, 1),
+        (Cow(3), 0, 1),
+        (Bull(1), 0, 1),
+        (Bull(4), 0, 1),
+        (Cow(5), 0, 1),
+        (Bull(6), 1, 8),
+        (Bull(7), 0, 1),
+    ];
+    let of_father_and_daughter = [(Bull(1), 0, 1), (Cow(2), 0, 1), (Bull(3), 1, 4)];
+    let books: [(&[Birth], &[(Name, u128, u128)]); 3] = [
+        (&full_sibs(), &of_full_sibs),
+        (&half_sibs(), &of_half_sibs),
+        (&father_and_daughter(), &of_father_and_daughter),
+    ];
+    for (births, expected) in books {
+        let frozen = frozen_of(rt.alloc(), births)?;
+        has_coefficients(&rt, rt.alloc(), &frozen, expected)?;
+    }
+    Ok(())
 }
 
 #[test]
@@ -99,13 +72,6 @@ fn finds_the_inbreeding_of_half_cousins(rt: HostRuntime) -> Result<(), Fail> {
     assert_eq!(rt; frozen.len(), 10);
     assert_eq!(rt; coefficients.numerator(9), 1 << 115);
     Ok(())
-}
-
-#[test]
-fn finds_the_inbreeding_of_father_and_daughter(rt: HostRuntime) -> Result<(), Fail> {
-    let frozen = frozen_of(rt.alloc(), &father_and_daughter())?;
-    let expected = [(Bull(1), 0, 1), (Cow(2), 0, 1), (Bull(3), 1, 4)];
-    has_coefficients(&rt, rt.alloc(), &frozen, &expected)
 }
 
 #[test]

@@ -2,10 +2,10 @@
 
 ghost use Rattle.std.specs.Prelude.{false};
 
-use super::books::with_one_parent;
+use super::books::{with_inbred_parents, with_one_parent};
 use herd_animal::AnimalNumber;
 use herd_fixtures::Name::{Bull, Cow};
-use herd_fixtures::{Birth, Pair, file_births, full_sibs, pedigree_of};
+use herd_fixtures::frozen_of;
 use herd_kinship::*;
 use herd_pedigree::Frozen;
 use std::alloc::Global;
@@ -49,7 +49,7 @@ fn contributes(
 
 #[test]
 fn lists_contributions(rt: HostRuntime) -> Result<(), Fail> {
-    let frozen = with_one_parent(rt.alloc())?;
+    let frozen = frozen_of(rt.alloc(), &with_one_parent())?;
     let founder = [at(1, 1, false, 1, 1)];
     contributes(&rt, rt.alloc(), &frozen, Bull(1).number(), &founder)?;
     let sire_alone = [
@@ -78,20 +78,9 @@ fn lists_contributions(rt: HostRuntime) -> Result<(), Fail> {
     contributes(&rt, rt.alloc(), &frozen, Bull(8).number(), &inbred_sire)
 }
 
-// The full sibs, a calf of the two youngest, and one of the cow alone.
-fn with_inbred_parents(alloc: Global) -> Result<Frozen<Global>, Fail> {
-    let mut pedigree = pedigree_of(alloc, &full_sibs())?;
-    let calves = [
-        Birth(Bull(8), *b"2006-01-01", Pair::of(Bull(5), Cow(6))),
-        Birth(Bull(9), *b"2006-01-02", Pair::of_dam(Cow(6))),
-    ];
-    file_births(&mut pedigree, &calves)?;
-    Ok(pedigree.freeze(alloc)?)
-}
-
 #[test]
 fn lists_contributions_of_inbred_parents(rt: HostRuntime) -> Result<(), Fail> {
-    let frozen = with_inbred_parents(rt.alloc())?;
+    let frozen = frozen_of(rt.alloc(), &with_inbred_parents())?;
     let both_inbred = [
         at(6, 6, false, 8, 3),
         at(6, 5, true, 4, 3),

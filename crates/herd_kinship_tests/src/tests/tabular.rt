@@ -1,7 +1,7 @@
 //! The list of coefficients beside the tabular method.
 
 use super::books::{father_and_daughter, half_cousins, half_sibs, with_one_parent};
-use herd_fixtures::{frozen_of, full_sibs, generations};
+use herd_fixtures::{Birth, frozen_of, full_sibs, generations};
 use herd_kinship::*;
 use herd_pedigree::Frozen;
 use std::alloc::Global;
@@ -73,15 +73,17 @@ fn agrees_with_its_table(
 
 #[test]
 fn agrees_with_the_tabular_method(rt: HostRuntime) -> Result<(), Fail> {
-    agrees_with_its_table(&rt, rt.alloc(), &frozen_of(rt.alloc(), &full_sibs())?)?;
-    agrees_with_its_table(&rt, rt.alloc(), &frozen_of(rt.alloc(), &half_sibs())?)?;
-    agrees_with_its_table(
-        &rt,
-        rt.alloc(),
-        &frozen_of(rt.alloc(), &father_and_daughter())?,
-    )?;
-    agrees_with_its_table(&rt, rt.alloc(), &frozen_of(rt.alloc(), &half_cousins())?)?;
-    agrees_with_its_table(&rt, rt.alloc(), &with_one_parent(rt.alloc())?)
+    let books: [&[Birth]; 5] = [
+        &full_sibs(),
+        &half_sibs(),
+        &father_and_daughter(),
+        &half_cousins(),
+        &with_one_parent(),
+    ];
+    for births in books {
+        agrees_with_its_table(&rt, rt.alloc(), &frozen_of(rt.alloc(), births)?)?;
+    }
+    Ok(())
 }
 
 #[test]
