@@ -14,6 +14,11 @@ impl<'a> BreaksAfter<'a> {
     pub(crate) fn new(text: &'a [u8], left: usize) -> BreaksAfter<'a> {
         BreaksAfter { text, left }
     }
+
+    /// The records that it hasn't given to their end.
+    pub(crate) fn records_left(&self) -> usize {
+        self.text.iter().filter(|byte| **byte == b'\n').count()
+    }
 }
 
 impl Read for BreaksAfter<'_> {
