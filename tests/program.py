@@ -5,8 +5,8 @@ It runs the examples of README and `docs/` as they stand there, the spreadsheet 
 on the sample books beside `reference.py`, help, whose texts stand in `help/`, and its examples, the limits, each status
 and text of the table of statuses but for `no reader's place`, and then each order on a small book with the nth growth of
 memory, read, write or start of a thread refused (`refuse.c`), for n from 1 until a run meets no refusal; writes of long
-texts too. Last come the programs that are to be timed, which the gate built too. The last line is `N passed, M failed`;
-the status is 1 if anything failed.
+texts too. Last come other programs that the gate built: one that makes the libraries' calls, refused likewise and then
+made again, and those that are to be timed. The last line is `N passed, M failed`; the status is 1 if anything failed.
 """
 import concurrent.futures
 import fractions
@@ -474,12 +474,13 @@ class Checks:
 
     # -- the programs that are to be timed
 
-    def timing(self, name):
+    def built(self, name):
+        """Another program that the gate built."""
         return Checks(TOP / f"crates/{name}/out/{name}", self.room)
 
     def timed_offices(self):
         """Births of `office_timing`, more of them than a book takes too, with and without inspectors."""
-        office = self.timing("office_timing")
+        office = self.built("office_timing")
         for births, desks, inspectors in (0, 1, 0), (9, 16, 15), (50, 1, 0), (50, 3, 2), (500, 3, 1), (60_001, 1, 0):
             told = f"{min(births, 60_000)} accepted, {births} steps\n"
             office.expect("births", wrote(told), ["births", str(births), str(desks), str(inspectors)])
@@ -495,7 +496,7 @@ class Checks:
 
     def timed_pedigrees(self):
         """Each task of `pedigree_timing` tells how many animals there are."""
-        pedigree = self.timing("pedigree_timing")
+        pedigree = self.built("pedigree_timing")
         for words, animals in [
             ("births 0", 0), ("births 100", 100), ("freeze 100", 100), ("corrections 0 0", 1), ("corrections 130 5", 130), ("corrections 130 40", 130),
         ]:  # fmt: skip
@@ -522,16 +523,32 @@ class Checks:
             self.count(refused == threads, f"{refused} threads were started: {words}")
 
     def little_memory(self):
-        """The system itself refuses memory, at each of some sizes of the address space."""
-        for words in each_order():
+        """The system itself refuses memory: from the least room in which the version is told, each end is the full answer or a text that may come."""
+        limited = lambda kilobytes: {"before": lambda: resource.setrlimit(resource.RLIMIT_AS, (kilobytes * 1024, kilobytes * 1024))}
+        version = self.run(["--version"])
+        least = next((size for size in range(1_000, 40_000, 100) if self.run(["--version"], **limited(size)) == version), None)
+        self.count(least, "the version is told in no room below 40 MB")
+        for words in each_order() if least else []:
             wanted = self.run(words, SMALL)
-            for kilobytes in range(2_000, 40_000, 2_000):
-                limit = lambda: resource.setrlimit(resource.RLIMIT_AS, (kilobytes * 1024, kilobytes * 1024))
-                done = self.run(words, SMALL, before=limit)
-                faults = ["no memory", r"record (\d+): fault 13 Memory", "no thread", "no reader's place"]
-                began = done.status in (0, 1) and not done.err.startswith(b"error while loading")
-                right = done == wanted or not began or is_fault(words[0], wanted, done, faults)
-                self.count(right or b"libc" in done.err or done.status < 0 and kilobytes < 4_000, f"{kilobytes} kB: {words}: {done}")
+            answered = []
+            for kilobytes in range(least, 40_000, 500):
+                done = self.run(words, SMALL, **limited(kilobytes))
+                self.count(done == wanted or is_fault(words[0], wanted, done, want_of_memory(words)), f"{kilobytes} kB: {words}: {done}")
+                answered.append(done == wanted)
+            self.count(answered[-1], f"40 MB aren't enough: {words}")
+
+    def asked_again(self):
+        """Each growth and each start of a thread is refused in turn in `refused_growth`: the call tells it and leaves no trace, and made again it is answered."""
+        asked = self.built("refused_growth")
+        answers = (TOP / "crates/refused_growth/stdout").read_text()
+        asked.expect("nothing refused", wrote(answers), [])
+        told = AskedAgain(answers.splitlines())
+        grown = asked.until_none("growth", [], "", {"REFUSE": "growth"}, told)
+        asked.count(grown and told.met == {*AskedAgain.FAULTS}, f"what was refused of {grown} growths: {told.met}")
+        asked.count(any(births > 3 for births in told.births), f"the list of commands never grew: {told.births}")
+        threads = asked.until_none("thread", [], "", {"REFUSE": "thread"}, told)
+        asked.count(threads == 10, f"{threads} threads were started for five levels")
+        self.passed, self.failed = self.passed + asked.passed, self.failed + asked.failed
 
 
 def inverse_element(text, row, column):
@@ -545,9 +562,7 @@ class Growths:
 
     def __init__(self, words):
         self.order, self.latest, self.filed = words[0], 0, False
-        self.faults = ["no memory", while_reading(self.order)]
-        # a level of one block starts no thread
-        self.faults += ["no thread"] if "clerks" in words or words[-2:] == ["--block", "1"] else []
+        self.faults = want_of_memory(words)
 
     def __call__(self, wanted, done):
         record = re.match(rb"herdbook: record (\d+): ", done.err)
@@ -558,6 +573,43 @@ class Growths:
             return is_later and is_fault(self.order, wanted, done, self.faults)
         self.filed |= self.latest > 0 and done == fault("no memory")
         return done == wanted or is_fault(self.order, wanted, done, self.faults)
+
+
+class AskedAgain:
+    """What `refused_growth` may print where one call is refused: all its lines, and before the answer of the refused call a line that tells it."""
+
+    FAULTS = {
+        "file": "reading: no file",
+        "reading": r"reading: (\d+) births, right, record (\d+): fault 13",
+        "book": "pool: no book",
+        "pool": "pool: memory ran out",
+        "thread": "pool: a thread couldn't be started",
+        "parts": "office: no parts: memory ran out",
+        "opening": "office: not opened: memory ran out",
+        "filing": "office: not filed: memory ran out",
+        "freezing": "office: not frozen: memory ran out",
+    }
+
+    def __init__(self, answers):
+        self.answers, self.met, self.births = answers, set(), []
+
+    def __call__(self, wanted, done):
+        lines = done.out.decode().splitlines()
+        at = next((at for at, (line, answer) in enumerate(zip(lines, self.answers)) if line != answer), len(self.answers))
+        found = [(what, match) for what, text in self.FAULTS.items() if at < len(lines) and (match := re.fullmatch(text, lines[at]))]
+        if (done.status, done.err) != (0, b"") or not found:
+            return False
+        [(what, match)] = found
+        self.met.add(what)
+        if what == "reading":
+            births, record = map(int, match.groups())
+            self.births.append(births)
+            if record not in (births + 1, 0) or record == 0 and births:
+                return False
+        filed = sum(line.startswith("office: step ") for line in lines[:at])
+        # after a refused command an inspector sees what was filed before
+        seen = [f"office: {filed} animals and {filed} steps seen"] if what == "filing" else []
+        return lines[at + 1 :] == seen + self.answers[at:]
 
 
 class Folder:
@@ -595,6 +647,13 @@ def while_reading(order):
     return r"record (\d+): fault 13 Memory" if order == "clerks" else r"record ([0-3]): fault 13 Memory"
 
 
+def want_of_memory(words):
+    """The texts that may come where memory is refused."""
+    # a level of one block starts no thread
+    starts_threads = "clerks" in words or words[-2:] == ["--block", "1"]
+    return ["no memory", while_reading(words[0]), *(["no thread"] if starts_threads else [])]
+
+
 def is_fault(order, wanted, done, faults):
     """One of these faults is told, and what was written is what is allowed before it."""
     told = re.fullmatch("herdbook: (.*)\n", done.err.decode(errors="replace"))
@@ -606,7 +665,7 @@ def is_fault(order, wanted, done, faults):
         before = max(0, int(kind.group(1)) - 1) if order == "file" else 0
         return done.out == b"".join(wanted.out.splitlines(keepends=True)[:before])
     # of a text that is shorter than a part nothing is written before a growth is refused
-    if kind.group(0) in ("no thread", "no reader's place", "no memory"):
+    if kind.group(0) in ("no thread", "no memory"):
         return not done.out
     return wanted.out.startswith(done.out)
 
@@ -619,7 +678,7 @@ def main(program):
         for group in [
             checks.pages, checks.examples, checks.help, checks.orders, checks.clerks, checks.limits, checks.words, checks.wrong_numbers, checks.line_faults, checks.other_statuses,
             checks.failing_writes, checks.refused_growths, checks.refused_growths_before_a_line_fault, checks.refused_reads, checks.refused_writes, checks.refused_threads,
-            checks.long_texts, checks.little_memory, checks.timed_offices, checks.timed_pedigrees,
+            checks.long_texts, checks.little_memory, checks.asked_again, checks.timed_offices, checks.timed_pedigrees,
         ]:  # fmt: skip
             before = checks.passed, checks.failed
             try:
