@@ -18,6 +18,7 @@ import re
 import resource
 import shlex
 import shutil
+import signal
 import subprocess
 import sys
 import tempfile
@@ -30,6 +31,8 @@ HEADER = "kind,animal,day,sire,dam,from,to\n"
 SECONDS = 60
 # the bytes of a part, in which long texts are written
 PART = 65_536
+# no order takes so many kilobytes of stack more than the version
+STACK = 250
 
 # The texts of the table of statuses, and the check that provokes each here.
 TEXTS = {
@@ -523,19 +526,21 @@ class Checks:
             self.count(refused == threads, f"{refused} threads were started: {words}")
 
     def little_memory(self):
-        """The system itself refuses memory: from the least room in which the version is told, each end is the full answer or a text that may come."""
+        """The system itself refuses memory: from the least room in which the version is told, each end is the full answer or a text that may come.
+
+        In the first of that room the stack may find none, and then nothing is written: no call can be told of that.
+        """
         limited = lambda kilobytes: {"before": lambda: resource.setrlimit(resource.RLIMIT_AS, (kilobytes * 1024, kilobytes * 1024))}
         version = self.run(["--version"])
-        least = next((size for size in range(1_000, 40_000, 100) if self.run(["--version"], **limited(size)) == version), None)
+        least = next((size for size in range(1_000, 40_000, 20) if self.run(["--version"], **limited(size)) == version), None)
         self.count(least, "the version is told in no room below 40 MB")
         for words in each_order() if least else []:
             wanted = self.run(words, SMALL)
-            answered = []
-            for kilobytes in range(least, 40_000, 500):
-                done = self.run(words, SMALL, **limited(kilobytes))
-                self.count(done == wanted or is_fault(words[0], wanted, done, want_of_memory(words)), f"{kilobytes} kB: {words}: {done}")
-                answered.append(done == wanted)
-            self.count(answered[-1], f"40 MB aren't enough: {words}")
+            for room in [*range(0, 2 * STACK, 20), *range(2 * STACK, 40_000, 500)]:
+                done = self.run(words, SMALL, **limited(least + room))
+                right = done == wanted or is_fault(words[0], wanted, done, want_of_memory(words))
+                self.count(right or room < STACK and done == wrote("", status=-signal.SIGSEGV), f"{least + room} kB: {words}: {done}")
+            self.expect("400 MB", wanted, words, SMALL, **limited(400_000))
 
     def asked_again(self):
         """Each growth and each start of a thread is refused in turn in `refused_growth`: the call tells it and leaves no trace, and made again it is answered."""
