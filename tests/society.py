@@ -8,6 +8,7 @@ computed here from the rows. The last line is `N passed, M failed`; the status i
 from __future__ import annotations
 
 import csv
+import datetime
 import fractions
 import functools
 import importlib.util
@@ -146,7 +147,7 @@ class Desk:
         self.room.mkdir()
 
     def run(self, *words: str, program: str = PROGRAM) -> Done:
-        env = {"PATH": os.environ["PATH"], "HERDBOOK": program, "LANG": "C"}
+        env = {"PATH": os.environ["PATH"], "HERDBOOK": program, "LANG": "C", "PYTHONPATH": str(self.room)}
         command = [sys.executable, str(TOP / "society/society"), *words]
         done = subprocess.run(command, cwd=self.room, env=env, capture_output=True, timeout=SECONDS)
         found = Done(done.returncode, done.stdout.decode(), done.stderr.decode())
@@ -174,7 +175,8 @@ class Desk:
         return done
 
     def files(self) -> dict[str, bytes]:
-        return {str(path.relative_to(self.room)): path.read_bytes() for path in sorted(self.room.rglob("*")) if path.is_file()}
+        paths = [path for path in sorted(self.room.rglob("*")) if path.is_file() and "__pycache__" not in path.parts]
+        return {str(path.relative_to(self.room)): path.read_bytes() for path in paths}
 
     def commands(self) -> list[str]:
         return (self.room / "book/commands.csv").read_text().splitlines()[1:]
@@ -353,23 +355,31 @@ class Checks:
         self.workbook(books[0])
 
     def workbook(self, wanted: object) -> None:
+        """An `.xlsx` file is read by openpyxl where that is installed; else by a stand-in that gives the same cells."""
         desk = Desk(self, "workbook")
-        if not importlib.util.find_spec("openpyxl"):
+        cells = [
+            ["Ohrmarke", "Rufname", "Geschlecht", "geb. am", "Vater", "Mutter", "Eigentümer", "Abgangsdatum"], ["K1", "Süße", "w", datetime.datetime(2001, 3, 1), None, None, "Groß", None],
+            ["B2", "Rößl", "m", "02.04.2001", "-", None, "Groß", None], [None] * 8, ["K3", None, "w", datetime.date(2003, 5, 6), "B2", "K1", "Weiß", "05.2004"],
+        ]  # fmt: skip
+        if importlib.util.find_spec("openpyxl"):
+            import openpyxl
+
+            book = openpyxl.Workbook()
+            for row in cells:
+                book.active.append(row)
+            book.save(desk.room / "sheet.xlsx")
+        else:
             desk.wrong("openpyxl, which reads these, isn't installed: save the sheet as CSV", "take", desk.write("sheet.xlsx", b"PK\3\4"))
-            return
-        import datetime
-
-        import openpyxl
-
-        book = openpyxl.Workbook()
-        for row in [
-            ["Ohrmarke", "Rufname", "Geschlecht", "geb. am", "Vater", "Mutter", "Eigentümer", "Abgangsdatum"], ["K1", "Süße", "w", datetime.datetime(2001, 3, 1), None, None, "Groß"],
-            ["B2", "Rößl", "m", "02.04.2001", "-", None, "Groß"], ["K3", None, "w", datetime.date(2003, 5, 6), "B2", "K1", "Weiß", "05.2004"],
-        ]:  # fmt: skip
-            book.active.append(row)
-        book.save(desk.room / "sheet.xlsx")
+            desk.write("openpyxl.py", f"""\
+                import datetime, types
+                def load_workbook(file, read_only, data_only):
+                    assert file.read() == b"PK\\3\\4" and read_only and data_only
+                    return types.SimpleNamespace(worksheets=[types.SimpleNamespace(iter_rows=lambda values_only: iter({cells!r}))])
+                """)
         desk.good("take", "sheet.xlsx")
         self.count((desk.commands(), desk.table("book/ids.csv"), desk.table("book/owners.csv")) == wanted, "an .xlsx file")
+        desk.write("openpyxl.py", "def load_workbook(*_, **__): raise KeyError('no workbook')")
+        desk.wrong("broken.xlsx can't be read as an .xlsx file", "take", desk.write("broken.xlsx", b"PK\3\4"))
 
     def numbers_of_others(self) -> None:
         """Breed and country of the numbers, which stay those of the book."""
