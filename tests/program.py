@@ -415,6 +415,10 @@ class Checks:
                 right = Growths(words)
                 refused = self.until_none(what, words, SMALL, {"REFUSE": "growth"} | last, right)
                 self.count(refused and right.filed, f"no growth was refused, or none once records were read: {words}")
+                self.count({0, 1} <= right.records, f"which records were being read: {words}: {right.records}")
+                # a thread's start takes two growths; beside other threads it isn't known which call has the nth
+                few = right.unstarted <= 2 or words != ONE_CLERK
+                self.count(few, f"{right.unstarted} growths are told as want of a thread: {words}")
         for words in ["--help"], ["clerks", "--help"], ["--version"], ["inbreeding", "--workers", "17"], ["certificate", "M"], [b"\xff"], []:
             right = lambda wanted, done: done == wanted or done == fault("no memory")
             self.until_none("growth", words, "", {"REFUSE": "growth"}, right)
@@ -567,16 +571,18 @@ class Growths:
 
     def __init__(self, words):
         self.order, self.latest, self.filed = words[0], 0, False
-        self.faults = want_of_memory(words)
+        self.faults, self.records, self.unstarted = want_of_memory(words), set(), 0
 
     def __call__(self, wanted, done):
         record = re.match(rb"herdbook: record (\d+): ", done.err)
         if record:
             # a later growth is never told of an earlier record
             is_later, self.latest = int(record.group(1)) >= self.latest, int(record.group(1))
+            self.records.add(self.latest)
             self.filed = False
             return is_later and is_fault(self.order, wanted, done, self.faults)
         self.filed |= self.latest > 0 and done == fault("no memory")
+        self.unstarted += done == fault("no thread")
         return done == wanted or is_fault(self.order, wanted, done, self.faults)
 
 
@@ -630,6 +636,7 @@ class Folder:
 SMALL = full_sibs(4) + f"exit,{animal('M', 1)},2010-01-01,,,,\nparents,{animal('F', 8)},,{animal('M', 1)},0,,\n" + founder(animal("M", 1))
 
 
+ONE_CLERK = ["clerks", "--desks", "1"]
 # one block in each level
 WIDEST_BLOCK = ["inbreeding", "--workers", "3", "--block", "60000"]
 
@@ -642,7 +649,7 @@ def each_order():
         ["certificate", animal("M", 7)],
         ["mating", "--dam", animal("F", 6), animal("M", 5), animal("F", 8), animal("M", 7)],
         ["inverse"],
-        ["clerks", "--desks", "1"],
+        ONE_CLERK,
         ["clerks", "--desks", "3", "--base", "8"],
     ]
 
