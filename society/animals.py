@@ -3,7 +3,7 @@ from __future__ import annotations
 
 import collections
 import datetime
-from dataclasses import dataclass
+from dataclasses import dataclass, field
 
 from society.columns import KNOWN_NO, KNOWN_SEXES, KNOWN_YES, plain
 from society.dates import ANY_DAY, MonthFirst, Span, Unreadable, read_span
@@ -33,6 +33,8 @@ class Animal:
     birth_inferred: str = ""
     left_inferred: str = ""
     sex_inferred: str = ""
+    # the fields whose cells can't be read
+    unread: list[str] = field(default_factory=list)
 
     def parents(self) -> list[tuple[str, str]]:
         """The known parents, each with its role."""
@@ -102,6 +104,7 @@ class Rows:
         return "" if parent.casefold() in self.unknown else parent
 
     def leave_out(self, animal: Animal, field: str, why: str) -> None:
+        animal.unread.append(field)
         self.unread[field].append(animal.line)
         self.report.tell(LEFT_OUT, animal.line, animal.id, why)
 

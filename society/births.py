@@ -11,10 +11,10 @@ from society.report import INFERRED, LEFT_OUT, Report
 GENERATION = 730
 
 
-def age_levels(animals: dict[str, Animal]) -> list[str]:
-    """The ids, parents before their offspring, else in the order of the animals; those in or below a cycle are absent."""
-    calves = calves_of(animals)
-    waiting = {id: len(animal.parents()) for id, animal in animals.items()}
+def in_order(part: dict[str, Animal]) -> list[str]:
+    """The ids of a part of the animals, parents before their offspring; those in or below a cycle of it are absent."""
+    calves = calves_of(part)
+    waiting = {id: sum(parent in part for _, parent in animal.parents()) for id, animal in part.items()}
     order = [id for id, count in waiting.items() if count == 0]
     for id in order:
         for calf in calves.get(id, ()):
@@ -36,7 +36,7 @@ def calves_of(animals: dict[str, Animal]) -> dict[str, list[str]]:
 def cut_cycles(animals: dict[str, Animal], report: Report) -> None:
     """Leaves out one parent of each animal that would be its own ancestor: of a cycle the link whose days can't be, or
     else that of the latest row."""
-    left = set(animals) - set(age_levels(animals))
+    left = animals.keys() - in_order(animals)
     while left:
         cycle = find_cycle(animals, left)
         calf, role, parent = faulty_link(animals, cycle)
@@ -44,21 +44,7 @@ def cut_cycles(animals: dict[str, Animal], report: Report) -> None:
         setattr(animals[calf], role, "")
         why = f"it would be its own ancestor ({path}): {parent} is left out as its {role}"
         report.tell(LEFT_OUT, animals[calf].line, calf, why)
-        part = {id: animals[id] for id in left}
-        left = part.keys() - ordered_within(part)
-
-
-def ordered_within(part: dict[str, Animal]) -> set[str]:
-    """The animals of a part that no cycle of it keeps from an order, with parents outside it counted as ordered."""
-    waiting = {id: sum(parent in part for _, parent in animal.parents()) for id, animal in part.items()}
-    calves = calves_of(part)
-    order = [id for id, count in waiting.items() if count == 0]
-    for id in order:
-        for calf in calves.get(id, ()):
-            waiting[calf] -= 1
-            if waiting[calf] == 0:
-                order.append(calf)
-    return set(order)
+        left -= set(in_order({id: animals[id] for id in left}))
 
 
 Link = tuple[str, str, str]
@@ -97,7 +83,7 @@ class Days:
 
     def __init__(self, animals: dict[str, Animal], kept: dict[str, datetime.date]) -> None:
         self.animals, self.kept = animals, kept
-        self.order = age_levels(animals)
+        self.order = in_order(animals)
         self.calves = calves_of(animals)
         self.low: dict[str, int] = {}
         self.high: dict[str, int] = {}

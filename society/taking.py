@@ -35,7 +35,7 @@ class Taking:
             raise Mistake(f"{many}: it holds at most {MOST_ANIMALS:,}")
 
     def keep(self, animal: Animal) -> None:
-        """What the sheet has no column for, or no text, stays as it is in the book."""
+        """What the sheet has no column for, or no text that can be read, stays as it is in the book."""
         known, record = self.book.known.get(animal.id), self.record(animal.id)
         if known is None or record is None:
             return
@@ -45,9 +45,9 @@ class Taking:
             animal.sire = self.id_of(record.sire)
         if "dam" not in self.given:
             animal.dam = self.id_of(record.dam)
-        if "exit" not in self.given:
+        if "exit" not in self.given or "exit" in animal.unread:
             animal.left, animal.left_inferred = record.left, known.exit
-        if "embryo" not in self.given:
+        if "embryo" not in self.given or "embryo" in animal.unread:
             animal.embryo = record.embryo
         owner = self.book.owner_of(record.herd)
         if owner and not animal.owner:

@@ -548,8 +548,10 @@ class Checks:
         lines = desk.commands()
         self.count(f"transfer,{numbers['a']},2012-02-03,,,1,3," in lines and f"exit,{numbers['a']},2012-02-03,,,,," in lines, f"{lines}")
         self.count(reference.replies((desk.room / "book/commands.csv").read_text()).count("accepted") == len(lines), f"{lines}")
-        # columns that a sheet doesn't have change nothing
+        # columns that a sheet doesn't have change nothing, and cells that can't be read neither
         before = desk.commands()
+        done = desk.take("id,sex,born,sire,dam,exit\na,F,x,,,gone\nb,M,2003-01-01,c,a,\nc,x,2000-05-06,d,,\n")
+        self.count(desk.commands() == before and " 0 changed" in done.last and " 3 left out" in done.last, f"{done}")
         done = desk.take("id,born,sire,dam\na,2001-01-01,,\nb,2003-01-01,c,a\nc,2000-05-06,d,\n")
         self.count(desk.commands() == before and " 0 changed" in done.last, f"{done}")
 
