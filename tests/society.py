@@ -7,6 +7,7 @@ computed here from the rows. The last line is `N passed, M failed`; the status i
 """
 from __future__ import annotations
 
+import concurrent.futures
 import csv
 import datetime
 import fractions
@@ -22,6 +23,7 @@ import sys
 import tempfile
 import textwrap
 import xml.etree.ElementTree as xml
+from typing import Callable
 
 import reference
 
@@ -202,6 +204,7 @@ class Desk:
 class Checks:
     def __init__(self, room: str) -> None:
         self.room = pathlib.Path(room)
+        self.room.mkdir(exist_ok=True)
         self.passed = self.failed = 0
 
     def count(self, right: object, what: str) -> None:
@@ -791,24 +794,33 @@ class Checks:
             self.count(word in top and "--book FOLDER" in shown and "usage: society " + word in shown, f"help: {word}: {shown}")
 
 
+GROUPS = [
+    Checks.three_commands, Checks.ten_more_rows, Checks.forms, Checks.numbers_of_others, Checks.inferred_days, Checks.days_that_come, Checks.sexes, Checks.faulty_parents,
+    Checks.faulty_rows, Checks.corrections, Checks.mistakes, Checks.limits, Checks.pictures, Checks.escaped, Checks.textbook, Checks.inverse_of_many, Checks.odd_pedigrees, Checks.help,
+]  # fmt: skip
+
+
+def run_group(room: str, group: Callable[[Checks], None]) -> Checks:
+    """A group of checks in a folder of its own."""
+    checks = Checks(os.path.join(room, group.__name__))
+    try:
+        group(checks)
+    except (OSError, subprocess.SubprocessError, xml.ParseError, LookupError, ValueError) as error:
+        checks.count(False, f"{group.__name__}: {type(error).__name__}: {error}")
+    print(f"{group.__name__}: {checks.passed} passed, {checks.failed} failed", flush=True)
+    return checks
+
+
 def main() -> int:
     if not os.path.exists(PROGRAM):
         print(f"{PROGRAM} isn't there\n0 passed, 1 failed")
         return 1
     with tempfile.TemporaryDirectory(prefix="society-tests-") as room:
-        checks = Checks(room)
-        for group in [
-            checks.three_commands, checks.ten_more_rows, checks.forms, checks.numbers_of_others, checks.inferred_days, checks.days_that_come, checks.sexes, checks.faulty_parents,
-            checks.faulty_rows, checks.corrections, checks.mistakes, checks.limits, checks.pictures, checks.escaped, checks.textbook, checks.inverse_of_many, checks.odd_pedigrees, checks.help,
-        ]:  # fmt: skip
-            before = checks.passed, checks.failed
-            try:
-                group()
-            except (OSError, subprocess.SubprocessError, xml.ParseError, LookupError, ValueError) as error:
-                checks.count(False, f"{group.__name__}: {type(error).__name__}: {error}")
-            print(f"{group.__name__}: {checks.passed - before[0]} passed, {checks.failed - before[1]} failed", flush=True)
-    print(f"{checks.passed} passed, {checks.failed} failed")
-    return 1 if checks.failed else 0
+        with concurrent.futures.ThreadPoolExecutor(os.cpu_count()) as pool:
+            done = list(pool.map(functools.partial(run_group, room), GROUPS))
+    passed, failed = sum(checks.passed for checks in done), sum(checks.failed for checks in done)
+    print(f"{passed} passed, {failed} failed")
+    return 1 if failed else 0
 
 
 if __name__ == "__main__":
