@@ -622,10 +622,10 @@ class Checks:
         pipe = f"'{sys.executable}' '{TOP}/society/society' list | true"
         done = subprocess.run(["sh", "-c", pipe], cwd=desk.room, env=os.environ | {"HERDBOOK": PROGRAM}, capture_output=True, timeout=SECONDS)
         self.count(not done.stderr, f"a closed pipe: {done}")
-        (desk.room / "book/commands.csv.new").mkdir()
-        desk.wrong("the folder book can't be written", "take", "good.csv")
-        (desk.room / "book/commands.csv.new").rmdir()
         desk.write("bull.csv", "id,sex,born,sire,dam\nbull,M,2001,,\nson,M,2005,bull,\n")
+        (desk.room / "book/commands.csv.new").mkdir()
+        desk.wrong("the folder book can't be written", "take", "bull.csv")
+        (desk.room / "book/commands.csv.new").rmdir()
         desk.good("take", "bull.csv", "--book", "bulls")
         desk.wrong("bull: the dam isn't female (fault 4): name a cow as the dam", "mating", "--dam", "bull", "--book", "bulls")
         kept = desk.files()
