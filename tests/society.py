@@ -414,6 +414,8 @@ class Checks:
             chain3,M,2001-01-02,chain2,
             mate,F,,,
             theirs,F,,month,mate
+            early,F,2005,,
+            spring,F,2005-03-04,,early
             """
         )
         exits = Desk(self, "exits")
@@ -422,10 +424,10 @@ class Checks:
         born = desk.born()
         wanted = {
             "year": "2001-07-02", "month": "2002-03-16", "squeezed": "2001-12-31", "calves": "2008-05-06", "parents": "2004-03-15", "between": "2001-12-31",
-            "first": "1900-01-01", "chain1": "1997-01-03", "chain2": "1999-01-03", "mate": "2002-03-16", "theirs": "2004-03-15",
+            "first": "1900-01-01", "chain1": "1997-01-03", "chain2": "1999-01-03", "mate": "2002-03-16", "theirs": "2004-03-15", "early": "2005-03-03",
         }  # fmt: skip
         self.count(wanted.items() <= born.items(), f"inferred days: {born}")
-        self.count(" 11 inferred, 0 left out" in done.last, done.last)
+        self.count(" 12 inferred, 0 left out" in done.last, done.last)
         marks = {row["id"]: row["birth"] for row in desk.table("book/ids.csv") if row["birth"]}
         self.count(marks.keys() == wanted.keys() and marks["year"] == "from the year 2001" and marks["calves"] == "from its calves", f"marks: {marks}")
         listed = {row["id"]: row["birth"] for row in desk.listed("list")}
