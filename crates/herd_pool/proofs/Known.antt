@@ -2,9 +2,9 @@
 use Rattle.std.proofs.Common.{◌≡◌, ℕ, ◌-◌, ◌*◌, ◌^◌, ◌<◌, List, length, min, arith}
 use Rattle.herd_pedigree.specs.declared.freezing.frozen.Row.{Row}
 use Rattle.herd_pedigree.specs.freezing.Frozen.{IsFrozen}
-use Rattle.herd_kinship.specs.Coefficients.{KnowsAncestors, own_relationship}
+use Rattle.herd_kinship.specs.Coefficients.{KnowsAncestors, coefficient_at, own_relationship}
 use Rattle.herd_kinship.proofs.KnownFacts.{frozen-inbred_value, known-from_levels}
-use Rattle.herd_pool.specs.Levels.{KnowsBelow, coefficient_at}
+use Rattle.herd_pool.specs.Levels.{KnowsBelow}
 use Rattle.herd_pool.proofs.LevelFacts.{IsRankOf}
 
 -- the ancestors of an animal of the level are known

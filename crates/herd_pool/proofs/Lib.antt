@@ -4,3 +4,5 @@ pub mod Known
 -- the rule of the queue, and the list that the blocks are written into
 pub mod Passes
 pub mod Writes
+-- the calves of a level's sires
+pub mod SireFacts

@@ -7,9 +7,9 @@ use lib.ListN.{get_elem?}
 use Rattle.crossbeam_deque.proofs.Lists.{at_set, at_snoc}
 use Rattle.crossbeam_deque.specs.Tasks.{Pushes, Takes, Finds, Forks, Merges}
 use Rattle.herd_pool.specs.declared.queue.PassView.{PassView}
-use Rattle.herd_pool.specs.declared.level.ComputedBlock.{ComputedBlock}
+use Rattle.herd_pool.specs.declared.work.ComputedBlock.{ComputedBlock}
 use Rattle.herd_pool.specs.Blocks.{pass_view, times, once_below, total, EachOnce}
-use Rattle.herd_pool.specs.Levels.{numbers}
+use Rattle.herd_pool.specs.Workers.{numbers}
 
 same_some : {A : Type 0} (x y : A) → some x ≡ some y → x ≡ y
 same_some x y e = cc
@@ -157,25 +157,25 @@ pub merges : (port : ℕ) (v : PassView) (other : ℕ) (w : PassView) → port �
 merges port v other w first one = subst (λ p. Merges EachOnce p v other w (pass_view (v.out - 1) v.pushed (v.taken ++ w.taken)) (pass_view 0 0 [])) (sym first) (merges_first v other w one)
 
 -- the starter's view, once it has taken a worker's over
-pub absorbed : {A : Type 0} (n p : ℕ) (v w u : PassView) (xs ys all : List (ComputedBlock A)) → v ≡ pass_view n p (numbers xs) → w ≡ pass_view 1 0 (numbers ys) → u ≡ pass_view (v.out - 1) v.pushed (v.taken ++ w.taken) → all ≡ xs ++ ys → u ≡ pass_view (n - 1) p (numbers all)
-absorbed {A = A} n p v w u xs ys all is_v is_w is_u joined =
+pub absorbed : {O : Type 0} (n p : ℕ) (v w u : PassView) (xs ys all : List (ComputedBlock O)) → v ≡ pass_view n p (numbers xs) → w ≡ pass_view 1 0 (numbers ys) → u ≡ pass_view (v.out - 1) v.pushed (v.taken ++ w.taken) → all ≡ xs ++ ys → u ≡ pass_view (n - 1) p (numbers all)
+absorbed {O = O} n p v w u xs ys all is_v is_w is_u joined =
     is_u
     ∙ ap (λ (x : PassView). pass_view (x.out - 1) x.pushed (x.taken ++ w.taken)) is_v
     ∙ ap (λ (x : PassView). pass_view (n - 1) p (numbers xs ++ x.taken)) is_w
-    ∙ ap (pass_view (n - 1) p) (sym (map-append (λ (block : ComputedBlock A). block.number) xs ys) ∙ ap numbers (sym joined))
+    ∙ ap (pass_view (n - 1) p) (sym (map-append (λ (block : ComputedBlock O). block.number) xs ys) ∙ ap numbers (sym joined))
 
 -- one more block is taken and computed
-pub one_more : {A : Type 0} (n p number : ℕ) (v u : PassView) (blocks more : List (ComputedBlock A)) (block : ComputedBlock A) → v ≡ pass_view n p (numbers blocks) → u ≡ pass_view v.out v.pushed (v.taken ++ number ∷ []) → block.number ≡ number → more ≡ blocks ++ block ∷ [] → u ≡ pass_view n p (numbers more)
-one_more {A = A} n p number v u blocks more block is_v is_u is joined =
+pub one_more : {O : Type 0} (n p number : ℕ) (v u : PassView) (blocks more : List (ComputedBlock O)) (block : ComputedBlock O) → v ≡ pass_view n p (numbers blocks) → u ≡ pass_view v.out v.pushed (v.taken ++ number ∷ []) → block.number ≡ number → more ≡ blocks ++ block ∷ [] → u ≡ pass_view n p (numbers more)
+one_more {O = O} n p number v u blocks more block is_v is_u is joined =
     is_u
     ∙ ap (λ (x : PassView). pass_view x.out x.pushed (x.taken ++ number ∷ [])) is_v
     ∙ ap (λ (x : ℕ). pass_view n p (numbers blocks ++ x ∷ [])) (sym is)
-    ∙ ap (pass_view n p) (sym (map-append (λ (b : ComputedBlock A). b.number) blocks (block ∷ [])) ∙ ap numbers (sym joined))
+    ∙ ap (pass_view n p) (sym (map-append (λ (b : ComputedBlock O). b.number) blocks (block ∷ [])) ∙ ap numbers (sym joined))
 
 -- what the starter knows at the end, where a pop finds nothing
-pub all_taken : (v : PassView) (pushed : ℕ) (taken : List ℕ) → v ≡ pass_view 0 pushed taken → (v.out ≡ 0 → (x : ℕ) → times x v.taken ≡ once_below x v.pushed) → (x : ℕ) → times x taken ≡ once_below x pushed
-all_taken v pushed taken is once x =
-    let all = once (ap (λ (h : PassView). h.out) is) x in
+pub all_taken : (v : PassView) (out pushed : ℕ) (taken : List ℕ) → v ≡ pass_view out pushed taken → (v.out ≡ 0 → (x : ℕ) → times x v.taken ≡ once_below x v.pushed) → out ≡ 0 → (x : ℕ) → times x taken ≡ once_below x pushed
+all_taken v out pushed taken is once none x =
+    let all = once (ap (λ (h : PassView). h.out) is ∙ none) x in
     let t : times x v.taken ≡ times x taken = ap (λ (h : PassView). times x h.taken) is in
     let p : once_below x v.pushed ≡ once_below x pushed = ap (λ (h : PassView). once_below x h.pushed) is in
     sym t ∙ all ∙ p

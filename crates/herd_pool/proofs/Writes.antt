@@ -1,5 +1,5 @@
 -- What the list of numerators has once ranks, blocks and levels are written.
-use Rattle.std.proofs.Common.{◌≡◌, ℕ, suc, ◌+◌, ◌*◌, ◌/◌, ◌%◌, ◌^◌, ◌<◌, ◌≤◌, List, [], ◌∷◌, length, drop, get_or, map, set, slice_index, take, sym, ap, subst, inl, inr, ◌∙◌, ⊎_elim, arith}
+use Rattle.std.proofs.Common.{◌≡◌, ℕ, suc, ◌+◌, ◌*◌, ◌/◌, ◌%◌, ◌^◌, ◌<◌, ◌≤◌, List, [], ◌∷◌, length, drop, Vec, get_or, map, set, slice_index, take, sym, ap, subst, inl, inr, ◌∙◌, ⊎_elim, arith}
 use Rattle.std.specs.Int.{div_ceil}
 use Rattle.std.specs.List.{All, Contains}
 use Rattle.std.proofs.lemmas.Bool.{cases_eq, cases_lt}
@@ -10,12 +10,14 @@ use Rattle.std.proofs.lemmas.List.Elements.{All-from_get_or, All-more, All-weake
 use Rattle.std.proofs.lemmas.Nat.{div-add-mod', div_below}
 use Rattle.herd_pedigree.specs.declared.freezing.frozen.Row.{Row}
 use Rattle.herd_pedigree.specs.freezing.Frozen.{IsFrozen, depth_at, level_of}
-use Rattle.herd_kinship.specs.Coefficients.{AreCoefficients}
+use Rattle.herd_kinship.specs.Coefficients.{AreCoefficients, coefficient_at}
 use Rattle.herd_kinship.proofs.FrozenDepths.{depth-at_most}
 use Rattle.herd_kinship.proofs.KnownFacts.{frozen-coefficient_bound}
 use Rattle.herd_pool.specs.Blocks.{once_below, times}
-use Rattle.herd_pool.specs.Levels.{AreBlocks, HasAt, Keeps, KnowsBelow, block_of, coefficient_at, numbers}
-use Rattle.herd_pool.specs.declared.level.ComputedBlock.{ComputedBlock}
+use Rattle.herd_pool.specs.Levels.{HasAt, Keeps, KnowsBelow, block_of}
+use Rattle.herd_pool.specs.Sires.{IsAmong}
+use Rattle.herd_pool.specs.Workers.{numbers}
+use Rattle.herd_pool.specs.declared.work.ComputedBlock.{ComputedBlock}
 use Rattle.herd_pool.proofs.LevelFacts.{level_of-has}
 
 -- the first n ranks have f of themselves
@@ -23,16 +25,16 @@ abbrev pub HasBefore : (ℕ → ℕ) → List ℕ → List ℕ → ℕ → Type 
 HasBefore f known ranks n = (i : ℕ) → i < n → slice_index known (slice_index ranks i) ≡ f (slice_index ranks i)
 
 -- a write of f at one rank
-set_keeps : (f : ℕ → ℕ) (known : List ℕ) (rank value : ℕ) → value ≡ f rank → rank < length known → Keeps f known (set known rank value)
+pub set_keeps : (f : ℕ → ℕ) (known : List ℕ) (rank value : ℕ) → value ≡ f rank → rank < length known → Keeps f known (set known rank value)
 set_keeps f known rank value is below p =
     ⊎_elim (λ (e : p ≡ rank). inr (ap (slice_index (set known rank value)) e ∙ get_or-set_same known rank value 0 below ∙ is ∙ ap f (sym e)))
     (λ (ne : p ≡ rank → ⊥). inl (get_or-set_other known rank p value 0 ne)) (cases_eq p rank)
 
 -- where f stands, it stays
-stays : (f : ℕ → ℕ) (old new : List ℕ) → Keeps f old new → (p : ℕ) → slice_index old p ≡ f p → slice_index new p ≡ f p
+pub stays : (f : ℕ → ℕ) (old new : List ℕ) → Keeps f old new → (p : ℕ) → slice_index old p ≡ f p → slice_index new p ≡ f p
 stays f old new keeps p at = ⊎_elim (λ (same : slice_index new p ≡ slice_index old p). same ∙ at) (λ (there : slice_index new p ≡ f p). there) (keeps p)
 
-keeps_on : (f : ℕ → ℕ) (old known new : List ℕ) → Keeps f old known → Keeps f known new → Keeps f old new
+pub keeps_on : (f : ℕ → ℕ) (old known new : List ℕ) → Keeps f old known → Keeps f known new → Keeps f old new
 keeps_on f old known new first then p =
     ⊎_elim (λ (same : slice_index new p ≡ slice_index known p).
     ⊎_elim (λ (s : slice_index known p ≡ slice_index old p). inl (same ∙ s)) (λ (t : slice_index known p ≡ f p). inr (same ∙ t)) (first p))
@@ -53,24 +55,24 @@ rank_written f old known ranks numerators n m rank value is more within at_rank 
     )
 
 -- these blocks of a level have f of their ranks
-abbrev pub HasBlocks : {A : Type 0} → (ℕ → ℕ) → ℕ → List ℕ → List ℕ → List (ComputedBlock A) → Type 0
+abbrev pub HasBlocks : {O : Type 0} → (ℕ → ℕ) → ℕ → List ℕ → List ℕ → List (ComputedBlock O) → Type 0
 HasBlocks f len level known blocks = All (λ block. HasAt f known (block_of len block.number level)) blocks
 
 -- the blocks that are written on the way, after n of them
-pub record HasWritten {A : Type 0} (f : ℕ → ℕ) (len : ℕ) (level old known : List ℕ) (blocks : List (ComputedBlock A)) (n : ℕ) : Type 0 where
+pub record HasWritten {O : Type 0} (f : ℕ → ℕ) (len : ℕ) (level old known : List ℕ) (blocks : List (ComputedBlock O)) (n : ℕ) : Type 0 where
   pub kept : Keeps f old known
   pub written : HasBlocks f len level known (take n blocks)
 
 -- one more block is written
-pub block_written : {A : Type 0} (f : ℕ → ℕ) (len : ℕ) (level : List ℕ) (blocks : List (ComputedBlock A)) (n : ℕ) (block : ComputedBlock A) (old known new ranks numerators : List ℕ) → n < length blocks → block ≡ get_or blocks n block → ranks ≡ block_of len block.number level → numerators ≡ block.numerators.items
-    → All (λ (b : ComputedBlock A). b.numerators.items ≡ map f (block_of len b.number level)) blocks
+pub block_written : {A : Type 0} (f : ℕ → ℕ) (len : ℕ) (level : List ℕ) (blocks : List (ComputedBlock (Vec ℕ A))) (n : ℕ) (block : ComputedBlock (Vec ℕ A)) (old known new ranks numerators : List ℕ) → n < length blocks → block ≡ get_or blocks n block → ranks ≡ block_of len block.number level → numerators ≡ block.output.items
+    → All (λ (b : ComputedBlock (Vec ℕ A)). b.output.items ≡ map f (block_of len b.number level)) blocks
     → (numerators ≡ map f ranks → Keeps f known new × HasAt f new ranks)
     → HasWritten f len level old known blocks n
     → HasWritten f len level old new blocks (n + 1)
 block_written {A = A} f len level blocks n block old known new ranks numerators below at is_ranks is_numerators all write was =
-    let Old : ComputedBlock A → Type 0 = λ b. HasAt f known (block_of len b.number level) in
-    let New : ComputedBlock A → Type 0 = λ b. HasAt f new (block_of len b.number level) in
-    let Right : ComputedBlock A → Type 0 = λ b. b.numerators.items ≡ map f (block_of len b.number level) in
+    let Old : ComputedBlock (Vec ℕ A) → Type 0 = λ b. HasAt f known (block_of len b.number level) in
+    let New : ComputedBlock (Vec ℕ A) → Type 0 = λ b. HasAt f new (block_of len b.number level) in
+    let Right : ComputedBlock (Vec ℕ A) → Type 0 = λ b. b.output.items ≡ map f (block_of len b.number level) in
     let right : Right block = subst Right (sym at) (all n block below) in
     let now = write (is_numerators ∙ right ∙ ap (map f) (sym is_ranks)) in
     let mine : New (get_or blocks n block) = subst New at (subst (HasAt f new) is_ranks now.1) in
@@ -79,11 +81,11 @@ block_written {A = A} f len level blocks n block old known new ranks numerators 
       written = All-more New blocks n block below (All-weaker Old New (λ b h i low. stays f known new now.0 (slice_index (block_of len b.number level) i) (h i low)) (take n blocks) was.written) mine;
     }
 
-times_tail : {A : Type 0} (x : ℕ) (b : ComputedBlock A) (bs : List (ComputedBlock A)) → (b.number ≡ x → ⊥) → 0 < times x (numbers (b ∷ bs)) → 0 < times x (numbers bs)
+times_tail : {O : Type 0} (x : ℕ) (b : ComputedBlock O) (bs : List (ComputedBlock O)) → (b.number ≡ x → ⊥) → 0 < times x (numbers (b ∷ bs)) → 0 < times x (numbers bs)
 times_tail x b bs ne some = grind (arith, nat_tests)
 
 -- the number of a block that stands in the list stands at some place
-times_has : {A : Type 0} (x : ℕ) (blocks : List (ComputedBlock A)) → 0 < times x (numbers blocks) → (k : ℕ) × (k < length blocks) × ((d : ComputedBlock A) → (get_or blocks k d).number ≡ x)
+times_has : {O : Type 0} (x : ℕ) (blocks : List (ComputedBlock O)) → 0 < times x (numbers blocks) → (k : ℕ) × (k < length blocks) × ((d : ComputedBlock O) → (get_or blocks k d).number ≡ x)
 times_has x [] some = absurd (omega arith)
 times_has x (b ∷ bs) some =
     ⊎_elim (λ (e : b.number ≡ x). (0, omega arith, λ d. e))
@@ -92,45 +94,53 @@ times_has x (b ∷ bs) some =
     (suc rest.0, omega (arith, rest.1), rest.2)) (cases_eq b.number x)
 
 -- what holds of each block holds of the one with this number
-with_number : {A : Type 0} (P : ℕ → Type 0) (x : ℕ) (blocks : List (ComputedBlock A)) → 0 < times x (numbers blocks) → All (λ b. P b.number) blocks → P x
+pub with_number : {O : Type 0} (P : ℕ → Type 0) (x : ℕ) (blocks : List (ComputedBlock O)) → 0 < times x (numbers blocks) → All (λ b. P b.number) blocks → P x
 with_number P x [] some all = absurd (omega arith)
 with_number P x (b ∷ bs) some all =
     let found = times_has x (b ∷ bs) some in
     subst P (found.2 b) (all found.0 b found.1)
 
--- a rank of the level is written where its block is
-in_block : (f : ℕ → ℕ) (new level : List ℕ) (len i : ℕ) (p : ℕ) → 0 < len → i < length level → get_or level i p ≡ p → HasAt f new (block_of len (i / len) level) → slice_index new p ≡ f p
-in_block f new level len i p some below at has =
+-- a rank of a level stands in its block
+in_block : (level : List ℕ) (len i p : ℕ) → 0 < len → i < length level → get_or level i p ≡ p → let ranks = block_of len (i / len) level in IsAmong ranks (length ranks) p
+in_block level len i p some below at =
     let j = i % len in
     let start = i / len * len in
     let whole : start + j ≡ i = div-add-mod' i len in
     let short : j < len = omega arith in
     let rest = drop start level in
     let within : j < length (block_of len (i / len) level) = omega (arith, length-take len rest, length-drop start level) in
-    let e : slice_index (block_of len (i / len) level) j ≡ p =
-    get_or-take len rest j 0 short ∙ get_or-drop start level j 0 ∙ ap (λ k. get_or level k 0) whole ∙ get_or_default level i 0 p below ∙ at in
-    ap (slice_index new) (sym e) ∙ has j within ∙ ap f e
+    (j, within, get_or-take len rest j 0 short ∙ get_or-drop start level j 0 ∙ ap (λ k. get_or level k 0) whole ∙ get_or_default level i 0 p below ∙ at)
 
 once_within : (x n : ℕ) → x < n → once_below x n ≡ 1
 once_within x n below = grind (arith, nat_tests)
 
--- where each block of a level is written, the level is known
-pub level_known : {A : Type 0} (l most : ℕ) (rows : List Row) (known new : List ℕ) (depth len : ℕ) (blocks : List (ComputedBlock A)) → 0 < len → length new ≡ length known → KnowsBelow l most rows known depth → AreBlocks l rows depth len blocks
-    → Keeps (coefficient_at l rows) known new → HasBlocks (coefficient_at l rows) len (level_of depth rows) new blocks
-    → KnowsBelow l most rows new (depth + 1)
-level_known l most rows known new depth len blocks some same knows are kept written =
-    let f = coefficient_at l rows in
+-- what holds of the ranks of each block, where each comes once, holds of all animals of the level
+pub in_level : {O : Type 0} (P : ℕ → Type 0) (rows : List Row) (depth len : ℕ) (blocks : List (ComputedBlock O)) → 0 < len
+    → ((number : ℕ) → times number (numbers blocks) ≡ once_below number (div_ceil (length (level_of depth rows)) len))
+    → All (λ block. let ranks = block_of len block.number (level_of depth rows) in (p : ℕ) → IsAmong ranks (length ranks) p → P p) blocks
+    → (p : ℕ) → p < length rows → depth_at rows p ≡ depth → P p
+in_level P rows depth len blocks some each_once all p low is =
     let level = level_of depth rows in
     let count = div_ceil (length level) len in
-    let here : (p : ℕ) → p < length rows → depth_at rows p ≡ depth → slice_index new p ≡ f p =
-    λ p low is.
     let found : Contains level p = subst (λ d. Contains (level_of d rows) p) is (level_of-has rows p low) in
     let i = found.0 in
     let cover = div_ceil_times (length level) len some in
     let inside : i / len < count = div_below i len count some (omega (arith, found.1, cover)) in
-    let once : times (i / len) (numbers blocks) ≡ 1 = are.each_once (i / len) ∙ once_within (i / len) count inside in
-    let has = with_number (λ n. HasAt f new (block_of len n level)) (i / len) blocks (omega arith) written in
-    in_block f new level len i p some found.1 found.2 has in
+    let once : times (i / len) (numbers blocks) ≡ 1 = each_once (i / len) ∙ once_within (i / len) count inside in
+    with_number (λ n. (q : ℕ) → IsAmong (block_of len n level) (length (block_of len n level)) q → P q) (i / len) blocks (omega arith) all p (in_block level len i p some found.1 found.2)
+
+-- where each block of a level is written, the level is known
+pub level_known : {O : Type 0} (l most : ℕ) (rows : List Row) (known new : List ℕ) (depth len : ℕ) (blocks : List (ComputedBlock O)) → 0 < len → length new ≡ length known → KnowsBelow l most rows known depth
+    → ((number : ℕ) → times number (numbers blocks) ≡ once_below number (div_ceil (length (level_of depth rows)) len))
+    → Keeps (coefficient_at l rows) known new → HasBlocks (coefficient_at l rows) len (level_of depth rows) new blocks
+    → KnowsBelow l most rows new (depth + 1)
+level_known {O = O} l most rows known new depth len blocks some same knows each_once kept written =
+    let f = coefficient_at l rows in
+    let level = level_of depth rows in
+    let Written : ComputedBlock O → Type 0 = λ block. HasAt f new (block_of len block.number level) in
+    let Right : ComputedBlock O → Type 0 = λ block. (p : ℕ) → IsAmong (block_of len block.number level) (length (block_of len block.number level)) p → slice_index new p ≡ f p in
+    let all : All Right blocks = All-weaker Written Right (λ block has p at. ap (slice_index new) (sym at.2) ∙ has at.0 at.1 ∙ ap f at.2) blocks written in
+    let here = in_level (λ p. slice_index new p ≡ f p) rows depth len blocks some each_once all in
     record {
       frozen = knows.frozen;
       each = same ∙ knows.each;

@@ -1,17 +1,8 @@
--- The levels of a frozen book, their blocks, and what is computed of each. l is the limit of depths.
+-- The levels of a frozen book, their blocks, and what is traced of each. l is the limit of depths.
 use Rattle.std.specs.Prelude.{◌≡◌, ℕ, ◌*◌, ◌<◌, ◌⊎◌, List, length, map, take, drop, slice_index}
-use Rattle.std.specs.List.{All}
-use Rattle.std.specs.Int.{div_ceil}
 use Rattle.herd_pedigree.specs.declared.freezing.frozen.Row.{Row}
 use Rattle.herd_pedigree.specs.freezing.Frozen.{IsFrozen, depth_at, level_of}
-use Rattle.herd_kinship.specs.FrozenAncestry.{ancestry_of, number_of_row}
-use Rattle.herd_kinship.specs.Table.{coefficient}
-use Rattle.herd_pool.specs.Blocks.{once_below, times}
-use Rattle.herd_pool.specs.declared.level.ComputedBlock.{ComputedBlock}
-
--- the coefficient of the animal at a rank
-abbrev pub coefficient_at : ℕ → List Row → ℕ → ℕ
-coefficient_at l rows rank = coefficient (ancestry_of rows) l (number_of_row rows rank)
+use Rattle.herd_kinship.specs.Coefficients.{coefficient_at}
 
 -- the ranks of a block of this length
 abbrev pub block_of : ℕ → ℕ → List ℕ → List ℕ
@@ -23,18 +14,9 @@ pub record KnowsBelow (l most : ℕ) (rows : List Row) (known : List ℕ) (depth
   pub each : length known ≡ length rows
   pub right : (rank : ℕ) → rank < length rows → depth_at rows rank < depth → slice_index known rank ≡ coefficient_at l rows rank
 
--- the block has the coefficients of its ranks
-abbrev pub IsComputed : {A : Type 0} → ℕ → List Row → ℕ → ℕ → ComputedBlock A → Type 0
-IsComputed l rows depth len block =
-    block.numerators.items ≡ map (coefficient_at l rows) (block_of len block.number (level_of depth rows))
-
-abbrev pub numbers : {A : Type 0} → List (ComputedBlock A) → List ℕ
-numbers blocks = map (λ block. block.number) blocks
-
--- these are the blocks of the level, each once and computed
-pub record AreBlocks {A : Type 0} (l : ℕ) (rows : List Row) (depth len : ℕ) (blocks : List (ComputedBlock A)) : Type 0 where
-  pub each_once : (number : ℕ) → times number (numbers blocks) ≡ once_below number (div_ceil (length (level_of depth rows)) len)
-  pub computed : All (IsComputed l rows depth len) blocks
+-- these are the coefficients of a block's ranks
+abbrev pub AreTraced : ℕ → List Row → ℕ → ℕ → ℕ → List ℕ → Type 0
+AreTraced l rows depth len number numerators = numerators ≡ map (coefficient_at l rows) (block_of len number (level_of depth rows))
 
 -- each rank has the numerator that it had, or f of the rank
 abbrev pub Keeps : (ℕ → ℕ) → List ℕ → List ℕ → Type 0

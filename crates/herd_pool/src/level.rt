@@ -1,23 +1,12 @@
 //! A level of the book and its blocks.
-ghost use Rattle.std.specs.Prelude.{◌≡◌, ◌<◌, length, IfOk};
+ghost use Rattle.std.specs.Prelude.{◌≡◌, ◌<◌, length};
 ghost use Rattle.std.specs.Int.{div_ceil};
 ghost use Rattle.herd_pedigree.specs.freezing.Frozen.{IsFrozen, level_of};
 ghost use Rattle.herd_pedigree.specs.declared.TheConstants.{DEPTH_LIMIT, MOST_ANIMALS};
-ghost use Rattle.herd_pool.specs.Levels.{block_of, IsComputed, KnowsBelow};
+ghost use Rattle.herd_pool.specs.Levels.{block_of};
 
-use crate::gate::Gate;
-use herd_kinship::inbred;
 use herd_pedigree::Frozen;
-use std::alloc::{AllocError, Allocator};
-
-/// The coefficients of a block's animals.
-#[derive(Drop)]
-pub struct ComputedBlock<A: Allocator> {
-    /// The number of the block in its level, counted from 0.
-    pub number: u32,
-    /// In units of 2^-120, in the order of the ranks.
-    pub numerators: Vec<u128, A>,
-}
+use std::alloc::Allocator;
 
 /// The animals of a depth, cut into blocks.
 #[derive_where(Clone, Copy)]
@@ -48,26 +37,5 @@ impl<'a, F: Allocator> Level<'a, F> {
         let block = self.block as usize;
         let rest = &ranks[ranks.len().min(number as usize * block)..];
         &rest[..rest.len().min(block)]
-    }
-
-    /// Computes a block by the numerators of all animals of less depth.
-    pub fn compute<A: Allocator + Copy, G: Gate>(
-        &self,
-        alloc: A,
-        known: &[u128],
-        gate: &G,
-        number: u32,
-    ) -> Result<ComputedBlock<A>, AllocError>
-        requires { KnowsBelow DEPTH_LIMIT MOST_ANIMALS self.now.frozen.now known.now self.now.depth }
-        ensures number { IfOk result (λ block. block.number ≡ number) }
-        ensures computed { IfOk result (λ block. IsComputed DEPTH_LIMIT self.now.frozen.now self.now.depth self.now.block block) }
-    {
-        gate.enter(self.depth, number);
-        let mut numerators = Vec::new(alloc);
-        for rank in self.ranks(number) {
-            let value = gate.trace(alloc, self.frozen, known, *rank)?;
-            numerators.push(inbred(value))?;
-        }
-        Ok(ComputedBlock { number, numerators })
     }
 }

@@ -2,24 +2,28 @@
 ghost use Rattle.std.specs.Prelude.{◌≡◌, ℕ, ◌<◌, All, length, map};
 ghost use Rattle.herd_pedigree.specs.freezing.Frozen.{level_of};
 ghost use Rattle.herd_pedigree.specs.declared.TheConstants.{DEPTH_LIMIT};
-ghost use Rattle.herd_pool.specs.Levels.{block_of, coefficient_at, HasAt, IsComputed, Keeps};
+ghost use Rattle.herd_kinship.specs.Coefficients.{coefficient_at};
+ghost use Rattle.herd_pool.specs.Levels.{AreTraced, block_of, HasAt, Keeps};
+ghost use Rattle.herd_pool.specs.Sires.{AreWritten, HaveValues};
 
-use crate::level::{ComputedBlock, Level};
+use crate::level::Level;
+use crate::work::ComputedBlock;
+use herd_kinship::{CalfCoefficient, write_calves};
 use std::alloc::Allocator;
 
 /// Writes the numerators of these blocks of a level.
-pub fn write_all<F: Allocator, A: Allocator>(
+pub fn write_traced<F: Allocator, A: Allocator>(
     known: &mut [u128],
     level: Level<'_, F>,
-    blocks: &[ComputedBlock<A>],
+    blocks: &[ComputedBlock<Vec<u128, A>>],
 )
     requires known { length known.old ≡ length level.frozen.now }
-    requires computed { All (IsComputed DEPTH_LIMIT level.frozen.now level.depth level.block) blocks.now }
+    requires traced { All (λ block. AreTraced DEPTH_LIMIT level.frozen.now level.depth level.block block.number block.output.items) blocks.now }
     ensures kept { Keeps (coefficient_at DEPTH_LIMIT level.entry.frozen.now) known.old known.new }
     ensures written { All (λ block. HasAt (coefficient_at DEPTH_LIMIT level.entry.frozen.now) known.new (block_of level.entry.block block.number (level_of level.entry.depth level.entry.frozen.now))) blocks.now }
 {
     for block in blocks {
-        write_block(known, level.ranks(block.number), &block.numerators);
+        write_block(known, level.ranks(block.number), &block.output);
     }
 }
 
@@ -30,5 +34,18 @@ fn write_block(known: &mut [u128], ranks: &[u32], numerators: &[u128])
 {
     for (rank, numerator) in ranks.iter().zip(numerators) {
         known[*rank as usize] = *numerator;
+    }
+}
+
+/// Writes the numerators of the calves of these blocks.
+pub fn write_calves_of<A: Allocator>(
+    known: &mut [u128],
+    blocks: &[ComputedBlock<Vec<CalfCoefficient, A>>],
+)
+    requires { All (λ block. All (λ calf. calf.rank < length known.old) block.output.items) blocks.now }
+    ensures { (f : ℕ → ℕ) → All (λ block. HaveValues f block.output.items) blocks.now → Keeps f known.old known.new × All (λ block. AreWritten f known.new block.output.items) blocks.now }
+{
+    for block in blocks {
+        write_calves(&block.output, known);
     }
 }

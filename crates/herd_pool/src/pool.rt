@@ -1,16 +1,24 @@
-ghost use Rattle.std.specs.Prelude.{◌≡◌, ◌+◌, ◌<◌, ◌≤◌, IfOk, IfErr, OnOk};
+ghost use Rattle.std.specs.Prelude.{◌≡◌, ◌+◌, ◌<◌, ◌≤◌, All, length, IfOk, IfErr, OnOk};
 ghost use Rattle.herd_pedigree.specs.declared.TheConstants.{DEPTH_LIMIT, MOST_ANIMALS};
+ghost use Rattle.std.specs.Int.{div_ceil};
+ghost use Rattle.herd_pedigree.specs.freezing.Frozen.{level_of};
 ghost use Rattle.herd_kinship.specs.Coefficients.{AreCoefficients};
-ghost use Rattle.herd_pool.specs.Levels.{KnowsBelow};
+ghost use Rattle.herd_kinship.specs.Mates.{IsReady};
+ghost use Rattle.herd_pool.specs.Levels.{AreTraced, KnowsBelow};
+ghost use Rattle.herd_pool.specs.Sires.{HasCalvesOf, KnowsCalvesBelow};
+ghost use Rattle.herd_pool.specs.Workers.{AreBlocks};
 ghost use Rattle.herd_pool.specs.declared.limits.TheConstants.{MOST_WORKERS};
 ghost use Rattle.herd_pool.specs.declared.pool_fault.PoolFault.{PoolFault};
 
-use crate::crew::compute_level;
+use crate::crew::compute_blocks;
 use crate::gate::Gate;
 use crate::level::Level;
-use crate::merge::write_all;
+use crate::merge::{write_calves_of, write_traced};
 use crate::pool_fault::PoolFault;
-use herd_kinship::Coefficients;
+use crate::sires::SireLevel;
+use crate::traced::TracedLevel;
+use crate::work::ComputedBlock;
+use herd_kinship::{CalfCoefficient, Calves, Coefficients, Mates};
 use herd_pedigree::{DEPTH_LIMIT, Frozen};
 use std::alloc::Allocator;
 use std::sync::Wait;
@@ -71,7 +79,130 @@ fn add_level<
     ensures known { OnOk result (KnowsBelow DEPTH_LIMIT MOST_ANIMALS level.entry.frozen.now known.new (level.entry.depth + 1)) }
     ensures one_worker { workers ≡ 1 → IfErr result (λ fault. fault ≡ PoolFault.Memory) }
 {
-    let blocks = compute_level(rt, alloc, level, known, workers, gate)?;
-    write_all(known, level, &blocks);
+    let blocks = trace_level(rt, alloc, level, known, workers, gate)?;
+    write_traced(known, level, &blocks);
     Ok(())
+}
+
+// Traces the animals of a level, block by block.
+fn trace_level<
+    R: Threads + Wait + Sync,
+    F: Allocator + Sync,
+    A: Allocator + Copy + Send + Sync,
+    G: Gate,
+>(
+    rt: &R,
+    alloc: A,
+    level: Level<'_, F>,
+    known: &[u128],
+    workers: u32,
+    gate: &G,
+) -> Result<Vec<ComputedBlock<Vec<u128, A>>, A>, PoolFault>
+    requires known { KnowsBelow DEPTH_LIMIT MOST_ANIMALS level.frozen.now known.now level.depth }
+    requires block { 0 < level.block }
+    ensures blocks { IfOk result (λ blocks. AreBlocks (λ block. AreTraced DEPTH_LIMIT level.entry.frozen.now level.entry.depth level.entry.block block.number block.output.items) (div_ceil (length (level_of level.entry.depth level.entry.frozen.now)) level.entry.block) blocks.items) }
+    ensures one_worker { workers ≡ 1 → IfErr result (λ fault. fault ≡ PoolFault.Memory) }
+{
+    let traced = TracedLevel { level, known, gate };
+    let count = level.blocks();
+    let (blocks, _) = compute_blocks(
+        rt,
+        alloc,
+        &traced,
+        count,
+        workers.min(count),
+        Vec::new(alloc),
+    )?;
+    Ok(blocks)
+}
+
+/// The coefficients of a book, sire by sire, by this many workers, who take the blocks of each level from a queue.
+///
+/// They are the same as those of `herd_kinship::coefficients_plain`, whatever the number of workers and the length of a
+/// block; a block has `block` animals, and who takes it goes through the sires among them. The calling thread is one of
+/// the workers, and the only one of a level in which fewer than two blocks have a sire with calves. The threads of a
+/// level end with it, and all have ended when the call returns, also with an error: a growth of memory that is refused,
+/// or with more than one worker a thread that can't be started.
+pub fn coefficients_by_sires<
+    R: Threads + Wait + Sync,
+    F: Allocator + Sync,
+    A: Allocator + Copy + Send + Sync,
+>(
+    rt: &R,
+    alloc: A,
+    frozen: &Frozen<F>,
+    workers: u32,
+    block: u32,
+) -> Result<Coefficients<A>, PoolFault>
+    requires workers { (1 ≤ workers) × (workers ≤ MOST_WORKERS) }
+    requires block { 1 ≤ block }
+    ensures list { IfOk result (AreCoefficients DEPTH_LIMIT frozen.now) }
+    ensures one_worker { workers ≡ 1 → IfErr result (λ fault. fault ≡ PoolFault.Memory) }
+{
+    let mut known = vec![in alloc; 0u128; frozen.len() as usize]?;
+    let calves = Calves::of(alloc, frozen)?;
+    let mut idle = Vec::new(alloc);
+    for depth in 0..=DEPTH_LIMIT {
+        let level = Level {
+            frozen,
+            depth,
+            block,
+        };
+        idle = add_calves(rt, alloc, level, &calves, &mut known, workers, idle)?;
+    }
+    Ok(Coefficients::from_list(known))
+}
+
+// Computes and writes the calves of a level's sires, where those of all sires of less depth are known.
+fn add_calves<R: Threads + Wait + Sync, F: Allocator + Sync, A: Allocator + Copy + Send + Sync>(
+    rt: &R,
+    alloc: A,
+    level: Level<'_, F>,
+    calves: &Calves<A>,
+    known: &mut [u128],
+    workers: u32,
+    idle: Vec<Mates<A>, A>,
+) -> Result<Vec<Mates<A>, A>, PoolFault>
+    requires known { KnowsCalvesBelow DEPTH_LIMIT MOST_ANIMALS level.frozen.now calves.now known.old level.depth }
+    requires idle { All (IsReady (length level.frozen.now)) idle.items }
+    requires block { 0 < level.block }
+    ensures known { IfOk result (λ _. KnowsCalvesBelow DEPTH_LIMIT MOST_ANIMALS level.entry.frozen.now calves.now known.new (level.entry.depth + 1)) }
+    ensures idle { IfOk result (λ idle. All (IsReady (length level.entry.frozen.now)) idle.items) }
+    ensures one_worker { workers ≡ 1 → IfErr result (λ fault. fault ≡ PoolFault.Memory) }
+{
+    let (blocks, idle) = relate_level(rt, alloc, level, calves, known, workers, idle)?;
+    write_calves_of(known, &blocks);
+    Ok(idle)
+}
+
+// Goes through the sires of a level, block by block.
+fn relate_level<R: Threads + Wait + Sync, F: Allocator + Sync, A: Allocator + Copy + Send + Sync>(
+    rt: &R,
+    alloc: A,
+    level: Level<'_, F>,
+    calves: &Calves<A>,
+    known: &[u128],
+    workers: u32,
+    idle: Vec<Mates<A>, A>,
+) -> Result<
+    (
+        Vec<ComputedBlock<Vec<CalfCoefficient, A>>, A>,
+        Vec<Mates<A>, A>,
+    ),
+    PoolFault,
+>
+    requires known { KnowsCalvesBelow DEPTH_LIMIT MOST_ANIMALS level.frozen.now calves.now known.now level.depth }
+    requires idle { All (IsReady (length level.frozen.now)) idle.items }
+    requires block { 0 < level.block }
+    ensures blocks { IfOk result (λ r. AreBlocks (λ block. HasCalvesOf DEPTH_LIMIT level.entry.frozen.now level.entry.depth level.entry.block block.number block.output.items) (div_ceil (length (level_of level.entry.depth level.entry.frozen.now)) level.entry.block) r.0.items) }
+    ensures idle { IfOk result (λ r. All (IsReady (length level.entry.frozen.now)) r.1.items) }
+    ensures one_worker { workers ≡ 1 → IfErr result (λ fault. fault ≡ PoolFault.Memory) }
+{
+    let sires = SireLevel {
+        level,
+        known,
+        calves,
+    };
+    let crew = sires.crew(workers);
+    compute_blocks(rt, alloc, &sires, level.blocks(), crew, idle)
 }

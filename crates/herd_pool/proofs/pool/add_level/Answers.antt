@@ -1,7 +1,7 @@
 use Rattle.std.proofs.Common.{arith, subst}
 use Rattle.herd_pedigree.specs.freezing.Frozen.{level_of}
 use Rattle.herd_pedigree.specs.declared.TheConstants.{DEPTH_LIMIT, MOST_ANIMALS}
-use Rattle.herd_pool.specs.Levels.{coefficient_at}
+use Rattle.herd_kinship.specs.Coefficients.{coefficient_at}
 use Rattle.herd_pool.proofs.Writes.{HasBlocks, level_known}
 use Rattle.herd_pool.proofs.pool.add_level.Goals as goal
 
@@ -9,6 +9,6 @@ pub returns-clause-known : goal.returns-clause-known
 returns-clause-known g c =
     let level = c.args.level in
     let rows = level.frozen.now in
-    let new = c.write_all.new.known in
-    let written = subst (HasBlocks (coefficient_at DEPTH_LIMIT rows) level.block (level_of level.depth rows) new) c.deref.ensures.value c.write_all.ensures.written in
-    level_known DEPTH_LIMIT MOST_ANIMALS rows c.args.known.now new level.depth level.block c.in_ok-blocks.blocks.items c.requires.block (omega arith) c.requires.known c.in_ok-blocks.ensures.blocks c.write_all.ensures.kept written
+    let new = c.write_traced.new.known in
+    let written = subst (HasBlocks (coefficient_at DEPTH_LIMIT rows) level.block (level_of level.depth rows) new) c.deref.ensures.value c.write_traced.ensures.written in
+    level_known DEPTH_LIMIT MOST_ANIMALS rows c.args.known.now new level.depth level.block c.in_ok-blocks.blocks.items c.requires.block (omega arith) c.requires.known c.in_ok-blocks.ensures.blocks.each_once c.write_traced.ensures.kept written

@@ -1,8 +1,6 @@
 use Rattle.std.proofs.Common.{rules, arith, inr, ap, ◌≡◌, ◌++◌, [], ◌∷◌}
 use Rattle.std.proofs.lemmas.List.Elements.{All-push, All-same}
-use Rattle.herd_pedigree.specs.declared.TheConstants.{DEPTH_LIMIT}
-use Rattle.herd_pool.specs.Levels.{IsComputed}
-use Rattle.herd_pool.specs.declared.level.ComputedBlock.{ComputedBlock}
+use Rattle.herd_pool.specs.declared.work.ComputedBlock.{ComputedBlock}
 use Rattle.herd_pool.proofs.Passes.{one_more, takes}
 use Rattle.herd_pool.proofs.worker.work.Goals as goal
 
@@ -14,12 +12,12 @@ loop-preserved-in_ok-push-in-Success g c =
     let was = c.loop.invariant in
     let block = c.in_ok-compute-in-Success.field-0 in
     let joined : c.push.new.self.items ≡ c.loop.blocks.items ++ block ∷ [] = search rules in
-    let level = c.args.task.level in
-    let IsRight : ComputedBlock _ → Type 0 = IsComputed DEPTH_LIMIT level.frozen.now level.depth level.block in
+    let IsRight : ComputedBlock _ → Type 0 = g.W.Work.is_computed c.args.task.work.now in
     record {
       pass = record {
         queue = search rules;
         view = one_more _ _ _ _ _ _ _ block was.pass.view c.in-Success.ensures.rule c.in_ok-compute-in-Success.ensures.number joined;
       };
       computed = All-same IsRight _ _ joined (All-push IsRight _ block was.computed c.in_ok-compute-in-Success.ensures.computed);
+      ready = search rules;
     }

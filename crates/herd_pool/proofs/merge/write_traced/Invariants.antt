@@ -1,8 +1,8 @@
 use Rattle.herd_pedigree.specs.freezing.Frozen.{level_of}
 use Rattle.herd_pedigree.specs.declared.TheConstants.{DEPTH_LIMIT}
-use Rattle.herd_pool.specs.Levels.{coefficient_at}
+use Rattle.herd_kinship.specs.Coefficients.{coefficient_at}
 use Rattle.herd_pool.proofs.Writes.{HasWritten}
-use Rattle.herd_pool.proofs.merge.write_all.Given as goal
+use Rattle.herd_pool.proofs.merge.write_traced.Given as goal
 
 abbrev pub invariant-loop-block : goal.invariant-loop-block
 invariant-loop-block g l =

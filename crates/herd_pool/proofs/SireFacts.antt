@@ -1,0 +1,98 @@
+-- The calves of a level's sires: how they are collected, block by block, and what is known once they are written.
+use Rattle.std.proofs.Common.{◌≡◌, ℕ, suc, ◌+◌, ◌<◌, ◌≤◌, ◌⊎◌, List, [], length, get_or, slice_index, take, Vec, sym, ap, subst, inl, inr, ◌∙◌, ⊎_elim, arith}
+use Rattle.std.specs.Int.{div_ceil}
+use Rattle.std.specs.List.{All}
+use Rattle.std.proofs.lemmas.Bool.{cases_lt}
+use Rattle.std.proofs.lemmas.List.Elements.{All-from_get_or, All-more, All-weaker}
+use Rattle.herd_pedigree.specs.declared.freezing.frozen.Row.{Row}
+use Rattle.herd_pedigree.specs.freezing.Frozen.{IsFrozen, depth_at, level_of}
+use Rattle.herd_kinship.specs.CalfCoefficients.{AreCalvesWith, GoesOnWith}
+use Rattle.herd_kinship.specs.CalfLinks.{IsCalf}
+use Rattle.herd_kinship.specs.Coefficients.{IsLessDeep, coefficient_at}
+use Rattle.herd_kinship.specs.declared.calf_coefficients.CalfCoefficient.{CalfCoefficient}
+use Rattle.herd_kinship.specs.declared.calves.Calves.{Calves}
+use Rattle.herd_kinship.proofs.BySires.{less_deep-next, reached-more}
+use Rattle.herd_kinship.proofs.CalfFacts.{calf-within}
+use Rattle.herd_kinship.proofs.CalfListFacts.{calves-more, calves-none, calves-values, calves-within, calves-written}
+use Rattle.herd_kinship.proofs.FrozenFacts.{frozen-ranked}
+use Rattle.herd_pool.specs.Blocks.{once_below, times}
+use Rattle.herd_pool.specs.Levels.{Keeps, block_of}
+use Rattle.herd_pool.specs.Sires.{AreCalvesAmong, AreWritten, HasCalvesOf, HaveValues, IsAmong, KnowsCalvesBelow}
+use Rattle.herd_pool.specs.Workers.{numbers}
+use Rattle.herd_pool.specs.declared.work.ComputedBlock.{ComputedBlock}
+use Rattle.herd_pool.proofs.Writes.{in_level, keeps_on, stays}
+
+-- before the first sire there are no calves
+pub calves_at_first : (l : ℕ) (rows : List Row) (ranks : List ℕ) → AreCalvesAmong l rows ranks 0 []
+calves_at_first l rows ranks = calves-none rows (IsAmong ranks 0) (coefficient_at l rows) (λ s x is calf. absurd (omega (arith, is.1)))
+
+-- the calves of one sire more
+pub calves_further : (l : ℕ) (rows : List Row) (ranks : List ℕ) (i : ℕ) (old new : List CalfCoefficient) → AreCalvesAmong l rows ranks i old → GoesOnWith rows (λ s. s ≡ slice_index ranks i) (coefficient_at l rows) old new → AreCalvesAmong l rows ranks (i + 1) new
+calves_further l rows ranks i old new was on =
+    calves-more rows (IsAmong ranks i) (λ s. s ≡ slice_index ranks i) (IsAmong ranks (i + 1)) (coefficient_at l rows) old new
+    (λ s is. (is.0, omega (arith, is.1), is.2))
+    (λ s e. (i, omega arith, sym e))
+    (λ s is. ⊎_elim (λ (low : is.0 < i). inl (is.0, low, is.2)) (λ (at : i ≤ is.0). let below = is.1 in let here : is.0 ≡ i = omega arith in inr (sym is.2 ∙ ap (slice_index ranks) here)) (cases_lt is.0 i))
+    was on
+
+-- the blocks that are written on the way, after n of them
+pub record AreBlocksWritten {A : Type 0} (f : ℕ → ℕ) (old known : List ℕ) (blocks : List (ComputedBlock (Vec CalfCoefficient A))) (n : ℕ) : Type 0 where
+  pub kept : Keeps f old known
+  pub written : All (λ block. AreWritten f known block.output.items) (take n blocks)
+
+-- one more block is written
+pub calves_block_written : {A : Type 0} (f : ℕ → ℕ) (blocks : List (ComputedBlock (Vec CalfCoefficient A))) (n : ℕ) (block : ComputedBlock (Vec CalfCoefficient A)) (old known new : List ℕ) → n < length blocks → block ≡ get_or blocks n block
+    → Keeps f known new → AreWritten f new block.output.items → AreBlocksWritten f old known blocks n → AreBlocksWritten f old new blocks (n + 1)
+calves_block_written {A = A} f blocks n block old known new below at keeps here was =
+    let Old : ComputedBlock (Vec CalfCoefficient A) → Type 0 = λ b. AreWritten f known b.output.items in
+    let New : ComputedBlock (Vec CalfCoefficient A) → Type 0 = λ b. AreWritten f new b.output.items in
+    let mine : New (get_or blocks n block) = subst New at here in
+    record {
+      kept = keeps_on f old known new was.kept keeps;
+      written = All-more New blocks n block below (All-weaker Old New (λ b h k d low. stays f known new keeps (get_or b.output.items k d).rank (h k d low)) (take n blocks) was.written) mine;
+    }
+
+-- the blocks of a level have ranks of the book
+pub blocks_within : {A : Type 0} (l : ℕ) (rows : List Row) (depth len : ℕ) (blocks : List (ComputedBlock (Vec CalfCoefficient A)))
+    → All (λ block. HasCalvesOf l rows depth len block.number block.output.items) blocks
+    → All (λ block. All (λ calf. calf.rank < length rows) block.output.items) blocks
+blocks_within {A = A} l rows depth len blocks all =
+    let Has : ComputedBlock (Vec CalfCoefficient A) → Type 0 = λ b. HasCalvesOf l rows depth len b.number b.output.items in
+    let Within : ComputedBlock (Vec CalfCoefficient A) → Type 0 = λ b. All (λ calf. calf.rank < length rows) b.output.items in
+    All-weaker Has Within
+    (λ b has. let ranks = block_of len b.number (level_of depth rows) in calves-within rows (IsAmong ranks (length ranks)) (coefficient_at l rows) b.output.items has) blocks all
+
+-- and their coefficients
+pub blocks_values : {A : Type 0} (l : ℕ) (rows : List Row) (depth len : ℕ) (blocks : List (ComputedBlock (Vec CalfCoefficient A)))
+    → All (λ block. HasCalvesOf l rows depth len block.number block.output.items) blocks
+    → All (λ block. HaveValues (coefficient_at l rows) block.output.items) blocks
+blocks_values {A = A} l rows depth len blocks all =
+    let Has : ComputedBlock (Vec CalfCoefficient A) → Type 0 = λ b. HasCalvesOf l rows depth len b.number b.output.items in
+    let Values : ComputedBlock (Vec CalfCoefficient A) → Type 0 = λ b. HaveValues (coefficient_at l rows) b.output.items in
+    All-weaker Has Values
+    (λ b has. let ranks = block_of len b.number (level_of depth rows) in calves-values rows (IsAmong ranks (length ranks)) (coefficient_at l rows) b.output.items has) blocks all
+
+-- where each block of a level is written, the calves of its sires are known too
+pub calves_known : {A C : Type 0} (l most : ℕ) (rows : List Row) (calves : Calves C) (known new : List ℕ) (depth len : ℕ) (blocks : List (ComputedBlock (Vec CalfCoefficient A))) → 0 < len → length new ≡ length known → KnowsCalvesBelow l most rows calves known depth
+    → ((number : ℕ) → times number (numbers blocks) ≡ once_below number (div_ceil (length (level_of depth rows)) len))
+    → All (λ block. HasCalvesOf l rows depth len block.number block.output.items) blocks
+    → Keeps (coefficient_at l rows) known new → All (λ block. AreWritten (coefficient_at l rows) new block.output.items) blocks
+    → KnowsCalvesBelow l most rows calves new (depth + 1)
+calves_known {A = A} l most rows calves known new depth len blocks some same knows each_once computed kept written =
+    let f = coefficient_at l rows in
+    let level = level_of depth rows in
+    let Right : ComputedBlock (Vec CalfCoefficient A) → Type 0 = λ b. (s : ℕ) → IsAmong (block_of len b.number level) (length (block_of len b.number level)) s → (x : ℕ) → IsCalf rows s x → slice_index new x ≡ f x in
+    let all : All Right blocks = λ k d low s among x is.
+    let b = get_or blocks k d in
+    let ranks = block_of len b.number level in
+    calves-written rows (IsAmong ranks (length ranks)) f b.output.items known new (computed k d low) (record { kept = kept; written = written k d low }) s x among is in
+    let here = in_level (λ s. (x : ℕ) → IsCalf rows s x → slice_index new x ≡ f x) rows depth len blocks some each_once all in
+    let mine : (s x : ℕ) → depth_at rows s ≡ depth → IsCalf rows s x → slice_index new x ≡ f x = λ s x deep is.
+    let within : x < length rows = calf-within rows s x is in
+    let lower : s < x = (frozen-ranked l most rows knows.frozen).below x s within (inl is.0) in
+    here s (omega arith) deep x is in
+    record {
+      frozen = knows.frozen;
+      linked = knows.linked;
+      reached = reached-more l rows (IsLessDeep rows depth) (λ s. depth_at rows s ≡ depth) (IsLessDeep rows (depth + 1)) (less_deep-next rows depth) known new same (λ x low. kept x) mine knows.reached;
+    }

@@ -1,0 +1,16 @@
+use Rattle.std.proofs.Common.{◌≡◌}
+use Rattle.std.specs.List.{All}
+use Rattle.crossbeam_deque.specs.Handles.{worker_deque, worker_flavor, worker_port, worker_view}
+use Rattle.herd_pool.specs.Blocks.{pass_view}
+use Rattle.herd_pool.specs.Workers.{numbers}
+use Rattle.herd_pool.proofs.starter.take_blocks.Given as goal
+
+abbrev pub invariant-loop : goal.invariant-loop
+invariant-loop g l = record {
+  deque : worker_deque l.queue ≡ worker_deque l.initial.queue;
+  fifo : worker_flavor l.queue ≡ 0;
+  first : worker_port l.queue ≡ 0;
+  view : worker_view l.queue ≡ pass_view (worker_view l.initial.queue).out (worker_view l.initial.queue).pushed (numbers l.blocks.items);
+  computed : All (g.W.Work.is_computed l.on) l.blocks.items;
+  ready : g.W.Work.is_ready l.on l.scratch;
+}

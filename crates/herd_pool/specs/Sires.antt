@@ -1,0 +1,38 @@
+-- What is known and computed where a level's sires are gone through. l is the limit of depths.
+use Rattle.std.specs.Prelude.{◌≡◌, ℕ, ◌<◌, All, List, length, slice_index}
+use Rattle.herd_pedigree.specs.declared.freezing.frozen.Row.{Row}
+use Rattle.herd_pedigree.specs.freezing.Frozen.{IsFrozen, level_of}
+use Rattle.herd_kinship.specs.CalfCoefficients.{AreCalvesWith}
+use Rattle.herd_kinship.specs.CalfLinks.{AreCalvesOf}
+use Rattle.herd_kinship.specs.Coefficients.{IsLessDeep, KnowsReached, coefficient_at}
+use Rattle.herd_kinship.specs.declared.calf_coefficients.CalfCoefficient.{CalfCoefficient}
+use Rattle.herd_kinship.specs.declared.calves.Calves.{Calves}
+use Rattle.herd_pool.specs.Levels.{block_of}
+
+-- The numerators of a frozen book on the way: there is one for each animal, and the calves of all sires of less depth have their
+-- coefficient
+pub record KnowsCalvesBelow {C : Type 0} (l most : ℕ) (rows : List Row) (calves : Calves C) (known : List ℕ) (depth : ℕ) : Type 0 where
+  pub frozen : IsFrozen l most rows
+  pub linked : AreCalvesOf rows calves
+  pub reached : KnowsReached l rows (IsLessDeep rows depth) known
+
+-- the rank is one of the first n of these
+abbrev pub IsAmong : List ℕ → ℕ → ℕ → Type 0
+IsAmong ranks n rank = (k : ℕ) × (k < n) × (slice_index ranks k ≡ rank)
+
+-- these are all calves of the first n of these sires, each with its coefficient
+abbrev pub AreCalvesAmong : ℕ → List Row → List ℕ → ℕ → List CalfCoefficient → Type 0
+AreCalvesAmong l rows ranks n calves = AreCalvesWith rows (IsAmong ranks n) (coefficient_at l rows) calves
+
+-- these are all calves of the sires of a block, each with its coefficient
+abbrev pub HasCalvesOf : ℕ → List Row → ℕ → ℕ → ℕ → List CalfCoefficient → Type 0
+HasCalvesOf l rows depth len number calves =
+    let ranks = block_of len number (level_of depth rows) in AreCalvesAmong l rows ranks (length ranks) calves
+
+-- each calf comes with f of its rank
+abbrev pub HaveValues : (ℕ → ℕ) → List CalfCoefficient → Type 0
+HaveValues f calves = All (λ calf. calf.numerator ≡ f calf.rank) calves
+
+-- at each calf's rank stands f of it
+abbrev pub AreWritten : (ℕ → ℕ) → List ℕ → List CalfCoefficient → Type 0
+AreWritten f known calves = All (λ calf. slice_index known calf.rank ≡ f calf.rank) calves

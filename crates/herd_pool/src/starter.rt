@@ -1,0 +1,69 @@
+//! The thread that starts the others of a level, and works beside them.
+ghost use Rattle.std.specs.Prelude.{◌≡◌, ℕ, All, IfOk};
+ghost use Rattle.crossbeam_deque.specs.Handles.{worker_deque, worker_view};
+ghost use Rattle.herd_pool.specs.Blocks.{once_below, times};
+ghost use Rattle.herd_pool.specs.Workers.{IsStarter, numbers};
+
+use crate::queue::{BlockQueue, Popped};
+use crate::work::{ComputedBlock, Work};
+use std::alloc::{AllocError, Allocator};
+use std::sync::Wait;
+
+/// What the starter of a level has.
+#[derive(Drop)]
+pub struct Starter<S, O, A: Allocator> {
+    pub queue: BlockQueue<A>,
+    /// The blocks that it took, and those of the workers who are back.
+    pub blocks: Vec<ComputedBlock<O>, A>,
+    /// The scratch of workers who aren't at work.
+    pub idle: Vec<S, A>,
+}
+
+/// The scratch for one more worker.
+pub fn hire<A: Allocator, W: Work<A>>(
+    alloc: A,
+    on: &W,
+    idle: &mut Vec<W::Scratch, A>,
+) -> Result<W::Scratch, AllocError>
+    requires { All (W.is_ready on.now) idle.old.items }
+    ensures ready { IfOk result (W.is_ready on.now) }
+    ensures idle { All (W.is_ready on.now) idle.new.items }
+{
+    match idle.pop() {
+        Some(scratch) => Ok(scratch),
+        None => on.scratch(alloc),
+    }
+}
+
+/// Computes blocks until the queue is empty. Where no worker is out, each has then been computed once.
+pub fn take_blocks<R: Wait, A: Allocator + Copy, W: Work<A>>(
+    rt: &R,
+    alloc: A,
+    on: &W,
+    starter: Starter<W::Scratch, W::Output, A>,
+) -> Result<Starter<W::Scratch, W::Output, A>, AllocError>
+    requires knows { W.knows on.now }
+    requires starter { IsStarter (W.is_ready on.now) (W.is_computed on.now) (worker_view starter.queue).out (worker_view starter.queue).pushed starter }
+    ensures deque { IfOk result (λ r. worker_deque r.queue ≡ worker_deque starter.queue) }
+    ensures starter { IfOk result (IsStarter (W.is_ready on.now) (W.is_computed on.now) (worker_view starter.queue).out (worker_view starter.queue).pushed) }
+    ensures each_once { IfOk result (λ r. (worker_view starter.queue).out ≡ 0 → (number : ℕ) → times number (numbers r.blocks.items) ≡ once_below number (worker_view starter.queue).pushed) }
+{
+    let Starter {
+        mut queue,
+        mut blocks,
+        mut idle,
+    } = starter;
+    let mut scratch = hire(alloc, on, &mut idle)?;
+    for _ in rt.forever() {
+        match queue.pop_as::<Popped>() {
+            Some(number) => blocks.push(on.compute(alloc, &mut scratch, number)?)?,
+            None => break,
+        }
+    }
+    idle.push(scratch)?;
+    Ok(Starter {
+        queue,
+        blocks,
+        idle,
+    })
+}
