@@ -2,17 +2,19 @@
 
 use super::support::{Header, file, push_lines};
 use herd_animal::AnimalNumber;
-use herd_fixtures::{Birth, full_sibs, pair_of};
+use herd_fixtures::{Birth, pair_of};
 use std::alloc::{AllocError, Global};
 use std::test::Fail;
 
-/// Six animals: full sibs M3 and F4, of whom M5 is a calf, and F6 of F4 and her own sire. Then these records.
-pub(super) fn six_and(alloc: Global, records: &[&str]) -> Result<String, Fail> {
-    let mut text = file(alloc, Header::Plain, &[])?;
-    push_births(&mut text, &full_sibs())?;
-    push_lines(&mut text, records)?;
-    Ok(text)
-}
+/// Full sibs M3 and F4, of whom M5 is a calf, and F6 of F4 and her own sire.
+pub(super) const SIX: &[&str] = &[
+    "birth,M1,2000-01-01,0,0,,1",
+    "birth,F2,2000-01-01,0,0,,1",
+    "birth,M3,2002-01-01,M1,F2,,1",
+    "birth,F4,2002-01-01,M1,F2,,1",
+    "birth,M5,2004-01-01,M3,F4,,1",
+    "birth,F6,2004-01-01,M1,F4,,1",
+];
 
 /// One pair a generation, each of the pair before: males of odd numbers, females of even ones, the first pair born
 /// on the first day of 2000 and each further one a year later. Then these records.

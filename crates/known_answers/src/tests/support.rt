@@ -1,10 +1,12 @@
 //! What the tests have in common: command files and texts in which numbers are written short.
+ghost use Rattle.std.specs.Prelude.{◌≤◌};
+ghost use Rattle.herd_pool.specs.declared.limits.TheConstants.{MOST_WORKERS};
 
 use herd_animal::AnimalNumber;
 use herd_fixtures::Name;
 use herd_pedigree::MOST_ANIMALS;
-use herd_register::{Limits, MOST_STEPS};
-use herd_report::{Order, RunFault};
+use herd_register::{Limits, MOST_STEPS, Register};
+use herd_report::{Order, RunFault, read_commands};
 use std::alloc::{AllocError, Global};
 use std::process::Abort;
 use std::sync::Wait;
@@ -94,11 +96,20 @@ pub(super) fn replies<R: AllocGlobal + Threads + Wait + Sync>(rt: &R, bytes: &[u
 
 /// Runs a command file for the list of coefficients.
 pub(super) fn coefficients<R: AllocGlobal + Threads + Wait + Sync>(rt: &R, bytes: &[u8]) -> Ran {
-    let order = Order::Inbreeding {
-        workers: 1,
-        block: herd_pool::DEFAULT_BLOCK,
-    };
-    ran!(rt, order, bytes)
+    shared_coefficients(rt, 1, herd_pool::DEFAULT_BLOCK, bytes)
+}
+
+/// Runs a command file for the list of coefficients, which so many workers share in blocks of this length.
+pub(super) fn shared_coefficients<R: AllocGlobal + Threads + Wait + Sync>(
+    rt: &R,
+    workers: u32,
+    block: u32,
+    bytes: &[u8],
+) -> Ran
+    requires workers { (1 ≤ workers) × (workers ≤ MOST_WORKERS) }
+    requires block { 1 ≤ block }
+{
+    ran!(rt, Order::Inbreeding { workers, block }, bytes)
 }
 
 /// Runs a command file for the certificate of an animal.
@@ -123,6 +134,15 @@ pub(super) fn advice<R: AllocGlobal + Threads + Wait + Sync>(
 /// Runs a command file for the contributions to the inverse.
 pub(super) fn inverse<R: AllocGlobal + Threads + Wait + Sync>(rt: &R, bytes: &[u8]) -> Ran {
     ran!(rt, Order::Inverse, bytes)
+}
+
+/// The register in which the commands of a file are filed.
+pub(super) fn filed(alloc: Global, bytes: &[u8]) -> Result<Register<Global>, Fail> {
+    let mut register = Register::new(alloc, LIMITS);
+    for command in read_commands(alloc, bytes, MOST_STEPS).list {
+        register.file(0, command)?;
+    }
+    Ok(register)
 }
 
 /// The run ended well, and wrote these lines.
