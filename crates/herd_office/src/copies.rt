@@ -3,7 +3,7 @@ ghost use Rattle.std.specs.Prelude.{◌≡◌, ◌+◌, ◌<◌, ◌≤◌, [], 
 ghost use Rattle.left_right.specs.Sides.{view};
 ghost use Rattle.herd_register.specs.Copybook.{copybook_of};
 ghost use Rattle.herd_office.specs.Copies.{IsTold, office_of};
-ghost use Rattle.herd_office.specs.Shelves.{state_of, after, update_of};
+ghost use Rattle.herd_office.specs.Shelves.{AreOf, after, state_of};
 
 use crate::copy_update::CopyUpdate;
 use crate::faults::OpenFault;
@@ -95,22 +95,15 @@ pub fn publish<R: Wait>(copies: Copies, rt: &R) -> (Copies, Result<(), AllocErro
 
 /// Publishes the step that is pending, with the history that has it.
 pub fn show<R: Wait>(rt: &R, copies: &mut Copies, step: &Step, past: Past)
-    requires pending { drop copies.old.behind copies.old.log.items ≡ update_of step.now ∷ [] }
-    requires room { length copies.old.desk.shown.value.copybook.journal < copies.old.desk.shown.value.copybook.limits.steps }
-    requires book { past.seen.book ≡ copies.old.desk.shown.value.past.seen.book }
-    requires limits { past.limits ≡ copies.old.desk.shown.value.copybook.limits }
-    requires told { copies.old.desk.shown.value.past.limits ≡ copies.old.desk.shown.value.copybook.limits }
+    requires pending { drop copies.old.behind copies.old.log.items ≡ CopyUpdate.Filed step.now ∷ [] }
+    requires shown { AreOf (state_of copies.old.desk.shown.value) copies.old.desk.shown.value.copybook.journal past.limits past.seen.book }
+    requires room { length copies.old.desk.shown.value.copybook.journal < past.limits.steps }
     requires log { past.seen.log ≡ copies.old.desk.shown.value.copybook.journal ++ step.now ∷ [] }
-    requires behind { length copies.old.desk.shown.value.past.seen.log ≤ length copies.old.desk.shown.value.copybook.journal }
-    ensures journal { copies.new.desk.shown.value.copybook.journal ≡ copies.old.desk.shown.value.copybook.journal ++ step.now ∷ [] }
-    ensures limits { copies.new.desk.shown.value.copybook.limits ≡ copies.old.desk.shown.value.copybook.limits }
-    ensures told { copies.new.desk.shown.value.past.limits ≡ copies.new.desk.shown.value.copybook.limits }
-    ensures book { copies.new.desk.shown.value.past.seen.book ≡ copies.old.desk.shown.value.past.seen.book }
-    ensures behind { length copies.new.desk.shown.value.past.seen.log ≤ length copies.new.desk.shown.value.copybook.journal }
+    ensures shown { AreOf (state_of copies.new.desk.shown.value) past.seen.log past.limits past.seen.book }
     ensures pending { drop copies.new.behind copies.new.log.items ≡ [] }
 {
     // Where there is no memory for it, readers get no reading until a later history is told.
-    let _ = copies.append(CopyUpdate::of_past(past));
+    let _ = copies.append(CopyUpdate::Told(past));
     let _ = mem::replace_with(copies, rt, publish::<R>);
 }
 

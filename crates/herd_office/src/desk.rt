@@ -1,20 +1,18 @@
-//! The desks, and how a command is filed.
-ghost use Rattle.std.specs.Prelude.{map, List, ◌≡◌, ℕ, ◌+◌, ◌<◌, ◌≤◌, ◌^◌, ◌↔◌, ◌≢◌, IsNone, IsSome, IsTrue, [], ◌∷◌, ◌++◌, length, drop, vec_len, Some, slice_get, IfOk, IfErr, OnErr};
+//! The desks, and what they hold.
+ghost use Rattle.std.specs.Prelude.{map, ◌≡◌, ℕ, ◌+◌, ◌<◌, ◌≤◌, ◌^◌, ◌↔◌, IsTrue, [], length, vec_len, Some, slice_get, IfOk, IfErr, OnErr};
 ghost use Rattle.std.specs.List.{sum_by};
 ghost use mathlib.Core.List.{IsPrefix};
-ghost use Rattle.herd_register.specs.Run.{IsLegal, step_of};
+ghost use Rattle.herd_register.specs.Run.{IsLegal};
 ghost use Rattle.herd_office.specs.Closing.{BeginsWithAll};
-ghost use Rattle.herd_office.specs.Filing.{EndsWith, answer_after, with_step_of};
+ghost use Rattle.herd_office.specs.Filing.{EndsWith};
 ghost use Rattle.herd_office.specs.Histories.{Apart, of_desk, times};
-ghost use Rattle.herd_office.specs.Shelves.{state_of, update_of};
 
-use crate::copies::{Copies, show};
-use crate::copy_update::CopyUpdate;
 use crate::faults::OpenFault;
+use crate::filing::file_on;
 use crate::history::History;
 use crate::name::OfficeName;
-use crate::office::{Inside, Office};
-use herd_register::{Command, FileFault, MOST_STEPS, Register, Reply, Step};
+use crate::office::Office;
+use herd_register::{Command, FileFault, Reply};
 use std::alloc::Allocator;
 use std::sync::ledger::{Book, Share};
 use std::sync::{MutexGuard, Wait};
@@ -91,101 +89,9 @@ fn make_desk<N: OfficeName>(number: u16, share: Share<N>, history: &History<N>) 
     }
 }
 
-/// Files a command at a desk, on the value under the lock. After a fault nothing was filed.
-pub fn file_on<N: OfficeName, W: Wait, R: Wait + Drop, A: Allocator + Copy>(
-    rt: &W,
-    inside: &mut Inside<N, R, A>,
-    desk: &mut Desk<N>,
-    command: Command,
-) -> Result<Filed<N>, FileFault>
-    ensures stored { IfOk result (λ f. inside.new.register.journal ≡ with_step_of inside.old.register.journal desk.old.number command f.reply) }
-    ensures reply { IfOk result (λ f. f.reply ≡ answer_after N.limits inside.old.register.journal command) }
-    ensures serial { IfOk result (λ f. f.serial ≡ length inside.new.register.journal) }
-    ensures total { IfOk result (λ _. inside.new.answered.total ≡ inside.old.answered.total + 1) }
-    ensures slip { IfOk result (λ f. f.slip.history ≡ inside.new.register.journal) }
-    ensures legal { IfOk result (λ f. IsLegal N.limits f.slip.history) }
-    ensures ends { IfOk result (λ f. EndsWith f.slip.history desk.old.number command f.reply) }
-    ensures begins { IfOk result (λ f. IsPrefix desk.old.history f.slip.history) }
-    ensures longer { IfOk result (λ f. length desk.old.history < length f.slip.history) }
-    ensures answered { IfOk result (λ _. desk.new.answered ≡ desk.old.answered + 1) }
-    ensures held { IfOk result (λ f. desk.new.history ≡ f.slip.history) }
-    ensures number { desk.new.number ≡ desk.old.number }
-    ensures full { (result ≡ Err FileFault.JournalFull) ↔ (length inside.old.register.journal ≡ N.limits.steps) }
-    ensures not_stored { OnErr result (inside.new.register.journal ≡ inside.old.register.journal) }
-    ensures not_counted { OnErr result (inside.new.answered.total ≡ inside.old.answered.total) }
-    ensures not_answered { OnErr result (desk.new.answered ≡ desk.old.answered) }
-    ensures not_held { OnErr result (desk.new.history ≡ desk.old.history) }
-    ensures not_shown { OnErr result (state_of inside.new.copies.writer.desk.shown.value ≡ state_of inside.old.copies.writer.desk.shown.value) }
-    ensures no_reading { result ≡ Err FileFault.NoReading → length desk.old.history ≤ length inside.old.register.journal → IsNone inside.new.keeper.claim }
-    ensures memory { result ≡ Err FileFault.Memory → (length desk.old.history ≤ length inside.old.register.journal) × IsSome inside.new.keeper.claim }
-{
-    let Inside {
-        register,
-        answered,
-        rest: _,
-        keeper,
-        copies,
-    } = inside;
-    if register.is_full() {
-        return Err(FileFault::JournalFull);
-    }
-    prove!(register.limits().steps <= MOST_STEPS);
-    let steps = register.journal().len();
-    if !desk.history.begins(&keeper.history) || !keeper.claim() {
-        return Err(FileFault::NoReading);
-    }
-    answered.audit(&mut desk.share);
-    let step = file_in(register, &mut copies.writer, desk.number, &command)?;
-    keeper.add(&step);
-    show(rt, &mut copies.writer, &step, keeper.history.past());
-    desk.answer(answered, keeper.history.again());
-    Ok(Filed {
-        serial: steps as u32 + 1,
-        reply: step.reply,
-        slip: Slip {
-            history: keeper.history.again(),
-        },
-    })
-}
-
-// Files a command in the register, and appends its step for the copies; or does neither.
-fn file_in<A: Allocator + Copy>(
-    register: &mut Register<A>,
-    copies: &mut Copies,
-    desk: u16,
-    command: &Command,
-) -> Result<Step, FileFault>
-    requires { drop copies.old.behind copies.old.log.items ≡ [] }
-    ensures step { IfOk result (λ step. step ≡ step_of desk command.now step.reply) }
-    ensures reply { IfOk result (λ step. step.reply ≡ answer_after register.old.limits register.old.journal command.now) }
-    ensures stored { IfOk result (λ step. register.new.journal ≡ register.old.journal ++ step ∷ []) }
-    ensures pending { IfOk result (λ step. drop copies.new.behind copies.new.log.items ≡ update_of step ∷ []) }
-    ensures legal { IfOk result (λ _. IsLegal register.new.limits register.new.journal) }
-    ensures limits { register.new.limits ≡ register.old.limits }
-    ensures shown { copies.new.desk ≡ copies.old.desk }
-    ensures full { (result ≡ Err FileFault.JournalFull) ↔ (length register.old.journal ≡ register.old.limits.steps) }
-    ensures not_stored { OnErr result (register.new.journal ≡ register.old.journal) }
-    ensures not_pending { OnErr result (drop copies.new.behind copies.new.log.items ≡ []) }
-    ensures no_copies { result ≢ Err FileFault.NoReading }
-{
-    let reply = register.file(desk, *command)?;
-    let step = Step {
-        command: *command,
-        desk,
-        reply,
-    };
-    if copies.append(CopyUpdate::of_step(&step)).is_err() {
-        register.withdraw();
-        return Err(FileFault::Memory);
-    }
-    // `journal` ensures that what it gives is legal; here that is the journal with the step.
-    let _legal = register.journal();
-    Ok(step)
-}
-
 impl<N: OfficeName> Desk<N> {
-    // Counts a call that was answered.
-    fn answer(&mut self, book: &mut Book<N>, history: History<N>)
+    /// Counts a call that was answered.
+    pub(crate) fn answer(&mut self, book: &mut Book<N>, history: History<N>)
         requires fits { self.old.answered + 1 < 2 ^ 64 }
         requires stored { self.old.answered + 1 ≤ of_desk self.old.number history }
         ensures total { book.new.total ≡ book.old.total + 1 }

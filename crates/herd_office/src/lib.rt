@@ -7,6 +7,8 @@
 //!     let frozen = inspectors[0].freeze(alloc)?;
 //!     let closed = office.close(&rt, desks, inspectors);
 //!
+//! A whole program that files at two desks and reads beside them stands in `crates/office_example`.
+//!
 //! # What lies under the lock
 //!
 //! `Inside` has the register, the total of answered calls, the keeper of the history, and the writer of the readers'
@@ -39,6 +41,8 @@
 //! - An inspector waits for nobody. `freeze`, `learn`, `steps_seen` and `steps` take no handle by which they could.
 //! - `close`, and a drop of parts, of an office or of what wasn't closed, wait for inspectors that are reading, and
 //!   free both copies. For the drop the office keeps a handle of its own.
+//! - `open` takes no handle. Where it fails it drops the parts, and waits by the handle that they keep: for nobody, since
+//!   no inspector was handed out.
 //!
 //! # Names
 //!
@@ -51,7 +55,7 @@
 //! | | definition (`specs/`) | code (`src/`) | proof (`proofs/`) |
 //! |---|---|---|---|
 //! | a name's parts; what lies under the lock; opening, closing | `Parts`, `Closing` | `name`, `office` | `Counting`, `Stored` |
-//! | a desk's call, and the slip that it gives | `Filing`, `Histories` | `desk` | `Stored`, `Counting` |
+//! | a desk's call, and the slip that it gives | `Filing`, `Histories`, `Standing` | `desk`, `filing` | `Stored`, `Counting` |
 //! | the history: its rule, claims, beginnings of it | `Keeping` | `history`, `keeper` | `Claiming`, `Fronts` |
 //! | the readers' copies: their rule, what is sent to them | `Copies`, `Shelves` | `copies`, `copy_update`, `shown` | `Sides` |
 //! | reading a copy with no lock | `Copies`, `Keeping` | `inspector` | `Sides`, `Stored` |
@@ -62,6 +66,7 @@ mod copies;
 mod copy_update;
 mod desk;
 mod faults;
+mod filing;
 mod history;
 mod inspector;
 mod keeper;
@@ -70,8 +75,9 @@ mod name;
 mod office;
 mod shown;
 
-pub use desk::{Desk, Filed, Slip, file_on};
-pub use faults::{Cause, FreezeFault, OpenFault};
+pub use desk::{Desk, Filed, Slip};
+pub use faults::{CloseFault, FreezeFault, OpenFault};
+pub use filing::file_on;
 pub use history::History;
 pub use inspector::Inspector;
 pub use limits::{MOST_DESKS, MOST_INSPECTORS};

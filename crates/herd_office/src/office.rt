@@ -9,12 +9,12 @@ ghost use Rattle.herd_office.specs.Closing.{BeginsWithAll};
 ghost use Rattle.herd_office.specs.Copies.{office_of};
 ghost use Rattle.herd_office.specs.Histories.{Apart, of_desk};
 ghost use Rattle.herd_office.specs.Parts.{AreNamed};
-ghost use Rattle.herd_office.specs.Shelves.{state_of};
+ghost use Rattle.herd_office.specs.Shelves.{AreOf, state_of};
 ghost use Rattle.herd_office.specs.declared.limits.TheConstants.{MOST_DESKS, MOST_INSPECTORS};
 
 use crate::copies::{Held, make_copies};
 use crate::desk::{Desk, make_desks};
-use crate::faults::{Cause, OpenFault};
+use crate::faults::{CloseFault, OpenFault};
 use crate::history::Opened;
 use crate::inspector::{Inspector, make_inspectors};
 use crate::keeper::Keeper;
@@ -99,14 +99,10 @@ pub struct Inside<N: OfficeName, R: Wait + Drop, A: Allocator = Global> {
     pub(crate) copies: Held<R>,
     pub ghost limits: { register.limits ≡ N.limits },
     pub ghost counted: { length register.journal ≡ answered.total },
-    pub ghost published: { copies.writer.desk.shown.value.copybook.journal ≡ register.journal },
+    pub ghost shown: { AreOf (state_of copies.writer.desk.shown.value) register.journal N.limits N.book },
     pub ghost settled: { drop copies.writer.behind copies.writer.log.items ≡ [] },
     pub ghost kept: { keeper.history ≡ register.journal },
     pub ghost none_left: { (rest.parts ≡ 0) × (rest.amount ≡ 0) },
-    pub ghost room: { copies.writer.desk.shown.value.copybook.limits ≡ N.limits },
-    pub ghost ours: { copies.writer.desk.shown.value.past.seen.book ≡ N.book },
-    pub ghost told: { copies.writer.desk.shown.value.past.limits ≡ N.limits },
-    pub ghost behind: { length copies.writer.desk.shown.value.past.seen.log ≤ length register.journal },
 }
 
 /// An office that is open.
@@ -186,8 +182,8 @@ impl<N: OfficeName, R: Wait + Drop, A: Allocator + Copy> Office<N, R, A> {
         ensures desks { IfOk result (λ r. BeginsWithAll (λ d. d.history) desks.items r.journal) }
         ensures inspectors { IfOk result (λ r. BeginsWithAll (λ i. i.history) inspectors.items r.journal) }
         ensures all_in { IfOk result (λ _. (self.desks ≤ vec_len desks) × (self.inspectors ≤ vec_len inspectors)) }
-        ensures desk_missing { IfErr result (λ u. (u.cause ≡ Cause.DeskMissing) ↔ (vec_len desks < self.desks)) }
-        ensures inspector_missing { IfErr result (λ u. (u.cause ≡ Cause.InspectorMissing) ↔ ((self.desks ≤ vec_len desks) × (vec_len inspectors < self.inspectors))) }
+        ensures desk_missing { IfErr result (λ u. (u.cause ≡ CloseFault.DeskMissing) ↔ (vec_len desks < self.desks)) }
+        ensures inspector_missing { IfErr result (λ u. (u.cause ≡ CloseFault.InspectorMissing) ↔ ((self.desks ≤ vec_len desks) × (vec_len inspectors < self.inspectors))) }
         ensures office_back { IfErr result (λ u. (u.office.desks ≡ self.desks) × (u.office.inspectors ≡ self.inspectors)) }
         ensures desks_back { IfErr result (λ u. u.desks.items ≡ desks.items) }
         ensures inspectors_back { IfErr result (λ u. u.inspectors.items ≡ inspectors.items) }
@@ -209,7 +205,7 @@ impl<N: OfficeName, R: Wait + Drop, A: Allocator + Copy> Office<N, R, A> {
         let mut inside = inside.into_inner();
         if !inside.begins(desks.as_slice(), inspectors.as_slice()) {
             return Err(Unclosed {
-                cause: Cause::NoReading,
+                cause: CloseFault::NoReading,
                 office: Office {
                     inside: Mutex::new(inside),
                     desks: desk_count,
@@ -225,16 +221,16 @@ impl<N: OfficeName, R: Wait + Drop, A: Allocator + Copy> Office<N, R, A> {
     }
 
     // Who was opened and isn't handed in: a desk is told before an inspector.
-    fn missing(&self, desks: &[Desk<N>], inspectors: &[Inspector<N>]) -> Option<Cause>
+    fn missing(&self, desks: &[Desk<N>], inspectors: &[Inspector<N>]) -> Option<CloseFault>
         ensures none { IsNone result ↔ ((self.now.desks ≤ length desks.now) × (self.now.inspectors ≤ length inspectors.now)) }
-        ensures desk { IfSome result (λ cause. (cause ≡ Cause.DeskMissing) ↔ (length desks.now < self.now.desks)) }
-        ensures inspector { IfSome result (λ cause. (cause ≡ Cause.InspectorMissing) ↔ ((self.now.desks ≤ length desks.now) × (length inspectors.now < self.now.inspectors))) }
+        ensures desk { IfSome result (λ cause. (cause ≡ CloseFault.DeskMissing) ↔ (length desks.now < self.now.desks)) }
+        ensures inspector { IfSome result (λ cause. (cause ≡ CloseFault.InspectorMissing) ↔ ((self.now.desks ≤ length desks.now) × (length inspectors.now < self.now.inspectors))) }
     {
         if desks.len() < usize::from(self.desks) {
-            return Some(Cause::DeskMissing);
+            return Some(CloseFault::DeskMissing);
         }
         if inspectors.len() < usize::from(self.inspectors) {
-            return Some(Cause::InspectorMissing);
+            return Some(CloseFault::InspectorMissing);
         }
         None
     }
@@ -275,7 +271,7 @@ impl<N: OfficeName, R: Wait + Drop, A: Allocator> Inside<N, R, A> {
 #[derive(Drop)]
 pub struct Unclosed<N: OfficeName, R: Wait + Drop, A: Allocator = Global> {
     /// Why it was not closed.
-    pub cause: Cause,
+    pub cause: CloseFault,
     /// The office, which is still open.
     pub office: Office<N, R, A>,
     /// All desks that were handed in.

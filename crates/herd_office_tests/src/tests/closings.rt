@@ -29,14 +29,14 @@ fn close_thrice<N: OfficeName, R: Wait + Abort>(
     let kept = desks.pop().expect(rt, "two desks");
     let inspector = inspectors.pop().expect(rt, "an inspector");
     let handed = (office, desks, inspectors);
-    let (office, mut desks, inspectors) = not_closed(rt, handed, Cause::DeskMissing);
+    let (office, mut desks, inspectors) = not_closed(rt, handed, CloseFault::DeskMissing);
     let mut desk = desks.pop().expect(rt, "a desk");
     desk.file(rt, &office, founder(rt, Bull(1)))
         .expect(rt, "filed");
     desks.push(desk).expect(rt, "room");
     desks.push(kept).expect(rt, "room");
     let handed = (office, desks, inspectors);
-    let (office, desks, mut inspectors) = not_closed(rt, handed, Cause::InspectorMissing);
+    let (office, desks, mut inspectors) = not_closed(rt, handed, CloseFault::InspectorMissing);
     inspectors.push(inspector).expect(rt, "room");
     assert_eq!(rt; inspectors.len(), 16);
     expect_one_birth(rt, alloc, &mut inspectors);

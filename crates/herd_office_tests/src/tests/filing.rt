@@ -47,7 +47,7 @@ type Handed<N, R> = (Office<N, R>, Vec<Desk<N>>, Vec<Inspector<N>>);
 pub(super) fn not_closed<'a, N: OfficeName, R: Wait + Abort>(
     rt: &'a R,
     handed: Handed<N, &'a R>,
-    wanted: Cause,
+    wanted: CloseFault,
 ) -> Handed<N, &'a R> {
     let (office, desks, inspectors) = handed;
     match office.close(rt, desks, inspectors) {

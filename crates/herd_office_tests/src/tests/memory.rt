@@ -86,37 +86,62 @@ fn used<N: OfficeName, R: Wait + Abort, A: Allocator + Copy>(
 ) -> Result<Option<(u32, u32)>, Fail>
     requires { AreNamed N.name N.parts N.all N.book N.limits parts }
 {
-    let (office, mut desks, mut inspectors) = match Office::<N, &R, A>::open(alloc, parts) {
-        Ok(opened) => opened,
+    match Office::<N, &R, A>::open(alloc, parts) {
+        Ok((office, desks, inspectors)) => {
+            let allocators = (global, alloc);
+            use_office(rt, allocators, office, (desks, inspectors), crowd).map(Some)
+        }
         Err(fault) => {
             assert_eq!(rt; fault, OpenFault::Memory);
-            return Ok(None);
+            Ok(None)
         }
-    };
+    }
+}
+
+fn use_office<'r, N: OfficeName, R: Wait + Abort, A: Allocator + Copy>(
+    rt: &'r R,
+    allocators: (Global, A),
+    office: Office<N, &'r R, A>,
+    (mut desks, mut inspectors): (Vec<Desk<N>, A>, Vec<Inspector<N>, A>),
+    crowd: &mut Crowd<'_>,
+) -> Result<(u32, u32), Fail> {
     let mut desk = desks.pop().expect(rt, "a desk");
     let mut inspector = inspectors.pop().expect(rt, "an inspector");
-    let mut filing: u32 = 0;
-    let mut freezing: u32 = 0;
-    for births in 0..5_u16 {
-        let more = file_in_time(
-            rt,
-            global,
-            &office,
-            (&mut desk, &mut inspector),
-            births,
-            crowd,
-        );
-        filing = filing.wrapping_add(more);
-        let more = freeze_in_time(rt, alloc, &mut inspector, births, crowd);
-        freezing = freezing.wrapping_add(more);
-    }
+    let refused = file_and_freeze(rt, allocators, &office, (&mut desk, &mut inspector), crowd);
     desks.push(desk)?;
     inspectors.push(inspector)?;
     // Closing takes no memory.
     crowd.fill()?;
     let register = closed(rt, office, desks, inspectors)?;
     assert_eq!(rt; register.journal().len(), 5);
-    Ok(Some((filing, freezing)))
+    Ok(refused)
+}
+
+// Files five births, and freezes the book after each. How often memory was refused while they were filed, and while
+// the book was frozen.
+fn file_and_freeze<N: OfficeName, R: Wait + Abort, A: Allocator + Copy>(
+    rt: &R,
+    (global, alloc): (Global, A),
+    office: &Office<N, &R, A>,
+    (desk, inspector): (&mut Desk<N>, &mut Inspector<N>),
+    crowd: &mut Crowd<'_>,
+) -> (u32, u32) {
+    let mut filing: u32 = 0;
+    let mut freezing: u32 = 0;
+    for births in 0..5_u16 {
+        let more = file_in_time(
+            rt,
+            global,
+            office,
+            (&mut *desk, &mut *inspector),
+            births,
+            crowd,
+        );
+        filing = filing.wrapping_add(more);
+        let more = freeze_in_time(rt, alloc, inspector, births, crowd);
+        freezing = freezing.wrapping_add(more);
+    }
+    (filing, freezing)
 }
 
 // Files a birth after so many, with a block given back each time. A call that was refused leaves no trace. How often it

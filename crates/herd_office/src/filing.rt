@@ -1,0 +1,100 @@
+//! How a command is filed, on the value under the lock.
+ghost use Rattle.std.specs.Prelude.{List, ◌≡◌, ◌+◌, ◌≤◌, ◌↔◌, ◌≢◌, IsNone, IsSome, [], ◌∷◌, ◌++◌, length, drop, Some, IfOk, IfErr, OnErr};
+ghost use mathlib.Core.List.{IsPrefix};
+ghost use Rattle.herd_register.specs.Run.{IsLegal, step_of};
+ghost use Rattle.herd_office.specs.Filing.{answer_after, with_step_of};
+ghost use Rattle.herd_office.specs.Standing.{standing};
+
+use crate::copies::{Copies, show};
+use crate::copy_update::CopyUpdate;
+use crate::desk::{Desk, Filed, Slip};
+use crate::name::OfficeName;
+use crate::office::Inside;
+use herd_register::{Command, FileFault, MOST_STEPS, Register, Step};
+use std::alloc::Allocator;
+use std::sync::Wait;
+
+/// Files a command at a desk, on the value under the lock. After a fault nothing was filed.
+pub fn file_on<N: OfficeName, W: Wait, R: Wait + Drop, A: Allocator + Copy>(
+    rt: &W,
+    inside: &mut Inside<N, R, A>,
+    desk: &mut Desk<N>,
+    command: Command,
+) -> Result<Filed<N>, FileFault>
+    ensures stored { IfOk result (λ f. inside.new.register.journal ≡ with_step_of inside.old.register.journal desk.old.number command f.reply) }
+    ensures reply { IfOk result (λ f. f.reply ≡ answer_after N.limits inside.old.register.journal command) }
+    ensures serial { IfOk result (λ f. f.serial ≡ length inside.new.register.journal) }
+    ensures counted { IfOk result (λ _. (inside.new.answered.total ≡ inside.old.answered.total + 1) × (desk.new.answered ≡ desk.old.answered + 1)) }
+    ensures begins { IfOk result (λ _. IsPrefix desk.old.history inside.old.register.journal) }
+    ensures history { IfOk result (λ f. (f.slip.history ≡ inside.new.register.journal) × (desk.new.history ≡ inside.new.register.journal)) }
+    ensures legal { IfOk result (λ f. IsLegal N.limits f.slip.history) }
+    ensures number { desk.new.number ≡ desk.old.number }
+    ensures full { (result ≡ Err FileFault.JournalFull) ↔ (length inside.old.register.journal ≡ N.limits.steps) }
+    ensures unfiled { OnErr result (standing inside.new desk.new ≡ standing inside.old desk.old) }
+    ensures no_reading { result ≡ Err FileFault.NoReading → length desk.old.history ≤ length inside.old.register.journal → IsNone inside.new.keeper.claim }
+    ensures memory { result ≡ Err FileFault.Memory → (length desk.old.history ≤ length inside.old.register.journal) × IsSome inside.new.keeper.claim }
+{
+    let Inside {
+        register,
+        answered,
+        rest: _,
+        keeper,
+        copies,
+    } = inside;
+    if register.is_full() {
+        return Err(FileFault::JournalFull);
+    }
+    prove!(register.limits().steps <= MOST_STEPS);
+    let steps = register.journal().len();
+    if !desk.history.begins(&keeper.history) {
+        return Err(FileFault::NoReading);
+    }
+    keeper.claim_next()?;
+    answered.audit(&mut desk.share);
+    let step = file_in(register, &mut copies.writer, desk.number, &command)?;
+    keeper.add(&step);
+    show(rt, &mut copies.writer, &step, keeper.history.past());
+    desk.answer(answered, keeper.history.again());
+    Ok(Filed {
+        serial: steps as u32 + 1,
+        reply: step.reply,
+        slip: Slip {
+            history: keeper.history.again(),
+        },
+    })
+}
+
+// Files a command in the register, and appends its step for the copies; or does neither.
+fn file_in<A: Allocator + Copy>(
+    register: &mut Register<A>,
+    copies: &mut Copies,
+    desk: u16,
+    command: &Command,
+) -> Result<Step, FileFault>
+    requires { drop copies.old.behind copies.old.log.items ≡ [] }
+    ensures step { IfOk result (λ step. step ≡ step_of desk command.now step.reply) }
+    ensures reply { IfOk result (λ step. step.reply ≡ answer_after register.old.limits register.old.journal command.now) }
+    ensures stored { IfOk result (λ step. register.new.journal ≡ register.old.journal ++ step ∷ []) }
+    ensures pending { IfOk result (λ step. drop copies.new.behind copies.new.log.items ≡ CopyUpdate.Filed step ∷ []) }
+    ensures legal { IfOk result (λ _. IsLegal register.new.limits register.new.journal) }
+    ensures limits { register.new.limits ≡ register.old.limits }
+    ensures shown { copies.new.desk ≡ copies.old.desk }
+    ensures full { (result ≡ Err FileFault.JournalFull) ↔ (length register.old.journal ≡ register.old.limits.steps) }
+    ensures not_stored { OnErr result (register.new.journal ≡ register.old.journal) }
+    ensures not_pending { OnErr result (drop copies.new.behind copies.new.log.items ≡ []) }
+    ensures faults { IfErr result (λ fault. fault ≢ FileFault.NoReading) }
+{
+    let reply = register.file(desk, *command)?;
+    let step = Step {
+        command: *command,
+        desk,
+        reply,
+    };
+    if copies.append(CopyUpdate::of_step(&step)).is_err() {
+        register.withdraw();
+        return Err(FileFault::Memory);
+    }
+    // `journal` ensures that what it gives is legal; here that is the journal with the step.
+    let _legal = register.journal();
+    Ok(step)
+}
