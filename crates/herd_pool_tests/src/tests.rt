@@ -1,10 +1,12 @@
 //! What no clause says: that the threads work at the same time, that each block is entered and each animal traced
 //! once, and that memory suffices.
+mod drawn;
 mod gates;
 
 ghost use Rattle.std.specs.Prelude.{◌≤◌, ◌*◌};
 ghost use Rattle.herd_pool.specs.declared.limits.TheConstants.{MOST_WORKERS};
 
+use drawn::{SHAPES, drawn};
 use gates::{AtAnimals, AtBlocks, Counts, Meeting, OneRefused, ThirdFirst};
 use herd_fixtures::{founders, generations};
 use herd_kinship::{ONE, coefficients_plain};
@@ -36,7 +38,7 @@ const LAST: u128 = 1_152_917_451_867_309_095 << 60;
 // How many turns a gate waits for a thread that is running.
 const LONG: u32 = 1_000_000_000;
 
-// The pool gives the list of one thread, by any of these numbers of workers and lengths of blocks.
+// The pool gives the list of one thread in both ways, by any of these numbers of workers and lengths of blocks.
 fn expect_plain<R: Threads + Wait + Abort + Sync>(
     rt: &R,
     alloc: Global,
@@ -59,11 +61,17 @@ fn expect_in_blocks<R: Threads + Wait + Abort + Sync>(
     requires { (1 ≤ workers) × (workers ≤ MOST_WORKERS) }
 {
     for block in [1, 7, 60_000] {
-        let found = coefficients(rt, alloc, frozen, workers, block, &NoGate)?;
+        let traced = coefficients(rt, alloc, frozen, workers, block, &NoGate)?;
         assert_eq!(rt;
-            found.list(),
+            traced.list(),
             wanted,
-            "{workers} workers, blocks of {block}"
+            "traced by {workers} workers, blocks of {block}"
+        );
+        let by_sires = coefficients_by_sires(rt, alloc, frozen, workers, block)?;
+        assert_eq!(rt;
+            by_sires.list(),
+            wanted,
+            "sire by sire by {workers} workers, blocks of {block}"
         );
     }
     Ok(())
@@ -89,6 +97,15 @@ fn the_deepest_book(rt: HostRuntime) -> Result<(), Fail> {
 }
 
 #[test]
+fn drawn_books(rt: HostRuntime) -> Result<(), Fail> {
+    for shape in SHAPES {
+        let frozen = drawn(rt.alloc(), shape)?;
+        expect_plain(&rt, rt.alloc(), &frozen)?;
+    }
+    Ok(())
+}
+
+#[test]
 fn three_workers_enter_before_any_leaves(rt: HostRuntime) -> Result<(), Fail> {
     let frozen = founders(rt.alloc(), 3)?;
     let gate = AtBlocks(Meeting::of(3, LONG));
@@ -98,13 +115,19 @@ fn three_workers_enter_before_any_leaves(rt: HostRuntime) -> Result<(), Fail> {
     Ok(())
 }
 
+// Among the founders, and among the full sibs of depth 1 and of depth 4.
 #[test]
 fn two_workers_trace_at_once(rt: HostRuntime) -> Result<(), Fail> {
     let frozen = generations(rt.alloc(), 5)?;
-    let gate = AtAnimals(Meeting::of(2, LONG));
-    let found = coefficients(&rt, rt.alloc(), &frozen, 2, 1, &gate)?;
-    assert_eq!(rt; found.list(), FIVE_GENERATIONS.as_slice());
-    assert!(rt; !gate.0.is_late());
+    for first in [0, 2, 8] {
+        let gate = AtAnimals {
+            first,
+            meeting: Meeting::of(2, LONG),
+        };
+        let found = coefficients(&rt, rt.alloc(), &frozen, 2, 1, &gate)?;
+        assert_eq!(rt; found.list(), FIVE_GENERATIONS.as_slice());
+        assert!(rt; !gate.meeting.is_late());
+    }
     Ok(())
 }
 
@@ -112,10 +135,13 @@ fn two_workers_trace_at_once(rt: HostRuntime) -> Result<(), Fail> {
 #[test]
 fn one_worker_waits_in_vain(rt: HostRuntime) -> Result<(), Fail> {
     let frozen = generations(rt.alloc(), 5)?;
-    let gate = AtAnimals(Meeting::of(2, 1000));
+    let gate = AtAnimals {
+        first: 0,
+        meeting: Meeting::of(2, 1000),
+    };
     let found = coefficients(&rt, rt.alloc(), &frozen, 1, 1, &gate)?;
     assert_eq!(rt; found.list(), FIVE_GENERATIONS.as_slice());
-    assert!(rt; gate.0.is_late());
+    assert!(rt; gate.meeting.is_late());
     Ok(())
 }
 
@@ -133,10 +159,21 @@ fn a_free_worker_takes_the_next_block(rt: HostRuntime) -> Result<(), Fail> {
 #[test]
 fn each_block_and_each_animal_once(rt: HostRuntime) -> Result<(), Fail> {
     let frozen = founders(rt.alloc(), 1000)?;
-    let gate = Counts::of(rt.alloc(), 143, 1000)?;
+    let gate = Counts::of(rt.alloc(), 143, 143, 7, 1000)?;
     let found = coefficients(&rt, rt.alloc(), &frozen, 16, 7, &gate)?;
     assert_eq!(rt; found.len(), 1000);
     assert!(rt; found.list().iter().all(|numerator| *numerator == 0));
+    assert!(rt; gate.are_once());
+    Ok(())
+}
+
+// The full sibs of each depth are two blocks.
+#[test]
+fn each_block_of_each_level_once(rt: HostRuntime) -> Result<(), Fail> {
+    let frozen = generations(rt.alloc(), 61)?;
+    let gate = Counts::of(rt.alloc(), 122, 2, 1, 122)?;
+    let found = coefficients(&rt, rt.alloc(), &frozen, 2, 1, &gate)?;
+    assert_eq!(rt; found.list().last(), Some(&LAST));
     assert!(rt; gate.are_once());
     Ok(())
 }
@@ -167,6 +204,11 @@ fn once_more_with_memory(rt: HostRuntime) -> Result<(), Fail> {
     let found = match coefficients(&rt, rt.alloc(), &frozen, 2, 1, &NoGate) {
         Ok(found) => found,
         Err(_) => coefficients(&rt, rt.alloc(), &frozen, 2, 1, &NoGate)?,
+    };
+    assert_eq!(rt; found.list(), FIVE_GENERATIONS.as_slice());
+    let found = match coefficients_by_sires(&rt, rt.alloc(), &frozen, 2, 1) {
+        Ok(found) => found,
+        Err(_) => coefficients_by_sires(&rt, rt.alloc(), &frozen, 2, 1)?,
     };
     assert_eq!(rt; found.list(), FIVE_GENERATIONS.as_slice());
     Ok(())

@@ -55,9 +55,12 @@ impl Gate for AtBlocks {
     }
 }
 
-/// A meeting where animals are traced.
+/// A meeting where animals from a rank on are traced.
 #[derive(Drop)]
-pub struct AtAnimals(pub Meeting);
+pub struct AtAnimals {
+    pub first: u32,
+    pub meeting: Meeting,
+}
 
 impl Gate for AtAnimals {
     fn enter(&self, _level: u8, _block: u32) {}
@@ -69,8 +72,10 @@ impl Gate for AtAnimals {
         known: &[u128],
         rank: u32,
     ) -> Result<u128, AllocError> {
-        self.0.arrive();
-        self.0.wait();
+        if rank >= self.first {
+            self.meeting.arrive();
+            self.meeting.wait();
+        }
         herd_kinship::trace(alloc, frozen, known, rank)
     }
 }
@@ -98,25 +103,38 @@ impl Gate for ThirdFirst {
     }
 }
 
-/// Counts how often each block of level 0 begins and each animal is traced.
+/// Counts how often each block begins and each animal is traced.
+///
+/// It serves for books whose levels follow one another by rank and have as many blocks each, all of them full but the
+/// last of a book of one level.
 #[derive(Drop)]
 pub struct Counts {
+    blocks_of_level: u32,
+    block: u32,
     entered: Vec<AtomicU64>,
     traced: Vec<AtomicU64>,
-    /// Blocks and animals beyond these, and blocks of other levels.
+    /// Blocks and animals beyond these, and animals of blocks that hadn't begun.
     others: AtomicU64,
 }
 
 impl Counts {
-    pub(crate) fn of(alloc: Global, blocks: u32, animals: u32) -> Result<Counts, AllocError> {
+    pub(crate) fn of(
+        alloc: Global,
+        blocks: u32,
+        blocks_of_level: u32,
+        block: u32,
+        animals: u32,
+    ) -> Result<Counts, AllocError> {
         Ok(Counts {
+            blocks_of_level,
+            block,
             entered: zeros(alloc, blocks)?,
             traced: zeros(alloc, animals)?,
             others: AtomicU64::new(0),
         })
     }
 
-    /// Each block and each animal has come once, and no other.
+    /// Each block and each animal has come once, each animal after its block, and no other.
     pub(crate) fn are_once(&self) -> bool {
         are_ones(&self.entered) && are_ones(&self.traced) && self.others.load(Ordering::SeqCst) == 0
     }
@@ -127,15 +145,19 @@ impl Counts {
             None => self.others.fetch_add(1, Ordering::SeqCst),
         };
     }
+
+    fn has_begun(&self, rank: u32) -> bool {
+        match self.entered.get((rank / self.block.max(1)) as usize) {
+            Some(count) => count.load(Ordering::SeqCst) == 1,
+            None => false,
+        }
+    }
 }
 
 impl Gate for Counts {
     fn enter(&self, level: u8, block: u32) {
-        if level == 0 {
-            self.count(&self.entered, block);
-        } else {
-            self.others.fetch_add(1, Ordering::SeqCst);
-        }
+        let before = self.blocks_of_level.wrapping_mul(u32::from(level));
+        self.count(&self.entered, before.wrapping_add(block));
     }
 
     fn trace<F: Allocator, A: Allocator + Clone>(
@@ -145,6 +167,9 @@ impl Gate for Counts {
         known: &[u128],
         rank: u32,
     ) -> Result<u128, AllocError> {
+        if !self.has_begun(rank) {
+            self.others.fetch_add(1, Ordering::SeqCst);
+        }
         self.count(&self.traced, rank);
         herd_kinship::trace(alloc, frozen, known, rank)
     }
