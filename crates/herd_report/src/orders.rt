@@ -28,7 +28,7 @@ use crate::writing::report_fault::ReportFault;
 use herd_animal::AnimalNumber;
 use herd_kinship::{Coefficients, coefficients_plain};
 use herd_pedigree::Frozen;
-use herd_pool::{NoGate, PoolFault};
+use herd_pool::PoolFault;
 use herd_register::Limits;
 use std::alloc::Global;
 use std::io::{Read, Write};
@@ -117,7 +117,7 @@ fn list_inbreeding<H: Threads + Wait + Sync, W: Write>(
     Ok(write_inbreeding(alloc, frozen, &coefficients, writer)?)
 }
 
-// The coefficients of a book's animals. One worker computes them without a pool.
+// The coefficients of a book's animals, sire by sire. One worker computes them without a pool.
 fn shared_coefficients<H: Threads + Wait + Sync>(
     rt: &H,
     alloc: Global,
@@ -132,7 +132,7 @@ fn shared_coefficients<H: Threads + Wait + Sync>(
     if workers == 1 {
         Ok(coefficients_plain(alloc, frozen)?)
     } else {
-        herd_pool::coefficients(rt, alloc, frozen, workers, block, &NoGate)
+        herd_pool::coefficients_by_sires(rt, alloc, frozen, workers, block)
     }
 }
 
