@@ -1,8 +1,8 @@
 //! What a pedigree tells of its animals.
 
 use super::days::day;
-use herd_fixtures::Name::{Bull, Cow};
 use herd_fixtures::Name;
+use herd_fixtures::Name::{Bull, Cow};
 use herd_pedigree::{Animal, Pedigree};
 use std::alloc::Allocator;
 use std::process::Abort;
