@@ -80,10 +80,10 @@ class Advice(NamedTuple):
 
 
 def advise(book: Book, program: Herdbook, dam: Known, sires: list[Known], also_left: bool) -> Advice:
-    """Advice on given sires, or else on all living males that have a row of their own, or on those that left too."""
+    """Advice on given sires, or else on all living males, or on those that left too."""
     left = 0
     if not sires:
-        males = [known for known in book.known.values() if known.number[6] == "M" and known.row == "yes"]
+        males = [known for known in book.known.values() if known.number[6] == "M"]
         sires = [known for known in males if also_left or not book.records[known.number].left]
         left = len(males) - len(sires)
         if not sires:
