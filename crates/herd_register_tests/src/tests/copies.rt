@@ -149,7 +149,23 @@ fn takes_over_as_many_steps_as_the_limits_allow(rt: HostRuntime) -> Result<(), F
 }
 
 // No register tells such steps: births of more animals than the limits allow, and changes of one that isn't there. They
-// are steps that set no record, for which no memory is taken.
+// are steps that set no record.
+fn take_over_more_than_fits<A: Allocator>(copybook: &mut Copybook<A>) -> Result<(), Fail> {
+    let texts = [
+        Text::Founder(Bull(1)),
+        Text::Founder(Bull(2)),
+        Text::Parents(Cow(3), UNKNOWN),
+        Text::Transfer(Cow(3), "2001-01-01", "1", "2"),
+        Text::Exit(Cow(3), "2001-01-01"),
+    ];
+    for text in texts {
+        let step = accepted(text)?;
+        copybook.take_over(&step);
+    }
+    Ok(())
+}
+
+// No memory is taken for them.
 #[test]
 fn takes_over_steps_that_set_nothing(rt: HostRuntime) -> Result<(), Fail> {
     let limits = Limits {
@@ -159,16 +175,7 @@ fn takes_over_steps_that_set_nothing(rt: HostRuntime) -> Result<(), Fail> {
     let heap = heap_of(rt.alloc(), 4096)?;
     let mut copybook = Copybook::new(&heap, limits)?;
     let used = heap.used();
-    let texts = [
-        Text::Founder(Bull(1)),
-        Text::Founder(Bull(2)),
-        Text::Parents(Cow(3), UNKNOWN),
-        Text::Transfer(Cow(3), "2001-01-01", "1", "2"),
-        Text::Exit(Cow(3), "2001-01-01"),
-    ];
-    for text in texts {
-        copybook.take_over(&accepted(text)?);
-    }
+    take_over_more_than_fits(&mut copybook)?;
     assert_eq!(rt; (copybook.steps(), heap.used()), (5, used));
     Ok(())
 }
