@@ -91,6 +91,15 @@ def full_sibs(generations):
     return "".join(lines)
 
 
+def couples(count, first):
+    """So many bulls, each with a cow and a calf of the two, numbered from `first` on."""
+    text = ""
+    for one in range(first, first + 3 * count, 3):
+        sire, dam = animal("M", one), animal("F", one + 1)
+        text += founder(sire) + founder(dam) + f"birth,{animal('M', one + 2)},2003-01-01,{sire},{dam},,1\n"
+    return text
+
+
 def sire_lines(generations):
     """Two lines of sires, each a son of the one before: a line has the odd numbers, the other the even ones."""
     text = HEADER
@@ -518,15 +527,17 @@ class Checks:
             program.count(done.status == 1 and not done.out and done.err, f"no task: {line}: {done}")
 
     def refused_threads(self):
-        """Each start of a thread is refused in turn: there are as many as desks, and in a level as workers or as blocks."""
+        """Each start of a thread is refused in turn: there are as many as desks, and in a level one fewer than workers, or
+        than blocks that have a sire."""
         right = lambda wanted, done: done == fault("no thread")
         inbreeding = lambda workers, block: ["inbreeding", "--workers", str(workers), "--block", str(block)]
         clerks = lambda desks: ["clerks", "--desks", str(desks), "--base", "1000000"]
         for words, threads in [
-            (inbreeding(1, 1), 0), (inbreeding(2, 1), 2), (inbreeding(4, 1), 4), (inbreeding(16, 1), 8), (inbreeding(16, 3), 3),
-            (inbreeding(4, 4), 2), (inbreeding(4, 8), 0), (clerks(1), 1), (clerks(4), 4), (clerks(16), 16),
+            (inbreeding(1, 1), 0), (inbreeding(2, 1), 1), (inbreeding(4, 1), 3), (inbreeding(16, 1), 7), (inbreeding(16, 3), 3),
+            (inbreeding(4, 4), 1), (inbreeding(4, 8), 0), (clerks(1), 1), (clerks(4), 4), (clerks(16), 16),
         ]:  # fmt: skip
-            refused = self.until_none("thread", words, males(8), {"REFUSE": "thread"}, right)
+            # the eight cows have the first ranks, and then come the eight bulls
+            refused = self.until_none("thread", words, HEADER + couples(8, 1), {"REFUSE": "thread"}, right)
             self.count(refused == threads, f"{refused} threads were started: {words}")
 
     def little_memory(self):
@@ -633,7 +644,8 @@ class Folder:
         return self.file
 
 
-SMALL = full_sibs(4) + f"exit,{animal('M', 1)},2010-01-01,,,,\nparents,{animal('F', 8)},,{animal('M', 1)},0,,\n" + founder(animal("M", 1))
+# Several blocks of its first level have a sire, so that workers start threads.
+SMALL = HEADER + couples(2, 21) + full_sibs(4).removeprefix(HEADER) + f"exit,{animal('M', 1)},2010-01-01,,,,\nparents,{animal('F', 8)},,{animal('M', 1)},0,,\n" + founder(animal("M", 1))
 
 
 ONE_CLERK = ["clerks", "--desks", "1"]
@@ -650,7 +662,7 @@ def each_order():
         ["mating", "--dam", animal("F", 6), animal("M", 5), animal("F", 8), animal("M", 7)],
         ["inverse"],
         ONE_CLERK,
-        ["clerks", "--desks", "3", "--base", "8"],
+        ["clerks", "--desks", "3", "--base", "14"],
     ]
 
 
