@@ -567,7 +567,8 @@ class Checks:
         asked.count(grown and told.met == {*AskedAgain.FAULTS}, f"what was refused of {grown} growths: {told.met}")
         asked.count(any(births > 3 for births in told.births), f"the list of commands never grew: {told.births}")
         threads = asked.until_none("thread", [], "", {"REFUSE": "thread"}, told)
-        asked.count(threads == 10, f"{threads} threads were started for five levels")
+        # two workers, of which the calling thread is one
+        asked.count(threads == 5, f"{threads} threads were started for five levels")
         self.passed, self.failed = self.passed + asked.passed, self.failed + asked.failed
 
 
