@@ -14,7 +14,8 @@ pub struct CalfCoefficient {
 pub fn write_calves(calves: &[CalfCoefficient], known: &mut [u128])
     requires { All (λ calf. calf.rank < length known.old) calves.now }
     ensures each { length known.new ≡ length known.old }
-    ensures written { (f : ℕ → ℕ) → All (λ calf. calf.numerator ≡ f calf.rank) calves.now → HasWritten f calves.now known.old known.new }
+    ensures written { (f : ℕ → ℕ) → All (λ calf. calf.numerator ≡ f calf.rank) calves.now
+        → HasWritten f calves.now known.old known.new }
 {
     for calf in calves {
         known[calf.rank as usize] = calf.numerator;

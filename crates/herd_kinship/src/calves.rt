@@ -93,7 +93,8 @@ impl<A: Allocator> Calves<A> {
         requires empty { (distance : ℕ) → mark marked.old.chunks.items distance ≡ 0 }
         ensures room { last < 64 * length marked.new.chunks.items }
         ensures near { (distance : ℕ) → mark marked.new.chunks.items distance ≡ 1 → distance ≤ last }
-        ensures mates { (calf dam : ℕ) → sire_rank frozen.now calf ≡ Some sire → dam_rank frozen.now calf ≡ Some dam → mark marked.new.chunks.items (last - dam) ≡ 1 }
+        ensures mates { (calf dam : ℕ) → sire_rank frozen.now calf ≡ Some sire → dam_rank frozen.now calf ≡ Some dam
+            → mark marked.new.chunks.items (last - dam) ≡ 1 }
     {
         prove!(sire < frozen.len());
         let mut link = self.latest[sire as usize].get();
@@ -114,7 +115,8 @@ impl<A: Allocator> Calves<A> {
         requires calves { AreCalvesOf frozen.now self.now }
         requires sire { sire < length frozen.now }
         requires column { length column.now ≡ length frozen.now }
-        ensures { IfOk result (λ _. GoesOnWith frozen.now (λ s. s ≡ sire) (λ calf. at_parent column.now (dam_rank frozen.now calf) / 2) list.old.items list.new.items) }
+        ensures { IfOk result (λ _. GoesOnWith frozen.now (λ s. s ≡ sire)
+            (λ calf. at_parent column.now (dam_rank frozen.now calf) / 2) list.old.items list.new.items) }
     {
         prove!(sire < frozen.len());
         let mut link = self.latest[sire as usize].get();

@@ -91,7 +91,8 @@ impl Weights {
     }
 
     fn with_both_parents(self, rank: u32, sire: u32, dam: u32) -> Contributions
-        ensures { Lists result self.alpha (weighted self.alpha self.minus_half self.quarter rank (Some sire) (Some dam)) }
+        ensures { Lists result self.alpha
+            (weighted self.alpha self.minus_half self.quarter rank (Some sire) (Some dam)) }
     {
         Contributions {
             alpha: self.alpha,
@@ -120,7 +121,8 @@ pub fn contributions<F: Allocator, C: Allocator>(
 ) -> Contributions
     requires rank { rank < length frozen.now }
     requires coefficients { AreCoefficients DEPTH_LIMIT frozen.now coefficients.now }
-    ensures alpha { result.alpha ≡ halved false (2 ^ (2 * DEPTH_LIMIT)) (mendelian_variance (ancestry_of frozen.now) DEPTH_LIMIT (number_of_row frozen.now rank)) }
+    ensures alpha { result.alpha ≡ halved false (2 ^ (2 * DEPTH_LIMIT))
+        (mendelian_variance (ancestry_of frozen.now) DEPTH_LIMIT (number_of_row frozen.now rank)) }
     ensures count { result.count ≡ length (contributions_of DEPTH_LIMIT frozen.now rank) }
     ensures list { result.list ≡ filled (contributions_of DEPTH_LIMIT frozen.now rank) }
     ensures lowest { All (λ one. IsGcd one.value.numerator one.value.denominator 1) result.list }

@@ -20,11 +20,14 @@
 //! |---|---|---|---|
 //! | A, coefficients, Mendelian sampling variances | `Table` | | `Table`, `Depth`, `Bounds` |
 //! | shares, A = T D T', the laws | `Shares`, `Laws` | `laws` | `Shares`, `Exact`, `Decompose`, `LawFacts` |
-//! | a frozen book as an ancestry, by numbers and ranks | `FrozenAncestry`, `Ranks` | | `BookFacts`, `FrozenFacts`, `Renamed` |
-//! | sire by sire | `Columns`, `CalfLinks`, `CalfCoefficients`, `Mates` | `coefficients`, `mates`, `columns`, `calves` | `BySires`, `PassedOn`, `Collecting`, `CalfFacts`, `CalfListFacts` |
+//! | a frozen book as an ancestry | `FrozenAncestry`, `Ranks` | | `BookFacts`, `FrozenFacts`, `Renamed` |
+//! | columns of A | `Columns` | `columns` | `PassedOn`, `Collecting` |
+//! | sire by sire | `Mates`, `CalfCoefficients` | `coefficients`, `mates` | `BySires` |
+//! | a sire's calves | `CalfLinks` | `calves` | `CalfFacts`, `CalfListFacts` |
 //! | animal by animal | `Tracing`, `Pending` | `tracing`, `pending` | `TermSums`, `TracingFacts`, `UnderWayFacts` |
-//! | one animal's relationships, mating advice | `Columns`, `Mating` | `relationships`, `mating_advice` | `RelationshipFacts`, `MatingFacts` |
-//! | the inverse of A | `InverseRows`, `Contributions` | `inverse`, `contribution` | `RowProducts`, `ContributionFacts` |
+//! | one animal's relationships | `Columns` | `relationships` | `RelationshipFacts` |
+//! | mating advice | `Mating` | `mating_advice` | `MatingFacts` |
+//! | A's inverse | `InverseRows`, `Contributions` | `inverse`, `contribution` | `RowProducts`, `ContributionFacts` |
 //! | fractions and percentages | `Fraction` | `numerators`, `fractions` | `FractionFacts` |
 #![tactic(auto)]
 

@@ -56,7 +56,9 @@ impl<A: Allocator> Mates<A> {
         requires known { KnowsAncestors DEPTH_LIMIT frozen.now known.now sire }
         requires sire { sire < length frozen.now }
         ensures ready { IfOk result (λ _. IsReady (length frozen.now) self.new) }
-        ensures related { IfOk result (λ _. (calf dam : ℕ) → sire_rank frozen.now calf ≡ Some sire → dam_rank frozen.now calf ≡ Some dam → slice_index self.new.column.items dam ≡ related DEPTH_LIMIT frozen.now sire (Some dam)) }
+        ensures related { IfOk result (λ _. (calf dam : ℕ) → sire_rank frozen.now calf ≡ Some sire
+            → dam_rank frozen.now calf ≡ Some dam
+            → slice_index self.new.column.items dam ≡ related DEPTH_LIMIT frozen.now sire (Some dam)) }
     {
         let last = frozen.len() - 1;
         calves.mark_mates(frozen, sire, last, &mut self.marked);
@@ -90,7 +92,8 @@ impl<A: Allocator> Mates<A> {
         requires known { KnowsAncestors DEPTH_LIMIT frozen.now known.now sire }
         requires sire { sire < length frozen.now }
         ensures ready { IfOk result (λ _. IsReady (length frozen.now) self.new) }
-        ensures calves { IfOk result (λ _. GoesOnWith frozen.now (λ s. s ≡ sire) (coefficient_at DEPTH_LIMIT frozen.now) list.old.items list.new.items) }
+        ensures calves { IfOk result (λ _. GoesOnWith frozen.now (λ s. s ≡ sire)
+            (coefficient_at DEPTH_LIMIT frozen.now) list.old.items list.new.items) }
     {
         prove!(sire < frozen.len());
         self.relate_to(frozen, calves, known, sire)?;

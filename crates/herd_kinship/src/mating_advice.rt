@@ -74,7 +74,8 @@ fn pair_of<F: Allocator>(
     dam: &AnimalNumber,
 ) -> Result<Pair, MatingFault>
     ensures pair { IfOk result (λ pair. ArePair DEPTH_LIMIT frozen.now sire.now dam.now pair.sire pair.dam) }
-    ensures fault { IfErr result (λ fault. mating_fault DEPTH_LIMIT (book_of frozen.now) sire.now dam.now ≡ Some fault) }
+    ensures fault { IfErr result
+        (λ fault. mating_fault DEPTH_LIMIT (book_of frozen.now) sire.now dam.now ≡ Some fault) }
 {
     // Taking the length ensures that the rows are those of a frozen book.
     frozen.len();
@@ -112,10 +113,13 @@ pub fn mating<F: Allocator, C: Allocator, A: Allocator + Clone>(
     dam: &AnimalNumber,
 ) -> Result<u128, MatingFault>
     requires { AreCoefficients DEPTH_LIMIT frozen.now coefficients.now }
-    ensures value { IfOk result (λ value. value ≡ entry (ancestry_of frozen.now) (2 * DEPTH_LIMIT - 1) (Some sire.now) (Some dam.now)) }
+    ensures value { IfOk result
+        (λ value. value ≡ entry (ancestry_of frozen.now) (2 * DEPTH_LIMIT - 1) (Some sire.now) (Some dam.now)) }
     ensures below_one { IfOk result (λ value. value < 2 ^ (2 * DEPTH_LIMIT)) }
-    ensures refused { IfSome (mating_fault DEPTH_LIMIT (book_of frozen.now) sire.now dam.now) (λ fault. result ≡ Err fault) }
-    ensures memory { IfErr result (λ fault. mating_fault DEPTH_LIMIT (book_of frozen.now) sire.now dam.now ≡ None → fault ≡ MatingFault.Memory) }
+    ensures refused { IfSome (mating_fault DEPTH_LIMIT (book_of frozen.now) sire.now dam.now)
+        (λ fault. result ≡ Err fault) }
+    ensures memory { IfErr result
+        (λ fault. mating_fault DEPTH_LIMIT (book_of frozen.now) sire.now dam.now ≡ None → fault ≡ MatingFault.Memory) }
 {
     pair_of(frozen, sire, dam)?;
     match Relationships::of_number(alloc, frozen, coefficients, dam) {
@@ -135,10 +139,12 @@ pub fn mating_by<F: Allocator, A: Allocator>(
     dam: &AnimalNumber,
 ) -> Result<u128, MatingFault>
     requires { AreRelationshipsOf DEPTH_LIMIT frozen.now dam.now relationships.now }
-    ensures value { IfOk result (λ value. value ≡ entry (ancestry_of frozen.now) (2 * DEPTH_LIMIT - 1) (Some sire.now) (Some dam.now)) }
+    ensures value { IfOk result
+        (λ value. value ≡ entry (ancestry_of frozen.now) (2 * DEPTH_LIMIT - 1) (Some sire.now) (Some dam.now)) }
     ensures below_one { IfOk result (λ value. value < 2 ^ (2 * DEPTH_LIMIT)) }
     ensures allowed { IfOk result (λ _. mating_fault DEPTH_LIMIT (book_of frozen.now) sire.now dam.now ≡ None) }
-    ensures refused { IfErr result (λ fault. mating_fault DEPTH_LIMIT (book_of frozen.now) sire.now dam.now ≡ Some fault) }
+    ensures refused { IfErr result
+        (λ fault. mating_fault DEPTH_LIMIT (book_of frozen.now) sire.now dam.now ≡ Some fault) }
 {
     let pair = pair_of(frozen, sire, dam)?;
     Ok(relationships.with(pair.sire) / 2)

@@ -36,7 +36,8 @@ impl<A: Allocator> Pending<A> {
     /// Takes the nearest distance out.
     pub fn take_nearest(&mut self) -> Option<usize>
         ensures found { IfSome result (λ distance. mark self.old.chunks.items distance ≡ 1) }
-        ensures nearest { IfSome result (λ distance. (nearer : ℕ) → nearer < distance → mark self.old.chunks.items nearer ≡ 0) }
+        ensures nearest { IfSome result
+            (λ distance. (nearer : ℕ) → nearer < distance → mark self.old.chunks.items nearer ≡ 0) }
         ensures taken { IfSome result (λ distance. Marks self.old.chunks.items self.new.chunks.items distance 0) }
         ensures empty { IfNone result ((distance : ℕ) → mark self.old.chunks.items distance ≡ 0) }
         ensures same { IfNone result (self.new.chunks.items ≡ self.old.chunks.items) }

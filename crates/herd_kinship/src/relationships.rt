@@ -49,7 +49,8 @@ impl<A: Allocator + Clone> Relationships<A> {
         Ok(Relationships { column })
     }
 
-    /// The relationships of an animal, as by `of`, and an empty column where it isn't in the book, which takes no memory.
+    /// The relationships of an animal, as by `of`, and an empty column where it isn't in the book, which takes no
+    /// memory.
     pub fn of_number<F: Allocator, C: Allocator>(
         alloc: A,
         frozen: &Frozen<F>,
@@ -58,7 +59,8 @@ impl<A: Allocator + Clone> Relationships<A> {
     ) -> Result<Relationships<A>, AllocError>
         requires { AreCoefficients DEPTH_LIMIT frozen.now coefficients.now }
         ensures relationships { IfOk result (AreRelationshipsOf DEPTH_LIMIT frozen.now number.now) }
-        ensures absent { is_there (book_of frozen.now) number.now ≡ false → MatchResult result (λ relationships. relationships ≡ []) (λ _. ⊥) }
+        ensures absent { is_there (book_of frozen.now) number.now ≡ false
+            → MatchResult result (λ relationships. relationships ≡ []) (λ _. ⊥) }
     {
         // Taking the length ensures that the rows are those of a frozen book.
         frozen.len();
@@ -96,7 +98,8 @@ fn relate_all<F: Allocator, A: Allocator>(
     requires long { length column.old ≡ length frozen.now }
     requires zero { (j : ℕ) → j < length frozen.now → slice_index column.old j ≡ 0 }
     ensures long { length column.new ≡ length column.old }
-    ensures related { (j : ℕ) → j < length frozen.now → slice_index column.new j ≡ related DEPTH_LIMIT frozen.now rank (Some j) }
+    ensures related { (j : ℕ) → j < length frozen.now
+        → slice_index column.new j ≡ related DEPTH_LIMIT frozen.now rank (Some j) }
 {
     write_parts(tracing, frozen, known, rank, column);
     pass_on(frozen, rank, column);
@@ -106,9 +109,11 @@ fn relate_all<F: Allocator, A: Allocator>(
 fn pass_on<F: Allocator>(frozen: &Frozen<F>, rank: u32, column: &mut [u128])
     requires rank { rank < length frozen.now }
     requires long { length column.old ≡ length frozen.now }
-    requires parts { (j : ℕ) → j < length frozen.now → slice_index column.old j ≡ inherited DEPTH_LIMIT frozen.now rank j }
+    requires parts { (j : ℕ) → j < length frozen.now
+        → slice_index column.old j ≡ inherited DEPTH_LIMIT frozen.now rank j }
     ensures long { length column.new ≡ length column.old }
-    ensures related { (j : ℕ) → j < length frozen.now → slice_index column.new j ≡ related DEPTH_LIMIT frozen.now rank (Some j) }
+    ensures related { (j : ℕ) → j < length frozen.now
+        → slice_index column.new j ≡ related DEPTH_LIMIT frozen.now rank (Some j) }
 {
     prove!(rank < frozen.len());
     for j in 0..frozen.len() {

@@ -58,7 +58,8 @@ impl<A: Allocator> Tracing<A> {
         ensures border { self.new.border ≡ rank + 1 }
         ensures shares { length self.new.shares.items ≡ length self.old.shares.items }
         ensures marks { length self.new.pending.chunks.items ≡ length self.old.pending.chunks.items }
-        ensures tracing { IsUnderWay DEPTH_LIMIT frozen.now rank (rank + 1) self.new.shares.items self.new.pending.chunks.items }
+        ensures tracing { IsUnderWay DEPTH_LIMIT frozen.now rank (rank + 1)
+            self.new.shares.items self.new.pending.chunks.items }
     {
         prove!(rank < frozen.len());
         self.rank = rank;
@@ -69,16 +70,20 @@ impl<A: Allocator> Tracing<A> {
 
     /// Meets the next ancestor, and passes its share on to its parents.
     pub fn meet_next<F: Allocator>(&mut self, frozen: &Frozen<F>) -> Option<Met>
-        requires { IsUnderWay DEPTH_LIMIT frozen.now self.old.rank self.old.border self.old.shares.items self.old.pending.chunks.items }
+        requires { IsUnderWay DEPTH_LIMIT frozen.now self.old.rank self.old.border self.old.shares.items
+            self.old.pending.chunks.items }
         ensures same { self.new.rank ≡ self.old.rank }
         ensures shares { length self.new.shares.items ≡ length self.old.shares.items }
         ensures marks { length self.new.pending.chunks.items ≡ length self.old.pending.chunks.items }
-        ensures tracing { IsUnderWay DEPTH_LIMIT frozen.now self.new.rank self.new.border self.new.shares.items self.new.pending.chunks.items }
-        ensures next { IfSome result (λ met. IsNext DEPTH_LIMIT frozen.now self.old.rank self.old.border met.rank met.share) }
+        ensures tracing { IsUnderWay DEPTH_LIMIT frozen.now self.new.rank self.new.border self.new.shares.items
+            self.new.pending.chunks.items }
+        ensures next { IfSome result
+            (λ met. IsNext DEPTH_LIMIT frozen.now self.old.rank self.old.border met.rank met.share) }
         ensures parents { IfSome result (λ met. AreParentsAt frozen.now met.rank met.parents) }
         ensures border { IfSome result (λ met. self.new.border ≡ met.rank) }
         ensures ended { IfNone result (self.new.border ≡ 0) }
-        ensures all { IfNone result ((j : ℕ) → j < self.old.border → share (ranked frozen.now) DEPTH_LIMIT (Some self.old.rank) j ≡ 0) }
+        ensures all { IfNone result
+            ((j : ℕ) → j < self.old.border → share (ranked frozen.now) DEPTH_LIMIT (Some self.old.rank) j ≡ 0) }
     {
         let Some(distance) = self.pending.take_nearest() else {
             self.border = 0;
@@ -102,11 +107,13 @@ impl<A: Allocator> Tracing<A> {
     /// Gives half of an animal's share to its parent, in the parent's unit.
     fn give<F: Allocator>(&mut self, frozen: &Frozen<F>, met: Met, parent: Option<u32>)
         requires row { AreParentsAt frozen.now met.rank met.parents }
-        requires room { ForSome parent (HasRoom DEPTH_LIMIT frozen.now self.old.rank self.old.shares.items met.rank met.share) }
+        requires room { ForSome parent
+            (HasRoom DEPTH_LIMIT frozen.now self.old.rank self.old.shares.items met.rank met.share) }
         requires marks { self.old.rank < 64 * length self.old.pending.chunks.items }
         ensures rank { self.new.rank ≡ self.old.rank }
         ensures border { self.new.border ≡ self.old.border }
-        ensures shares { self.new.shares.items ≡ given frozen.now self.old.rank self.old.shares.items met.rank met.share parent }
+        ensures shares { self.new.shares.items
+            ≡ given frozen.now self.old.rank self.old.shares.items met.rank met.share parent }
         ensures marks { GivesMark self.old.rank self.old.pending.chunks.items self.new.pending.chunks.items parent }
     {
         if let Some(rank) = parent {
@@ -142,7 +149,8 @@ fn quarter(known: &[u128], parent: Option<u32>) -> u128
 pub fn variance_by(known: &[u128], parents: Parents) -> u128
     requires sire { ForSome parents.sire (IsKnownParent DEPTH_LIMIT known.now) }
     requires dam { ForSome parents.dam (IsKnownParent DEPTH_LIMIT known.now) }
-    ensures { result ≡ 2 ^ (2 * DEPTH_LIMIT) - quarter_of DEPTH_LIMIT known.now parents.sire - quarter_of DEPTH_LIMIT known.now parents.dam }
+    ensures { result ≡ 2 ^ (2 * DEPTH_LIMIT) - quarter_of DEPTH_LIMIT known.now parents.sire
+        - quarter_of DEPTH_LIMIT known.now parents.dam }
 {
     ONE - quarter(known, parents.sire) - quarter(known, parents.dam)
 }

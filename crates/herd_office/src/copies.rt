@@ -83,9 +83,11 @@ fn named<R: Wait>(rt: &R, copies: Copies) -> Copies
 
 /// Shows readers a copy that has each operation. It is never refused.
 pub fn publish<R: Wait>(copies: Copies, rt: &R) -> (Copies, Result<(), AllocError>)
-    requires { let s = after (state_of copies.desk.shown.value) (drop copies.behind copies.log.items) in (office_of s.1 ≡ office_of copies.desk.shown.value.past) × IsTold s.0 s.1 }
+    requires { let s = after (state_of copies.desk.shown.value) (drop copies.behind copies.log.items) in
+        (office_of s.1 ≡ office_of copies.desk.shown.value.past) × IsTold s.0 s.1 }
     ensures ok { IsOk result.1 }
-    ensures state { state_of result.0.desk.shown.value ≡ after (state_of copies.desk.shown.value) (drop copies.behind copies.log.items) }
+    ensures state { state_of result.0.desk.shown.value
+        ≡ after (state_of copies.desk.shown.value) (drop copies.behind copies.log.items) }
     ensures pending { drop result.0.behind result.0.log.items ≡ [] }
     ensures view { view result.0.desk.place ≡ Some (office_of result.0.desk.shown.value.past) }
     ensures table { result.0.desk.place.id ≡ copies.desk.place.id }
@@ -96,7 +98,8 @@ pub fn publish<R: Wait>(copies: Copies, rt: &R) -> (Copies, Result<(), AllocErro
 /// Publishes the step that is pending, with the history that has it.
 pub fn show<R: Wait>(rt: &R, copies: &mut Copies, step: &Step, past: Past)
     requires pending { drop copies.old.behind copies.old.log.items ≡ CopyUpdate.Filed step.now ∷ [] }
-    requires shown { AreOf (state_of copies.old.desk.shown.value) copies.old.desk.shown.value.copybook.journal past.limits past.seen.book }
+    requires shown { AreOf (state_of copies.old.desk.shown.value) copies.old.desk.shown.value.copybook.journal
+        past.limits past.seen.book }
     requires room { length copies.old.desk.shown.value.copybook.journal < past.limits.steps }
     requires log { past.seen.log ≡ copies.old.desk.shown.value.copybook.journal ++ step.now ∷ [] }
     ensures shown { AreOf (state_of copies.new.desk.shown.value) past.seen.log past.limits past.seen.book }
@@ -111,7 +114,8 @@ pub fn show<R: Wait>(rt: &R, copies: &mut Copies, step: &Step, past: Past)
 pub fn inform(copies: &mut Copies, seat: &mut Seat)
     requires { seat.old.place.table_id ≡ copies.old.desk.place.table_id }
     ensures told { view seat.new.place ≡ view copies.old.desk.place }
-    ensures kept { (copies.new.desk.shown ≡ copies.old.desk.shown) × (copies.new.log ≡ copies.old.log) × (copies.new.behind ≡ copies.old.behind) × (view copies.new.desk.place ≡ view copies.old.desk.place) }
+    ensures kept { (copies.new.desk.shown ≡ copies.old.desk.shown) × (copies.new.log ≡ copies.old.log)
+        × (copies.new.behind ≡ copies.old.behind) × (view copies.new.desk.place ≡ view copies.old.desk.place) }
 {
     seat.learn::<Notes>(copies.tell::<Notes>());
 }

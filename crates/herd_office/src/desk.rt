@@ -66,7 +66,8 @@ pub(crate) fn make_desks<N: OfficeName, A: Allocator>(
     requires history { history.now ≡ [] }
     ensures rest { IfOk result (λ _. (rest.new.parts ≡ 0) × (rest.new.amount ≡ 0)) }
     ensures count { IfOk result (λ r. vec_len r ≡ count) }
-    ensures numbers { IfOk result (λ r. (k : ℕ) (d : _) → slice_get r.items k ≡ Some d → (d.number ≡ k + 1) × (d.answered ≡ 0) × (d.history ≡ [])) }
+    ensures numbers { IfOk result (λ r. (k : ℕ) (d : _) → slice_get r.items k ≡ Some d → (d.number ≡ k + 1)
+        × (d.answered ≡ 0) × (d.history ≡ [])) }
     ensures fault { IfErr result (λ fault. fault ≡ OpenFault.Memory) }
 {
     let mut desks = Vec::new(alloc);
@@ -95,7 +96,8 @@ impl<N: OfficeName> Desk<N> {
         requires fits { self.old.answered + 1 < 2 ^ 64 }
         requires stored { self.old.answered + 1 ≤ of_desk self.old.number history }
         ensures total { book.new.total ≡ book.old.total + 1 }
-        ensures answered { (self.new.answered ≡ self.old.answered + 1) × (self.new.number ≡ self.old.number) × (self.new.history ≡ history) }
+        ensures answered { (self.new.answered ≡ self.old.answered + 1) × (self.new.number ≡ self.old.number)
+            × (self.new.history ≡ history) }
     {
         let Desk {
             number: _,

@@ -21,18 +21,23 @@ pub fn file_on<N: OfficeName, W: Wait, R: Wait + Drop, A: Allocator + Copy>(
     desk: &mut Desk<N>,
     command: Command,
 ) -> Result<Filed<N>, FileFault>
-    ensures stored { IfOk result (λ f. inside.new.register.journal ≡ with_step_of inside.old.register.journal desk.old.number command f.reply) }
+    ensures stored { IfOk result
+        (λ f. inside.new.register.journal ≡ with_step_of inside.old.register.journal desk.old.number command f.reply) }
     ensures reply { IfOk result (λ f. f.reply ≡ answer_after N.limits inside.old.register.journal command) }
     ensures serial { IfOk result (λ f. f.serial ≡ length inside.new.register.journal) }
-    ensures counted { IfOk result (λ _. (inside.new.answered.total ≡ inside.old.answered.total + 1) × (desk.new.answered ≡ desk.old.answered + 1)) }
+    ensures counted { IfOk result (λ _. (inside.new.answered.total ≡ inside.old.answered.total + 1)
+        × (desk.new.answered ≡ desk.old.answered + 1)) }
     ensures begins { IfOk result (λ _. IsPrefix desk.old.history inside.old.register.journal) }
-    ensures history { IfOk result (λ f. (f.slip.history ≡ inside.new.register.journal) × (desk.new.history ≡ inside.new.register.journal)) }
+    ensures history { IfOk result
+        (λ f. (f.slip.history ≡ inside.new.register.journal) × (desk.new.history ≡ inside.new.register.journal)) }
     ensures legal { IfOk result (λ f. IsLegal N.limits f.slip.history) }
     ensures number { desk.new.number ≡ desk.old.number }
     ensures full { (result ≡ Err FileFault.JournalFull) ↔ (length inside.old.register.journal ≡ N.limits.steps) }
     ensures unfiled { OnErr result (standing inside.new desk.new ≡ standing inside.old desk.old) }
-    ensures no_reading { result ≡ Err FileFault.NoReading → length desk.old.history ≤ length inside.old.register.journal → IsNone inside.new.keeper.claim }
-    ensures memory { result ≡ Err FileFault.Memory → (length desk.old.history ≤ length inside.old.register.journal) × IsSome inside.new.keeper.claim }
+    ensures no_reading { result ≡ Err FileFault.NoReading → length desk.old.history ≤ length inside.old.register.journal
+        → IsNone inside.new.keeper.claim }
+    ensures memory { result ≡ Err FileFault.Memory → (length desk.old.history ≤ length inside.old.register.journal)
+        × IsSome inside.new.keeper.claim }
 {
     let Inside {
         register,
@@ -73,7 +78,8 @@ fn file_in<A: Allocator + Copy>(
 ) -> Result<Step, FileFault>
     requires { drop copies.old.behind copies.old.log.items ≡ [] }
     ensures step { IfOk result (λ step. step ≡ step_of desk command.now step.reply) }
-    ensures reply { IfOk result (λ step. step.reply ≡ answer_after register.old.limits register.old.journal command.now) }
+    ensures reply { IfOk result
+        (λ step. step.reply ≡ answer_after register.old.limits register.old.journal command.now) }
     ensures stored { IfOk result (λ step. register.new.journal ≡ register.old.journal ++ step ∷ []) }
     ensures pending { IfOk result (λ step. drop copies.new.behind copies.new.log.items ≡ CopyUpdate.Filed step ∷ []) }
     ensures legal { IfOk result (λ _. IsLegal register.new.limits register.new.journal) }

@@ -41,7 +41,8 @@
 //! - An inspector waits for nobody. `freeze`, `learn`, `steps_seen` and `steps` take no handle by which they could.
 //! - `close`, and a drop of parts, of an office or of what wasn't closed, wait for inspectors that are reading, and
 //!   free both copies. For the drop the office keeps a handle of its own.
-//! - `open` takes no handle. Where it fails it drops the parts, and waits by the handle that they keep: for nobody, since
+//! - `open` takes no handle. Where it fails it drops the parts, and waits by the handle that they keep: for nobody,
+//!   since
 //!   no inspector was handed out.
 //!
 //! # Names
@@ -54,10 +55,10 @@
 //!
 //! | | definition (`specs/`) | code (`src/`) | proof (`proofs/`) |
 //! |---|---|---|---|
-//! | a name's parts; what lies under the lock; opening, closing | `Parts`, `Closing` | `name`, `office` | `Counting`, `Stored` |
-//! | a desk's call, and the slip that it gives | `Filing`, `Histories`, `Standing` | `desk`, `filing` | `Stored`, `Counting` |
+//! | a name's parts; opening, closing | `Parts`, `Closing` | `name`, `office` | `Counting`, `Stored` |
+//! | a desk's call, its slip | `Filing`, `Histories`, `Standing` | `desk`, `filing` | `Stored`, `Counting` |
 //! | the history: its rule, claims, beginnings of it | `Keeping` | `history`, `keeper` | `Claiming`, `Fronts` |
-//! | the readers' copies: their rule, what is sent to them | `Copies`, `Shelves` | `copies`, `copy_update`, `shown` | `Sides` |
+//! | the readers' copies, what is sent to them | `Copies`, `Shelves` | `copies`, `copy_update`, `shown` | `Sides` |
 //! | reading a copy with no lock | `Copies`, `Keeping` | `inspector` | `Sides`, `Stored` |
 //! | why an office isn't opened or closed, or a copy not frozen; the limits | | `faults`, `limits` | |
 #![tactic(auto)]

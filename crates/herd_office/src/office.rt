@@ -128,7 +128,8 @@ impl<N: OfficeName, R: Wait + Drop, A: Allocator + Copy> Office<N, R, A> {
         ensures desks_due { IfOk result (λ r. r.0.desks ≡ parts.desks) }
         ensures inspectors_due { IfOk result (λ r. r.0.inspectors ≡ parts.inspectors) }
         ensures desks { IfOk result (λ r. vec_len r.1 ≡ parts.desks) }
-        ensures numbers { IfOk result (λ r. (k : ℕ) (d : _) → slice_get r.1.items k ≡ Some d → (d.number ≡ k + 1) × (d.answered ≡ 0) × (d.history ≡ [])) }
+        ensures numbers { IfOk result (λ r. (k : ℕ) (d : _) → slice_get r.1.items k ≡ Some d → (d.number ≡ k + 1)
+            × (d.answered ≡ 0) × (d.history ≡ [])) }
         ensures inspectors { IfOk result (λ r. vec_len r.2 ≡ parts.inspectors) }
         ensures unseen { IfOk result (λ r. (k : ℕ) (i : _) → slice_get r.2.items k ≡ Some i → i.history ≡ []) }
     {
@@ -178,13 +179,16 @@ impl<N: OfficeName, R: Wait + Drop, A: Allocator + Copy> Office<N, R, A> {
     ) -> Result<Register<A>, Unclosed<N, R, A>>
         ensures limits { IfOk result (λ r. r.limits ≡ N.limits) }
         ensures sum { IfOk result (λ r. length r.journal ≡ sum_by (λ d. d.answered) desks.items) }
-        ensures each { IfOk result (λ r. (k : ℕ) (d : _) → slice_get desks.items k ≡ Some d → d.answered ≡ of_desk d.number r.journal) }
+        ensures each { IfOk result
+            (λ r. (k : ℕ) (d : _) → slice_get desks.items k ≡ Some d → d.answered ≡ of_desk d.number r.journal) }
         ensures desks { IfOk result (λ r. BeginsWithAll (λ d. d.history) desks.items r.journal) }
         ensures inspectors { IfOk result (λ r. BeginsWithAll (λ i. i.history) inspectors.items r.journal) }
         ensures all_in { IfOk result (λ _. (self.desks ≤ vec_len desks) × (self.inspectors ≤ vec_len inspectors)) }
         ensures desk_missing { IfErr result (λ u. (u.cause ≡ CloseFault.DeskMissing) ↔ (vec_len desks < self.desks)) }
-        ensures inspector_missing { IfErr result (λ u. (u.cause ≡ CloseFault.InspectorMissing) ↔ ((self.desks ≤ vec_len desks) × (vec_len inspectors < self.inspectors))) }
-        ensures office_back { IfErr result (λ u. (u.office.desks ≡ self.desks) × (u.office.inspectors ≡ self.inspectors)) }
+        ensures inspector_missing { IfErr result (λ u. (u.cause ≡ CloseFault.InspectorMissing)
+            ↔ ((self.desks ≤ vec_len desks) × (vec_len inspectors < self.inspectors))) }
+        ensures office_back { IfErr result
+            (λ u. (u.office.desks ≡ self.desks) × (u.office.inspectors ≡ self.inspectors)) }
         ensures desks_back { IfErr result (λ u. u.desks.items ≡ desks.items) }
         ensures inspectors_back { IfErr result (λ u. u.inspectors.items ≡ inspectors.items) }
     {
@@ -222,9 +226,11 @@ impl<N: OfficeName, R: Wait + Drop, A: Allocator + Copy> Office<N, R, A> {
 
     // Who was opened and isn't handed in: a desk is told before an inspector.
     fn missing(&self, desks: &[Desk<N>], inspectors: &[Inspector<N>]) -> Option<CloseFault>
-        ensures none { IsNone result ↔ ((self.now.desks ≤ length desks.now) × (self.now.inspectors ≤ length inspectors.now)) }
+        ensures none { IsNone result
+            ↔ ((self.now.desks ≤ length desks.now) × (self.now.inspectors ≤ length inspectors.now)) }
         ensures desk { IfSome result (λ cause. (cause ≡ CloseFault.DeskMissing) ↔ (length desks.now < self.now.desks)) }
-        ensures inspector { IfSome result (λ cause. (cause ≡ CloseFault.InspectorMissing) ↔ ((self.now.desks ≤ length desks.now) × (length inspectors.now < self.now.inspectors))) }
+        ensures inspector { IfSome result (λ cause. (cause ≡ CloseFault.InspectorMissing)
+            ↔ ((self.now.desks ≤ length desks.now) × (length inspectors.now < self.now.inspectors))) }
     {
         if desks.len() < usize::from(self.desks) {
             return Some(CloseFault::DeskMissing);

@@ -27,7 +27,8 @@ fn find<A: Allocator>(records: &Records<A>, parent: &Option<AnimalNumber>) -> Na
     ensures number { result.number ≡ parent.now }
     ensures record { result.animal ≡ record_named records.now.book parent.now }
     ensures within { IfSome result.place (λ place. place < length records.now.book) }
-    ensures place { is_missing parent.now result.animal ≡ false → IsIndexIn (keys_of records.now.book) result.place parent.now }
+    ensures place { is_missing parent.now result.animal ≡ false
+        → IsIndexIn (keys_of records.now.book) result.place parent.now }
 {
     if let Some(number) = parent {
         if let Some(place) = records.place_of(number) {
@@ -87,7 +88,8 @@ impl Named {
 
 // The first fault of an animal with this birth day and these parents that their records show.
 fn record_fault(birth: Day, sire: &Named, dam: &Named, embryo: bool) -> Option<ParentFault>
-    ensures { result ≡ first_that_holds (record_faults birth sire.now.number sire.now.animal dam.now.number dam.now.animal embryo) }
+    ensures { result
+        ≡ first_that_holds (record_faults birth sire.now.number sire.now.animal dam.now.number dam.now.animal embryo) }
 {
     if sire.is_missing() {
         Some(ParentFault::SireMissing)
@@ -119,7 +121,8 @@ pub fn sound_parents<A: Allocator>(
     embryo: bool,
 ) -> Result<Link, ParentFault>
     requires { length records.now.book ≤ MOST_ANIMALS }
-    ensures fault { IfErr result (λ fault. fault_by_records records.now.book birth sire.now dam.now embryo ≡ Some fault) }
+    ensures fault { IfErr result
+        (λ fault. fault_by_records records.now.book birth sire.now dam.now embryo ≡ Some fault) }
     ensures sound { IfOk result (λ _. fault_by_records records.now.book birth sire.now dam.now embryo ≡ None) }
     ensures sire { IfOk result (λ parents. IsIndexIn (keys_of records.now.book) parents.sire sire.now) }
     ensures dam { IfOk result (λ parents. IsIndexIn (keys_of records.now.book) parents.dam dam.now) }

@@ -46,7 +46,8 @@ impl<A: Allocator> Model for Pedigree<A> {
 
     ghost view = { λ p. record { book = p.records.book; before = undone_book p.undo p.records.book } };
 
-    ghost invariant = { λ p. IsHeld DEPTH_LIMIT MOST_ANIMALS p.records.book p.sires.parents p.dams.parents p.depths.items p.old_depths.items p.undo };
+    ghost invariant = { λ p. IsHeld DEPTH_LIMIT MOST_ANIMALS p.records.book p.sires.parents p.dams.parents
+        p.depths.items p.old_depths.items p.undo };
 }
 
 impl<A: Allocator + Copy> Pedigree<A> {
@@ -75,9 +76,11 @@ impl<A: Allocator + Copy> Pedigree<A> {
         dam: Option<AnimalNumber>,
         embryo: bool,
     ) -> Result<Option<ParentFault>, AllocError>
-        ensures fault { IfOk result (λ fault. fault ≡ parent_fault DEPTH_LIMIT self.now.book number birth sire dam embryo) }
+        ensures fault { IfOk result
+            (λ fault. fault ≡ parent_fault DEPTH_LIMIT self.now.book number birth sire dam embryo) }
         // What the parents' records show needs no memory.
-        ensures by_records { IfSome (fault_by_records self.now.book birth sire dam embryo) (λ fault. result ≡ Ok (Some fault)) }
+        ensures by_records { IfSome (fault_by_records self.now.book birth sire dam embryo)
+            (λ fault. result ≡ Ok (Some fault)) }
     {
         let parents = match sound_parents(&self.records, birth, &sire, &dam, embryo) {
             Ok(parents) => parents,
@@ -99,7 +102,8 @@ impl<A: Allocator + Copy> Pedigree<A> {
     ) -> Result<bool, AllocError>
         requires sire { IfSome sire (λ place. place < length self.now.book) }
         requires dam { IfSome dam (λ place. place < length self.now.book) }
-        ensures { IfOk result (λ deep. (s d : Option (List ℕ)) → IsIndexIn (keys_of self.now.book) sire s → IsIndexIn (keys_of self.now.book) dam d → deep ≡ is_too_deep DEPTH_LIMIT self.now.book number.now s d) }
+        ensures { IfOk result (λ deep. (s d : Option (List ℕ)) → IsIndexIn (keys_of self.now.book) sire s
+            → IsIndexIn (keys_of self.now.book) dam d → deep ≡ is_too_deep DEPTH_LIMIT self.now.book number.now s d) }
     {
         let depth = depth_with(&self.depths, sire, dam);
         let Some(place) = self.records.place_of(number) else {
@@ -142,9 +146,11 @@ impl<A: Allocator + Copy> Pedigree<A> {
         animal: Animal,
     ) -> Result<Option<ParentFault>, AllocError>
         requires { IsNewborn MOST_ANIMALS self.old.book number animal }
-        ensures fault { IfOk result (λ fault. fault ≡ parent_fault DEPTH_LIMIT self.old.book number animal.birth animal.sire animal.dam animal.embryo) }
+        ensures fault { IfOk result (λ fault. fault
+            ≡ parent_fault DEPTH_LIMIT self.old.book number animal.birth animal.sire animal.dam animal.embryo) }
         // What the parents' records show needs no memory.
-        ensures by_records { IfSome (fault_by_records self.old.book animal.birth animal.sire animal.dam animal.embryo) (λ fault. result ≡ Ok (Some fault)) }
+        ensures by_records { IfSome (fault_by_records self.old.book animal.birth animal.sire animal.dam animal.embryo)
+            (λ fault. result ≡ Ok (Some fault)) }
         ensures added { result ≡ Ok None → self.new ≡ changed_to self.old (self.old.book ++ (number, animal) ∷ []) }
         ensures refused { IfOk result (λ fault. IsSome fault → self.new ≡ self.old) }
         ensures err { OnErr result (self.new ≡ self.old) }
@@ -173,7 +179,8 @@ impl<A: Allocator + Copy> Pedigree<A> {
         requires sound { fault_by_records self.old.book animal.birth animal.sire animal.dam animal.embryo ≡ None }
         requires sire { IsIndexIn (keys_of self.old.book) sire animal.sire }
         requires dam { IsIndexIn (keys_of self.old.book) dam animal.dam }
-        ensures fault { IfOk result (λ fault. fault ≡ parent_fault DEPTH_LIMIT self.old.book number animal.birth animal.sire animal.dam animal.embryo) }
+        ensures fault { IfOk result (λ fault. fault
+            ≡ parent_fault DEPTH_LIMIT self.old.book number animal.birth animal.sire animal.dam animal.embryo) }
         ensures added { result ≡ Ok None → self.new ≡ changed_to self.old (self.old.book ++ (number, animal) ∷ []) }
         ensures refused { IfOk result (λ fault. IsSome fault → self.new ≡ self.old) }
         ensures err { OnErr result (self.new ≡ self.old) }
@@ -203,7 +210,8 @@ impl<A: Allocator + Copy> Pedigree<A> {
         dam: Option<AnimalNumber>,
     ) -> Result<(), AllocError>
         requires { IsCorrection DEPTH_LIMIT self.old.book number sire dam }
-        ensures set { OnOk result (self.new ≡ changed_to self.old (changed self.old.book number (with_parents sire dam))) }
+        ensures set { OnOk result
+            (self.new ≡ changed_to self.old (changed self.old.book number (with_parents sire dam))) }
         ensures err { OnErr result (self.new ≡ self.old) }
     {
         match self.set_parents_if_sound(number, sire, dam)? {
@@ -222,10 +230,13 @@ impl<A: Allocator + Copy> Pedigree<A> {
         dam: Option<AnimalNumber>,
     ) -> Result<Option<ParentFault>, AllocError>
         requires { IsSome (record_of self.old.book number) }
-        ensures fault { IfOk result (λ fault. IfSome (record_of self.old.book number) (λ animal. fault ≡ parent_fault DEPTH_LIMIT self.old.book number animal.birth sire dam animal.embryo)) }
+        ensures fault { IfOk result (λ fault. IfSome (record_of self.old.book number)
+            (λ animal. fault ≡ parent_fault DEPTH_LIMIT self.old.book number animal.birth sire dam animal.embryo)) }
         // What the parents' records show needs no memory.
-        ensures by_records { IfSome (record_of self.old.book number) (λ animal. IfSome (fault_by_records self.old.book animal.birth sire dam animal.embryo) (λ fault. result ≡ Ok (Some fault))) }
-        ensures set { result ≡ Ok None → self.new ≡ changed_to self.old (changed self.old.book number (with_parents sire dam)) }
+        ensures by_records { IfSome (record_of self.old.book number) (λ animal. IfSome
+            (fault_by_records self.old.book animal.birth sire dam animal.embryo) (λ fault. result ≡ Ok (Some fault))) }
+        ensures set { result ≡ Ok None
+            → self.new ≡ changed_to self.old (changed self.old.book number (with_parents sire dam)) }
         ensures refused { IfOk result (λ fault. IsSome fault → self.new ≡ self.old) }
         ensures err { OnErr result (self.new ≡ self.old) }
     {

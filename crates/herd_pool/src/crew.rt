@@ -21,7 +21,8 @@ impl<'a, A: Allocator, W: Work<A>> Promise<
     ghost use Rattle.std.specs.Prelude.{IfOk};
     ghost use Rattle.herd_pool.specs.Workers.{IsWorkerOutput};
 
-    ghost kept_by = { λ task result. IfOk result (IsWorkerOutput (W.is_ready task.work.now) (W.is_computed task.work.now) task.stealer.now) };
+    ghost kept_by = { λ task result. IfOk result
+        (IsWorkerOutput (W.is_ready task.work.now) (W.is_computed task.work.now) task.stealer.now) };
 }
 
 /// A worker's thread, which promises to bring back what its task asks for.
@@ -60,7 +61,8 @@ pub fn compute_blocks<R: Threads + Wait + Sync, A: Allocator + Copy + Send + Syn
     Ok((blocks, idle))
 }
 
-// Shares the blocks of the queue with one worker less than these, which is the starter itself. All are back when it returns.
+// Shares the blocks of the queue with one worker less than these, which is the starter itself. All are back when it
+// returns.
 fn share<R: Threads + Wait + Sync, A: Allocator + Copy + Send + Sync, W: Work<A>>(
     rt: &R,
     alloc: A,
@@ -69,8 +71,10 @@ fn share<R: Threads + Wait + Sync, A: Allocator + Copy + Send + Sync, W: Work<A>
     workers: u32,
 ) -> Result<Starter<W::Scratch, W::Output, A>, PoolFault>
     requires knows { W.knows on.now }
-    requires starter { IsStarter (W.is_ready on.now) (W.is_computed on.now) 0 (worker_view starter.queue).pushed starter }
-    ensures starter { IfOk result (IsStarter (W.is_ready on.now) (W.is_computed on.now) 0 (worker_view starter.queue).pushed) }
+    requires starter { IsStarter (W.is_ready on.now) (W.is_computed on.now) 0
+        (worker_view starter.queue).pushed starter }
+    ensures starter { IfOk result
+        (IsStarter (W.is_ready on.now) (W.is_computed on.now) 0 (worker_view starter.queue).pushed) }
     ensures one_worker { workers ≤ 1 → IfErr result (λ fault. fault ≡ PoolFault.Memory) }
 {
     if workers <= 1 {
@@ -94,8 +98,10 @@ fn run_threads<R: Threads + Wait + Sync, A: Allocator + Copy + Send + Sync, W: W
 ) -> Result<Starter<W::Scratch, W::Output, A>, PoolFault>
     requires knows { W.knows task.work.now }
     requires deque { worker_deque starter.queue ≡ stealer_deque task.stealer.now }
-    requires starter { IsStarter (W.is_ready task.work.now) (W.is_computed task.work.now) 0 (worker_view starter.queue).pushed starter }
-    ensures { IfOk result (IsStarter (W.is_ready task.entry.work.now) (W.is_computed task.entry.work.now) 0 (worker_view starter.queue).pushed) }
+    requires starter { IsStarter (W.is_ready task.work.now) (W.is_computed task.work.now) 0
+        (worker_view starter.queue).pushed starter }
+    ensures { IfOk result (IsStarter (W.is_ready task.entry.work.now) (W.is_computed task.entry.work.now) 0
+        (worker_view starter.queue).pushed) }
 {
     // The closures take the references one by one: nothing is known of one that takes a struct of references.
     let Task { work: on, stealer } = task;
@@ -103,11 +109,14 @@ fn run_threads<R: Threads + Wait + Sync, A: Allocator + Copy + Send + Sync, W: W
         thread::scope_env(),
         rt,
         |scope| -> Result<Starter<W::Scratch, W::Output, A>, PoolFault>
-            requires shared { IsSync W.row × IsSync A.row × IsSend A.row × IsSend W.Scratch.row × IsSend W.Output.row × Frees A.Allocator A.dealloc_token }
+            requires shared { IsSync W.row × IsSync A.row × IsSend A.row × IsSend W.Scratch.row × IsSend W.Output.row
+                × Frees A.Allocator A.dealloc_token }
             requires knows { W.knows on.now }
             requires deque { worker_deque starter.queue ≡ stealer_deque stealer.now }
-            requires starter { IsStarter (W.is_ready on.now) (W.is_computed on.now) 0 (worker_view starter.queue).pushed starter }
-            ensures { IfOk result (IsStarter (W.is_ready on.entry.now) (W.is_computed on.entry.now) 0 (worker_view starter.queue).pushed) }
+            requires starter { IsStarter (W.is_ready on.now) (W.is_computed on.now) 0
+                (worker_view starter.queue).pushed starter }
+            ensures { IfOk result (IsStarter (W.is_ready on.entry.now) (W.is_computed on.entry.now) 0
+                (worker_view starter.queue).pushed) }
         {
             let task = Task { work: on, stealer };
             let room = Vec::with_capacity(alloc, threads as usize)?;
@@ -135,11 +144,14 @@ fn start_all<'s, E, R: Wait + Sync, A: Allocator + Copy + Send + Sync, W: Work<A
 >
     requires knows { W.knows task.work.now }
     requires deque { worker_deque starter.queue ≡ stealer_deque task.stealer.now }
-    requires starter { IsStarter (W.is_ready task.work.now) (W.is_computed task.work.now) 0 (worker_view starter.queue).pushed starter }
+    requires starter { IsStarter (W.is_ready task.work.now) (W.is_computed task.work.now) 0
+        (worker_view starter.queue).pushed starter }
     requires none { vec_len workers ≡ 0 }
     ensures deque { IfOk result (λ r. worker_deque r.0.queue ≡ worker_deque starter.queue) }
-    ensures starter { IfOk result (λ r. IsStarter (W.is_ready task.entry.work.now) (W.is_computed task.entry.work.now) (vec_len r.1) (worker_view starter.queue).pushed r.0) }
-    ensures task { IfOk result (λ r. (k : ℕ) (d : _) → k < vec_len r.1 → (get_or (vec_items r.1) k d).promise ≡ task.entry) }
+    ensures starter { IfOk result (λ r. IsStarter (W.is_ready task.entry.work.now) (W.is_computed task.entry.work.now)
+        (vec_len r.1) (worker_view starter.queue).pushed r.0) }
+    ensures task { IfOk result
+        (λ r. (k : ℕ) (d : _) → k < vec_len r.1 → (get_or (vec_items r.1) k d).promise ≡ task.entry) }
 {
     for _ in 0..workers.capacity() {
         let scratch = hire(alloc, task.work, &mut starter.idle)?;
@@ -171,7 +183,8 @@ fn start_one<'s, E, R: Wait + Sync, A: Allocator + Copy + Send + Sync, W: Work<A
             requires knows { W.knows on.now }
             requires pass { IsBlockPass stealer.now pass [] }
             requires ready { W.is_ready on.now scratch }
-            ensures { IfOk result (IsWorkerOutput (W.is_ready on.entry.now) (W.is_computed on.entry.now) stealer.entry.now) }
+            ensures { IfOk result
+                (IsWorkerOutput (W.is_ready on.entry.now) (W.is_computed on.entry.now) stealer.entry.now) }
         {
             let task = Task { work: on, stealer };
             work(rt, alloc, task, pass, scratch)
@@ -192,8 +205,10 @@ fn join_all<'s, R: Threads, A: Allocator + Copy, W: Work<A>>(
 ) -> Result<Starter<W::Scratch, W::Output, A>, AllocError>
     requires task { (k : ℕ) (d : _) → k < vec_len started → (get_or (vec_items started) k d).promise ≡ task }
     requires deque { worker_deque starter.queue ≡ stealer_deque task.stealer.now }
-    requires starter { IsStarter (W.is_ready task.work.now) (W.is_computed task.work.now) (vec_len started) (worker_view starter.queue).pushed starter }
-    ensures { IfOk result (IsStarter (W.is_ready task.entry.work.now) (W.is_computed task.entry.work.now) 0 (worker_view starter.queue).pushed) }
+    requires starter { IsStarter (W.is_ready task.work.now) (W.is_computed task.work.now) (vec_len started)
+        (worker_view starter.queue).pushed starter }
+    ensures { IfOk result (IsStarter (W.is_ready task.entry.work.now) (W.is_computed task.entry.work.now) 0
+        (worker_view starter.queue).pushed) }
 {
     for worker in started {
         let WorkerOutput {

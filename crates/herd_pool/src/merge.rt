@@ -18,9 +18,12 @@ pub fn write_traced<F: Allocator, A: Allocator>(
     blocks: &[ComputedBlock<Vec<u128, A>>],
 )
     requires known { length known.old ≡ length level.frozen.now }
-    requires traced { All (λ block. AreTraced DEPTH_LIMIT level.frozen.now level.depth level.block block.number block.output.items) blocks.now }
+    requires traced { All
+        (λ block. AreTraced DEPTH_LIMIT level.frozen.now level.depth level.block block.number block.output.items)
+        blocks.now }
     ensures kept { Keeps (coefficient_at DEPTH_LIMIT level.entry.frozen.now) known.old known.new }
-    ensures written { All (λ block. HasAt (coefficient_at DEPTH_LIMIT level.entry.frozen.now) known.new (block_of level.entry.block block.number (level_of level.entry.depth level.entry.frozen.now))) blocks.now }
+    ensures written { All (λ block. HasAt (coefficient_at DEPTH_LIMIT level.entry.frozen.now) known.new
+        (block_of level.entry.block block.number (level_of level.entry.depth level.entry.frozen.now))) blocks.now }
 {
     for block in blocks {
         write_block(known, level.ranks(block.number), &block.output);
@@ -30,7 +33,8 @@ pub fn write_traced<F: Allocator, A: Allocator>(
 // Writes the numerators of these ranks.
 fn write_block(known: &mut [u128], ranks: &[u32], numerators: &[u128])
     requires { All (λ rank. rank < length known.old) ranks.now }
-    ensures { (f : ℕ → ℕ) → numerators.now ≡ map f ranks.now → Keeps f known.old known.new × HasAt f known.new ranks.now }
+    ensures { (f : ℕ → ℕ) → numerators.now ≡ map f ranks.now → Keeps f known.old known.new
+        × HasAt f known.new ranks.now }
 {
     for (rank, numerator) in ranks.iter().zip(numerators) {
         known[*rank as usize] = *numerator;
@@ -43,7 +47,8 @@ pub fn write_calves_of<A: Allocator>(
     blocks: &[ComputedBlock<Vec<CalfCoefficient, A>>],
 )
     requires { All (λ block. All (λ calf. calf.rank < length known.old) block.output.items) blocks.now }
-    ensures { (f : ℕ → ℕ) → All (λ block. HaveValues f block.output.items) blocks.now → Keeps f known.old known.new × All (λ block. AreWritten f known.new block.output.items) blocks.now }
+    ensures { (f : ℕ → ℕ) → All (λ block. HaveValues f block.output.items) blocks.now → Keeps f known.old known.new
+        × All (λ block. AreWritten f known.new block.output.items) blocks.now }
 {
     for block in blocks {
         write_calves(&block.output, known);

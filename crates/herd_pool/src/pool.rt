@@ -76,7 +76,8 @@ fn add_level<
 ) -> Result<(), PoolFault>
     requires known { KnowsBelow DEPTH_LIMIT MOST_ANIMALS level.frozen.now known.old level.depth }
     requires block { 0 < level.block }
-    ensures known { OnOk result (KnowsBelow DEPTH_LIMIT MOST_ANIMALS level.entry.frozen.now known.new (level.entry.depth + 1)) }
+    ensures known { OnOk result
+        (KnowsBelow DEPTH_LIMIT MOST_ANIMALS level.entry.frozen.now known.new (level.entry.depth + 1)) }
     ensures one_worker { workers ≡ 1 → IfErr result (λ fault. fault ≡ PoolFault.Memory) }
 {
     let blocks = trace_level(rt, alloc, level, known, workers, gate)?;
@@ -100,7 +101,11 @@ fn trace_level<
 ) -> Result<Vec<ComputedBlock<Vec<u128, A>>, A>, PoolFault>
     requires known { KnowsBelow DEPTH_LIMIT MOST_ANIMALS level.frozen.now known.now level.depth }
     requires block { 0 < level.block }
-    ensures blocks { IfOk result (λ blocks. AreBlocks (λ block. AreTraced DEPTH_LIMIT level.entry.frozen.now level.entry.depth level.entry.block block.number block.output.items) (div_ceil (length (level_of level.entry.depth level.entry.frozen.now)) level.entry.block) blocks.items) }
+    ensures blocks { IfOk result
+        (λ blocks. AreBlocks
+        (λ block. AreTraced DEPTH_LIMIT level.entry.frozen.now level.entry.depth level.entry.block block.number
+        block.output.items)
+        (div_ceil (length (level_of level.entry.depth level.entry.frozen.now)) level.entry.block) blocks.items) }
     ensures one_worker { workers ≡ 1 → IfErr result (λ fault. fault ≡ PoolFault.Memory) }
 {
     let traced = TracedLevel { level, known, gate };
@@ -166,7 +171,9 @@ fn add_calves<R: Threads + Wait + Sync, F: Allocator + Sync, A: Allocator + Copy
     requires known { KnowsCalvesBelow DEPTH_LIMIT MOST_ANIMALS level.frozen.now calves.now known.old level.depth }
     requires idle { All (IsReady (length level.frozen.now)) idle.items }
     requires block { 0 < level.block }
-    ensures known { IfOk result (λ _. KnowsCalvesBelow DEPTH_LIMIT MOST_ANIMALS level.entry.frozen.now calves.now known.new (level.entry.depth + 1)) }
+    ensures known { IfOk result
+        (λ _. KnowsCalvesBelow DEPTH_LIMIT MOST_ANIMALS level.entry.frozen.now calves.now known.new
+        (level.entry.depth + 1)) }
     ensures idle { IfOk result (λ idle. All (IsReady (length level.entry.frozen.now)) idle.items) }
     ensures one_worker { workers ≡ 1 → IfErr result (λ fault. fault ≡ PoolFault.Memory) }
 {
@@ -194,7 +201,11 @@ fn relate_level<R: Threads + Wait + Sync, F: Allocator + Sync, A: Allocator + Co
     requires known { KnowsCalvesBelow DEPTH_LIMIT MOST_ANIMALS level.frozen.now calves.now known.now level.depth }
     requires idle { All (IsReady (length level.frozen.now)) idle.items }
     requires block { 0 < level.block }
-    ensures blocks { IfOk result (λ r. AreBlocks (λ block. HasCalvesOf DEPTH_LIMIT level.entry.frozen.now level.entry.depth level.entry.block block.number block.output.items) (div_ceil (length (level_of level.entry.depth level.entry.frozen.now)) level.entry.block) r.0.items) }
+    ensures blocks { IfOk result
+        (λ r. AreBlocks
+        (λ block. HasCalvesOf DEPTH_LIMIT level.entry.frozen.now level.entry.depth level.entry.block block.number
+        block.output.items)
+        (div_ceil (length (level_of level.entry.depth level.entry.frozen.now)) level.entry.block) r.0.items) }
     ensures idle { IfOk result (λ r. All (IsReady (length level.entry.frozen.now)) r.1.items) }
     ensures one_worker { workers ≡ 1 → IfErr result (λ fault. fault ≡ PoolFault.Memory) }
 {

@@ -62,10 +62,13 @@ impl<'a, F: Allocator, A: Allocator + Copy> SireLevel<'a, F, A> {
         mates: &mut Mates<A>,
         number: u32,
     ) -> Result<Vec<CalfCoefficient, A>, AllocError>
-        requires knows { KnowsCalvesBelow DEPTH_LIMIT MOST_ANIMALS self.now.level.frozen.now self.now.calves.now self.now.known.now self.now.level.depth }
+        requires knows { KnowsCalvesBelow DEPTH_LIMIT MOST_ANIMALS self.now.level.frozen.now self.now.calves.now
+            self.now.known.now self.now.level.depth }
         requires ready { IsReady (length self.now.level.frozen.now) mates.old }
         ensures ready { IfOk result (λ _. IsReady (length self.now.level.frozen.now) mates.new) }
-        ensures calves { IfOk result (λ calves. HasCalvesOf DEPTH_LIMIT self.now.level.frozen.now self.now.level.depth self.now.level.block number calves.items) }
+        ensures calves { IfOk result
+            (λ calves. HasCalvesOf DEPTH_LIMIT self.now.level.frozen.now self.now.level.depth self.now.level.block
+            number calves.items) }
     {
         let mut list = Vec::new(alloc);
         for sire in self.level.ranks(number) {
@@ -81,12 +84,14 @@ impl<'a, F: Allocator, A: Allocator + Copy> SireLevel<'a, F, A> {
         sire: u32,
         list: &mut Vec<CalfCoefficient, A>,
     ) -> Result<(), AllocError>
-        requires knows { KnowsCalvesBelow DEPTH_LIMIT MOST_ANIMALS self.now.level.frozen.now self.now.calves.now self.now.known.now self.now.level.depth }
+        requires knows { KnowsCalvesBelow DEPTH_LIMIT MOST_ANIMALS self.now.level.frozen.now self.now.calves.now
+            self.now.known.now self.now.level.depth }
         requires ready { IsReady (length self.now.level.frozen.now) mates.old }
         requires sire { sire < length self.now.level.frozen.now }
         requires deep { depth_at self.now.level.frozen.now sire ≡ self.now.level.depth }
         ensures ready { IfOk result (λ _. IsReady (length self.now.level.frozen.now) mates.new) }
-        ensures calves { IfOk result (λ _. GoesOnWith self.now.level.frozen.now (λ s. s ≡ sire) (coefficient_at DEPTH_LIMIT self.now.level.frozen.now) list.old.items list.new.items) }
+        ensures calves { IfOk result (λ _. GoesOnWith self.now.level.frozen.now (λ s. s ≡ sire)
+            (coefficient_at DEPTH_LIMIT self.now.level.frozen.now) list.old.items list.new.items) }
     {
         if self.calves.has_calves(self.level.frozen, sire) {
             mates.append_calves(self.level.frozen, self.calves, self.known, sire, list)
@@ -107,11 +112,13 @@ impl<'a, F: Allocator + Sync, A: Allocator + Copy + Send + Sync> Work<A> for Sir
     /// The calves of a block's sires.
     type Output = Vec<CalfCoefficient, A>;
 
-    ghost knows = { λ sires. KnowsCalvesBelow DEPTH_LIMIT MOST_ANIMALS sires.level.frozen.now sires.calves.now sires.known.now sires.level.depth };
+    ghost knows = { λ sires. KnowsCalvesBelow DEPTH_LIMIT MOST_ANIMALS sires.level.frozen.now sires.calves.now
+        sires.known.now sires.level.depth };
 
     ghost is_ready = { λ sires mates. IsReady (length sires.level.frozen.now) mates };
 
-    ghost is_computed = { λ sires block. HasCalvesOf DEPTH_LIMIT sires.level.frozen.now sires.level.depth sires.level.block block.number block.output.items };
+    ghost is_computed = { λ sires block. HasCalvesOf DEPTH_LIMIT sires.level.frozen.now sires.level.depth
+        sires.level.block block.number block.output.items };
 
     fn scratch(&self, alloc: A) -> Result<Mates<A>, AllocError> {
         Mates::with_room(alloc, self.level.frozen.len())

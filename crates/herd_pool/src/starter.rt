@@ -43,10 +43,13 @@ pub fn take_blocks<R: Wait, A: Allocator + Copy, W: Work<A>>(
     starter: Starter<W::Scratch, W::Output, A>,
 ) -> Result<Starter<W::Scratch, W::Output, A>, AllocError>
     requires knows { W.knows on.now }
-    requires starter { IsStarter (W.is_ready on.now) (W.is_computed on.now) (worker_view starter.queue).out (worker_view starter.queue).pushed starter }
+    requires starter { IsStarter (W.is_ready on.now) (W.is_computed on.now) (worker_view starter.queue).out
+        (worker_view starter.queue).pushed starter }
     ensures deque { IfOk result (λ r. worker_deque r.queue ≡ worker_deque starter.queue) }
-    ensures starter { IfOk result (IsStarter (W.is_ready on.now) (W.is_computed on.now) (worker_view starter.queue).out (worker_view starter.queue).pushed) }
-    ensures each_once { IfOk result (λ r. (worker_view starter.queue).out ≡ 0 → (number : ℕ) → times number (numbers r.blocks.items) ≡ once_below number (worker_view starter.queue).pushed) }
+    ensures starter { IfOk result (IsStarter (W.is_ready on.now) (W.is_computed on.now) (worker_view starter.queue).out
+        (worker_view starter.queue).pushed) }
+    ensures each_once { IfOk result (λ r. (worker_view starter.queue).out ≡ 0 → (number : ℕ)
+        → times number (numbers r.blocks.items) ≡ once_below number (worker_view starter.queue).pushed) }
 {
     let Starter {
         mut queue,

@@ -29,11 +29,13 @@ impl<'a, F: Allocator + Sync, G: Gate, A: Allocator + Copy + Send + Sync> Work<A
     /// The numerators of a block's animals, in the order of the ranks.
     type Output = Vec<u128, A>;
 
-    ghost knows = { λ traced. KnowsBelow DEPTH_LIMIT MOST_ANIMALS traced.level.frozen.now traced.known.now traced.level.depth };
+    ghost knows = { λ traced. KnowsBelow DEPTH_LIMIT MOST_ANIMALS traced.level.frozen.now traced.known.now
+        traced.level.depth };
 
     ghost is_ready = { λ _ _. Unit {0} };
 
-    ghost is_computed = { λ traced block. AreTraced DEPTH_LIMIT traced.level.frozen.now traced.level.depth traced.level.block block.number block.output.items };
+    ghost is_computed = { λ traced block. AreTraced DEPTH_LIMIT traced.level.frozen.now traced.level.depth
+        traced.level.block block.number block.output.items };
 
     fn scratch(&self, _alloc: A) -> Result<NoScratch, AllocError> {
         Ok(NoScratch)

@@ -28,7 +28,8 @@ impl<A: Allocator> Model for CopiedRecords<A> {
 
     ghost view = { λ r. records_of r.entries.items r.most };
 
-    ghost invariant = { λ r. AreInRoom r.most r.entries.items (vec_capacity r.entries) r.numbers.keys (spare r.numbers) };
+    ghost invariant = { λ r. AreInRoom r.most r.entries.items (vec_capacity r.entries) r.numbers.keys
+        (spare r.numbers) };
 }
 
 impl<A: Allocator + Copy> CopiedRecords<A> {

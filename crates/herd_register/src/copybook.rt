@@ -33,7 +33,8 @@ impl<A: Allocator> Model for Copybook<A> {
 
     ghost view = { λ c. copybook_of c.limits c.records.book c.journal.items };
 
-    ghost invariant = { λ c. IsCopybook (copybook_of c.limits c.records.book c.journal.items) c.records.most (vec_capacity c.journal) };
+    ghost invariant = { λ c. IsCopybook (copybook_of c.limits c.records.book c.journal.items) c.records.most
+        (vec_capacity c.journal) };
 }
 
 impl<A: Allocator + Copy> Copybook<A> {

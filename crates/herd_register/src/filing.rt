@@ -73,8 +73,10 @@ fn register<A: Allocator + Copy>(
     requires limits { limits.animals ≤ MOST_ANIMALS }
     requires since { newborn.since ≡ newborn.birth }
     requires left { newborn.left ≡ None }
-    ensures refusal { IfOk result (λ refusal. refusal ≡ first_that_holds (birth_refusals limits pedigree.old.book number newborn.birth newborn.sire newborn.dam newborn.embryo)) }
-    ensures set { result ≡ Ok None → pedigree.new ≡ changed_to pedigree.old (with_record pedigree.old.book number newborn) }
+    ensures refusal { IfOk result (λ refusal. refusal ≡ first_that_holds
+        (birth_refusals limits pedigree.old.book number newborn.birth newborn.sire newborn.dam newborn.embryo)) }
+    ensures set { result ≡ Ok None
+        → pedigree.new ≡ changed_to pedigree.old (with_record pedigree.old.book number newborn) }
     ensures refused { IfOk result (λ refusal. IsSome refusal → pedigree.new ≡ pedigree.old) }
     ensures err { OnErr result (pedigree.new ≡ pedigree.old) }
 {
@@ -96,8 +98,10 @@ fn correct<A: Allocator + Copy>(
     sire: Option<AnimalNumber>,
     dam: Option<AnimalNumber>,
 ) -> Result<Option<Refusal>, AllocError>
-    ensures refusal { IfOk result (λ refusal. refusal ≡ first_that_holds (correction_refusals pedigree.old.book animal sire dam)) }
-    ensures set { result ≡ Ok None → pedigree.new ≡ changed_to pedigree.old (changed pedigree.old.book animal (with_parents sire dam)) }
+    ensures refusal { IfOk result
+        (λ refusal. refusal ≡ first_that_holds (correction_refusals pedigree.old.book animal sire dam)) }
+    ensures set { result ≡ Ok None
+        → pedigree.new ≡ changed_to pedigree.old (changed pedigree.old.book animal (with_parents sire dam)) }
     ensures refused { IfOk result (λ refusal. IsSome refusal → pedigree.new ≡ pedigree.old) }
     ensures err { OnErr result (pedigree.new ≡ pedigree.old) }
 {
@@ -118,7 +122,8 @@ fn transfer<A: Allocator>(
     taker: Herd,
 ) -> Option<Refusal>
     ensures refusal { result ≡ first_that_holds (transfer_refusals pedigree.old.book animal day giver taker) }
-    ensures set { IfNone result (pedigree.new ≡ changed_to pedigree.old (changed pedigree.old.book animal (with_owner taker day))) }
+    ensures set { IfNone result
+        (pedigree.new ≡ changed_to pedigree.old (changed pedigree.old.book animal (with_owner taker day))) }
     ensures refused { IsSome result → pedigree.new ≡ pedigree.old }
 {
     let refusal = transfer_refusal(pedigree, animal, day, giver, taker);
@@ -136,7 +141,8 @@ fn leave<A: Allocator>(
     day: Day,
 ) -> Option<Refusal>
     ensures refusal { result ≡ first_that_holds (exit_refusals pedigree.old.book animal day) }
-    ensures set { IfNone result (pedigree.new ≡ changed_to pedigree.old (changed pedigree.old.book animal (with_left day))) }
+    ensures set { IfNone result
+        (pedigree.new ≡ changed_to pedigree.old (changed pedigree.old.book animal (with_left day))) }
     ensures refused { IsSome result → pedigree.new ≡ pedigree.old }
 {
     let refusal = exit_refusal(pedigree, animal, day);

@@ -56,7 +56,8 @@ impl<A: Allocator + Copy> Register<A> {
         ensures reply { IfOk result (λ reply. reply ≡ answer self.old.limits (register_book self.old) command) }
         ensures stored { IfOk result (λ reply. self.new ≡ with_step self.old (step_of desk command reply)) }
         ensures book { OnOk result (register_book self.new ≡ next self.old.limits (register_book self.old) command) }
-        ensures refused { (refusal : Refusal) → result ≡ Ok (Reply.Refused refusal) → register_book self.new ≡ register_book self.old }
+        ensures refused { (refusal : Refusal) → result ≡ Ok (Reply.Refused refusal)
+            → register_book self.new ≡ register_book self.old }
 
         // The journal's end is asked first. A command that isn't answered changes nothing.
         ensures full { (result ≡ Err FileFault.JournalFull) ↔ (length self.old.journal ≡ self.old.limits.steps) }

@@ -34,7 +34,8 @@ pub(crate) fn file_commands<R: Read + Drop>(
     ensures file { IfOk result (λ filed. IfSome (R.remaining reader)
         (λ bytes. IsRead limits.steps (commands bytes limits.steps) (commands_of filed.register.journal) filed.fault)) }
     ensures filed { IfOk result (λ filed. HasFiled limits (commands_of filed.register.journal) filed.register) }
-    ensures some { OnErr result (IfSome (R.remaining reader) (λ bytes. 0 < length (commands bytes limits.steps).commands)) }
+    ensures some { OnErr result
+        (IfSome (R.remaining reader) (λ bytes. 0 < length (commands bytes limits.steps).commands)) }
 {
     let mut register = Register::new(alloc, limits);
     let fault = match CommandReader::open(alloc, reader, limits.steps) {
@@ -102,11 +103,13 @@ fn file_each<R: Read>(
     requires empty { register.old.journal ≡ [] }
     ensures file { IfOk result (λ fault. (file : CommandFile) → HasGiven R.remaining file [] commands.old
         → IsRead register.old.limits.steps file (commands_of register.new.journal) fault) }
-    ensures record_number { IfOk result (λ found. IfSome found (λ fault. fault.record_number ≡ commands.new.given + 1)) }
+    ensures record_number { IfOk result
+        (λ found. IfSome found (λ fault. fault.record_number ≡ commands.new.given + 1)) }
     ensures interrupted { IfOk result (λ found. IfSome found
         (λ fault. is_interruption fault.cause ≡ has_failed commands.new.records)) }
     ensures filed { OnOk result (HasFiled register.old.limits (commands_of register.new.journal) register.new) }
-    ensures some { OnErr result ((file : CommandFile) → HasGiven R.remaining file [] commands.old → 0 < length file.commands) }
+    ensures some { OnErr result
+        ((file : CommandFile) → HasGiven R.remaining file [] commands.old → 0 < length file.commands) }
     ensures ready { OnErr result (IsReady register.old.limits.steps commands.new.given commands.new) }
     ensures rest { OnErr result ((file : CommandFile) → HasGiven R.remaining file [] commands.old
         → (list : List Command) × HasGiven R.remaining file list commands.new) }
@@ -141,7 +144,8 @@ fn fault_of_rest<R: Read>(commands: &mut CommandReader<R>) -> Option<LineFault>
 fn file_next(register: &mut Register<Global>, command: Command) -> Result<(), AllocError>
     requires { length register.old.journal < register.old.limits.steps }
     ensures { OnOk result (register.new
-        ≡ with_step register.old (step_of 0 command (answer register.old.limits (register_book register.old) command))) }
+        ≡ with_step register.old
+        (step_of 0 command (answer register.old.limits (register_book register.old) command))) }
 {
     match register.file(0, command) {
         Ok(_) => Ok(()),

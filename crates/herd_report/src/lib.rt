@@ -13,13 +13,14 @@
 //! Each text is also written by a call of its own (`write_replies` and the others), from a journal or a frozen
 //! book. What is written is the whole text, or where memory is refused or a write fails a front of it.
 //!
-//! Two folders have the same names in `src/`, `specs/` and `proofs/lemmas/`. **`reading`** has what the first four rows
+//! Two folders have the same names in `src/`, `specs/` and `proofs/lemmas/`. **`reading`** has what the first five rows
 //! name, **`writing`** what the rows on texts name; filing and `run` stand at the top.
 //!
 //! | | definition (`specs/`) | code (`src/`) | proof (`proofs/`) |
 //! |---|---|---|---|
 //! | the records to come | `Upcoming` | `records` | `UpcomingFacts` |
-//! | a record as a command | `Grammar`, `Columns`, `Field` | `version`, `columns`, `field` | `HeaderFacts`, `FieldFacts`, `HerdFacts` |
+//! | the header | `Grammar`, `Columns` | `version`, `columns` | `HeaderFacts` |
+//! | a record as a command | `Grammar`, `Field` | `field` | `FieldFacts`, `HerdFacts` |
 //! | a command file, and where it goes wrong | `CommandFile`, `LineCause` | `command_file`, `line_fault` | |
 //! | its commands, one at a time | `CommandReader` | `command_reader` | `CommandReaderFacts` |
 //! | filing them | `Run` (`HasFiled`) | `command_filing` | `RunFacts` |

@@ -72,9 +72,11 @@ pub fn run<H: Threads + Wait + Sync, R: Read + Drop, W: Write>(
     requires limits { AreLimits limits }
     requires order { IsOrder order }
     ensures ok { OnOk result (IfSome (R.remaining reader)
-        (λ bytes. IsAnswered limits order.entry (commands bytes limits.steps) (W.contents writer.old) (W.contents writer.new))) }
+        (λ bytes. IsAnswered limits order.entry (commands bytes limits.steps) (W.contents writer.old)
+        (W.contents writer.new))) }
     ensures err { IfErr result (λ fault. IfSome (R.remaining reader)
-        (λ bytes. EndsBy limits order.entry (commands bytes limits.steps) (W.contents writer.old) (W.contents writer.new) fault)) }
+        (λ bytes. EndsBy limits order.entry (commands bytes limits.steps) (W.contents writer.old)
+        (W.contents writer.new) fault)) }
     ensures fault { IfErr result (CanEndBy order.entry) }
 {
     match order {
@@ -143,9 +145,11 @@ fn certify<W: Write>(
     number: AnimalNumber,
     writer: &mut W,
 ) -> Result<(), CertificateFault>
-    ensures ok { OnOk result (Appends (W.contents writer.old) (W.contents writer.new) (certificate_of frozen.now number)) }
+    ensures ok { OnOk result
+        (Appends (W.contents writer.old) (W.contents writer.new) (certificate_of frozen.now number)) }
     ensures err { is_there (book_of frozen.now) number ≡ true
-        → OnErr result (AppendsFront (W.contents writer.old) (W.contents writer.new) (certificate_of frozen.now number)) }
+        → OnErr result (AppendsFront (W.contents writer.old) (W.contents writer.new)
+        (certificate_of frozen.now number)) }
     ensures absent { (result ≡ Err CertificateFault.NotRegistered) ↔ (is_there (book_of frozen.now) number ≡ false) }
     ensures untouched { is_there (book_of frozen.now) number ≡ false → writer.new ≡ writer.old }
 {
@@ -164,8 +168,10 @@ fn advise<W: Write>(
     sires: &[AnimalNumber],
     writer: &mut W,
 ) -> Result<(), ReportFault>
-    ensures ok { OnOk result (Appends (W.contents writer.old) (W.contents writer.new) (mating_text (book_of frozen.now) dam sires.now)) }
-    ensures err { IfErr result (EndsReport (W.contents writer.old) (W.contents writer.new) (mating_text (book_of frozen.now) dam sires.now)) }
+    ensures ok { OnOk result
+        (Appends (W.contents writer.old) (W.contents writer.new) (mating_text (book_of frozen.now) dam sires.now)) }
+    ensures err { IfErr result
+        (EndsReport (W.contents writer.old) (W.contents writer.new) (mating_text (book_of frozen.now) dam sires.now)) }
 {
     let coefficients = coefficients_plain(alloc, frozen)?;
     write_mating(alloc, frozen, &coefficients, dam, sires, writer)
@@ -210,9 +216,11 @@ fn write_answers<R: Read + Drop, W: Write>(
 ) -> Result<(), RunFault>
     requires { AreLimits limits }
     ensures ok { OnOk result (IfSome (R.remaining reader)
-        (λ bytes. IsAnswered limits Order.File (commands bytes limits.steps) (W.contents writer.old) (W.contents writer.new))) }
+        (λ bytes. IsAnswered limits Order.File (commands bytes limits.steps) (W.contents writer.old)
+        (W.contents writer.new))) }
     ensures err { IfErr result (λ fault. IfSome (R.remaining reader)
-        (λ bytes. EndsBy limits Order.File (commands bytes limits.steps) (W.contents writer.old) (W.contents writer.new) fault)) }
+        (λ bytes. EndsBy limits Order.File (commands bytes limits.steps) (W.contents writer.old)
+        (W.contents writer.new) fault)) }
     ensures fault { IfErr result (CanEndBy Order.File) }
 {
     let filed = file_commands(alloc, limits, reader)?;

@@ -117,7 +117,8 @@ fn inbreeding_at(
     requires coefficients { AreCoefficients DEPTH_LIMIT frozen.now coefficients.now }
     requires rank { rank < length frozen.now }
     ensures number { result.0 ≡ number_of_row frozen.now rank }
-    ensures value { result.1 ≡ halved false (coefficient (ancestry_of frozen.now) DEPTH_LIMIT result.0) (2 ^ (2 * DEPTH_LIMIT)) }
+    ensures value { result.1
+        ≡ halved false (coefficient (ancestry_of frozen.now) DEPTH_LIMIT result.0) (2 ^ (2 * DEPTH_LIMIT)) }
 {
     // `row` gives what is known of an animal, `numerator` its coefficient in units of 2^-120, and `fraction` the
     // fraction in lowest terms.

@@ -109,7 +109,8 @@ fn work_side_by_side<N: OfficeName + Send + Sync, R: Threads + Wait + Sync>(
     Ok((first?, second?, inspector?))
 }
 
-// Files births one after the other, and gives the desk back, which has counted each call that was answered. `file` waits
+// Files births one after the other, and gives the desk back, which has counted each call that was answered. `file`
+// waits
 // for the lock, files the command, and shows its step to the inspectors. Any thread may call it.
 fn file_births<N: OfficeName, R: Wait>(
     rt: &R,

@@ -10,7 +10,8 @@ use std::io;
 use std::marker::Brand;
 use std::sync::Wait;
 
-/// Opens an office, files births in it, and tells each answer and what an inspector then sees, and whether it was opened.
+/// Opens an office, files births in it, and tells each answer and what an inspector then sees, and whether it was
+/// opened.
 pub fn tell<R: Wait + Print>(rt: &R, alloc: Global) -> io::Result<bool> {
     let limits = Limits {
         animals: 10,

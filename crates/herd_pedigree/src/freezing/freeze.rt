@@ -81,7 +81,8 @@ fn next_row<A: Allocator, S: Registered>(
     requires parents { S.knows_parents records.now }
     requires rows { AreRows (S.book records.now) keys.now rows.now }
     requires more { length rows.now < length keys.now }
-    ensures row { IfSome (slice_get keys.now (length rows.now)) (λ key. IsRowOf (S.book records.now) keys.now key result) }
+    ensures row { IfSome (slice_get keys.now (length rows.now))
+        (λ key. IsRowOf (S.book records.now) keys.now key result) }
     ensures sire { IsIndexIn (numbers_of rows.now) result.sire result.animal.sire }
     ensures dam { IsIndexIn (numbers_of rows.now) result.dam result.animal.dam }
 {

@@ -31,7 +31,8 @@ impl<A: Allocator> Registered for Listed<'_, A> {
 
     ghost book = { λ listed. listed.records.now };
 
-    ghost knows_parents = { λ listed. IsListed DEPTH_LIMIT MOST_ANIMALS listed.records.now (get bytes_eq listed.places.now) };
+    ghost knows_parents = { λ listed. IsListed DEPTH_LIMIT MOST_ANIMALS listed.records.now
+        (get bytes_eq listed.places.now) };
 
     fn count(&self) -> usize {
         self.records.len()

@@ -22,7 +22,8 @@ impl<A: Allocator + Clone> NumberIndex<A> {
     /// The index of the rows. There is a bucket for each row, and one more.
     pub fn of<B: Allocator>(alloc: A, rows: &Rows<B>) -> Result<NumberIndex<A>, AllocError>
         requires { length rows.now ≤ MOST_ANIMALS }
-        ensures { IfOk result (λ index. IsIndexOf (numbers_of rows.now) (length rows.now) index.lasts.items index.earlier.items) }
+        ensures { IfOk result
+            (λ index. IsIndexOf (numbers_of rows.now) (length rows.now) index.lasts.items index.earlier.items) }
     {
         let mut lasts = vec![in alloc.clone()?; 0u32; rows.len() + 1]?;
         let mut earlier = Vec::with_capacity(alloc, rows.len())?;

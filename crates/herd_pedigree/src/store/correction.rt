@@ -71,7 +71,8 @@ impl<A: Allocator> Correction<'_, A> {
         requires sound { IsSound self.now }
         requires within { place < length self.now.sires.now.parents }
         requires long { length depths.now ≡ length self.now.sires.now.parents }
-        ensures { result ≡ min (DEPTH_LIMIT + 1) (depth_from (slice_index depths.now) ((corrected self.now).sire place) ((corrected self.now).dam place)) }
+        ensures { result ≡ min (DEPTH_LIMIT + 1)
+            (depth_from (slice_index depths.now) ((corrected self.now).sire place) ((corrected self.now).dam place)) }
     {
         let depth = depth_with(depths, self.sire_of(place), self.dam_of(place));
         depth.min(u16::from(DEPTH_LIMIT) + 1) as u8
@@ -110,8 +111,12 @@ impl<A: Allocator> Correction<'_, A> {
         requires logged { All (λ write. write.0 < length depths.old) log.old.items }
         ensures logged { All (λ write. write.0 < length depths.old) log.new.items }
         ensures undone { undone_writes log.new.items depths.new ≡ undone_writes log.old.items depths.old }
-        ensures settled { OnOk result ((rest : List ℕ) → IsSettled DEPTH_LIMIT (corrected self.now) (slice_index depths.old) (place ∷ (rest ++ pending.old.items)) → IsSettled DEPTH_LIMIT (corrected self.now) (slice_index depths.new) (rest ++ pending.new.items)) }
-        ensures paths { OnOk result ((n : ℕ) → IsTrue (has_path (corrected self.now) n place) → HavePaths (corrected self.now) (suc n) pending.old.items → HavePaths (corrected self.now) (suc n) pending.new.items) }
+        ensures settled { OnOk result ((rest : List ℕ) → IsSettled DEPTH_LIMIT (corrected self.now)
+            (slice_index depths.old) (place ∷ (rest ++ pending.old.items))
+            → IsSettled DEPTH_LIMIT (corrected self.now) (slice_index depths.new) (rest ++ pending.new.items)) }
+        ensures paths { OnOk result ((n : ℕ) → IsTrue (has_path (corrected self.now) n place)
+            → HavePaths (corrected self.now) (suc n) pending.old.items
+            → HavePaths (corrected self.now) (suc n) pending.new.items) }
     {
         let depth = self.depth_at(depths, place);
         let old = depths[place as usize];
@@ -137,8 +142,12 @@ impl<A: Allocator> Correction<'_, A> {
         requires logged { All (λ write. write.0 < length depths.old) log.old.items }
         ensures logged { All (λ write. write.0 < length depths.old) log.new.items }
         ensures undone { undone_writes log.new.items depths.new ≡ undone_writes log.old.items depths.old }
-        ensures settled { OnOk result (IsSettled DEPTH_LIMIT (corrected self.now) (slice_index depths.old) (places.now ++ pending.old.items) → IsSettled DEPTH_LIMIT (corrected self.now) (slice_index depths.new) pending.new.items) }
-        ensures paths { OnOk result ((n : ℕ) → HavePaths (corrected self.now) n places.now → HavePaths (corrected self.now) (suc n) pending.old.items → HavePaths (corrected self.now) (suc n) pending.new.items) }
+        ensures settled { OnOk result (IsSettled DEPTH_LIMIT (corrected self.now) (slice_index depths.old)
+            (places.now ++ pending.old.items)
+            → IsSettled DEPTH_LIMIT (corrected self.now) (slice_index depths.new) pending.new.items) }
+        ensures paths { OnOk result ((n : ℕ) → HavePaths (corrected self.now) n places.now
+            → HavePaths (corrected self.now) (suc n) pending.old.items
+            → HavePaths (corrected self.now) (suc n) pending.new.items) }
     {
         for place in places {
             self.settle(*place, depths, log, pending)?;
@@ -160,8 +169,10 @@ impl<A: Allocator> Correction<'_, A> {
         requires settled { IsSettled DEPTH_LIMIT (corrected self.now) (slice_index depths.old) (self.now.place ∷ []) }
         ensures logged { All (λ write. write.0 < length depths.old) log.new.items }
         ensures undone { undone_writes log.new.items depths.new ≡ undone_writes log.old.items depths.old }
-        ensures settled { IfOk result (λ done. IsTrue done → IsSettled DEPTH_LIMIT (corrected self.now) (slice_index depths.new) []) }
-        ensures deep { IfOk result (λ done. IsFalse done → (x : ℕ) × IsTrue (has_path (corrected self.now) (DEPTH_LIMIT + 1) x)) }
+        ensures settled { IfOk result
+            (λ done. IsTrue done → IsSettled DEPTH_LIMIT (corrected self.now) (slice_index depths.new) []) }
+        ensures deep { IfOk result
+            (λ done. IsFalse done → (x : ℕ) × IsTrue (has_path (corrected self.now) (DEPTH_LIMIT + 1) x)) }
     {
         let mut pending = Vec::new(alloc);
         pending.push(self.place)?;
@@ -184,11 +195,16 @@ impl<A: Allocator> Correction<'_, A> {
         requires long { length depths.old ≡ length self.now.sires.now.parents }
         requires settled { IsSettled DEPTH_LIMIT (corrected self.now) (slice_index depths.old) (self.now.place ∷ []) }
         requires shallow { (x : ℕ) → x < length depths.old → slice_index depths.old x ≤ DEPTH_LIMIT }
-        ensures logged { IfOk result (λ carried. IfSome carried (λ log. All (λ write. write.0 < length depths.old) log.items)) }
-        ensures undone { IfOk result (λ carried. IfSome carried (λ log. undone_writes log.items depths.new ≡ depths.old)) }
-        ensures settled { IfOk result (λ carried. IfSome carried (λ _. IsSettled DEPTH_LIMIT (corrected self.now) (slice_index depths.new) [])) }
-        ensures shallow { IfOk result (λ carried. IfSome carried (λ _. (x : ℕ) → IsFalse (has_path (corrected self.now) (DEPTH_LIMIT + 1) x))) }
-        ensures deep { IfOk result (λ carried. IfNone carried ((x : ℕ) × IsTrue (has_path (corrected self.now) (DEPTH_LIMIT + 1) x))) }
+        ensures logged { IfOk result
+            (λ carried. IfSome carried (λ log. All (λ write. write.0 < length depths.old) log.items)) }
+        ensures undone { IfOk result
+            (λ carried. IfSome carried (λ log. undone_writes log.items depths.new ≡ depths.old)) }
+        ensures settled { IfOk result
+            (λ carried. IfSome carried (λ _. IsSettled DEPTH_LIMIT (corrected self.now) (slice_index depths.new) [])) }
+        ensures shallow { IfOk result
+            (λ carried. IfSome carried (λ _. (x : ℕ) → IsFalse (has_path (corrected self.now) (DEPTH_LIMIT + 1) x))) }
+        ensures deep { IfOk result
+            (λ carried. IfNone carried ((x : ℕ) × IsTrue (has_path (corrected self.now) (DEPTH_LIMIT + 1) x))) }
         ensures same { IfOk result (λ carried. IfNone carried (depths.new ≡ depths.old)) }
         ensures err { OnErr result (depths.new ≡ depths.old) }
     {
@@ -218,8 +234,10 @@ impl<A: Allocator> Correction<'_, A> {
         requires long { length depths.now ≡ length self.now.sires.now.parents }
         requires settled { IsSettled DEPTH_LIMIT (corrected self.now) (slice_index depths.now) (self.now.place ∷ []) }
         requires shallow { (x : ℕ) → x < length depths.now → slice_index depths.now x ≤ DEPTH_LIMIT }
-        ensures deep { IfOk result (λ deep. IsTrue deep → (x : ℕ) × IsTrue (has_path (corrected self.now) (DEPTH_LIMIT + 1) x)) }
-        ensures shallow { IfOk result (λ deep. IsFalse deep → (x : ℕ) → IsFalse (has_path (corrected self.now) (DEPTH_LIMIT + 1) x)) }
+        ensures deep { IfOk result
+            (λ deep. IsTrue deep → (x : ℕ) × IsTrue (has_path (corrected self.now) (DEPTH_LIMIT + 1) x)) }
+        ensures shallow { IfOk result
+            (λ deep. IsFalse deep → (x : ℕ) → IsFalse (has_path (corrected self.now) (DEPTH_LIMIT + 1) x)) }
     {
         let mut depths = Vec::from_slice(alloc, depths)?;
         let mut log = Vec::new(alloc);
@@ -233,7 +251,8 @@ impl<A: Allocator> Correction<'_, A> {
 // Whether one of the depths that were written is above the limit.
 fn has_greater(depths: &[u8], log: &[(u32, u8)], limit: u8) -> bool
     requires { All (λ write. write.0 < length depths.now) log.now }
-    ensures greater { IsTrue result → (place : ℕ) × (place < length depths.now) × (limit < slice_index depths.now place) }
+    ensures greater { IsTrue result → (place : ℕ) × (place < length depths.now)
+        × (limit < slice_index depths.now place) }
     ensures most { IsFalse result → All (λ write. slice_index depths.now write.0 ≤ limit) log.now }
 {
     for write in log {

@@ -32,7 +32,10 @@ impl<A: Allocator> Model for Progeny<A> {
 
     ghost Value = { Progeny };
 
-    ghost view = { λ p. record { parents = parents_of p.families.items; room = vec_capacity p.families - vec_len p.families } };
+    ghost view = { λ p. record {
+      parents = parents_of p.families.items;
+      room = vec_capacity p.families - vec_len p.families;
+    } };
 
     ghost invariant = { λ p. AreChained p.families.items };
 }
@@ -257,7 +260,8 @@ fn led_by(family: &Family) -> PackedIndex
 // Sets the parent of the animal at a place.
 fn set_parent(families: &mut [Family], place: u32, parent: PackedIndex)
     requires { place < length families.old }
-    ensures { Show families.new (length families.old) (put (Some place) parent (parent_of families.old)) (previous_of families.old) (next_of families.old) (first_of families.old) }
+    ensures { Show families.new (length families.old) (put (Some place) parent (parent_of families.old))
+        (previous_of families.old) (next_of families.old) (first_of families.old) }
 {
     let family = families[place as usize];
     families[place as usize] = Family { parent, ..family };
@@ -266,7 +270,8 @@ fn set_parent(families: &mut [Family], place: u32, parent: PackedIndex)
 // Sets which calf stands before that at a place, where there is one.
 fn set_previous(families: &mut [Family], place: PackedIndex, previous: PackedIndex)
     requires { (p : ℕ) → place ≡ Some p → p < length families.old }
-    ensures { Show families.new (length families.old) (parent_of families.old) (put place previous (previous_of families.old)) (next_of families.old) (first_of families.old) }
+    ensures { Show families.new (length families.old) (parent_of families.old)
+        (put place previous (previous_of families.old)) (next_of families.old) (first_of families.old) }
 {
     if let Some(place) = place.get() {
         let family = families[place as usize];
@@ -277,7 +282,8 @@ fn set_previous(families: &mut [Family], place: PackedIndex, previous: PackedInd
 // Sets which calf stands behind that at a place, where there is one.
 fn set_next(families: &mut [Family], place: PackedIndex, next: PackedIndex)
     requires { (p : ℕ) → place ≡ Some p → p < length families.old }
-    ensures { Show families.new (length families.old) (parent_of families.old) (previous_of families.old) (put place next (next_of families.old)) (first_of families.old) }
+    ensures { Show families.new (length families.old) (parent_of families.old) (previous_of families.old)
+        (put place next (next_of families.old)) (first_of families.old) }
 {
     if let Some(place) = place.get() {
         let family = families[place as usize];
@@ -288,7 +294,8 @@ fn set_next(families: &mut [Family], place: PackedIndex, next: PackedIndex)
 // Sets the first calf of the animal at a place, where there is one.
 fn set_first(families: &mut [Family], place: PackedIndex, first: PackedIndex)
     requires { (p : ℕ) → place ≡ Some p → p < length families.old }
-    ensures { Show families.new (length families.old) (parent_of families.old) (previous_of families.old) (next_of families.old) (put place first (first_of families.old)) }
+    ensures { Show families.new (length families.old) (parent_of families.old) (previous_of families.old)
+        (next_of families.old) (put place first (first_of families.old)) }
 {
     if let Some(place) = place.get() {
         let family = families[place as usize];

@@ -105,7 +105,8 @@ impl<A: Allocator> Records<A> {
         ensures index { result ≡ position (bytes_eq number.now) (keys_of self.now.book) }
         ensures found { is_some result ≡ is_there self.now.book number.now }
         ensures within { IfSome result (λ place. place < length self.now.book) }
-        ensures value { IfSome result (λ place. slice_get (values_of self.now.book) place ≡ record_of self.now.book number.now) }
+        ensures value { IfSome result
+            (λ place. slice_get (values_of self.now.book) place ≡ record_of self.now.book number.now) }
     {
         self.entries.get_index_of(number)
     }

@@ -68,7 +68,8 @@ pub(crate) fn push_ancestors<A: Allocator, F: Allocator>(
 ) -> Result<(), AllocError>
     requires frozen { IsFrozen DEPTH_LIMIT MOST_ANIMALS frozen.now }
     requires rank { rank < length frozen.now }
-    ensures { OnOk result (output.new ≡ output.old ++ ancestors_text (book_of frozen.now) (number_of_row frozen.now rank)) }
+    ensures { OnOk result
+        (output.new ≡ output.old ++ ancestors_text (book_of frozen.now) (number_of_row frozen.now rank)) }
 {
     push_lines(output, frozen, rank, &PATHS)
 }
@@ -100,7 +101,8 @@ fn push_ancestor<A: Allocator, F: Allocator>(
 ) -> Result<(), AllocError>
     requires frozen { IsFrozen DEPTH_LIMIT MOST_ANIMALS frozen.now }
     requires rank { rank < length frozen.now }
-    ensures { OnOk result (output.new ≡ output.old ++ ancestor_line (book_of frozen.now) (number_of_row frozen.now rank) path.now) }
+    ensures { OnOk result
+        (output.new ≡ output.old ++ ancestor_line (book_of frozen.now) (number_of_row frozen.now rank) path.now) }
 {
     push_letters(output, path)?;
     output.push(b" ")?;

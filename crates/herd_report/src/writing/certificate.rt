@@ -30,8 +30,10 @@ pub fn write_certificate<W: Write, A: Allocator, F: Allocator, C: Allocator>(
     writer: &mut W,
 ) -> Result<(), CertificateFault>
     requires { AreCoefficients DEPTH_LIMIT frozen.now coefficients.now }
-    ensures ok { OnOk result (Appends (W.contents writer.old) (W.contents writer.new) (certificate_of frozen.now number)) }
-    ensures err { is_there (book_of frozen.now) number ≡ true → OnErr result (AppendsFront (W.contents writer.old) (W.contents writer.new) (certificate_of frozen.now number)) }
+    ensures ok { OnOk result
+        (Appends (W.contents writer.old) (W.contents writer.new) (certificate_of frozen.now number)) }
+    ensures err { is_there (book_of frozen.now) number ≡ true → OnErr result
+        (AppendsFront (W.contents writer.old) (W.contents writer.new) (certificate_of frozen.now number)) }
     ensures absent { (result ≡ Err CertificateFault.NotRegistered) ↔ (is_there (book_of frozen.now) number ≡ false) }
     ensures untouched { is_there (book_of frozen.now) number ≡ false → writer.new ≡ writer.old }
 {
@@ -51,8 +53,10 @@ pub(crate) fn write_certificate_at<W: Write, A: Allocator, F: Allocator, C: Allo
 ) -> Result<(), ReportFault>
     requires rank { rank < length frozen.now }
     requires coefficients { AreCoefficients DEPTH_LIMIT frozen.now coefficients.now }
-    ensures ok { OnOk result (Appends (W.contents writer.old) (W.contents writer.new) (certificate_of frozen.now (number_of_row frozen.now rank))) }
-    ensures err { OnErr result (AppendsFront (W.contents writer.old) (W.contents writer.new) (certificate_of frozen.now (number_of_row frozen.now rank))) }
+    ensures ok { OnOk result (Appends (W.contents writer.old) (W.contents writer.new)
+        (certificate_of frozen.now (number_of_row frozen.now rank))) }
+    ensures err { OnErr result (AppendsFront (W.contents writer.old) (W.contents writer.new)
+        (certificate_of frozen.now (number_of_row frozen.now rank))) }
 {
     prove!(rank < frozen.len());
     let mut output = Output::new(alloc);
@@ -96,7 +100,8 @@ fn push_left<A: Allocator>(output: &mut Output<A>, left: Option<Day>) -> Result<
 
 fn push_inbreeding<A: Allocator>(output: &mut Output<A>, numerator: u128) -> Result<(), AllocError>
     requires { numerator < 2 ^ (2 * DEPTH_LIMIT) }
-    ensures { OnOk result (output.new ≡ output.old ++ labelled_line (codes "inbreeding") (coefficient_text (codes " ") numerator)) }
+    ensures { OnOk result
+        (output.new ≡ output.old ++ labelled_line (codes "inbreeding") (coefficient_text (codes " ") numerator)) }
 {
     output.push(b"inbreeding ")?;
     push_coefficient(output, numerator, b" ")?;

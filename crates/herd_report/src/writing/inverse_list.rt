@@ -27,7 +27,8 @@ pub fn write_inverse<W: Write, A: Allocator, F: Allocator, C: Allocator>(
 ) -> Result<(), ReportFault>
     requires { AreCoefficients DEPTH_LIMIT frozen.now coefficients.now }
     ensures ok { OnOk result (Appends (W.contents writer.old) (W.contents writer.new) (inverse_text frozen.now)) }
-    ensures err { OnErr result (AppendsFront (W.contents writer.old) (W.contents writer.new) (inverse_text frozen.now)) }
+    ensures err { OnErr result
+        (AppendsFront (W.contents writer.old) (W.contents writer.new) (inverse_text frozen.now)) }
 {
     let mut output = Output::new(&alloc);
     let mut end = Output::new(&alloc);

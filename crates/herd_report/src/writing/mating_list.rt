@@ -29,8 +29,10 @@ pub fn write_mating<W: Write, A: Allocator + Clone, F: Allocator, C: Allocator>(
     writer: &mut W,
 ) -> Result<(), ReportFault>
     requires { AreCoefficients DEPTH_LIMIT frozen.now coefficients.now }
-    ensures ok { OnOk result (Appends (W.contents writer.old) (W.contents writer.new) (mating_text (book_of frozen.now) dam sires.now)) }
-    ensures err { OnErr result (AppendsFront (W.contents writer.old) (W.contents writer.new) (mating_text (book_of frozen.now) dam sires.now)) }
+    ensures ok { OnOk result
+        (Appends (W.contents writer.old) (W.contents writer.new) (mating_text (book_of frozen.now) dam sires.now)) }
+    ensures err { OnErr result (AppendsFront (W.contents writer.old) (W.contents writer.new)
+        (mating_text (book_of frozen.now) dam sires.now)) }
 {
     let Some(_first) = sires.first() else {
         return Ok(());
