@@ -1,14 +1,14 @@
 #!/usr/bin/env python3
 """build.py PROGRAM: proves a program of crates.txt and the crates that it stands on, side by side, and builds it.
 
-The toolchain's gate does it, over a copy of just these crates without their edits: as many at once as there are
-processors and memory for, each once those below it are proved, and first those that most others wait for. It keeps each
-crate that it has proved on this machine, so that a call that was interrupted goes on from there, and `./check` takes it
-over too. Standard error tells each crate as it begins and as it ends, with the minutes so far.
+The toolchain's gate proves each crate, over a copy of just that crate and those below it without their edits, once those
+below it are proved; first those that most others wait for. It keeps each crate that it has proved on this machine, so
+that a call that was interrupted goes on from there, and `./check` takes it over too. Standard error tells each crate as
+it begins and as it ends, with the minutes so far.
 """
+import concurrent.futures
 import os
 import pathlib
-import queue
 import re
 import shutil
 import signal
@@ -19,11 +19,13 @@ import threading
 import time
 
 TOP = pathlib.Path(__file__).resolve().parent
-ENDED = re.compile(r"rt: (\w+) (proved|is kept|NOT PROVED)\b")
+# The gate gives the proof of one crate half of four processors, and some four gigabytes.
+AT_ONCE = max(2, len(os.sched_getaffinity(0)) // 2)
+MEMORY = 4_000_000_000
 
 
-def needed(program):
-    """The lines of crates.txt for a program and the crates that it stands on, by their names."""
+def crates_below(program):
+    """The lines of crates.txt for a program and the crates that it stands on, and for each those that it names."""
     lines = {line.split(":")[0].split()[0]: line for line in (TOP / "crates.txt").read_text().splitlines() if ":" in line}
     found, left = set(), [program]
     while left:
@@ -31,98 +33,113 @@ def needed(program):
         if name in lines and name not in found:
             found.add(name)
             left += lines[name].split(":")[1].split()
-    return {name: line for name, line in lines.items() if name in found}
+    lines = {name: line for name, line in lines.items() if name in found}
+    return lines, {name: {it for it in line.split(":")[1].split() if it in lines} for name, line in lines.items()}
+
+
+def all_below(names, name):
+    """A crate and all that it stands on."""
+    return {name}.union(*(all_below(names, it) for it in names[name]))
+
+
+def chain(names, lengths, name):
+    """How long the longest chain is of a crate and those that wait for it."""
+    return lengths[name] + max((chain(names, lengths, it) for it in names if name in names[it]), default=0)
 
 
 def copy(lines, to):
     """Makes a repository of these crates alone, as the gate wants one."""
     (to / ".git").mkdir()
-    (to / "crates.txt").write_text("".join(f"{line}\n" for line in lines.values()))
+    (to / "crates.txt").write_text("".join(f"{line}\n" for line in lines))
     shutil.copy(TOP / "HANDLES", to)
-    for name in lines:
-        crate = TOP / "crates" / name
+    for line in lines:
+        crate = TOP / "crates" / line.split(":")[0].split()[0]
         left_out = lambda at, names: {"out", "must-fail"} & {*names} if at == str(crate) else []
-        shutil.copytree(crate, to / "crates" / name, ignore=left_out)
+        shutil.copytree(crate, to / "crates" / crate.name, ignore=left_out)
 
 
-class Told:
-    """What the gate has told so far, and what of it was passed on."""
+def free_memory():
+    found = re.search(r"MemAvailable:\s+(\d+) kB", pathlib.Path("/proc/meminfo").read_text())
+    return int(found[1]) * 1024 if found else MEMORY
 
-    def __init__(self, names):
-        self.begun, self.waiting, self.unproved, self.lines, self.start = set(), list(names), [], [], time.time()
+
+class Build:
+    """What is proved so far, and the gate's runs that are under way."""
+
+    def __init__(self, program):
+        self.lines, self.names = crates_below(program)
+        lengths = {it: sum(file.stat().st_size for file in (TOP / "crates" / it).rglob("*.rt")) for it in self.names}
+        self.left = sorted(self.names, key=lambda it: -chain(self.names, lengths, it))
+        self.program, self.proved, self.runs, self.start = program, set(), {}, time.time()
+        self.telling, self.ended = threading.Lock(), False
 
     def say(self, text):
-        print(f"herdbook: {(time.time() - self.start) / 60:5.1f} min: {text}", file=sys.stderr, flush=True)
+        with self.telling:
+            print(f"herdbook: {(time.time() - self.start) / 60:5.1f} min: {text}", file=sys.stderr, flush=True)
 
-    def line(self, line):
-        self.lines.append(line)
-        ended = ENDED.match(line)
-        if ended:
-            name, how = ended.groups()
-            self.begun.add(name)
-            self.say({"proved": f"{name} is proved", "is kept": f"{name} was proved before"}.get(how, f"{name} is not proved"))
-            self.unproved += [name] if how == "NOT PROVED" else []
+    def prove(self, name):
+        """Runs the gate over a crate and those below it, and returns whether it passed."""
+        with tempfile.TemporaryDirectory(prefix="herdbook-") as room:
+            room = pathlib.Path(room)
+            copy([self.lines[it] for it in self.lines if it in all_below(self.names, name)], room)
+            with subprocess.Popen(["rt", "ci"], cwd=room, stdin=subprocess.DEVNULL, stdout=subprocess.PIPE, stderr=subprocess.STDOUT, text=True, errors="replace") as gate:
+                self.runs[name] = gate
+                told = list(gate.stdout)
+            del self.runs[name]
+            if gate.returncode and not self.ended:
+                sys.stderr.writelines(told[-20:])
+            elif name == self.program and not self.ended:
+                self.put(room / "crates" / name / "out" / name)
+            kept = any(re.match(rf"rt: {name} is kept\b", it) for it in told)
+        if not self.ended:
+            done = "was proved before" if kept else "is proved"
+            self.say(f"{name} is not proved: rt check in crates/{name} says why" if gate.returncode else f"{name} {done}")
+        return gate.returncode == 0
 
-    def folders(self, crates):
-        """The gate makes a crate's folder out/ as it begins with it."""
-        for name in self.waiting:
-            if name not in self.begun and (crates / name / "out").is_dir():
-                self.begun.add(name)
-                self.say(f"proving {name}")
-
-
-def prove(names, room):
-    """Runs the gate in the copy, and returns what it told, and its status."""
-    told, lines = Told(names), queue.Queue()
-    with subprocess.Popen(["rt", "ci"], cwd=room, stdin=subprocess.DEVNULL, stdout=subprocess.PIPE, stderr=subprocess.STDOUT, text=True, errors="replace") as gate:
-
-        def read():
-            for line in gate.stdout:
-                lines.put(line)
-            lines.put(None)
-
-        threading.Thread(target=read, daemon=True).start()
-        try:
-            line = ""
-            while line is not None:
-                try:
-                    line = lines.get(timeout=0.5)
-                    told.line(line or "")
-                except queue.Empty:
-                    pass
-                told.folders(room / "crates")
-        except BaseException:
-            gate.terminate()
-            raise
-    return told, gate.returncode
-
-
-def build(program):
-    with tempfile.TemporaryDirectory(prefix="herdbook-") as room:
-        room, start = pathlib.Path(room), time.time()
-        lines = needed(program)
-        copy(lines, room)
-        told, status = prove(lines, room)
-        if status:
-            if told.unproved:
-                told.say(f"rt check in crates/{told.unproved[0]} says why")
-            else:
-                sys.stderr.writelines(told.lines[-20:])
-                told.say(f"the gate ended with status {status}")
-            return 1
-        out = TOP / "crates" / program / "out"
+    def put(self, made):
+        """Puts the program where the repository has it. A source that was changed meanwhile is newer."""
+        out = TOP / "crates" / self.program / "out"
         out.mkdir(exist_ok=True)
-        shutil.copy(room / "crates" / program / "out" / program, out / f"{program}.new")
-        # a source that was changed meanwhile is newer
-        os.utime(out / f"{program}.new", (start, start))
-        os.replace(out / f"{program}.new", out / program)
-        told.say(f"{program} is built")
-    return 0
+        shutil.copy(made, out / f"{self.program}.new")
+        os.utime(out / f"{self.program}.new", (self.start, self.start))
+        os.replace(out / f"{self.program}.new", out / self.program)
+
+    def next(self, running):
+        """The next crate to begin with, where there is one, and room for it."""
+        if running and (len(running) >= AT_ONCE or free_memory() < MEMORY):
+            return None
+        return next((it for it in self.left if self.names[it] <= self.proved), None)
+
+    def run(self):
+        """Proves all, and returns whether each passed."""
+        with concurrent.futures.ThreadPoolExecutor(AT_ONCE) as pool:
+            running, is_well = {}, True
+            try:
+                while self.left or running:
+                    while is_well and (name := self.next(running)):
+                        self.left.remove(name)
+                        self.say(f"proving {name}")
+                        running[pool.submit(self.prove, name)] = name
+                    if not running:
+                        break
+                    for it in concurrent.futures.wait(running, return_when=concurrent.futures.FIRST_COMPLETED).done:
+                        name = running.pop(it)
+                        is_well = it.result() and is_well
+                        self.proved.add(name)
+            except BaseException:
+                self.ended = True
+                for gate in [*self.runs.values()]:
+                    gate.terminate()
+                raise
+        return is_well
 
 
 if __name__ == "__main__":
     signal.signal(signal.SIGTERM, lambda *_: sys.exit(1))
     try:
-        sys.exit(build(sys.argv[1]))
+        build = Build(sys.argv[1])
+        if not build.run():
+            sys.exit(1)
+        build.say(f"{build.program} is built")
     except KeyboardInterrupt:
         sys.exit(1)

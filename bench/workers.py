@@ -1,0 +1,93 @@
+#!/usr/bin/env python3
+"""Times the list of coefficients by one worker and by more, whole runs by the clock.
+
+    workers.sh PROGRAM [--size 60000] [--shapes narrow,dairy,broad,deep,fullsib,pairs,founders]
+               [--workers 2,4] [--block 256] [--runs 15] [--work FOLDER]
+
+For each shape the program's `file` and its `inbreeding` by each number of workers run in turn, and the native
+workers that go by sires beside them; the least of the runs counts, so that only an idle machine tells anything.
+
+A line for each number of workers: the clock's milliseconds by one worker and by so many, the second by the first, the
+same of processor time, and the speed-up of the coefficients alone: of the program, whole runs less that of `file`; of
+the native program, its own clock around them. The status is 1 where two lists differ.
+"""
+
+import argparse
+import os
+import re
+import sys
+import tempfile
+
+from bench import baseline, digest, ran
+from command_file import command_file
+
+SHAPES = "narrow,dairy,broad,deep,fullsib,pairs,founders"
+
+
+def book(work, shape, size):
+    """The births of a book of that shape; founders are the narrow book's animals without their parents."""
+    if shape == "founders":
+        return command_file(work, f"founders-{size}.csv", "narrow", size, "--unknown", "1")
+    return command_file(work, f"{shape}-{size}-60.csv", shape, size, "--depth", "60")
+
+
+def jobs_of(program, native, workers, block):
+    """The words of each run, by its name."""
+    jobs = {"file": [program, "file"], "one": [program, "inbreeding"]}
+    for n in workers:
+        jobs[f"x{n}"] = [program, "inbreeding", "--workers", str(n), "--block", str(block)]
+    for n in [1, *workers]:
+        jobs[f"native x{n}"] = [native, "sires", "--workers", str(n), "--block", str(block), "--depth", "60"]
+    return jobs
+
+
+def measured(jobs, file, runs, out):
+    """The least seconds of the clock and of the processor of each job, those of its coefficients, and its list."""
+    wall, processor, alone, lists = {}, {}, {}, {}
+    for _ in range(runs):
+        for name, words in jobs.items():
+            used, took, status, told = ran(words, file, out)
+            if status:
+                sys.exit(f"{name} ended with status {status}: {told.strip()}")
+            wall[name] = min(wall.get(name, 9e9), took)
+            processor[name] = min(processor.get(name, 9e9), used)
+            if it := re.search(r"trace-ms=([\d.]+)", told):
+                alone[name] = min(alone.get(name, 9e9), float(it[1]))
+            lists[name] = digest(out)
+    return wall, processor, alone, lists
+
+
+def main():
+    takes = argparse.ArgumentParser(description=__doc__, formatter_class=argparse.RawDescriptionHelpFormatter)
+    takes.add_argument("program")
+    takes.add_argument("--size", type=int, default=60000)
+    takes.add_argument("--shapes", default=SHAPES)
+    takes.add_argument("--workers", default="2,4")
+    takes.add_argument("--block", type=int, default=256)
+    takes.add_argument("--runs", type=int, default=15)
+    takes.add_argument("--work", default=os.environ.get("BENCH_WORK", os.path.join(tempfile.gettempdir(), "herdbook-bench")))
+    said = takes.parse_args()
+    os.makedirs(said.work, exist_ok=True)
+    native, workers = baseline(said.work), [int(it) for it in said.workers.split(",")]
+    jobs = jobs_of(os.path.abspath(said.program), native, workers, said.block)
+    print(f"{said.size} animals, blocks of {said.block}, least of {said.runs}, load {os.getloadavg()[0]:.1f} on {os.cpu_count()} cores")
+    all_same = True
+    for shape in said.shapes.split(","):
+        file = book(said.work, shape, said.size)
+        wall, processor, alone, lists = measured(jobs, file, said.runs, os.path.join(said.work, "list.out"))
+        same = len({lists[name] for name in jobs if name != "file"}) == 1
+        all_same = all_same and same
+        for n in workers:
+            ours = (wall["one"] - wall["file"]) / max(wall[f"x{n}"] - wall["file"], 1e-6)
+            theirs = alone["native x1"] / alone[f"native x{n}"]
+            print(
+                f"{shape:9} x{n}: file {wall['file'] * 1e3:5.0f} one {wall['one'] * 1e3:6.0f} x{n} {wall[f'x{n}'] * 1e3:6.0f}"
+                f"  clock {wall[f'x{n}'] / wall['one']:.2f}  processor {processor[f'x{n}'] / processor['one']:.2f}"
+                f"  speed-up {ours:.2f} native {theirs:.2f}  {'same bytes' if same else 'OTHER BYTES'}",
+                flush=True,
+            )
+    return 0 if all_same else 1
+
+
+if __name__ == "__main__":
+    sys.exit(main())
