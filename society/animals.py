@@ -3,14 +3,24 @@ from __future__ import annotations
 
 import collections
 import datetime
+import re
 from dataclasses import dataclass, field
 
-from society.columns import KNOWN_NO, KNOWN_SEXES, KNOWN_YES, plain
+from society.columns import KNOWN_NO, KNOWN_SEXES, KNOWN_YES, sex_word
 from society.dates import ANY_DAY, MonthFirst, Span, Unreadable, read_span
 from society.report import INFERRED, LEFT_OUT, Mistake, Report
 from society.sheet import Sheet, squeezed
 
 ROLES = {"sire": "M", "dam": "F"}
+# how a spreadsheet shows a long number that it has cut
+CUT = re.compile(r"\d[.,]?\d*E\+\d+", re.IGNORECASE)
+# what to do where most cells of a column can't be read
+ADVICE = {
+    "sex": "write M or F, or say which sex each word is, as --sexes {word}=f",
+    "birth": "write days as 2001-03-01 or 01.03.2001, or a year alone; or name another column, as --columns birth=TITLE",
+    "exit": "write days as 2001-03-01 or 01.03.2001; or name another column, as --columns exit=TITLE, or none, as --columns exit=",
+    "embryo": "write 1 or nothing; or name another column, as --columns embryo=TITLE, or none, as --columns embryo=",
+}
 
 
 @dataclass(slots=True)
@@ -54,9 +64,14 @@ class Animal:
 class Rows:
     """Reads the rows of a sheet."""
 
-    def __init__(self, sheet: Sheet, columns: dict[str, int], unknown: set[str], report: Report) -> None:
+    def __init__(
+        self, sheet: Sheet, columns: dict[str, int], unknown: set[str], sexes: dict[str, str], report: Report
+    ) -> None:
         self.sheet, self.columns, self.unknown, self.report = sheet, columns, unknown, report
-        self.unread: collections.defaultdict[str, list[int]] = collections.defaultdict(list)
+        self.sexes = KNOWN_SEXES | sexes
+        self.given_sexes = sexes
+        # the texts that can't be read, with the line of each, and how many cells have a text
+        self.unread: collections.defaultdict[str, list[tuple[str, int]]] = collections.defaultdict(list)
         self.read: collections.Counter[str] = collections.Counter()
 
     def animals(self) -> dict[str, Animal]:
@@ -71,7 +86,7 @@ class Rows:
             if len(cells) > usual or any(squeezed(cell) for cell in cells[titles:]):
                 why = f"the row has {len(cells)} cells, and there are {titles} titles: is there a separator too many?"
             elif id.casefold() in self.unknown:
-                why = f"'{id}' is a word for an unknown animal" if id else "the row has no id"
+                why = f"'{id}' is a word for an unknown animal: give it another id" if id else "the row has no id"
             elif id in found:
                 why = f"line {found[id].line} has this id too: the row is left out"
             else:
@@ -88,6 +103,12 @@ class Rows:
     def animal(self, line: int, id: str, cells: list[str]) -> Animal:
         animal = Animal(id, line, name=self.cell(cells, "name"), owner=self.cell(cells, "owner"))
         animal.sire, animal.dam = (self.parent(cells, role) for role in ROLES)
+        for text in id, animal.sire, animal.dam:
+            if CUT.fullmatch(text):
+                raise Mistake(
+                    f"line {line}: '{text}' is a long number that the spreadsheet has cut: give the columns of ids "
+                    "the format text, or number without decimals, save the sheet again, and take that"
+                )
         animal.sex = self.sex(animal, self.cell(cells, "sex"))
         animal.birth = self.span(animal, "birth", self.cell(cells, "birth")) or ANY_DAY
         left = self.span(animal, "exit", self.cell(cells, "exit"))
@@ -103,18 +124,19 @@ class Rows:
         parent = self.cell(cells, role)
         return "" if parent.casefold() in self.unknown else parent
 
-    def leave_out(self, animal: Animal, field: str, why: str) -> None:
+    def leave_out(self, animal: Animal, field: str, text: str, why: str) -> None:
         animal.unread.append(field)
-        self.unread[field].append(animal.line)
+        self.unread[field].append((text, animal.line))
         self.report.tell(LEFT_OUT, animal.line, animal.id, why)
 
     def sex(self, animal: Animal, text: str) -> str:
-        if text.casefold() in self.unknown:
+        word = sex_word(text)
+        if text.casefold() in self.unknown and word not in self.given_sexes:
             return ""
         self.read["sex"] += 1
-        sex = KNOWN_SEXES.get(plain(text), "")
+        sex = self.sexes.get(word, "")
         if not sex:
-            self.leave_out(animal, "sex", f"the sex '{text}' isn't known: write M or F")
+            self.leave_out(animal, "sex", text, f"the sex '{text}' isn't known: write M or F, or name it as --sexes {text}=f")
         return sex
 
     def span(self, animal: Animal, field: str, text: str) -> Span | None:
@@ -130,17 +152,21 @@ class Rows:
                 "write all days as 2001-03-01 or 01.03.2001"
             ) from None
         except Unreadable as why:
-            self.leave_out(animal, field, f"{name}: {why}")
+            self.leave_out(animal, field, text, f"{name}: {why}")
             return None
 
     def is_embryo(self, animal: Animal, text: str) -> bool:
+        self.read["embryo"] += bool(text)
         if text and text.casefold() not in KNOWN_YES | KNOWN_NO | self.unknown:
-            self.leave_out(animal, "embryo", f"the cell '{text}' for a calf from a stored embryo isn't known: write 1 or nothing")
+            self.leave_out(animal, "embryo", text, f"the cell '{text}' for a calf from a stored embryo isn't known: write 1 or nothing")
         return text.casefold() in KNOWN_YES
 
     def mostly_unread(self) -> None:
-        """A column most of whose cells can't be read is a mistake: hardly anything of it would be taken."""
-        for field, lines in self.unread.items():
-            if len(lines) > max(2, self.read[field] // 2):
-                first = next(entry for entry in self.report.entries if entry.line == lines[0] and entry.what == LEFT_OUT)
-                raise Mistake(f"{len(lines)} cells for {field} can't be read, the first in {first.sentence()}")
+        """A column more than half of whose cells can't be read is a mistake: hardly anything of it would be taken."""
+        for field, cells in self.unread.items():
+            if len(cells) > max(2, self.read[field] // 2):
+                counts = collections.Counter(text for text, _ in cells).most_common()
+                shown = ", ".join(f"'{text}' ({count} times)" if count > 1 else f"'{text}'" for text, count in counts[:9])
+                more = f" and {len(counts) - 9} more" if len(counts) > 9 else ""
+                what = f"{len(cells)} of {self.read[field]} cells for {field} can't be read, the first in line {cells[0][1]}"
+                raise Mistake(f"{what}: {shown}{more}: {ADVICE[field].format(word=counts[0][0])}")

@@ -140,7 +140,7 @@ class Days:
         elif parents:
             day, why = max(parents) + GENERATION, "from its parents"
         else:
-            day, why = FIRST_DAY.toordinal(), "the first that there is, since nothing tells more"
+            day, why = FIRST_DAY.toordinal(), "the earliest that a book can have, since no parent or calf has one"
         if kept and animal.birth.first <= kept <= animal.birth.last:
             day = kept.toordinal()
         day = min(max(day, low), self.high[animal.id])

@@ -1,24 +1,12 @@
 """An animal's certificate as a page for the printer, with the pedigree drawn."""
 from __future__ import annotations
 
+from dataclasses import dataclass
+
 from society.book import Book, Known
+from society.languages import marked, texts_of
 from society.listing import Coefficient
-from society.pages import (
-    DAM,
-    FONT,
-    GREY,
-    INBRED,
-    INBRED_INK,
-    INFERRED_NOTE,
-    INK,
-    INVENTED_NOTE,
-    LINE,
-    NOTE,
-    PAPER,
-    SIRE,
-    escape,
-    percent_of,
-)
+from society.pages import DAM, FONT, GREY, INBRED, INBRED_INK, INK, LINE, PAPER, SIRE, escape, percent_of
 from society.program import Herdbook
 
 # the fourteen ancestors, line by line of the drawn pedigree: each stands in the line where it begins
@@ -32,7 +20,7 @@ LINES = [
     ["DD", "DDS"],
     ["DDD"],
 ]
-RELATIONS = {"S": "Sire", "D": "Dam", "SS": "Sire's sire", "SD": "Sire's dam", "DS": "Dam's sire", "DD": "Dam's dam"}
+RELATIONS = ("S", "D", "SS", "SD", "DS", "DD")
 
 STYLE = f"""
 @page {{ size: A4 portrait; margin: 14mm; }}
@@ -49,7 +37,7 @@ h1 {{ font-size: 23pt; line-height: 1.1; margin: 0; overflow-wrap: anywhere; }}
 .coefficient {{ text-align: right; white-space: nowrap; }}
 .coefficient b {{ display: block; font-size: 19pt; line-height: 1.1; }}
 h2 {{ font-size: 12pt; margin: 8mm 0 3mm; }}
-dl {{ display: grid; grid-template-columns: 18mm 1.35fr 26mm 1fr; gap: 1.6mm 3mm; margin: 5mm 0 0; }}
+dl {{ display: grid; grid-template-columns: max-content 1.35fr max-content 1fr; gap: 1.6mm 3mm; margin: 5mm 0 0; }}
 dt {{ color: {GREY}; }}
 dd {{ margin: 0; overflow-wrap: anywhere; }}
 table {{ width: 100%; border-collapse: separate; border-spacing: 0; table-layout: fixed; }}
@@ -84,21 +72,34 @@ def read_certificate(text: str) -> dict[str, str]:
     return {word: rest for word, _, rest in (line.partition(" ") for line in text.splitlines())}
 
 
-def certificate_page(book: Book, program: Herdbook, known: Known, coefficients: dict[str, Coefficient], title: str) -> str:
+@dataclass
+class Shown:
+    """What a certificate is made from: the book, the coefficients, and the texts of its language."""
+
+    book: Book
+    names: dict[str, Known]
+    coefficients: dict[str, Coefficient]
+    texts: dict[str, str]
+
+    def born(self, known: Known) -> str:
+        return marked(str(self.book.records[known.number].born), known.birth_mark(), self.texts)
+
+
+def certificate_page(
+    book: Book, program: Herdbook, known: Known, coefficients: dict[str, Coefficient], language: str, title: str
+) -> str:
     told = read_certificate(program.run(["certificate", known.number], book.path.read_bytes()))
-    names = book.by_number()
+    shown = Shown(book, book.by_number(), coefficients, texts_of(language))
+    texts, title = shown.texts, title or shown.texts["title"]
     fraction, percent = told["inbreeding"].split(" ")
     own = Coefficient(fraction, percent)
     rows = []
     for line in LINES:
-        cells = [ancestor_cell(letters, told[letters], book, names, coefficients) for letters in line]
+        cells = [ancestor_cell(letters, told[letters], shown) for letters in line]
         rows.append(f"<tr>{''.join(cells)}</tr>\n")
-    shown = [names[told[letters]] for line in LINES for letters in line if told[letters] != "0"]
-    marks = {known.exit_mark(), known.sex_mark(), *(one.birth_mark() for one in [known, *shown])}
-    notes = [NOTE] + [note for note in (INFERRED_NOTE, INVENTED_NOTE) if " " + note.split(":")[0] in marks]
     called = f'<p class="called">{escape(known.name)}</p>' if known.name else ""
     return f"""<!DOCTYPE html>
-<html lang="en" xmlns="http://www.w3.org/1999/xhtml">
+<html lang="{language}" xmlns="http://www.w3.org/1999/xhtml">
 <head>
 <meta charset="utf-8"/>
 <meta name="viewport" content="width=device-width, initial-scale=1"/>
@@ -109,17 +110,17 @@ def certificate_page(book: Book, program: Herdbook, known: Known, coefficients: 
 <main>
 <header>
 <div><p class="kind">{escape(title)}</p><h1>{escape(known.id)}</h1>{called}</div>
-<div class="coefficient">Coefficient of inbreeding<b>{escape(own.fraction)}</b>
+<div class="coefficient">{escape(texts["coefficient"])}<b>{escape(own.fraction)}</b>
 {escape(own.decimal())} &#183; {escape(own.percent)} %</div>
 </header>
 <dl>
-{facts_of(book, known, told)}</dl>
-<h2>Pedigree</h2>
+{facts_of(known, told, shown)}</dl>
+<h2>{escape(texts["pedigree"])}</h2>
 <table>
 {''.join(rows)}</table>
 <footer>
-<div class="sign"><div>Place and date</div><div>For the society</div></div>
-{''.join(f'<p>{escape(note)}</p>' for note in notes)}
+<div class="sign"><div>{escape(texts["place"])}</div><div>{escape(texts["society"])}</div></div>
+{''.join(f'<p>{escape(note)}</p>' for note in notes_of(known, told, shown))}
 </footer>
 </main>
 </body>
@@ -127,34 +128,39 @@ def certificate_page(book: Book, program: Herdbook, known: Known, coefficients: 
 """
 
 
-def facts_of(book: Book, known: Known, told: dict[str, str]) -> str:
+def notes_of(known: Known, told: dict[str, str], shown: Shown) -> list[str]:
+    """What stands at the end: each mark that the page has is explained."""
+    ancestors = [shown.names[told[letters]] for line in LINES for letters in line if told[letters] != "0"]
+    marks = {known.exit_mark(), known.sex_mark(), *(one.birth_mark() for one in [known, *ancestors])}
+    kinds = [kind for kind in ("inferred", "invented") if f" ({kind})" in marks]
+    return [shown.texts["note"], *(shown.texts[f"{kind} note"] for kind in kinds)]
+
+
+def facts_of(known: Known, told: dict[str, str], shown: Shown) -> str:
     """The animal's record. The owner has no name where the sheet gave none."""
-    left = "" if told["left"] == "-" else told["left"] + known.exit_mark()
-    since = told["since"] + (known.birth_mark() if told["since"] == told["born"] else "")
+    texts = shown.texts
+    left = "" if told["left"] == "-" else marked(told["left"], known.exit_mark(), texts)
     pairs = [
-        ("Number", told["animal"]),
-        ("Sex", told["sex"] + known.sex_mark()),
-        ("Born", told["born"] + known.birth_mark()),
-        ("Left", left or "has not left"),
-        ("Owner", book.owner_of(int(told["herd"])) or "not known"),
-        ("Owner since", since),
+        ("number", told["animal"]),
+        ("sex", marked(texts[told["sex"]], known.sex_mark(), texts)),
+        ("born", marked(told["born"], known.birth_mark(), texts)),
+        ("left", left or texts["not left"]),
+        ("owner", shown.book.owner_of(int(told["herd"])) or texts["no owner"]),
+        ("since", marked(told["since"], known.birth_mark() if told["since"] == told["born"] else "", texts)),
     ]
-    return "".join(f"<dt>{escape(what)}</dt><dd>{escape(value)}</dd>\n" for what, value in pairs)
+    return "".join(f"<dt>{escape(texts[what])}</dt><dd>{escape(value)}</dd>\n" for what, value in pairs)
 
 
-def ancestor_cell(
-    letters: str, number: str, book: Book, names: dict[str, Known], coefficients: dict[str, Coefficient]
-) -> str:
-    kind = f"{['one', 'two', 'three'][len(letters) - 1]} {'sire' if letters[-1] == 'S' else 'dam'}"
+def ancestor_cell(letters: str, number: str, shown: Shown) -> str:
+    role = "sire" if letters[-1] == "S" else "dam"
+    kind = f"{['one', 'two', 'three'][len(letters) - 1]} {role}"
     span = {1: 4, 2: 2, 3: 1}[len(letters)]
-    relation = f"<small>{escape(RELATIONS[letters])}</small>" if letters in RELATIONS else ""
+    relation = f"<small>{escape(shown.texts[letters])}</small>" if letters in RELATIONS else ""
     if number == "0":
-        box = f'<div class="box unknown">{relation} unknown</div>'
+        box = f'<div class="box unknown">{relation} {escape(shown.texts[f"unknown {role}"])}</div>'
     else:
-        known = names[number]
+        known, coefficient = shown.names[number], shown.coefficients[number]
         name = f'<span class="name">{escape(known.name)}</span>' if known.name else ""
-        inbred = coefficients[number].is_inbred
-        mark = f' <span class="inbred">{escape(percent_of(coefficients[number]))}</span>' if inbred else ""
-        day = f"{book.records[number].born}{known.birth_mark()}"
-        box = f'<div class="box">{relation}<b>{escape(known.id)}</b>{name}{escape(day)}{mark}</div>'
+        mark = f' <span class="inbred">{escape(percent_of(coefficient))}</span>' if coefficient.is_inbred else ""
+        box = f'<div class="box">{relation}<b>{escape(known.id)}</b>{name}{escape(shown.born(known))}{mark}</div>'
     return f'<td class="{kind}" rowspan="{span}">{box}</td>'

@@ -5,12 +5,13 @@ import unicodedata
 
 from society.report import Mistake
 
-# The usual titles, the likelier first. They are compared in small letters, without accents, blanks and signs.
+# The usual titles, the likelier first. They are compared in small letters, without accents, blanks and signs. A parent's
+# column may also have a word for the parent beside one for the id, as `Vater Ohrmarke`.
 TITLES = {
     "id": "id, animal id, ear tag, eartag, ear tag number, ear tag no, tag, tag number, tag no, animal number, animal no, "
     "registration, registration number, registration no, reg no, herd book number, herd book no, identification, ident, "
     "Ohrmarke, Ohrmarkennummer, Ohrmarken-Nr, Ohrm, Lebensnummer, Lebensohrmarke, Herdbuchnummer, Herdbuch-Nr, Tiernummer, Tier-Nr, "
-    "Tier-ID, Kennzeichen, numéro national, n° national, numéro d'identification, identifiant, boucle, matricule, "
+    "Tier-ID, LOM, HB-Nr, Kennzeichen, numéro national, n° national, numéro d'identification, identifiant, boucle, matricule, "
     "animal, Tier, number, no, nr, Nummer, numéro, n°",
     "name": "name, animal name, Tiername, Rufname, nom, nom de l'animal",
     "sex": "sex, gender, Geschlecht, Geschl, sexe",
@@ -18,10 +19,8 @@ TITLES = {
     "geboren am, Geburt, geb, geb. am, geb-Datum, Geb.-Dat, Geburtsdat, naissance, date de naissance, date naissance, "
     "né le, née le, né, née, né(e) le, "
     "birth year, year of birth, year, Geburtsjahr, Jahrgang, année de naissance, année",
-    "sire": "sire id, father id, sire tag, sire ear tag, sire number, sire no, sire, father, Vater Ohrmarke, Ohrmarke Vater, Vater-ID, "
-    "Vater-Nr, Vaternummer, Vater, Vatertier, numéro du père, numéro père, n° père, père",
-    "dam": "dam id, mother id, dam tag, dam ear tag, dam number, dam no, dam, mother, Mutter Ohrmarke, Ohrmarke Mutter, Mutter-ID, "
-    "Mutter-Nr, Mutternummer, Mutter, Muttertier, numéro de la mère, numéro mère, n° mère, mère",
+    "sire": "sire, of sire, father, Vater, des Vaters, Vatertier, père, du père",
+    "dam": "dam, of dam, mother, Mutter, der Mutter, Muttertier, mère, de la mère",
     "owner": "owner, herd, farm, holding, Besitzer, Eigentümer, Halter, Betrieb, propriétaire, détenteur, élevage, "
     "exploitation",
     "exit": "exit, left, exit date, date of exit, departure, died, death, date of death, Abgang, Abgangsdatum, abgegangen, "
@@ -33,12 +32,17 @@ TITLES = {
 # Columns that a sheet has to have; `--columns sire=` says that there is none.
 NEEDED = ("id", "birth", "sire", "dam")
 
-UNKNOWN = "0, -, --, ?, ., n/a, na, nan, none, null, unknown, unbekannt, unbek, unbek., k.A., keine Angabe, inconnu, inconnue"
+UNKNOWN = "0, -, --, ?, ., n/a, #n/a, #nv, na, nan, none, null, unknown, unbekannt, unbek, unbek., k.A., keine Angabe, inconnu, inconnue"
+# `M` is male in all three languages, and `W` is weiblich; single letters that mean two things aren't here.
 SEXES = {
-    "M": "m, male, bull, ram, buck, stallion, ox, steer, wether, gelding, ♂, männlich, männl, Bulle, Stier, Bock, Widder, "
-    "Hengst, Ochse, Hammel, Wallach, mâle, taureau, bélier, bouc, étalon, boeuf",
-    "F": "f, female, cow, heifer, ewe, doe, mare, ♀, w, weiblich, weibl, Kuh, Färse, Mutterschaf, Zibbe, Ziege, Stute, "
-    "femelle, vache, génisse, brebis, chèvre, jument",
+    "M": "m, male, bull, ram, tup, buck, billy, stallion, colt, ox, steer, bullock, wether, gelding, boar, ♂, männlich, männl, männliche, "
+    "Bulle, Jungbulle, Zuchtbulle, Deckbulle, Stier, Jungstier, Zuchtstier, Muni, Bock, Schafbock, Ziegenbock, Zuchtbock, Jungbock, Altbock, "
+    "Bocklamm, Widder, Hengst, Ochse, Hammel, Wallach, Eber, Bullenkalb, Stierkalb, Hengstfohlen, "
+    "mâle, taureau, taurillon, bélier, bouc, étalon, hongre, boeuf, bœuf, agneau mâle, verrat, masculin, masc",
+    "F": "f, female, fem, cow, heifer, ewe, gimmer, doe, nanny, mare, filly, sow, gilt, ♀, w, weiblich, weibl, weibliche, "
+    "Kuh, Jungkuh, Mutterkuh, Färse, Kalbin, Kalbe, Sterke, Starke, Kuhkalb, Aue, Au, Jungaue, Altaue, Aulamm, Auenlamm, Mutter, "
+    "Muttertier, Mutterschaf, Zibbe, Zibbenlamm, Ziege, Geiß, Geiss, Mutterziege, Jungziege, Stute, Jungstute, Zuchtstute, Stutfohlen, "
+    "Sau, femelle, vache, génisse, brebis, antenaise, agnelle, agneau femelle, chèvre, chevrette, jument, pouliche, truie, féminin, fém",
 }
 YES = "1, x, yes, y, true, et, embryo, ja, j, wahr, oui, o, vrai"
 NO = "0, -, no, n, false, nein, falsch, non, faux"
@@ -54,7 +58,16 @@ def listed(text: str) -> list[str]:
     return [one.strip() for one in text.split(",")]
 
 
-KNOWN_TITLES = {field: [plain(title) for title in listed(titles)] for field, titles in TITLES.items()}
+def usual_titles(field: str) -> list[str]:
+    """The titles of a field as they are compared: for a parent those with a word for the id come first."""
+    alone = [plain(title) for title in listed(TITLES[field])]
+    if field not in ("sire", "dam"):
+        return alone
+    ids = [plain(title) for title in listed(TITLES["id"])]
+    return [both for id in ids for one in alone for both in (one + id, id + one)] + alone
+
+
+KNOWN_TITLES = {field: usual_titles(field) for field in TITLES}
 KNOWN_SEXES = {plain(word): sex for sex, words in SEXES.items() for word in listed(words)}
 KNOWN_YES = {word.casefold() for word in listed(YES)}
 KNOWN_NO = {word.casefold() for word in listed(NO)}
@@ -107,6 +120,21 @@ def read_given(words: list[str]) -> dict[str, str]:
             raise Mistake(f"--columns {part}: write FIELD=TITLE, where FIELD is one of {', '.join(TITLES)}")
         given[field] = title
     return given
+
+
+def read_sexes(words: list[str]) -> dict[str, str]:
+    """The words and sexes of `--sexes Aue=f,Bk=m`, each word as it is compared."""
+    given = {}
+    for part in (part for word in words for part in word.split(",")):
+        word, equals, sex = (piece.strip() for piece in part.partition("="))
+        if not equals or not word or plain(sex) not in KNOWN_SEXES:
+            raise Mistake(f"--sexes {part}: write WORD=m for males and WORD=f for females, as --sexes Aue=f,Bk=m")
+        given[sex_word(word)] = KNOWN_SEXES[plain(sex)]
+    return given
+
+
+def sex_word(text: str) -> str:
+    return plain(text) or text.casefold()
 
 
 def unknown_words(more: list[str]) -> set[str]:

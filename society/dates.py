@@ -61,6 +61,8 @@ def read_span(text: str) -> Span:
             return span_of(found.groupdict())
     if re.fullmatch(r"\d{1,2}[./-]\d{1,2}[./-]\d{2}", text):
         raise Unreadable(f"'{text}' has two digits of the year: write all four")
+    if re.fullmatch(r"\d{5}(\.\d+)?", text):
+        raise Unreadable(f"'{text}' is a number: give the column the format of a date, and save the sheet again")
     raise Unreadable(f"'{text}' is no day: write it as 2001-03-01 or 01.03.2001, or a year alone")
 
 

@@ -4,7 +4,7 @@ from __future__ import annotations
 from society.animals import Animal
 from society.commands import birth, leave
 from society.program import REFUSALS, Herdbook
-from society.report import LEFT_OUT, MOST_SHOWN, Mistake
+from society.report import LEFT_OUT, Mistake
 from society.taking import Taking
 
 MOST_STEPS = 60
@@ -32,7 +32,7 @@ def leave_out_faulty_parents(taking: Taking, program: Herdbook) -> None:
 def too_deep(animals: list[Animal]) -> None:
     if animals:
         raise Mistake(
-            *(f"{one.where()}{REFUSALS[TOO_DEEP]}, which is the limit (refusal {TOO_DEEP})" for one in animals[:MOST_SHOWN]),
+            *(f"{one.where()}{REFUSALS[TOO_DEEP]}, which is the limit (refusal {TOO_DEEP})" for one in animals),
             f"there are paths of parents of more than {MOST_STEPS} steps: leave out the oldest animals, and take the rest",
         )
 
@@ -50,7 +50,7 @@ def leave_out_parent(taking: Taking, animal: Animal, refusal: int) -> None:
     of_parent = f"{parent.id} ({', '.join(facts)})" if facts else parent.id
     why = f"{REFUSALS[refusal]} (refusal {refusal}): {of_parent} is left out as its {role}"
     if refusal not in (5, 6):
-        why += f"; it was born {animal.born_marked()}"
+        why += f"; {animal.id} was born {animal.born_marked()}"
     if refusal == 9:
         why += "; a calf from a stored embryo needs 1 in the column embryo"
     taking.report.tell(LEFT_OUT, animal.line, animal.id, why)

@@ -7,7 +7,7 @@ from society.animals import Animal
 from society.book import INVENTED, NO_OWNER, Known
 from society.commands import Command, Record, birth, leave, transfer
 from society.program import REFUSALS, Herdbook
-from society.report import CHANGED, MOST_SHOWN, NEW, Mistake
+from society.report import CHANGED, NEW, Mistake
 from society.taking import Taking
 
 
@@ -29,14 +29,16 @@ class Filing:
             return commands, True
         by_number = {animal.number: animal for animal in self.taking.animals.values()}
         sentences = []
-        for place, refusal in list(refused.items())[:MOST_SHOWN]:
+        for place, refusal in refused.items():
             kind, number, day = commands[place][:3]
             on = f" on {day}" if day else ""
             sentences.append(f"{by_number[number].where()}{kind}{on} is refused: {REFUSALS[refusal]} (refusal {refusal})")
-        raise Mistake(*sentences, f"nothing is taken, since {len(refused)} refused: mend these rows, and take the sheet again")
+        raise Mistake(*sentences, f"nothing is taken (refused: {len(refused)}): mend these rows, and take the sheet again")
 
     def appended(self) -> list[Command] | None:
         """The book's commands and those that it lacks, or none where what stands in it has to be corrected."""
+        if self.book.known.keys() - self.taking.animals.keys():
+            return None
         births, corrections, transfers, exits = [], [], [], []
         for animal in self.taking.by_birth():
             record = self.taking.record(animal.id)

@@ -104,7 +104,7 @@ def advise(book: Book, program: Herdbook, dam: Known, sires: list[Known], also_l
                 found.append((number, Coefficient(fraction, percent)))
     of_dam = [fault for _, fault in refused if fault in DAM_FAULTS]
     if of_dam:
-        raise Mistake(f"{dam.id}: {MATING_FAULTS[of_dam[0]]} (fault {of_dam[0]}): name a cow as the dam")
+        raise Mistake(f"{dam.id}: {MATING_FAULTS[of_dam[0]]} (fault {of_dam[0]}): name a female as the dam")
     found.sort(key=lambda pair: (pair[1].value, names[pair[0]].id))
     told = [f"{id}: refused: {MATING_FAULTS[fault]} (fault {fault})" for id, fault in refused]
     return Advice(rows_of(book, found), told, left)

@@ -1,4 +1,4 @@
-"""What pages and pictures share: escaping, colours, numbers in words, and the facts that they show of an animal."""
+"""What pages and pictures share: escaping, colours, and the facts that they show of an animal."""
 from __future__ import annotations
 
 import html
@@ -10,9 +10,6 @@ FONT = "'Helvetica Neue', Arial, 'Liberation Sans', 'DejaVu Sans', sans-serif"
 INK, GREY, LINE, PAPER = "#1d2733", "#66717e", "#98a2ad", "#ffffff"
 SIRE, DAM = "#e8f0f8", "#fbeef0"
 INBRED, INBRED_INK = "#fff3cf", "#b4560c"
-NOTE = "An unknown parent counts as unrelated to all animals. Coefficients are Wright's, computed exactly."
-INFERRED_NOTE = "(inferred): not known; inferred from the year, the parents or the calves when the sheet was taken."
-INVENTED_NOTE = "(invented): the pedigree has neither birth days nor sexes; these were invented."
 
 
 def escape(text: object) -> str:

@@ -109,14 +109,14 @@ def place_parents(animal: Animal, animals: dict[str, Animal], report: Report) ->
     """Puts the male parent in the sire's place and the female one in the dam's."""
     sexes = [animals[parent].sex for _, parent in animal.parents()]
     if len(sexes) == 2 and sexes[0] == sexes[1]:
-        why = f"no sexes make couples of all parents: {animal.dam} is left out as its dam, beside {animal.sire}"
+        why = f"no choice of sexes fits all couples: {animal.dam} is left out as its dam, beside {animal.sire}"
         report.tell(LEFT_OUT, animal.line, animal.id, why)
         animal.dam = ""
         sexes = sexes[:1]
     if any(ROLES[role] != animals[parent].sex for role, parent in animal.parents()):
         animal.sire, animal.dam = animal.dam, animal.sire
         couple = f"the sire {animal.sire or 'unknown'} and the dam {animal.dam or 'unknown'}"
-        why = f"taken with {couple}, since an animal is a sire and a dam"
+        why = f"taken with {couple}, since an animal is a sire in one line and a dam in another"
         report.tell(CHANGED, animal.line, animal.id, why)
 
 

@@ -26,7 +26,7 @@ REFUSALS = {
     11: "it isn't in the book",
     12: "it has left already",
     13: "the giver isn't its owner",
-    14: "the day is before its owner's first day",
+    14: "the day is before its birth, or before its owner got it",
     15: "giver and taker are the same owner",
     16: "it has a calf born after the day",
 }

@@ -46,7 +46,7 @@ def read_sheet(path: pathlib.Path, score: Callable[[list[str]], int]) -> Sheet:
     if data.startswith(b"PK") and path.suffix.lower() == ".ods":
         raise Mistake(f"{path} is an .ods file: save the sheet as CSV or .xlsx, and take that")
     if data.startswith(b"PK"):
-        rows, how = read_workbook(path, data), "an .xlsx file"
+        rows, how = read_workbook(path, data)
     else:
         text, encoding = decoded(path, data)
         rows, separator = read_text(text, score)
@@ -119,8 +119,8 @@ def read_records(text: str, separator: str) -> list[Row]:
     return rows
 
 
-def read_workbook(path: pathlib.Path, data: bytes) -> list[Row]:
-    """The first sheet of an `.xlsx` file."""
+def read_workbook(path: pathlib.Path, data: bytes) -> tuple[list[Row], str]:
+    """The first sheet of an `.xlsx` file, and which it is."""
     try:
         import openpyxl
     except ImportError:
@@ -129,11 +129,15 @@ def read_workbook(path: pathlib.Path, data: bytes) -> list[Row]:
         ) from None
     try:
         workbook = openpyxl.load_workbook(io.BytesIO(data), read_only=True, data_only=True)
-        values = list(workbook.worksheets[0].iter_rows(values_only=True))
+        sheet = workbook.worksheets[0]
+        # some programs write the size of a sheet wrong; without it each row is read as far as it goes
+        sheet.reset_dimensions()
+        values = list(sheet.iter_rows(values_only=True))
     except Exception as error:  # openpyxl raises whatever its parts raise
         raise Mistake(f"{path} can't be read as an .xlsx file ({error}): save the sheet as CSV, and take that") from None
     rows = [Row(line, [cell_text(value) for value in cells]) for line, cells in enumerate(values, 1)]
-    return [row for row in rows if any(row.cells)]
+    first = f"the first of {len(workbook.worksheets)} sheets of " if len(workbook.worksheets) > 1 else ""
+    return [row for row in rows if any(row.cells)], f"{first}an .xlsx file"
 
 
 def cell_text(value: object) -> str:

@@ -7,7 +7,7 @@ from dataclasses import dataclass, field
 
 from society.animals import Rows
 from society.book import REPORT, Book
-from society.columns import find_columns, known_titles, read_given, unknown_words
+from society.columns import find_columns, known_titles, read_given, read_sexes, unknown_words
 from society.faults import leave_out_faulty_parents
 from society.filing import Filing
 from society.pedigree import invent_days, invent_sexes, read_triples
@@ -24,10 +24,12 @@ class Wishes:
     book: pathlib.Path
     columns: list[str] = field(default_factory=list)
     unknown: list[str] = field(default_factory=list)
+    sexes: list[str] = field(default_factory=list)
     breed: str = ""
     country: str = ""
     day: datetime.date = field(default_factory=datetime.date.today)
     strict: bool = False
+    drop_gone: bool = False
 
 
 def take_sheet(path: pathlib.Path, wishes: Wishes) -> None:
@@ -35,14 +37,14 @@ def take_sheet(path: pathlib.Path, wishes: Wishes) -> None:
     sheet = read_sheet(path, lambda titles: known_titles(titles) + sum(title in given.values() for title in titles))
     columns = find_columns(sheet.line, sheet.titles, given)
     report = Report()
-    animals = Rows(sheet, columns, unknown_words(wishes.unknown), report).animals()
+    animals = Rows(sheet, columns, unknown_words(wishes.unknown), read_sexes(wishes.sexes), report).animals()
     if not animals:
         raise Mistake(f"{path} has no row that can be taken", *(entry.sentence() for entry in report.entries[:9]))
     program = Herdbook()
     book = Book(wishes.book)
     book.load(program)
     taking = Taking(book, animals, set(columns), report)
-    taking.complete()
+    taking.complete(wishes.drop_gone)
     taking.find_sexes()
     taking.find_days()
     used = [f"{name} from '{sheet.titles[at]}'" for name, at in columns.items()]
@@ -61,13 +63,13 @@ def take_pedigree(path: pathlib.Path, wishes: Wishes) -> None:
     book = Book(wishes.book)
     book.load(program)
     taking = Taking(book, animals, {"sire", "dam"}, report)
-    taking.complete()
+    taking.complete(wishes.drop_gone)
     for animal in animals.values():
         animal.sex = ""
     invent_sexes(animals, report)
     invent_days(animals, report)
     what = f"the sexes and birth days of all {len(animals)} animals"
-    about = [f"{path}: {what} are invented: parents are older than their offspring"]
+    about = [f"{path}: {what} are invented so that parents are older than their offspring"]
     finish(taking, program, wishes, about, len(animals))
 
 
@@ -78,9 +80,7 @@ def finish(taking: Taking, program: Herdbook, wishes: Wishes, about: list[str], 
     leave_out_faulty_parents(taking, program)
     left_out = [entry for entry in report.in_order() if entry.what == LEFT_OUT]
     if wishes.strict and left_out:
-        more = [f"and {len(left_out) - MOST_SHOWN} more"] if len(left_out) > MOST_SHOWN else []
-        sentences = [entry.sentence() for entry in left_out[:MOST_SHOWN]] + more
-        raise Mistake(*sentences, f"{len(left_out)} left out: with --strict nothing is taken")
+        raise Mistake(*(entry.sentence() for entry in left_out), f"{len(left_out)} left out: with --strict nothing is taken")
     before = len(book.records)
     filing = Filing(taking, wishes.day)
     commands, is_anew = filing.filed(program)
@@ -91,8 +91,10 @@ def finish(taking: Taking, program: Herdbook, wishes: Wishes, about: list[str], 
     print("\n".join(about))
     show(report)
     if before and is_anew:
-        print("the command file is written anew, since a birth, an exit or the order of changes was corrected")
+        print(f"{book.path} is written anew, since something in it was corrected or dropped")
     counts = report.counts()
+    if counts[GONE] and not wishes.drop_gone:
+        print("those that are gone stay: with --drop-gone they are dropped, but for the ancestors of animals that have a row")
     print(
         f"{book.folder}: {len(taking.animals)} animals, {new} new, {counts[CHANGED]} changed, "
         f"{counts[INFERRED] + invented} inferred, {counts[LEFT_OUT]} left out, {counts[ADDED]} added, {counts[GONE]} gone: {book.folder / REPORT} has each"

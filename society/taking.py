@@ -1,12 +1,13 @@
 """The animals that are to stand in a book: what the sheet says of them, and what the book has besides."""
 from __future__ import annotations
 
+from society.absent import Names, add_gone, animals_of_book
 from society.animals import ROLES, Animal
 from society.births import Days, cut_cycles
 from society.book import Book, Known
 from society.commands import Command, Record, parents
 from society.dates import ANY_DAY, Span
-from society.report import ADDED, GONE, INFERRED, Mistake, Report
+from society.report import INFERRED, Mistake, Report
 
 MOST_ANIMALS = 60_000
 
@@ -24,15 +25,17 @@ class Taking:
 
     # -- the animals
 
-    def complete(self) -> None:
+    def complete(self, drop_gone: bool) -> None:
         """Adds the animals of the book that have no row, and the parents that have none."""
         for animal in self.animals.values():
             self.keep(animal)
-        self.add_gone()
-        self.add_parents()
+        gone = animals_of_book(self.book, self.animals)
+        Names(self.animals | gone, self.report).find_parents(self.animals, self.book)
+        add_gone(self.animals, gone, self.book, drop_gone, self.report)
+        Names(self.animals, self.report).add_parents()
         if len(self.animals) > MOST_ANIMALS:
-            many = f"these are {len(self.animals):,} animals, with those that are in the book"
-            raise Mistake(f"{many}: it holds at most {MOST_ANIMALS:,}")
+            many = f"the sheet and the book have {len(self.animals):,} animals together"
+            raise Mistake(f"{many}, and a book holds at most {MOST_ANIMALS:,}: leave out the oldest")
 
     def keep(self, animal: Animal) -> None:
         """What the sheet has no column for, or no text that can be read, stays as it is in the book."""
@@ -63,38 +66,10 @@ class Taking:
     def tell_kept(self, animal: Animal, field: str, what: str) -> None:
         if field in self.given:
             word = f"{field} {what}" if field == "owner" else what
-            self.report.tell(INFERRED, animal.line, animal.id, f"{word}, as in the book, since its cell has none")
+            self.report.tell(INFERRED, animal.line, animal.id, f"{word}, as in the book, since its cell gives none")
 
     def id_of(self, number: str) -> str:
         return self.names[number].id if number else ""
-
-    def add_gone(self) -> None:
-        """An animal of the book without a row is as the book has it."""
-        for id, known in self.book.known.items():
-            if id in self.animals:
-                continue
-            record = self.book.records[known.number]
-            animal = Animal(id, 0, known.name, "" if known.sex else known.number[6])
-            animal.birth = ANY_DAY if known.birth else Span(record.born, record.born)
-            animal.sire, animal.dam = self.id_of(record.sire), self.id_of(record.dam)
-            animal.owner, animal.embryo = self.book.owner_of(record.herd), record.embryo
-            animal.left, animal.left_inferred = record.left, known.exit
-            self.animals[id] = animal
-            if known.row == "yes":
-                self.report.tell(GONE, 0, id, "it has no row any more, and stays in the book as it is")
-
-    def add_parents(self) -> None:
-        """A founder for each parent without a row."""
-        alike = {folded(animal.name): id for id, animal in self.animals.items()}
-        alike |= {folded(id): id for id in self.animals}
-        for animal in list(self.animals.values()):
-            for role, parent in animal.parents():
-                if parent in self.animals:
-                    continue
-                hint = alike.get(folded(parent.removesuffix(".0")) or parent)
-                why = f"the {role} of {animal.id} has no row: added without parents" + (f" (is {hint} meant?)" if hint else "")
-                self.report.tell(ADDED, animal.line, parent, why)
-                self.animals[parent] = Animal(parent, sex="")
 
     def find_sexes(self) -> None:
         """An animal without a sex has that of the first parent that it is; one that is none is taken for a female."""
@@ -107,7 +82,7 @@ class Taking:
                 continue
             role = roles.get(id)
             animal.sex = ROLES[role] if role else "F"
-            animal.sex_inferred = f"since it is a {role}" if role else "since nothing tells more"
+            animal.sex_inferred = f"since it is a {role}" if role else "since nothing else is known"
             if animal.line:
                 word = {"M": "male", "F": "female"}[animal.sex]
                 self.report.tell(INFERRED, animal.line, id, f"sex {word}, {animal.sex_inferred}")
@@ -121,8 +96,9 @@ class Taking:
         """An animal of the book keeps its twelve digits; new ones go on from the greatest, by birth day and id."""
         last = 0
         for id, known in self.book.known.items():
-            animal = self.animals[id]
-            animal.number = known.number[:6] + animal.sex + known.number[7:]
+            animal = self.animals.get(id)
+            if animal:
+                animal.number = known.number[:6] + animal.sex + known.number[7:]
             if known.number[7:].isdigit():
                 last = max(last, int(known.number[7:]))
             breed, country = breed or known.number[:3], country or known.number[3:6]
@@ -150,8 +126,3 @@ class Taking:
 
     def by_birth(self) -> list[Animal]:
         return sorted(self.animals.values(), key=lambda animal: (animal.born, animal.number))
-
-
-def folded(id: str) -> str:
-    """An id without blanks, signs and the size of letters, by which two that are meant alike are found."""
-    return "".join(one for one in id.casefold() if one.isalnum())

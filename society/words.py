@@ -1,17 +1,14 @@
-"""The command line of the front desk."""
+"""The front desk's words: what each does, and how it ends."""
 from __future__ import annotations
 
 import argparse
-import datetime
-import pathlib
-import re
 import sys
-from typing import NoReturn
 
 from society.book import Book, open_book, write_file
 from society.certificate import certificate_page
 from society.listing import advise, coefficients, list_all, list_text
 from society.matrix import write_inverse
+from society.options import parser
 from society.pages import file_name
 from society.program import Herdbook
 from society.report import Mistake
@@ -19,118 +16,16 @@ from society.take import Wishes, take_pedigree, take_sheet
 from society.tree import tree_picture
 from society.trend import trend_picture
 
-ABOUT = """Keeps a society's herd book in a folder: takes its spreadsheet, and writes lists, certificates, mating advice and
-pictures. Every refusal and every coefficient comes from the program herdbook; the front desk around it isn't proved."""
-EXAMPLES = """examples:
-  society/society take sheet.csv                     from a spreadsheet to a book in the folder `book`
-  society/society list --out list.csv                all animals with their coefficients
-  society/society certificate HA-17/3                a page for the printer
-  society/society mating --dam HA-17/3               each living male, the least related first
-  society/society take --pedigree triples.txt        from `id sire dam`, for geneticists
-  society/society inverse --matrix-market inverse.mtx
-
-The status is 0 where it is done, and 1 after a mistake; nothing is written then."""
-
-
-class Parser(argparse.ArgumentParser):
-    def error(self, message: str) -> NoReturn:
-        raise Mistake(f"{message}: `{self.prog} --help` has the words")
-
-
-def three_letters(text: str) -> str:
-    if not re.fullmatch("[A-Z]{3}", text):
-        raise argparse.ArgumentTypeError(f"'{text}' isn't three letters A to Z")
-    return text
-
-
-def day(text: str) -> datetime.date:
-    try:
-        return datetime.date.fromisoformat(text)
-    except ValueError:
-        raise argparse.ArgumentTypeError(f"'{text}' is no day as 2001-03-01") from None
-
-
-def file(text: str) -> pathlib.Path:
-    if pathlib.Path(text).is_dir():
-        raise argparse.ArgumentTypeError(f"'{text}' is a folder: name a file")
-    return pathlib.Path(text)
-
-
-def generations(text: str) -> int:
-    if not text.isdigit() or not 1 <= int(text) <= 10:
-        raise argparse.ArgumentTypeError(f"'{text}' isn't 1 to 10")
-    return int(text)
-
-
-def parser() -> Parser:
-    top = Parser(prog="society", description=ABOUT, epilog=EXAMPLES, formatter_class=argparse.RawDescriptionHelpFormatter)
-    words = top.add_subparsers(dest="word", metavar="WORD", required=True)
-
-    def word(name: str, help: str, more: str = "") -> Parser:
-        one = words.add_parser(name, help=help, description=f"{help[0].upper()}{help[1:]}. {more}".strip())
-        one.add_argument(
-            "--book", type=pathlib.Path, default=pathlib.Path("book"), metavar="FOLDER",
-            help="the book's folder [book]",
-        )
-        return one
-
-    take = word("take", "take a spreadsheet into the book", "The columns are known by their usual names in English, German and French.")
-    take.add_argument(
-        "sheet", nargs="?", type=pathlib.Path, metavar="SHEET",
-        help="the spreadsheet: CSV, or .xlsx where openpyxl is installed",
-    )
-    take.add_argument(
-        "--pedigree", type=pathlib.Path, metavar="TRIPLES",
-        help="a text file with `id sire dam` in each line, in place of a sheet",
-    )
-    take.add_argument(
-        "--columns", action="append", default=[], metavar="FIELD=TITLE,..",
-        help="titles for id, name, sex, birth, sire, dam, owner, exit, embryo",
-    )
-    take.add_argument(
-        "--unknown", action="append", default=[], metavar="WORD,..",
-        help="more words for an unknown parent",
-    )
-    take.add_argument("--breed", type=three_letters, metavar="ABC", help="the numbers' breed [HOL, or as in the book]")
-    take.add_argument(
-        "--country", type=three_letters, metavar="ABC",
-        help="the numbers' country [GBR, or as in the book]",
-    )
-    take.add_argument("--day", type=day, default=datetime.date.today(), help="the day on which owners changed [today]")
-    take.add_argument("--strict", action="store_true", help="take nothing where anything would be left out")
-
-    listing = word("list", "write all animals with their coefficients, in age order")
-    mating = word("mating", "write the coefficient that a calf would have by each sire, the least first")
-    mating.add_argument("--dam", required=True, metavar="ID", help="the dam, by id, name or number")
-    mating.add_argument("sires", nargs="*", metavar="SIRE", help="sires, by id, name or number [all living males]")
-    mating.add_argument("--all", action="store_true", help="all living males, as where no sire is named")
-    mating.add_argument("--left", action="store_true", help="with the males that left too")
-    for one in listing, mating:
-        one.add_argument("--semicolons", action="store_true", help="semicolons between cells, and commas in decimals")
-        one.add_argument("--out", type=file, metavar="FILE", help="write to this file, not to the screen")
-
-    certificate = word("certificate", "write an animal's certificate, a page of HTML for the printer")
-    certificate.add_argument("--title", default="Certificate of pedigree", help="what stands above the animal")
-    tree = word("pedigree", "draw an animal with its known ancestors, inbred ones marked")
-    tree.add_argument("--generations", type=generations, default=4, metavar="N", help="how many, 1 to 10 [4]")
-    for one in certificate, tree:
-        one.add_argument("id", metavar="ID", help="the animal, by id, name or number")
-    trend = word("trend", "draw the mean coefficient by birth year, with how many animals each year has")
-    for one in certificate, tree, trend:
-        one.add_argument("--out", type=file, metavar="FILE", help="write to this file [one in the book's folder]")
-
-    inverse = word("inverse", "write the summed inverse of the numerator relationship matrix")
-    inverse.add_argument(
-        "--matrix-market", type=file, required=True, metavar="FILE",
-        help="its lower triangle; the ids of the rows go to FILE.ids",
-    )
-    return top
-
 
 def take(asked: argparse.Namespace) -> None:
     if (asked.sheet is None) == (asked.pedigree is None):
         raise Mistake("take reads one file: name a sheet, or a pedigree with --pedigree")
-    wishes = Wishes(asked.book, asked.columns, asked.unknown, asked.breed or "", asked.country or "", asked.day, asked.strict)
+    if asked.pedigree and (asked.columns or asked.sexes):
+        raise Mistake("--columns and --sexes are for a sheet: a pedigree has an id, a sire and a dam in each line")
+    wishes = Wishes(
+        asked.book, asked.columns, asked.unknown, asked.sexes, asked.breed or "", asked.country or "", asked.day,
+        asked.strict, asked.drop_gone,
+    )  # fmt: skip
     if asked.sheet:
         take_sheet(asked.sheet, wishes)
     else:
@@ -163,7 +58,8 @@ def draw(asked: argparse.Namespace, book: Book, program: Herdbook) -> None:
     known = book.find(asked.id) if "id" in asked else None
     found = coefficients(book, program)
     if asked.word == "certificate":
-        text, name = certificate_page(book, program, known, found, asked.title), file_name("certificate", known.id, ".html")
+        text = certificate_page(book, program, known, found, asked.language, asked.title)
+        name = file_name("certificate", known.id, ".html")
     elif asked.word == "pedigree":
         text, name = tree_picture(book, known, found, asked.generations), file_name("pedigree", known.id, ".svg")
     else:
@@ -200,9 +96,9 @@ def main(words: list[str]) -> int:
     except Mistake as mistake:
         sentences = mistake.sentences
     except BrokenPipeError:
-        # whoever read the output has enough of it
+        # whoever read the output has enough of it, which is no mistake
         sys.stdout = None
-        return 1
+        return 0
     except KeyboardInterrupt:
         sentences = ("stopped",)
     except MemoryError:

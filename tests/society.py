@@ -190,6 +190,12 @@ class Desk:
         days = {line.split(",")[1]: line.split(",")[2] for line in self.commands() if line.startswith("birth")}
         return {id: days[number] for id, number in self.numbers().items()}
 
+    def parents(self) -> dict[str, tuple[str, str]]:
+        """The parents of each animal after the last command that sets them, by ids."""
+        found = {line.split(",")[1]: line.split(",")[3:5] for line in self.commands() if line.split(",")[0] in ("birth", "parents")}
+        ids = {number: id for id, number in self.numbers().items()} | {"0": ""}
+        return {ids[number]: (ids[sire], ids[dam]) for number, (sire, dam) in found.items()}
+
     def table(self, name: str) -> list[dict[str, str]]:
         with open(self.room / name, newline="", encoding="utf-8") as file:
             return list(csv.DictReader(file))
@@ -377,7 +383,7 @@ class Checks:
                 import datetime, types
                 def load_workbook(file, read_only, data_only):
                     assert file.read() == b"PK\\3\\4" and read_only and data_only
-                    return types.SimpleNamespace(worksheets=[types.SimpleNamespace(iter_rows=lambda values_only: iter({cells!r}))])
+                    return types.SimpleNamespace(worksheets=[types.SimpleNamespace(iter_rows=lambda values_only: iter({cells!r}), reset_dimensions=lambda: None)])
                 """)
         desk.good("take", "sheet.xlsx")
         self.count((desk.commands(), desk.table("book/ids.csv"), desk.table("book/owners.csv")) == wanted, "an .xlsx file")
@@ -445,7 +451,7 @@ class Checks:
         self.told(done, "line 4: year: changed: birth day: 2003-02-02, before 2003-07-02")
         done = desk.take("id,sex,born,sire,dam\nmother,F,,,\ncalf,M,2005-06-07,,mother\nyear,F,,,\nelder,M,2004-08-08,,mother\neldest,M,2003-01-01,,mother\n")
         self.count(desk.born()["mother"] == "2002-12-31" and desk.born()["year"] == "2003-02-02", f"{desk.born()}")
-        self.told(done, "line 4: year: inferred: birth day 2003-02-02, as in the book, since its cell has none")
+        self.told(done, "line 4: year: inferred: birth day 2003-02-02, as in the book, since its cell gives none")
 
     def sexes(self) -> None:
         """Without a column of sexes a sire is male and a dam female; what is corrected keeps its digits."""
@@ -480,9 +486,9 @@ class Checks:
         self.told(
             done,
             "line 4: self: left out: it would be its own ancestor (self > self): self is left out as its sire",
-            "line 5: young: left out: its dam isn't at least a day older (refusal 8): late (line 6, born 2005-01-01) is left out as its dam; it was born 2004-01-01",
+            "line 5: young: left out: its dam isn't at least a day older (refusal 8): late (line 6, born 2005-01-01) is left out as its dam; young was born 2004-01-01",
             "line 7: after: left out: its dam left on a day before the birth (refusal 9): b (line 3, left 2003-01-01) is left out as its dam; "
-            "it was born 2004-02-01; a calf from a stored embryo needs 1 in the column embryo",
+            "after was born 2004-02-01; a calf from a stored embryo needs 1 in the column embryo",
             "line 9: both: left out: its sire isn't male (refusal 5): b (line 3) is left out as its sire",
             "line 9: both: left out: its dam isn't female (refusal 6): a (line 2) is left out as its dam",
             "line 12: z: left out: it would be its own ancestor (z > y > x > z): y is left out as its sire",
@@ -516,23 +522,25 @@ class Checks:
             k,Kai,M,2003-01-01,,,,
             l,Lea,F,2003-01-01,,,,
             m,Max,M,2003-01-01,,,,
+            n,Nele,F,37800,,,,
             """
         )
         self.told(
             done,
             "line 3: a: left out: line 2 has this id too: the row is left out",
             "line 4: left out: the row has no id",
-            "line 5: unknown: left out: 'unknown' is a word for an unknown animal",
+            "line 5: unknown: left out: 'unknown' is a word for an unknown animal: give it another id",
             "line 6: e: left out: birth day: there is no day 2002-02-31",
             "line 7: f: left out: birth day: '01.02.98' has two digits of the year: write all four",
-            "line 8: g: left out: the sex 'cat' isn't known: write M or F",
+            "line 8: g: left out: the sex 'cat' isn't known: write M or F, or name it as --sexes cat=f",
             "line 8: g: left out: exit: 'sold' is no day: write it as 2001-03-01 or 01.03.2001, or a year alone",
             "line 9: h: left out: the row has 9 cells, and there are 8 titles: is there a separator too many?",
             "line 10: i: left out: the cell 'maybe' for a calf from a stored embryo isn't known: write 1 or nothing",
+            "line 15: n: left out: birth day: '37800' is a number: give the column the format of a date, and save the sheet again",
             "line 11: j: left out: birth day: the year 2300 isn't one of 1900 to 2199",
             "line 10: A: added: the sire of i has no row: added without parents (is a meant?)",
         )
-        self.count(" 10 left out, 1 added" in done.last, done.last)
+        self.count(" 11 left out, 1 added" in done.last, done.last)
 
     def corrections(self) -> None:
         """An exit that changes or is withdrawn, and a parent added later as a row of its own."""
@@ -546,9 +554,9 @@ class Checks:
             "line 2: a: changed: exit: 2012-02-03, before 2010-01-01",
             "line 2: a: changed: owner: z, before x",
             "line 3: b: changed: exit: none, before 2011-12-31",
-            "line 3: b: inferred: owner y, as in the book, since its cell has none",
+            "line 3: b: inferred: owner y, as in the book, since its cell gives none",
             "line 4: c: changed: birth day: 2000-05-06, before 2001-01-01",
-            "the command file is written anew, since a birth, an exit or the order of changes was corrected",
+            "book/commands.csv is written anew, since something in it was corrected or dropped",
         )
         lines = desk.commands()
         self.count(f"transfer,{numbers['a']},2012-02-03,,,1,3," in lines and f"exit,{numbers['a']},2012-02-03,,,,," in lines, f"{lines}")
@@ -559,6 +567,132 @@ class Checks:
         self.count(desk.commands() == before and " 0 changed" in done.last and " 3 left out" in done.last, f"{done}")
         done = desk.take("id,born,sire,dam\na,2001-01-01,,\nb,2003-01-01,c,a\nc,2000-05-06,d,\n")
         self.count(desk.commands() == before and " 0 changed" in done.last, f"{done}")
+
+    # -- parents by name, and what is dropped
+
+    def named_parents(self) -> None:
+        """A parent that is no id, but one animal's name, is that animal where it can be it; it is told with the line."""
+        desk = Desk(self, "names")
+        sheet = """\
+            id;name;sex;born;sire;dam
+            R1;Max;M;2001-01-01;;
+            R2;Moritz;M;2001-02-01;;
+            E1;Lotte;F;2002-01-01;;
+            E2;Lotte;F;2002-02-01;;
+            E3;Änne;F;2002-03-01;;
+            E4;Rosi;F;2002-03-01;;
+            L1;Moritz;M;2004-01-01;moritz;änne
+            L2;;F;2004-02-01;Max;Lotte
+            L3;;F;2000-01-01;Max;Moritz
+            L4;;F;2004-02-01;Rosi;R1
+            """
+        done = desk.take(sheet)
+        meant = "if another is meant, write the id of that one"
+        self.told(
+            done,
+            f"line 8: L1: inferred: its sire 'moritz' is R2 by its name: {meant}",
+            f"line 8: L1: inferred: its dam 'änne' is E3 by its name: {meant}",
+            f"line 9: L2: inferred: its sire 'Max' is R1 by its name: {meant}",
+            "line 9: Lotte: added: the dam of L2 has no row: added without parents (2 animals have this name, E1, E2: write the id of the one that is meant)",
+            "line 10: Max: added: the sire of L3 has no row: added without parents (is R1 meant?)",
+            "line 10: Moritz: added: the dam of L3 has no row: added without parents (2 animals have this name, R2, L1: write the id of the one that is meant)",
+            "line 11: Rosi: added: the sire of L4 has no row: added without parents (is E4 meant?)",
+            "line 11: L4: left out: its dam isn't female (refusal 6): R1 (line 2) is left out as its dam",
+        )
+        self.count(" 7 inferred, 1 left out, 4 added, 0 gone" in done.last, done.last)
+        parents = desk.parents()
+        self.count((parents["L1"], parents["L2"], parents["L3"]) == (("R2", "E3"), ("R1", "Lotte"), ("Max", "Moritz")), f"{parents}")
+        # a later animal of the name doesn't change what is in the book, but a new calf may be of either
+        done = desk.take(sheet + "E9;Änne;F;2010-01-01;;\nL5;;F;2012-01-01;;Moritz\nL9;;F;2012-01-01;;Änne\n".replace("\n", "\n            "))
+        self.count(desk.parents()["L1"] == ("R2", "E3") and " 0 changed" in done.last, f"{done}")
+        self.count(desk.parents()["L9"] == ("", "Änne"), f"{desk.parents()}")
+        # a row that comes later is found by its name, and a founder that stood for it is no parent any more
+        late = Desk(self, "late")
+        late.take("id,name,sex,born,sire,dam\nc,,F,2004-01-01,Hans,\n")
+        grown = "id,name,sex,born,sire,dam\nc,,F,2004-01-01,Hans,\nH1,Hans,M,2000-01-01,,\n"
+        done = late.take(grown)
+        stays = "no animal has it as a parent any more, and stays in the book as it is"
+        self.told(done, f"line 2: c: inferred: its sire 'Hans' is H1 by its name: {meant}", "line 2: c: changed: sire: H1, before Hans", f"Hans: gone: {stays}")
+        self.count(", 1 gone: " in done.last and "with --drop-gone they are dropped" in done.out, f"{done}")
+        done = late.take(grown, "--drop-gone")
+        self.told(done, "Hans: gone: no animal has it as a parent any more: it is dropped from the book")
+        self.count(late.numbers().keys() == {"c", "H1"} and late.parents()["c"] == ("H1", ""), f"{late.numbers()}")
+
+    def dropped(self) -> None:
+        """With --drop-gone animals without a row leave the book, unless one that has a row descends from them."""
+        desk = Desk(self, "dropped")
+        rows = ["a,M,2001-01-01,,,x", "b,F,2001-02-01,,,x", "c,F,2004-01-01,a,b,x", "wrong,M,2005-01-01,import,c,y", "d,F,2006-01-01,a,c,y"]
+        sheet = lambda *those: "id,sex,born,sire,dam,owner\n" + "".join(row + "\n" for row in those)
+        desk.take(sheet(*rows))
+        desk.take(sheet(rows[0], rows[1][:-1] + "y", *rows[2:]), "--day", "2010-01-01")
+        numbers = desk.numbers()
+        without = sheet(rows[0], rows[2], rows[4])
+        before = desk.commands()
+        done = desk.take(without)
+        gone = "gone: it has no row any more, and stays in the book as it is"
+        self.told(done, f"b: {gone}", f"wrong: {gone}")
+        self.count(desk.commands() == before and ", 2 gone: " in done.last, f"{done}")
+        done = desk.take(without, "--drop-gone")
+        self.told(done, f"b: {gone}", "wrong: gone: it has no row any more: it is dropped from the book", "import: gone: no animal has it as a parent any more: it is dropped from the book")
+        self.count("book: 4 animals, 0 new, 0 changed, 0 inferred, 0 left out, 0 added, 3 gone: " in done.last, done.last)
+        self.count(desk.numbers() == {id: numbers[id] for id in "abcd"} and desk.parents()["d"] == ("a", "c"), f"{desk.numbers()}")
+        self.count(sum(line.startswith("transfer") for line in desk.commands()) == 1, f"{desk.commands()}")
+        self.count(reference.replies((desk.room / "book/commands.csv").read_text()).count("accepted") == len(desk.commands()), "all are accepted")
+        self.count([row["id"] for row in desk.listed("mating", "--dam", "d")] == ["a"], "the founder is no sire any more")
+        done = desk.take(without, "--drop-gone")
+        self.count(", 0 changed, 0 inferred, 0 left out, 0 added, 1 gone: " in done.last and "anew" not in done.out, f"{done}")
+        done = desk.take(sheet(*rows[:3], rows[4], "e,F,2011-01-01,,,"))
+        self.count(desk.numbers().items() >= {id: numbers[id] for id in "abcd"}.items() and ", 1 new, " in done.last, f"{done}")
+
+    # -- words of other languages
+
+    def words_for_sexes(self) -> None:
+        desk = Desk(self, "words")
+        males = "Bock,Hengst,Bulle,Stier,Widder,bélier,taureau,étalon,bouc,männl.,m,M.,Zuchtbock,ram,tup,bull"
+        females = "Aue,Mutter,Stute,Kuh,Färse,Kalbin,brebis,vache,jument,chèvre,génisse,weibl.,w,W.,Mutterschaf,ewe,heifer,Geiß"
+        words = [(word, "M") for word in males.split(",")] + [(word, "F") for word in females.split(",")]
+        desk.take("id,sex,born,sire,dam\n" + "".join(f"{at},{word},2001-01-01,,\n" for at, (word, _) in enumerate(words, 1)))
+        found = {id: number[6] for id, number in desk.numbers().items()}
+        for at, (word, sex) in enumerate(words, 1):
+            self.count(found[str(at)] == sex, f"{word} is {found[str(at)]}")
+        sheet = desk.write("own.csv", "id,sex,born,sire,dam\n1,Bk,2001,,\n2,Schf,2001,,\n3,Schf,2001,,\n4,0,2001,,\n5,f,2001,,\n")
+        told = "3 of 4 cells for sex can't be read, the first in line 2: 'Schf' (2 times), 'Bk': write M or F, or say which sex each word is, as --sexes Schf=f"
+        desk.wrong(told, "take", sheet, "--book", "own")
+        done = desk.good("take", sheet, "--book", "own", "--sexes", "bk=m,Schf=F", "--sexes", "0=m")
+        sexes = [row["number"][6] for row in desk.table("own/ids.csv")]
+        self.count(sorted(sexes) == list("FFFMM") and " 0 left out" in done.last, f"{sexes}: {done}")
+        desk.wrong("--sexes Bk: write WORD=m for males and WORD=f for females", "take", sheet, "--sexes", "Bk")
+        desk.wrong("--columns and --sexes are for a sheet", "take", "--pedigree", sheet, "--sexes", "Bk=m")
+
+    def languages(self) -> None:
+        """A certificate in three languages: other words, and the same ids, days and numbers."""
+        her, desk = Secretary(), Desk(self, "languages")
+        desk.take(sheet_text(her.rows))
+        calf = next(row["Ohrmarke"] for row in her.rows if row["Mutter"] == her.undated)
+        pages = {}
+        for language, words in [
+            ("en", ["Certificate of pedigree", "Coefficient of inbreeding", "Sire's dam", "Owner since", "(inferred)", "(inferred): not known", "An unknown parent counts"]),
+            ("de", ["Abstammungsnachweis", "Inzuchtkoeffizient", "Vatersmutter", "Besitzer seit", "(erschlossen)", "(erschlossen): nicht bekannt", "Unbekannte Eltern gelten"]),
+            ("fr", ["Certificat généalogique", "Coefficient de consanguinité", "Mère du père", "Propriétaire depuis", "(déduit)", "(déduit) : non connu", "Un parent inconnu n'est"]),
+        ]:  # fmt: skip
+            desk.good("certificate", calf, "--language", language, "--out", "page.html")
+            page = desk.page("page.html")
+            text = " ".join(page.itertext())
+            self.count(page.get("lang") == language and all(word in text for word in words), f"{language}: {text[-1500:]}")
+            body = next(part for part in page if part.tag.endswith("body"))
+            numbers = re.findall(r"[A-Z]{6}[MF]\d{12}|[A-Z]+-\d\d/\d+|\d{4}-\d\d-\d\d|\d+/\d+|\d+\.\d+", " ".join(body.itertext()))
+            pages[language] = numbers, [word for word in re.findall(r"[^\W\d_]{3,}", " ".join(body.itertext()))]
+        self.count(pages["en"][0] == pages["de"][0] == pages["fr"][0] and len(pages["en"][0]) > 20, f"numbers: {pages}")
+        english = {"Sire", "Dam", "Born", "Left", "Owner", "unknown", "inferred", "male", "female", "Number", "Pedigree", "society", "the"}
+        for language in "de", "fr":
+            self.count(not english & set(pages[language][1]), f"{language}: {english & set(pages[language][1])}")
+        desk.good("certificate", calf, "--language", "de", "--title", "Zuchtbescheinigung", "--out", "page.html")
+        self.count("Zuchtbescheinigung" in (desk.room / "page.html").read_text(), "a title in place of the usual one")
+        desk.wrong("argument --language: invalid choice: 'it'", "certificate", calf, "--language", "it")
+        desk.good("take", "--pedigree", desk.write("one.txt", "x 0 0\n"), "--book", "one")
+        desk.good("certificate", "x", "--book", "one", "--out", "x.html", "--language", "de")
+        text = "".join(desk.page("x.html").itertext())
+        self.count(text.count(" (erfunden)") == 3 and "(erfunden): die Abstammung hat weder" in text, f"invented: {text}")
 
     # -- mistakes
 
@@ -576,8 +710,10 @@ class Checks:
             (b"id,born,sire,dam\n\x81\x8d,2001,,\n", "is no text in UTF-8 or Windows-1252"),
             (b"\xd0\xcf\x11\xe0abc", "is an old Excel file (.xls): save the sheet as CSV or .xlsx"),
             ("id,born,sire,dam\na,03/25/2001,,\n", "line 2: a: birth day: '03/25/2001' has the month first"),
-            ("id,born,sire,dam\na,x,,\nb,y,,\nc,z,,\nd,2001,,\n", "3 cells for birth can't be read, the first in line 2: a: left out: birth day: 'x' is no day"),
-            (good + "b,F,2001-01-01,,,2000-01-01\n", "line 3: b: exit on 2000-01-01 is refused: the day is before its owner's first day (refusal 14)"),
+            ("id,born,sire,dam\na,x,,\nb,y,,\nc,z,,\nd,2001,,\n", "3 of 4 cells for birth can't be read, the first in line 2: 'x', 'y', 'z': write days as 2001-03-01"),
+            ("id,born,sire,dam\na,2001,,\nb,2003,\"2,76E+14\",\n", "line 3: '2,76E+14' is a long number that the spreadsheet has cut: give the columns of ids the format text"),
+            ("id,sex,born,sire,dam,exit\na,F,2001,,,sold\nb,F,2001,,,sold\nc,F,2001,,,sold\n", "3 of 3 cells for exit can't be read, the first in line 2: 'sold' (3 times): write days"),
+            (good + "b,F,2001-01-01,,,2000-01-01\n", "line 3: b: exit on 2000-01-01 is refused: the day is before its birth, or before its owner got it (refusal 14)"),
         ]
         for text, told in sheets:
             desk.wrong(told, "take", desk.write("sheet.csv", text))
@@ -592,7 +728,7 @@ class Checks:
             (["take", "good.csv", "--columns", "tag=id"], "--columns tag=id: write FIELD=TITLE, where FIELD is one of id, name, sex"),
             (["take", "good.csv", "--breed", "hol"], "'hol' isn't three letters A to Z"),
             (["take", "good.csv", "--book", "file"], "the folder file can't be written"),
-            (["take", "good.csv", "--day", "1.2.2003"], "'1.2.2003' is no day"),
+            (["take", "good.csv", "--day", "1.2.2003"], "'1.2.2003' isn't a day written as 2001-03-01"),
             (["list"], "there is no book in the folder book: take a sheet first, as society/society take SHEET --book book"),
             (["sell"], "invalid choice: 'sell'"),
             ([], "the following arguments are required: WORD"),
@@ -604,6 +740,7 @@ class Checks:
             (["mating", "--dam", "a", "HOLGBRM000000000009"], "the book has no animal 'HOLGBRM000000000009': book/ids.csv has the ids"),
             (["mating", "--dam", "a"], "the book has no male"),
             (["mating", "--dam", "a", "a", "--all"], "not both"),
+            (["certificate", "DE", "01", "2345"], "unrecognized arguments: 01 2345: put an id with blanks between quotation marks"),
             (["list", "--out", "book"], "'book' is a folder: name a file"),
             (["inverse", "--matrix-market", "."], "'.' is a folder: name a file"),
             (["pedigree", "a", "--generations", "11"], "'11' isn't 1 to 10"),
@@ -629,7 +766,7 @@ class Checks:
         desk.wrong("the folder book can't be written", "take", "bull.csv")
         (desk.room / "book/commands.csv.new").rmdir()
         desk.good("take", "bull.csv", "--book", "bulls")
-        desk.wrong("bull: the dam isn't female (fault 4): name a cow as the dam", "mating", "--dam", "bull", "--book", "bulls")
+        desk.wrong("bull: the dam isn't female (fault 4): name a female as the dam", "mating", "--dam", "bull", "--book", "bulls")
         kept = desk.files()
         commands = desk.room / "book/commands.csv"
         commands.write_text(commands.read_text() + "exit,HOLGBRF000000000009,2001-01-01,,,,,\n")
@@ -650,7 +787,7 @@ class Checks:
         done = desk.wrong("line 63: a61: a path of parents would be longer than 60 steps, which is the limit (refusal 10)", "take", desk.write("deep.csv", line(62)))
         self.count("there are paths of parents of more than 60 steps" in done.err, f"{done}")
         many = "id,sex,born,sire,dam\n" + "".join(f"{at + 1},M,2001-01-01,,\n" for at in range(60_001))
-        desk.wrong("these are 60,001 animals, with those that are in the book: it holds at most 60,000", "take", desk.write("many.csv", many))
+        desk.wrong("the sheet and the book have 60,001 animals together, and a book holds at most 60,000", "take", desk.write("many.csv", many))
         desk.write("deep.txt", "".join(f"{at + 1} {at} 0\n" for at in range(62)))
         desk.wrong("longer than 60 steps", "take", "--pedigree", "deep.txt")
 
@@ -769,12 +906,12 @@ class Checks:
         self.count(" 0 left out" in done.last, f"{done}")
         found = {row["id"]: row["coefficient"] for row in desk.listed("list")}
         self.count(found == {"a": "0", "b": "0", "c": "0", "d": "1/4", "e": "3/8", "f": "0"}, f"{found}")
-        taken = "since an animal is a sire and a dam"
+        taken = "since an animal is a sire in one line and a dam in another"
         self.told(done, f"line 4: d: changed: taken with the sire a and the dam c, {taken}", f"line 6: f: changed: taken with the sire d and the dam unknown, {taken}")
         done = desk.good("take", "--pedigree", desk.write("odd.txt", "a b 0\nb a 0\nc a a\nd a b\ne b c\nf c a\n"), "--book", "odd")
         self.count("line 3: c: left out: a is its sire and its dam: no calf has one parent twice, so it is left out as its dam" in done.out, f"{done}")
         self.count("line 2: b: left out: it would be its own ancestor (b > a > b): a is left out as its" in done.out, f"{done}")
-        self.count("no sexes make couples of all parents" in done.out and " 3 left out" in done.last, f"{done}")
+        self.count("no choice of sexes fits all couples" in done.out and " 3 left out" in done.last, f"{done}")
         done = desk.good("take", "--pedigree", desk.write("more.txt", "g f e\na 0 0\nb 0 0\nc a b\nd c a\ne d c\nf 0 d\n"))
         self.count(", 1 new, " in done.last, f"{done}")
         for text, told in [
@@ -798,7 +935,7 @@ class Checks:
 
 GROUPS = [
     Checks.three_commands, Checks.ten_more_rows, Checks.forms, Checks.numbers_of_others, Checks.inferred_days, Checks.days_that_come, Checks.sexes, Checks.faulty_parents,
-    Checks.faulty_rows, Checks.corrections, Checks.mistakes, Checks.limits, Checks.pictures, Checks.escaped, Checks.textbook, Checks.inverse_of_many, Checks.odd_pedigrees, Checks.help,
+    Checks.faulty_rows, Checks.corrections, Checks.named_parents, Checks.dropped, Checks.words_for_sexes, Checks.languages, Checks.mistakes, Checks.limits, Checks.pictures, Checks.escaped, Checks.textbook, Checks.inverse_of_many, Checks.odd_pedigrees, Checks.help,
 ]  # fmt: skip
 
 

@@ -1,0 +1,114 @@
+"""Animals that have no row: those that the book has besides, parents that are written by their names, and founders."""
+from __future__ import annotations
+
+import collections
+
+from society.animals import ROLES, Animal
+from society.book import Book
+from society.dates import ANY_DAY, Span
+from society.report import ADDED, GONE, INFERRED, Report
+
+
+def animals_of_book(book: Book, animals: dict[str, Animal]) -> dict[str, Animal]:
+    """The animals of the book that have no row, each as the book has it."""
+    ids = {known.number: id for id, known in book.known.items()}
+    gone = {}
+    for id, known in book.known.items():
+        if id in animals:
+            continue
+        record = book.records[known.number]
+        animal = Animal(id, 0, known.name, "" if known.sex else known.number[6])
+        animal.birth = ANY_DAY if known.birth else Span(record.born, record.born)
+        animal.sire, animal.dam = ids.get(record.sire, ""), ids.get(record.dam, "")
+        animal.owner, animal.embryo = book.owner_of(record.herd), record.embryo
+        animal.left, animal.left_inferred = record.left, known.exit
+        gone[id] = animal
+    return gone
+
+
+def add_gone(animals: dict[str, Animal], gone: dict[str, Animal], book: Book, drop: bool, report: Report) -> None:
+    """Adds those of the book, or drops them but for the ancestors of an animal that has a row."""
+    kept = ancestors(animals, gone) if drop else gone.keys()
+    parents = {parent for animal in (*animals.values(), *gone.values()) for _, parent in animal.parents()}
+    for id, animal in gone.items():
+        if id in kept:
+            animals[id] = animal
+        had_row = book.known[id].row == "yes"
+        why = "it has no row any more" if had_row else "no animal has it as a parent any more"
+        if id not in kept:
+            report.tell(GONE, 0, id, f"{why}: it is dropped from the book")
+        elif had_row or id not in parents:
+            report.tell(GONE, 0, id, f"{why}, and stays in the book as it is")
+
+
+def ancestors(animals: dict[str, Animal], gone: dict[str, Animal]) -> set[str]:
+    """Which of those without a row are ancestors of animals that have one."""
+    found: set[str] = set()
+    new = list(animals.values())
+    for animal in new:
+        for _, parent in animal.parents():
+            if parent in gone and parent not in found:
+                found.add(parent)
+                new.append(gone[parent])
+    return found
+
+
+class Names:
+    """Finds parents by their names, and tells which animals may be meant by a text that is no id."""
+
+    def __init__(self, animals: dict[str, Animal], report: Report) -> None:
+        self.animals, self.report = animals, report
+        self.named: collections.defaultdict[str, list[Animal]] = collections.defaultdict(list)
+        self.alike = {folded(animal.name): id for id, animal in animals.items() if animal.name}
+        self.alike |= {folded(id): id for id in animals}
+        for animal in animals.values():
+            if animal.name:
+                self.named[animal.name.casefold()].append(animal)
+
+    def find_parents(self, rows: dict[str, Animal], book: Book) -> None:
+        """A parent that is no row's id, but the name of one animal alone, is taken for that one where it can be it. Of
+        several animals of the name it is the one that is the parent in the book."""
+        with_row = rows.keys() | {id for id, known in book.known.items() if known.row == "yes"}
+        ids = {known.number: id for id, known in book.known.items()}
+        for animal in rows.values():
+            known = book.known.get(animal.id)
+            for role, text in animal.parents():
+                named = [] if text in with_row else self.others(animal, text)
+                if len(named) > 1 and known:
+                    in_book = ids.get(getattr(book.records[known.number], role))
+                    named = [one for one in named if one.id == in_book]
+                if len(named) == 1 and can_be(named[0], role, animal):
+                    setattr(animal, role, named[0].id)
+                    why = f"its {role} '{text}' is {named[0].id} by its name: if another is meant, write the id of that one"
+                    self.report.tell(INFERRED, animal.line, animal.id, why)
+
+    def others(self, calf: Animal, name: str) -> list[Animal]:
+        """The animals of a name, but for the calf itself."""
+        return [one for one in self.named.get(name.casefold(), ()) if one is not calf]
+
+    def add_parents(self) -> None:
+        """A founder for each parent without a row."""
+        for animal in list(self.animals.values()):
+            for role, parent in animal.parents():
+                if parent not in self.animals:
+                    why = f"the {role} of {animal.id} has no row: added without parents{self.hint(animal, parent)}"
+                    self.report.tell(ADDED, animal.line, parent, why)
+                    self.animals[parent] = Animal(parent)
+
+    def hint(self, calf: Animal, text: str) -> str:
+        """Which id may be meant by a text that is none."""
+        ids = [one.id for one in self.others(calf, text)]
+        if len(ids) > 1:
+            return f" ({len(ids)} animals have this name, {', '.join(ids[:5])}: write the id of the one that is meant)"
+        alike = ids[0] if ids else self.alike.get(folded(text.removesuffix(".0")) or text, calf.id)
+        return f" (is {alike} meant?)" if alike != calf.id else ""
+
+
+def can_be(parent: Animal, role: str, calf: Animal) -> bool:
+    """Do its sex and its birth leave open that it is a calf's parent?"""
+    return parent.sex in ("", ROLES[role]) and parent.birth.first < calf.birth.last
+
+
+def folded(id: str) -> str:
+    """An id without blanks, signs and the size of letters, by which two that are meant alike are found."""
+    return "".join(one for one in id.casefold() if one.isalnum())
