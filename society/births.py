@@ -143,6 +143,7 @@ class Days:
             day, why = FIRST_DAY.toordinal(), "the earliest that a book can have, since no parent or calf has one"
         if kept and animal.birth.first <= kept <= animal.birth.last:
             day = kept.toordinal()
+            why = why if parents or animal.id in self.likely else "as in the book"
         day = min(max(day, low), self.high[animal.id])
         # where parents and calves leave no day open, that of the cell holds, and the program refuses a parent
         day = min(max(day, animal.birth.first.toordinal()), animal.birth.last.toordinal())

@@ -63,7 +63,7 @@ def read_span(text: str) -> Span:
         raise Unreadable(f"'{text}' has two digits of the year: write all four")
     if re.fullmatch(r"\d{5}(\.\d+)?", text):
         raise Unreadable(f"'{text}' is a number: give the column the format of a date, and save the sheet again")
-    raise Unreadable(f"'{text}' is no day: write it as 2001-03-01 or 01.03.2001, or a year alone")
+    raise Unreadable(f"'{text}' is no day: write it as 2001-03-01 or 01.03.2001, or 03.2001 or 2001 alone")
 
 
 def span_of(parts: dict[str, str | None]) -> Span:

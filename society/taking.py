@@ -72,7 +72,8 @@ class Taking:
         return self.names[number].id if number else ""
 
     def find_sexes(self) -> None:
-        """An animal without a sex has that of the first parent that it is; one that is none is taken for a female."""
+        """An animal without a sex has that of the first parent that it is, or else that of the book; else it is taken for
+        a female."""
         roles: dict[str, str] = {}
         for animal in self.animals.values():
             for role, parent in animal.parents():
@@ -80,9 +81,13 @@ class Taking:
         for id, animal in self.animals.items():
             if animal.sex:
                 continue
-            role = roles.get(id)
-            animal.sex = ROLES[role] if role else "F"
-            animal.sex_inferred = f"since it is a {role}" if role else "since nothing else is known"
+            role, known = roles.get(id), self.book.known.get(id)
+            if role:
+                animal.sex, animal.sex_inferred = ROLES[role], f"since it is a {role}"
+            elif known:
+                animal.sex, animal.sex_inferred = known.number[6], "as in the book"
+            else:
+                animal.sex, animal.sex_inferred = "F", "since nothing else is known"
             if animal.line:
                 word = {"M": "male", "F": "female"}[animal.sex]
                 self.report.tell(INFERRED, animal.line, id, f"sex {word}, {animal.sex_inferred}")

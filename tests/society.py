@@ -533,7 +533,7 @@ class Checks:
             "line 6: e: left out: birth day: there is no day 2002-02-31",
             "line 7: f: left out: birth day: '01.02.98' has two digits of the year: write all four",
             "line 8: g: left out: the sex 'cat' isn't known: write M or F, or name it as --sexes cat=f",
-            "line 8: g: left out: exit: 'sold' is no day: write it as 2001-03-01 or 01.03.2001, or a year alone",
+            "line 8: g: left out: exit: 'sold' is no day: write it as 2001-03-01 or 01.03.2001, or 03.2001 or 2001 alone",
             "line 9: h: left out: the row has 9 cells, and there are 8 titles: is there a separator too many?",
             "line 10: i: left out: the cell 'maybe' for a calf from a stored embryo isn't known: write 1 or nothing",
             "line 15: n: left out: birth day: '37800' is a number: give the column the format of a date, and save the sheet again",
@@ -614,6 +614,8 @@ class Checks:
         stays = "no animal has it as a parent any more, and stays in the book as it is"
         self.told(done, f"line 2: c: inferred: its sire 'Hans' is H1 by its name: {meant}", "line 2: c: changed: sire: H1, before Hans", f"Hans: gone: {stays}")
         self.count(", 1 gone: " in done.last and "with --drop-gone they are dropped" in done.out, f"{done}")
+        self.told(done, "Hans: inferred: birth day 2002-01-02, as in the book")
+        self.count(late.numbers()["Hans"] == "HOLGBRM000000000001", f"its number stays: {late.numbers()}")
         done = late.take(grown, "--drop-gone")
         self.told(done, "Hans: gone: no animal has it as a parent any more: it is dropped from the book")
         self.count(late.numbers().keys() == {"c", "H1"} and late.parents()["c"] == ("H1", ""), f"{late.numbers()}")
