@@ -614,7 +614,7 @@ class Checks:
         stays = "no animal has it as a parent any more, and stays in the book as it is"
         self.told(done, f"line 2: c: inferred: its sire 'Hans' is H1 by its name: {meant}", "line 2: c: changed: sire: H1, before Hans", f"Hans: gone: {stays}")
         self.count(", 1 gone: " in done.last and "with --drop-gone they are dropped" in done.out, f"{done}")
-        self.told(done, "Hans: inferred: birth day 2002-01-02, as in the book")
+        self.told(done, "Hans: inferred: birth day 2002-01-01, as in the book")
         self.count(late.numbers()["Hans"] == "HOLGBRM000000000001", f"its number stays: {late.numbers()}")
         done = late.take(grown, "--drop-gone")
         self.told(done, "Hans: gone: no animal has it as a parent any more: it is dropped from the book")
