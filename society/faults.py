@@ -4,7 +4,7 @@ from __future__ import annotations
 from society.animals import Animal
 from society.commands import birth, leave
 from society.program import REFUSALS, Herdbook
-from society.report import LEFT_OUT, Mistake
+from society.report import LEFT_OUT, MOST_SHOWN, Mistake
 from society.taking import Taking
 
 MOST_STEPS = 60
@@ -31,8 +31,10 @@ def leave_out_faulty_parents(taking: Taking, program: Herdbook) -> None:
 
 def too_deep(animals: list[Animal]) -> None:
     if animals:
+        more = [f"and {len(animals) - MOST_SHOWN} more"] if len(animals) > MOST_SHOWN else []
         raise Mistake(
-            *(f"{one.where()}{REFUSALS[TOO_DEEP]}, which is the limit (refusal {TOO_DEEP})" for one in animals),
+            *(f"{one.where()}{REFUSALS[TOO_DEEP]}, which is the limit (refusal {TOO_DEEP})" for one in animals[:MOST_SHOWN]),
+            *more,
             f"there are paths of parents of more than {MOST_STEPS} steps: leave out the oldest animals, and take the rest",
         )
 

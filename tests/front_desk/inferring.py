@@ -1,0 +1,122 @@
+"""What is inferred where a sheet doesn't give it."""
+from __future__ import annotations
+
+from front_desk.desk import Checks, Desk
+
+
+class InferringChecks(Checks):
+    def inferred_days(self) -> None:
+        """A day lies in its year or month, after the parents' and before the calves'."""
+        desk = Desk(self, "days")
+        done = desk.take(
+            """\
+            id,sex,born,sire,dam
+            year,F,2001,,
+            month,M,03.2002,,
+            late,F,2001-12-30,,
+            squeezed,F,2001,,late
+            calves,F,,,
+            calf,F,2010-05-06,,calves
+            parents,F,,month,
+            between,F,,,late
+            child,M,2002-01-02,,between
+            first,F,,,
+            chain1,M,,,
+            chain2,M,,chain1,
+            chain3,M,2001-01-02,chain2,
+            mate,F,,,
+            theirs,F,,month,mate
+            early,F,2005,,
+            spring,F,2005-03-04,,early
+            """
+        )
+        exits = Desk(self, "exits")
+        taken = exits.take("id,sex,born,sire,dam,exit\ncow,F,2001-01-01,,,2006-03-04\ncalf,F,,,cow,\nown,F,,,cow,2002-01-01\nlater,F,2010-01-01,,calf,\n")
+        self.count(exits.born()["calf"] == "2006-03-04" and exits.born()["own"] == "2002-01-01" and " 0 left out" in taken.last, f"{exits.born()}")
+        born = desk.born()
+        wanted = {
+            "year": "2001-07-02", "month": "2002-03-16", "squeezed": "2001-12-31", "calves": "2008-05-06", "parents": "2004-03-15", "between": "2001-12-31",
+            "first": "1900-01-01", "chain1": "1997-01-03", "chain2": "1999-01-03", "mate": "2002-03-16", "theirs": "2004-03-15", "early": "2005-03-03",
+        }  # fmt: skip
+        self.count(wanted.items() <= born.items(), f"inferred days: {born}")
+        self.count(" 12 inferred, 0 left out" in done.last, done.last)
+        marks = {row["id"]: row["birth"] for row in desk.table("book/ids.csv") if row["birth"]}
+        self.count(marks.keys() == wanted.keys() and marks["year"] == "from the year 2001" and marks["calves"] == "from its calves", f"marks: {marks}")
+        listed = {row["id"]: row["birth"] for row in desk.listed("list")}
+        self.count(all(listed[id] == born[id] + (" (inferred)" if id in wanted else "") for id in born), f"{listed}")
+
+    def days_that_come(self) -> None:
+        """A day that becomes known is taken over, numbers stay, and an inferred day stays where it can."""
+        desk = Desk(self, "come")
+        desk.take("id,sex,born,sire,dam\nmother,F,,,\ncalf,M,2005-06-07,,mother\nyear,F,2003,,\n")
+        before, numbers = desk.born(), desk.numbers()
+        done = desk.take("id,sex,born,sire,dam\nmother,F,,,\ncalf,M,2005-06-07,,mother\nyear,F,02.02.2003,,\nelder,M,2004-08-08,,mother\n")
+        after = desk.born()
+        self.count((before["mother"], after["mother"], after["year"]) == ("2003-06-08", "2003-06-08", "2003-02-02"), f"{before}, {after}")
+        self.count(desk.numbers().items() >= numbers.items(), "numbers stay")
+        self.told(done, "line 4: year: changed: birth day: 2003-02-02, before 2003-07-02")
+        done = desk.take("id,sex,born,sire,dam\nmother,F,,,\ncalf,M,2005-06-07,,mother\nyear,F,,,\nelder,M,2004-08-08,,mother\neldest,M,2003-01-01,,mother\n")
+        self.count(desk.born()["mother"] == "2002-12-31" and desk.born()["year"] == "2003-02-02", f"{desk.born()}")
+        self.told(done, "line 4: year: inferred: birth day 2003-02-02, as in the book, since its cell gives none")
+
+    def sexes(self) -> None:
+        """Without a column of sexes a sire is male and a dam female; what is corrected keeps its digits."""
+        desk = Desk(self, "sexes")
+        done = desk.take("id,born,sire,dam\na,2001-01-01,,\nb,2001-02-01,,\nc,2003-01-01,a,b\nd,2004-01-01,,\n")
+        self.count([number[6] for number in desk.numbers().values()] == ["M", "F", "F", "F"] and " 4 inferred" in done.last, f"{desk.numbers()}")
+        desk.take("id,born,sire,dam\na,2001-01-01,,\nb,2001-02-01,,\nc,2003-01-01,a,b\nd,2004-01-01,,\ne,2008-01-01,d,c\n")
+        self.count(desk.numbers()["d"] == "HOLGBRM000000000004", f"{desk.numbers()}")
+        done = desk.take("id,sex,born,sire,dam\na,M,2001-01-01,,\nb,F,2001-02-01,,\nc,M,2003-01-01,a,b\nd,M,2004-01-01,,\ne,F,2008-01-01,d,c\n")
+        self.count(desk.numbers()["c"] == "HOLGBRM000000000003", f"{desk.numbers()}")
+        self.told(done, "line 6: e: left out: its dam isn't female (refusal 6): c (line 4) is left out as its dam")
+        self.told(done, "line 4: c: changed: number: HOLGBRM000000000003, before HOLGBRF000000000003", "line 6: e: changed: dam: none, before c")
+
+    def named_parents(self) -> None:
+        """A parent that is no id, but one animal's name, is that animal where it can be it; it is told with the line."""
+        desk = Desk(self, "names")
+        sheet = """\
+            id;name;sex;born;sire;dam
+            R1;Max;M;2001-01-01;;
+            R2;Moritz;M;2001-02-01;;
+            E1;Lotte;F;2002-01-01;;
+            E2;Lotte;F;2002-02-01;;
+            E3;Änne;F;2002-03-01;;
+            E4;Rosi;F;2002-03-01;;
+            L1;Moritz;M;2004-01-01;moritz;änne
+            L2;;F;2004-02-01;Max;Lotte
+            L3;;F;2000-01-01;Max;Moritz
+            L4;;F;2004-02-01;Rosi;R1
+            """
+        done = desk.take(sheet)
+        meant = "if another is meant, write the id of that one"
+        self.told(
+            done,
+            f"line 8: L1: inferred: its sire 'moritz' is R2 by its name: {meant}",
+            f"line 8: L1: inferred: its dam 'änne' is E3 by its name: {meant}",
+            f"line 9: L2: inferred: its sire 'Max' is R1 by its name: {meant}",
+            "line 9: Lotte: added: the dam of L2 has no row: added without parents (2 animals have this name, E1, E2: write the id of the one that is meant)",
+            "line 10: Max: added: the sire of L3 has no row: added without parents (is R1 meant?)",
+            "line 10: Moritz: added: the dam of L3 has no row: added without parents (2 animals have this name, R2, L1: write the id of the one that is meant)",
+            "line 11: Rosi: added: the sire of L4 has no row: added without parents (is E4 meant?)",
+            "line 11: L4: left out: its dam isn't female (refusal 6): R1 (line 2) is left out as its dam",
+        )
+        self.count(" 7 inferred, 1 left out, 4 added, 0 gone" in done.last, done.last)
+        parents = desk.parents()
+        self.count((parents["L1"], parents["L2"], parents["L3"]) == (("R2", "E3"), ("R1", "Lotte"), ("Max", "Moritz")), f"{parents}")
+        # a later animal of the name doesn't change what is in the book, but a new calf may be of either
+        done = desk.take(sheet + "E9;Änne;F;2010-01-01;;\nL5;;F;2012-01-01;;Moritz\nL9;;F;2012-01-01;;Änne\n".replace("\n", "\n            "))
+        self.count(desk.parents()["L1"] == ("R2", "E3") and " 0 changed" in done.last, f"{done}")
+        self.count(desk.parents()["L9"] == ("", "Änne"), f"{desk.parents()}")
+        # a row that comes later is found by its name, and a founder that stood for it is no parent any more
+        late = Desk(self, "late")
+        late.take("id,name,sex,born,sire,dam\nc,,F,2004-01-01,Hans,\n")
+        grown = "id,name,sex,born,sire,dam\nc,,F,2004-01-01,Hans,\nH1,Hans,M,2000-01-01,,\n"
+        done = late.take(grown)
+        stays = "no animal has it as a parent any more, and stays in the book as it is"
+        self.told(done, f"line 2: c: inferred: its sire 'Hans' is H1 by its name: {meant}", "line 2: c: changed: sire: H1, before Hans", f"Hans: gone: {stays}")
+        self.count(", 1 gone: " in done.last and "with --drop-gone they are dropped" in done.out, f"{done}")
+        self.told(done, "Hans: inferred: birth day 2002-01-01, as in the book")
+        self.count(late.numbers()["Hans"] == "HOLGBRM000000000001", f"its number stays: {late.numbers()}")
+        done = late.take(grown, "--drop-gone")
+        self.told(done, "Hans: gone: no animal has it as a parent any more: it is dropped from the book")
+        self.count(late.numbers().keys() == {"c", "H1"} and late.parents()["c"] == ("H1", ""), f"{late.numbers()}")

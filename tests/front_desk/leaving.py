@@ -1,0 +1,136 @@
+"""What is left out, corrected or dropped."""
+from __future__ import annotations
+
+import reference
+from front_desk.desk import Checks, Desk
+
+
+class LeavingChecks(Checks):
+    def faulty_parents(self) -> None:
+        """Each parent that is refused is left out, alone, with the line and why; else nothing of the row."""
+        desk = Desk(self, "parents")
+        sheet = """\
+            id;sex;born;sire;dam;exit;embryo
+            a;M;2001-01-01;;;;
+            b;F;2001-02-01;;;2003-01-01;
+            self;M;2002-01-01;self;;;
+            young;F;2004-01-01;a;late;;
+            late;F;2005-01-01;;;;
+            after;F;2004-02-01;a;b;;
+            frozen;F;2004-03-01;a;b;;1
+            both;M;2006-01-01;b;a;;
+            x;M;2007-01-01;z;;;
+            y;M;;x;;;
+            z;M;;y;;;
+            """
+        done = desk.take(sheet)
+        self.told(
+            done,
+            "line 4: self: left out: it would be its own ancestor (self > self): self is left out as its sire",
+            "line 5: young: left out: its dam isn't at least a day older (refusal 8): late (line 6, born 2005-01-01) is left out as its dam; young was born 2004-01-01",
+            "line 7: after: left out: its dam left on a day before the birth (refusal 9): b (line 3, left 2003-01-01) is left out as its dam; "
+            "after was born 2004-02-01; a calf from a stored embryo needs 1 in the column embryo",
+            "line 9: both: left out: its sire isn't male (refusal 5): b (line 3) is left out as its sire",
+            "line 9: both: left out: its dam isn't female (refusal 6): a (line 2) is left out as its dam",
+            "line 12: z: left out: it would be its own ancestor (z > y > x > z): y is left out as its sire",
+        )
+        self.count("11 animals, 11 new, 0 changed, 2 inferred, 6 left out, 0 added, 0 gone" in done.last, done.last)
+        numbers, births = desk.numbers(), {line.split(",")[1]: line.split(",")[3:5] for line in desk.commands() if line.startswith("birth")}
+        found = {id: births[number] for id, number in numbers.items()}
+        wanted = {"young": ["a", 0], "after": ["a", 0], "frozen": ["a", "b"], "both": [0, 0], "x": ["z", 0], "y": ["x", 0], "z": [0, 0], "self": [0, 0]}
+        self.count(all(found[id] == [numbers.get(one, "0") for one in parents] for id, parents in wanted.items()), f"{found}")
+        strict = Desk(self, "strict")
+        done = strict.wrong("6 left out: with --strict nothing is taken", "take", strict.write("sheet.csv", sheet), "--strict")
+        self.count("society: line 4: self: left out: it would be its own ancestor" in done.err, f"{done}")
+        strict.take("id,born,sire,dam\na,2001,,\nb,2003-01-01,a,c\n", "--strict")
+
+    def faulty_rows(self) -> None:
+        """A row or a cell that can't be read is left out and told."""
+        desk = Desk(self, "rows")
+        done = desk.take(
+            """\
+            id,name,sex,born,sire,dam,exit,embryo
+            a,Anna,F,2001-01-01,,,,
+            a,Berta,F,2002-01-01,,,,
+            ,Clara,F,2002-01-01,,,,
+            unknown,Dora,F,2002-01-01,,,,
+            e,Emma,F,31.02.2002,,,,
+            f,Fine,F,01.02.98,,,,
+            g,Gret,cat,2003-01-01,,,sold,
+            h,Hans, the small,M,2003-01-01,,,,
+            i,Ida,F,2003-01-01,A,,,maybe
+            j,Jan,M,2300-01-01,,,,
+            k,Kai,M,2003-01-01,,,,
+            l,Lea,F,2003-01-01,,,,
+            m,Max,M,2003-01-01,,,,
+            n,Nele,F,37800,,,,
+            """
+        )
+        self.told(
+            done,
+            "line 3: a: left out: line 2 has this id too: the row is left out",
+            "line 4: left out: the row has no id",
+            "line 5: unknown: left out: 'unknown' is a word for an unknown animal: give it another id",
+            "line 6: e: left out: birth day: there is no day 2002-02-31",
+            "line 7: f: left out: birth day: '01.02.98' has two digits of the year: write all four",
+            "line 8: g: left out: the sex 'cat' isn't known: write M or F, or name it as --sexes cat=f",
+            "line 8: g: left out: exit: 'sold' is no day: write it as 2001-03-01 or 01.03.2001, or 03.2001 or 2001 alone",
+            "line 9: h: left out: the row has 9 cells, and there are 8 titles: is there a separator too many?",
+            "line 10: i: left out: the cell 'maybe' for a calf from a stored embryo isn't known: write 1 or nothing",
+            "line 15: n: left out: birth day: '37800' is a number: give the column the format of a date, and save the sheet again",
+            "line 11: j: left out: birth day: the year 2300 isn't one of 1900 to 2199",
+            "line 10: A: added: the sire of i has no row: added without parents (is a meant?)",
+        )
+        self.count(" 11 left out, 1 added" in done.last, done.last)
+
+    def corrections(self) -> None:
+        """An exit that changes or is withdrawn, and a parent added later as a row of its own."""
+        desk = Desk(self, "corrections")
+        desk.take("id,sex,born,sire,dam,owner,exit\na,F,2001-01-01,,,x,2010-01-01\nb,M,2003-01-01,c,a,y,2011\n")
+        numbers = desk.numbers()
+        done = desk.take("id,sex,born,sire,dam,owner,exit\na,F,2001-01-01,,,z,2012-02-03\nb,M,2003-01-01,c,a,,\nc,M,2000-05-06,d,,y,\n", "--day", "2020-01-01")
+        self.count(desk.numbers().items() >= numbers.items(), f"{desk.numbers()}")
+        self.told(
+            done,
+            "line 2: a: changed: exit: 2012-02-03, before 2010-01-01",
+            "line 2: a: changed: owner: z, before x",
+            "line 3: b: changed: exit: none, before 2011-12-31",
+            "line 3: b: inferred: owner y, as in the book, since its cell gives none",
+            "line 4: c: changed: birth day: 2000-05-06, before 2001-01-01",
+            "book/commands.csv is written anew, since something in it was corrected or dropped",
+        )
+        lines = desk.commands()
+        self.count(f"transfer,{numbers['a']},2012-02-03,,,1,3," in lines and f"exit,{numbers['a']},2012-02-03,,,,," in lines, f"{lines}")
+        self.count(reference.replies((desk.room / "book/commands.csv").read_text()).count("accepted") == len(lines), f"{lines}")
+        # columns that a sheet doesn't have change nothing, and cells that can't be read neither
+        before = desk.commands()
+        done = desk.take("id,sex,born,sire,dam,exit\na,F,x,,,gone\nb,M,2003-01-01,c,a,\nc,x,2000-05-06,d,,\n")
+        self.count(desk.commands() == before and " 0 changed" in done.last and " 3 left out" in done.last, f"{done}")
+        done = desk.take("id,born,sire,dam\na,2001-01-01,,\nb,2003-01-01,c,a\nc,2000-05-06,d,\n")
+        self.count(desk.commands() == before and " 0 changed" in done.last, f"{done}")
+
+    def dropped(self) -> None:
+        """With --drop-gone animals without a row leave the book, unless one that has a row descends from them."""
+        desk = Desk(self, "dropped")
+        rows = ["a,M,2001-01-01,,,x", "b,F,2001-02-01,,,x", "c,F,2004-01-01,a,b,x", "wrong,M,2005-01-01,import,c,y", "d,F,2006-01-01,a,c,y"]
+        sheet = lambda *those: "id,sex,born,sire,dam,owner\n" + "".join(row + "\n" for row in those)
+        desk.take(sheet(*rows))
+        desk.take(sheet(rows[0], rows[1][:-1] + "y", *rows[2:]), "--day", "2010-01-01")
+        numbers = desk.numbers()
+        without = sheet(rows[0], rows[2], rows[4])
+        before = desk.commands()
+        done = desk.take(without)
+        gone = "gone: it has no row any more, and stays in the book as it is"
+        self.told(done, f"b: {gone}", f"wrong: {gone}")
+        self.count(desk.commands() == before and ", 2 gone: " in done.last, f"{done}")
+        done = desk.take(without, "--drop-gone")
+        self.told(done, f"b: {gone}", "wrong: gone: it has no row any more: it is dropped from the book", "import: gone: no animal has it as a parent any more: it is dropped from the book")
+        self.count("book: 4 animals, 0 new, 0 changed, 0 inferred, 0 left out, 0 added, 3 gone: " in done.last, done.last)
+        self.count(desk.numbers() == {id: numbers[id] for id in "abcd"} and desk.parents()["d"] == ("a", "c"), f"{desk.numbers()}")
+        self.count(sum(line.startswith("transfer") for line in desk.commands()) == 1, f"{desk.commands()}")
+        self.count(reference.replies((desk.room / "book/commands.csv").read_text()).count("accepted") == len(desk.commands()), "all are accepted")
+        self.count([row["id"] for row in desk.listed("mating", "--dam", "d")] == ["a"], "the founder is no sire any more")
+        done = desk.take(without, "--drop-gone")
+        self.count(", 0 changed, 0 inferred, 0 left out, 0 added, 1 gone: " in done.last and "anew" not in done.out, f"{done}")
+        done = desk.take(sheet(*rows[:3], rows[4], "e,F,2011-01-01,,,"))
+        self.count(desk.numbers().items() >= {id: numbers[id] for id in "abcd"}.items() and ", 1 new, " in done.last, f"{done}")
