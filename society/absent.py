@@ -66,21 +66,28 @@ class Names:
                 self.named[animal.name.casefold()].append(animal)
 
     def find_parents(self, rows: dict[str, Animal], book: Book) -> None:
-        """A parent that is no row's id, but the name of one animal alone, is taken for that one where it can be it. Of
-        several animals of the name it is the one that is the parent in the book."""
+        """A parent that is no row's id, but the name of one animal alone, is taken for that one where it can be it. What
+        is the parent in the book stays it, whatever other animals have its name."""
         with_row = rows.keys() | {id for id, known in book.known.items() if known.row == "yes"}
         ids = {known.number: id for id, known in book.known.items()}
-        for animal in rows.values():
-            known = book.known.get(animal.id)
-            for role, text in animal.parents():
-                named = [] if text in with_row else self.others(animal, text)
-                if len(named) > 1 and known:
-                    in_book = ids.get(getattr(book.records[known.number], role))
-                    named = [one for one in named if one.id == in_book]
-                if len(named) == 1 and can_be(named[0], role, animal):
-                    setattr(animal, role, named[0].id)
-                    why = f"its {role} '{text}' is {named[0].id} by its name: if another is meant, write the id of that one"
-                    self.report.tell(INFERRED, animal.line, animal.id, why)
+        links = [(calf, role, text) for calf in rows.values() for role, text in calf.parents() if text not in with_row]
+        links = [(calf, role, text) for calf, role, text in links if text.casefold() in self.named]
+        others = {(role, text.casefold()) for calf, role, text in links if not self.possible(calf, role, text)}
+        for calf, role, text in links:
+            known = book.known.get(calf.id)
+            in_book = ids.get(getattr(book.records[known.number], role)) if known else None
+            possible = self.possible(calf, role, text)
+            meant = [one for one in possible if one.id == in_book]
+            # where it can't be the parent of one calf there is another animal of this name, which may be that of all
+            if not meant and (role, text.casefold()) not in others and len(self.others(calf, text)) == 1:
+                meant = possible
+            if meant:
+                setattr(calf, role, meant[0].id)
+                why = f"its {role} '{text}' is {meant[0].id} by its name: if another is meant, write the id of that one"
+                self.report.tell(INFERRED, calf.line, calf.id, why)
+
+    def possible(self, calf: Animal, role: str, name: str) -> list[Animal]:
+        return [one for one in self.others(calf, name) if can_be(one, role, calf)]
 
     def others(self, calf: Animal, name: str) -> list[Animal]:
         """The animals of a name, but for the calf itself."""
@@ -88,10 +95,12 @@ class Names:
 
     def add_parents(self) -> None:
         """A founder for each parent without a row."""
+        calves = collections.Counter(parent for animal in self.animals.values() for _, parent in animal.parents())
         for animal in list(self.animals.values()):
             for role, parent in animal.parents():
                 if parent not in self.animals:
-                    why = f"the {role} of {animal.id} has no row: added without parents{self.hint(animal, parent)}"
+                    more = f" and of {calves[parent] - 1} more" if calves[parent] > 1 else ""
+                    why = f"the {role} of {animal.id}{more} has no row: added without parents{self.hint(animal, parent)}"
                     self.report.tell(ADDED, animal.line, parent, why)
                     self.animals[parent] = Animal(parent)
 

@@ -21,7 +21,7 @@ INVENTED = "invented"
 @dataclass(slots=True)
 class Known:
     """What an animal's number stands for, and what was inferred of it: a line of `ids.csv`. `row` is `yes` where the
-    animal has had a row in a sheet, and `no` for a parent without one."""
+    animal has had a row in a sheet, `no` for a parent without one, and `dropped` where it isn't in the book any more."""
 
     number: str
     id: str
@@ -54,6 +54,7 @@ class Book:
         self.commands: list[Command] = []
         self.records: dict[str, Record] = {}
         self.known: dict[str, Known] = {}
+        self.dropped: dict[str, Known] = {}
         self.owners: dict[str, int] = {}
         self.names_of_herds: dict[int, str] = {}
 
@@ -78,6 +79,8 @@ class Book:
             known = Known(*row)
             if known.number in self.records:
                 self.known[known.id] = known
+            elif known.row == "dropped":
+                self.dropped[known.id] = known
         named = {known.number for known in self.known.values()}
         self.known |= {number: Known(number, number) for number in self.records if number not in named}
         owners = self.read_table(OWNERS, ["herd", "owner"])
@@ -98,7 +101,8 @@ class Book:
 
     def save(self, entries: list[Entry]) -> None:
         """Writes all files beside the old ones first, and then puts each in its place, the command file last."""
-        ids = [astuple(known) for known in sorted(self.known.values(), key=lambda known: known.number[7:])]
+        all_known = sorted((*self.known.values(), *self.dropped.values()), key=lambda known: known.number[7:])
+        ids = [astuple(known) for known in all_known]
         owners = [(herd, owner) for owner, herd in self.owners.items()]
         report = [(entry.line or "", entry.id, entry.what, entry.why) for entry in entries]
         texts = {

@@ -86,7 +86,7 @@ def finish(taking: Taking, program: Herdbook, wishes: Wishes, about: list[str], 
     commands, is_anew = filing.filed(program)
     filing.tell_changes()
     new = sum(1 for animal in taking.animals.values() if animal.line and animal.id not in book.known)
-    book.commands, book.known = commands, taking.known_animals()
+    book.commands, book.known, book.dropped = commands, taking.known_animals(), taking.dropped_animals()
     book.save(report.in_order())
     print("\n".join(about))
     show(report)

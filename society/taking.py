@@ -1,6 +1,8 @@
 """The animals that are to stand in a book: what the sheet says of them, and what the book has besides."""
 from __future__ import annotations
 
+from dataclasses import replace
+
 from society.absent import Names, add_gone, animals_of_book
 from society.animals import ROLES, Animal
 from society.births import Days, cut_cycles
@@ -98,9 +100,10 @@ class Taking:
         Days(self.animals, kept).infer(self.report)
 
     def give_numbers(self, breed: str, country: str) -> None:
-        """An animal of the book keeps its twelve digits; new ones go on from the greatest, by birth day and id."""
+        """An animal that is or was in the book keeps its twelve digits; new ones go on from the greatest, by birth day and
+        id. No number of a dropped animal is given to another."""
         last = 0
-        for id, known in self.book.known.items():
+        for id, known in (self.book.dropped | self.book.known).items():
             animal = self.animals.get(id)
             if animal:
                 animal.number = known.number[:6] + animal.sex + known.number[7:]
@@ -110,6 +113,10 @@ class Taking:
         new = [animal for animal in self.animals.values() if not animal.number]
         for digits, animal in enumerate(sorted(new, key=lambda one: (one.born, one.id)), last + 1):
             animal.number = f"{breed or 'HOL'}{country or 'GBR'}{animal.sex}{digits:012}"
+
+    def dropped_animals(self) -> dict[str, Known]:
+        before = self.book.dropped | self.book.known
+        return {id: replace(known, row="dropped") for id, known in before.items() if id not in self.animals}
 
     def known_animals(self) -> dict[str, Known]:
         """What `ids.csv` has of each animal afterwards."""

@@ -70,7 +70,7 @@ class Desk:
         return (self.room / "book/commands.csv").read_text().splitlines()[1:]
 
     def numbers(self) -> dict[str, str]:
-        return {row["id"]: row["number"] for row in self.table("book/ids.csv")}
+        return {row["id"]: row["number"] for row in self.table("book/ids.csv") if row["row"] != "dropped"}
 
     def born(self) -> dict[str, str]:
         days = {line.split(",")[1]: line.split(",")[2] for line in self.commands() if line.startswith("birth")}

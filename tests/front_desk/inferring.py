@@ -82,27 +82,31 @@ class InferringChecks(Checks):
             E2;Lotte;F;2002-02-01;;
             E3;Änne;F;2002-03-01;;
             E4;Rosi;F;2002-03-01;;
+            R5;Leo;M;2001-03-01;;
             L1;Moritz;M;2004-01-01;moritz;änne
             L2;;F;2004-02-01;Max;Lotte
-            L3;;F;2000-01-01;Max;Moritz
+            L3;;F;2000-01-01;Leo;Moritz
             L4;;F;2004-02-01;Rosi;R1
+            L6;;F;2004-02-01;Leo;Rosi
             """
         done = desk.take(sheet)
         meant = "if another is meant, write the id of that one"
         self.told(
             done,
-            f"line 8: L1: inferred: its sire 'moritz' is R2 by its name: {meant}",
-            f"line 8: L1: inferred: its dam 'änne' is E3 by its name: {meant}",
-            f"line 9: L2: inferred: its sire 'Max' is R1 by its name: {meant}",
-            "line 9: Lotte: added: the dam of L2 has no row: added without parents (2 animals have this name, E1, E2: write the id of the one that is meant)",
-            "line 10: Max: added: the sire of L3 has no row: added without parents (is R1 meant?)",
-            "line 10: Moritz: added: the dam of L3 has no row: added without parents (2 animals have this name, R2, L1: write the id of the one that is meant)",
-            "line 11: Rosi: added: the sire of L4 has no row: added without parents (is E4 meant?)",
-            "line 11: L4: left out: its dam isn't female (refusal 6): R1 (line 2) is left out as its dam",
+            f"line 9: L1: inferred: its sire 'moritz' is R2 by its name: {meant}",
+            f"line 9: L1: inferred: its dam 'änne' is E3 by its name: {meant}",
+            f"line 10: L2: inferred: its sire 'Max' is R1 by its name: {meant}",
+            f"line 13: L6: inferred: its dam 'Rosi' is E4 by its name: {meant}",
+            "line 10: Lotte: added: the dam of L2 has no row: added without parents (2 animals have this name, E1, E2: write the id of the one that is meant)",
+            "line 11: Leo: added: the sire of L3 and of 1 more has no row: added without parents (is R5 meant?)",
+            "line 11: Moritz: added: the dam of L3 has no row: added without parents (2 animals have this name, R2, L1: write the id of the one that is meant)",
+            "line 12: Rosi: added: the sire of L4 has no row: added without parents (is E4 meant?)",
+            "line 12: L4: left out: its dam isn't female (refusal 6): R1 (line 2) is left out as its dam",
         )
-        self.count(" 7 inferred, 1 left out, 4 added, 0 gone" in done.last, done.last)
+        self.count(" 8 inferred, 1 left out, 4 added, 0 gone" in done.last, done.last)
         parents = desk.parents()
-        self.count((parents["L1"], parents["L2"], parents["L3"]) == (("R2", "E3"), ("R1", "Lotte"), ("Max", "Moritz")), f"{parents}")
+        wanted = {"L1": ("R2", "E3"), "L2": ("R1", "Lotte"), "L3": ("Leo", "Moritz"), "L4": ("Rosi", ""), "L6": ("Leo", "E4")}
+        self.count(wanted.items() <= parents.items(), f"{parents}")
         # a later animal of the name doesn't change what is in the book, but a new calf may be of either
         done = desk.take(sheet + "E9;Änne;F;2010-01-01;;\nL5;;F;2012-01-01;;Moritz\nL9;;F;2012-01-01;;Änne\n".replace("\n", "\n            "))
         self.count(desk.parents()["L1"] == ("R2", "E3") and " 0 changed" in done.last, f"{done}")

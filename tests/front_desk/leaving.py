@@ -132,5 +132,10 @@ class LeavingChecks(Checks):
         self.count([row["id"] for row in desk.listed("mating", "--dam", "d")] == ["a"], "the founder is no sire any more")
         done = desk.take(without, "--drop-gone")
         self.count(", 0 changed, 0 inferred, 0 left out, 0 added, 1 gone: " in done.last and "anew" not in done.out, f"{done}")
+        # no other animal gets the number of one that was dropped, which gets it again when it comes back
         done = desk.take(sheet(*rows[:3], rows[4], "e,F,2011-01-01,,,"))
-        self.count(desk.numbers().items() >= {id: numbers[id] for id in "abcd"}.items() and ", 1 new, " in done.last, f"{done}")
+        after = desk.numbers()
+        self.count(after.items() >= {id: numbers[id] for id in "abcd"}.items() and ", 1 new, " in done.last, f"{done}")
+        self.count(after["e"] == "HOLGBRF000000000007" and len(numbers) == 6, f"{after}")
+        desk.take(sheet(*rows, "e,F,2011-01-01,,,"))
+        self.count(desk.numbers() == numbers | {"e": after["e"]}, f"{desk.numbers()}")
