@@ -16,7 +16,7 @@ ROLES = {"sire": "M", "dam": "F"}
 CUT = re.compile(r"\d[.,]?\d*E\+\d+", re.IGNORECASE)
 # what to do where most cells of a column can't be read
 ADVICE = {
-    "sex": "write M or F, or say which sex each word is, as --sexes {word}=f",
+    "sex": "write M or F, or say which sex each word is, as --sexes {word}=m or {word}=f",
     "birth": "write days as 2001-03-01 or 01.03.2001, or 03.2001 or 2001 alone; or name another column, as --columns birth=TITLE",
     "exit": "write days as 2001-03-01 or 01.03.2001; or name another column, as --columns exit=TITLE, or none, as --columns exit=",
     "embryo": "write 1 or nothing; or name another column, as --columns embryo=TITLE, or none, as --columns embryo=",
@@ -136,7 +136,7 @@ class Rows:
         self.read["sex"] += 1
         sex = self.sexes.get(word, "")
         if not sex:
-            self.leave_out(animal, "sex", text, f"the sex '{text}' isn't known: write M or F, or name it as --sexes {text}=f")
+            self.leave_out(animal, "sex", text, f"the sex '{text}' isn't known: write M or F, or name it as --sexes {text}=m or {text}=f")
         return sex
 
     def span(self, animal: Animal, field: str, text: str) -> Span | None:

@@ -111,7 +111,7 @@ def parser() -> Parser:
         one.add_argument("--out", type=file, metavar="FILE", help="write to this file, not to the screen")
 
     certificate = word("certificate", "write an animal's certificate, a page of HTML for the printer")
-    certificate.add_argument("--title", default="", help="what stands above the animal [Certificate of pedigree]")
+    certificate.add_argument("--title", default="", help="what stands above the animal [Certificate of pedigree, in the language]")
     certificate.add_argument("--language", choices=LANGUAGES, default="en", help="the page's language [en]")
     tree = word("pedigree", "draw an animal with its known ancestors, inbred ones marked")
     tree.add_argument("--generations", type=generations, default=4, metavar="N", help="how many, 1 to 10 [4]")

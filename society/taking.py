@@ -37,7 +37,7 @@ class Taking:
         Names(self.animals, self.report).add_parents()
         if len(self.animals) > MOST_ANIMALS:
             many = f"the sheet and the book have {len(self.animals):,} animals together"
-            raise Mistake(f"{many}, and a book holds at most {MOST_ANIMALS:,}: leave out the oldest")
+            raise Mistake(f"{many}, and a book holds at most {MOST_ANIMALS:,}: leave out the oldest, and take the rest with --drop-gone")
 
     def keep(self, animal: Animal) -> None:
         """What the sheet has no column for, or no text that can be read, stays as it is in the book."""

@@ -73,7 +73,7 @@ class LeavingChecks(Checks):
             "line 5: unknown: left out: 'unknown' is a word for an unknown animal: give it another id",
             "line 6: e: left out: birth day: there is no day 2002-02-31",
             "line 7: f: left out: birth day: '01.02.98' has two digits of the year: write all four",
-            "line 8: g: left out: the sex 'cat' isn't known: write M or F, or name it as --sexes cat=f",
+            "line 8: g: left out: the sex 'cat' isn't known: write M or F, or name it as --sexes cat=m or cat=f",
             "line 8: g: left out: exit: 'sold' is no day: write it as 2001-03-01 or 01.03.2001, or 03.2001 or 2001 alone",
             "line 9: h: left out: the row has 9 cells, and there are 8 titles: is there a separator too many?",
             "line 10: i: left out: the cell 'maybe' for a calf from a stored embryo isn't known: write 1 or nothing",

@@ -88,6 +88,8 @@ class PedigreeChecks(Checks):
         self.count("no choice of sexes fits all couples" in done.out and " 3 left out" in done.last, f"{done}")
         done = desk.good("take", "--pedigree", desk.write("more.txt", "g f e\na 0 0\nb 0 0\nc a b\nd c a\ne d c\nf 0 d\n"))
         self.count(", 1 new, " in done.last, f"{done}")
+        done = desk.good("take", "--pedigree", "both.txt", "--drop-gone")
+        self.count("book: 6 animals, 0 new, " in done.last and ", 1 gone: " in done.last, f"{done}")
         for text, told in [
             ("a b\n", "line 1: 'a b' has 2 cells: write an id, its sire and its dam"), ("", "has no animals: write a line `id sire dam` for each"),
             ("a 0 0\n0 a a\n", "line 2: '0' is a word for an unknown parent"), ("id,sire\na,b\n", "line 1: the titles have to be id, sire and dam"),
