@@ -140,7 +140,7 @@ class Book:
             raise Mistake(f"{len(named)} animals have the name '{word}': name one by its id: {ids}")
         names = [*self.known, *(known.name for known in self.known.values() if known.name)]
         if any(name.startswith(f"{word} ") for name in names):
-            raise Mistake(f"the book has no animal '{word}': put an id with blanks between quotation marks")
+            raise Mistake(f"the book has no animal '{word}': put an id or a name with blanks between quotation marks")
         close = difflib.get_close_matches(word, names, 3, 0.75) if len(names) < 20_000 else []
         hint = f": is {' or '.join(close)} meant?" if close else f": {self.folder / IDS} has the ids"
         raise Mistake(f"the book has no animal '{word}'{hint}")

@@ -25,7 +25,7 @@ The status is 0 where it is done, and 1 after a mistake; nothing is written then
 
 class Parser(argparse.ArgumentParser):
     def error(self, message: str) -> NoReturn:
-        hint = "put an id with blanks between quotation marks; " if message.startswith("unrecognized") else ""
+        hint = "put an id or a name with blanks between quotation marks; " if message.startswith("unrecognized") else ""
         raise Mistake(f"{message}: {hint}`{self.prog} --help` shows what can be written")
 
 

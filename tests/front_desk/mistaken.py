@@ -53,7 +53,7 @@ class MistakeChecks(Checks):
             (["mating", "--dam", "a", "HOLGBRM000000000009"], "the book has no animal 'HOLGBRM000000000009': book/ids.csv has the ids"),
             (["mating", "--dam", "a"], "the book has no male"),
             (["mating", "--dam", "a", "a", "--all"], "not both"),
-            (["certificate", "DE", "01", "2345"], "unrecognized arguments: 01 2345: put an id with blanks between quotation marks"),
+            (["certificate", "DE", "01", "2345"], "unrecognized arguments: 01 2345: put an id or a name with blanks between quotation marks"),
             (["list", "--out", "book"], "'book' is a folder: name a file"),
             (["inverse", "--matrix-market", "."], "'.' is a folder: name a file"),
             (["pedigree", "a", "--generations", "11"], "'11' isn't 1 to 10"),
