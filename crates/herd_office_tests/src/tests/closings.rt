@@ -3,7 +3,7 @@ ghost use Rattle.std.specs.Prelude.{◌≡◌};
 ghost use Rattle.herd_office.specs.Parts.{AreNamed};
 
 use super::commands::founder;
-use super::filing::{closed, limits, not_closed};
+use super::filing::{closed, frozen_length, limits, not_closed};
 use herd_fixtures::Name::Bull;
 use herd_office::*;
 use std::alloc::Global;
@@ -55,7 +55,7 @@ fn expect_one_birth<N: OfficeName>(
     inspectors: &mut Vec<Inspector<N>>,
 ) {
     for inspector in inspectors {
-        let frozen = inspector.freeze(alloc).expect(rt, "frozen");
-        assert_eq!(rt; (frozen.len(), inspector.steps_seen()), (1, 1));
+        let length = frozen_length(inspector, alloc);
+        assert_eq!(rt; (length, inspector.steps_seen()), (Ok(1), 1));
     }
 }

@@ -1,8 +1,10 @@
 //! What the tests do with desks and offices.
 ghost use Rattle.std.specs.Prelude.{◌≡◌};
 
+use super::commands::founder;
+use herd_fixtures::Name;
 use herd_office::*;
-use herd_register::{Command, FileFault, Limits, Register};
+use herd_register::{Command, FileFault, Limits, Register, Reply};
 use std::alloc::{Allocator, Global};
 use std::process::Abort;
 use std::sync::Wait;
@@ -28,6 +30,30 @@ pub(super) fn file_one<N: OfficeName, R: Wait>(
     (desk, filed)
 }
 
+/// Files the birth of a founder, which is accepted. Its slip.
+pub(super) fn file_accepted<N: OfficeName, R: Wait + Abort>(
+    rt: &R,
+    office: &Office<N, &R>,
+    desk: &mut Desk<N>,
+    name: Name,
+) -> Slip<N> {
+    let Filed {
+        serial: _,
+        reply,
+        slip,
+    } = desk.file(rt, office, founder(rt, name)).expect(rt, "filed");
+    assert_eq!(rt; reply, Reply::Accepted);
+    slip
+}
+
+/// How many animals the book has that an inspector freezes.
+pub(super) fn frozen_length<N: OfficeName, A: Allocator + Copy>(
+    inspector: &mut Inspector<N>,
+    alloc: A,
+) -> Result<u32, FreezeFault> {
+    inspector.freeze(alloc).map(|frozen| frozen.len())
+}
+
 /// The register of an office that is closed with all of these.
 pub(super) fn closed<N: OfficeName, R: Wait, A: Allocator + Copy>(
     rt: &R,
@@ -50,17 +76,13 @@ pub(super) fn not_closed<'a, N: OfficeName, R: Wait + Abort>(
     wanted: CloseFault,
 ) -> Handed<N, &'a R> {
     let (office, desks, inspectors) = handed;
-    match office.close(rt, desks, inspectors) {
-        Ok(_register) => panic!(rt; "closed without all"),
-        Err(unclosed) => {
-            let Unclosed {
-                cause,
-                office,
-                desks,
-                inspectors,
-            } = unclosed;
-            assert_eq!(rt; cause, wanted);
-            (office, desks, inspectors)
-        }
-    }
+    let unclosed = office.close(rt, desks, inspectors).err();
+    let Unclosed {
+        cause,
+        office,
+        desks,
+        inspectors,
+    } = unclosed.expect(rt, "closed without all");
+    assert_eq!(rt; cause, wanted);
+    (office, desks, inspectors)
 }

@@ -3,10 +3,10 @@ ghost use Rattle.std.specs.Prelude.{◌≡◌};
 ghost use Rattle.herd_office.specs.Parts.{AreNamed};
 
 use super::commands::founder;
-use super::filing::{closed, limits};
+use super::filing::{closed, frozen_length, limits};
 use herd_fixtures::Name::Bull;
 use herd_office::*;
-use herd_register::FileFault;
+use herd_register::{Command, FileFault};
 use linked_list_allocator::LocalHeap;
 use std::alloc::{AllocError, Allocator, Global};
 use std::marker::Brand;
@@ -108,8 +108,8 @@ fn use_office<'r, N: OfficeName, R: Wait + Abort, A: Allocator + Copy>(
     let mut desk = desks.pop().expect(rt, "a desk");
     let mut inspector = inspectors.pop().expect(rt, "an inspector");
     let refused = file_and_freeze(rt, allocators, &office, (&mut desk, &mut inspector), crowd);
-    desks.push(desk)?;
-    inspectors.push(inspector)?;
+    desks.push(desk).expect(rt, "room");
+    inspectors.push(inspector).expect(rt, "room");
     // Closing takes no memory.
     crowd.fill()?;
     let register = closed(rt, office, desks, inspectors)?;
@@ -154,25 +154,44 @@ fn file_in_time<N: OfficeName, R: Wait + Abort, A: Allocator + Copy>(
     births: u16,
     crowd: &mut Crowd<'_>,
 ) -> u32 {
+    let birth = founder(rt, Bull(u32::from(births)));
     for refused in 0..TIMES {
-        match desk.file(rt, office, founder(rt, Bull(u32::from(births)))) {
-            Ok(filed) => {
-                assert_eq!(rt; filed.serial, u32::from(births) + 1);
-                return refused;
-            }
-            Err(fault) => assert_eq!(rt;
-                (fault, desk.answered()),
-                (FileFault::Memory, u64::from(births))
-            ),
+        let serial = filed_serial(rt, office, desk, &birth);
+        if serial == Ok(u32::from(births) + 1) {
+            return refused;
         }
-        let frozen = inspector.freeze(global).expect(rt, "frozen");
         assert_eq!(rt;
-            (frozen.len(), inspector.steps_seen()),
-            (u32::from(births), u64::from(births))
+            (serial, desk.answered()),
+            (Err(FileFault::Memory), u64::from(births))
         );
+        expect_seen(rt, global, inspector, births);
         crowd.give_back();
     }
     TIMES
+}
+
+// The number of the step that a desk files.
+fn filed_serial<N: OfficeName, R: Wait, A: Allocator + Copy>(
+    rt: &R,
+    office: &Office<N, &R, A>,
+    desk: &mut Desk<N>,
+    birth: &Command,
+) -> Result<u32, FileFault> {
+    desk.file(rt, office, *birth).map(|filed| filed.serial)
+}
+
+// The inspector sees so many births.
+fn expect_seen<N: OfficeName>(
+    rt: &impl Abort,
+    global: Global,
+    inspector: &mut Inspector<N>,
+    births: u16,
+) {
+    let length = frozen_length(inspector, global);
+    assert_eq!(rt;
+        (length, inspector.steps_seen()),
+        (Ok(u32::from(births)), u64::from(births))
+    );
 }
 
 // Freezes the book that has a birth more than was seen, with a block given back each time. How often it was refused.
@@ -184,17 +203,15 @@ fn freeze_in_time<N: OfficeName, A: Allocator + Copy>(
     crowd: &mut Crowd<'_>,
 ) -> u32 {
     for refused in 0..TIMES {
-        match inspector.freeze(alloc) {
-            Ok(frozen) => {
-                assert_eq!(rt; frozen.len(), u32::from(births) + 1);
-                assert_eq!(rt; inspector.steps_seen(), u64::from(births) + 1);
-                return refused;
-            }
-            Err(fault) => assert_eq!(rt;
-                (fault, inspector.steps_seen()),
-                (FreezeFault::Memory, u64::from(births))
-            ),
+        let length = frozen_length(inspector, alloc);
+        if length == Ok(u32::from(births) + 1) {
+            assert_eq!(rt; inspector.steps_seen(), u64::from(births) + 1);
+            return refused;
         }
+        assert_eq!(rt;
+            (length, inspector.steps_seen()),
+            (Err(FreezeFault::Memory), u64::from(births))
+        );
         crowd.give_back();
     }
     TIMES

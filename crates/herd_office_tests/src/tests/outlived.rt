@@ -2,8 +2,7 @@
 ghost use Rattle.std.specs.Prelude.{◌≡◌};
 ghost use Rattle.herd_office.specs.Parts.{AreNamed};
 
-use super::commands::founder;
-use super::filing::limits;
+use super::filing::{file_accepted, frozen_length, limits};
 use herd_fixtures::Name::Bull;
 use herd_office::*;
 use std::alloc::Global;
@@ -29,16 +28,12 @@ fn outlive<N: OfficeName, R: Wait + Abort>(
     let (office, mut desks, mut inspectors) = Office::<N, &R>::open(alloc, parts)?;
     let mut desk = desks.pop().expect(rt, "a desk");
     let mut inspector = inspectors.pop().expect(rt, "an inspector");
-    desk.file(rt, &office, founder(rt, Bull(1)))
-        .expect(rt, "filed");
-    let length = inspector.freeze(alloc).map(|frozen| frozen.len());
-    assert_eq!(rt; length, Ok(1));
-    let second = desk
-        .file(rt, &office, founder(rt, Bull(2)))
-        .expect(rt, "filed");
+    let _first = file_accepted(rt, &office, &mut desk, Bull(1));
+    assert_eq!(rt; frozen_length(&mut inspector, alloc), Ok(1));
+    let second = file_accepted(rt, &office, &mut desk, Bull(2));
     drop(office);
     expect_no_reading(rt, alloc, &mut inspector, 1);
-    inspector.learn(&second.slip);
+    inspector.learn(&second);
     expect_no_reading(rt, alloc, &mut inspector, 2);
     Ok(())
 }
@@ -50,7 +45,7 @@ fn expect_no_reading<N: OfficeName>(
     inspector: &mut Inspector<N>,
     steps: u64,
 ) {
-    let length = inspector.freeze(alloc).map(|frozen| frozen.len());
+    let length = frozen_length(inspector, alloc);
     assert_eq!(rt;
         (length, inspector.steps_seen()),
         (Err(FreezeFault::NoReading), steps)

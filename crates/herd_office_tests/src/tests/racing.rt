@@ -110,13 +110,24 @@ impl<'a> Race<'a> {
     ) -> Vec<JoinHandle<Returned<N>>> {
         let mut threads = Vec::new(alloc);
         for desk in desks {
-            let turn = self.turn(desk.number());
-            match scope.spawn(move || file_turn(rt, office, desk, turn, line)) {
-                Ok(thread) => threads.push(thread).expect(rt, "room"),
-                Err(_) => panic!(rt; "no thread"),
-            }
+            let thread = self.start(rt, scope, office, desk, line);
+            threads.push(thread).expect(rt, "room");
         }
         threads
+    }
+
+    // A thread on which the desk files its turn.
+    fn start<'r, N: OfficeName + Send + Sync, E, R: Wait + Abort + Sync>(
+        self,
+        rt: &'a R,
+        scope: &'a Scope<'a, E>,
+        office: &'a Office<N, &'r R>,
+        desk: Desk<N>,
+        line: &'a Start,
+    ) -> JoinHandle<Returned<N>> {
+        let turn = self.turn(desk.number());
+        let started = scope.spawn(move || file_turn(rt, office, desk, turn, line));
+        started.ok().expect(rt, "a thread")
     }
 
     // What the desk of this number files.

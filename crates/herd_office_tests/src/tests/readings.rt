@@ -3,7 +3,7 @@ ghost use Rattle.std.specs.Prelude.{◌≡◌};
 ghost use Rattle.herd_office.specs.Parts.{AreNamed};
 
 use super::commands::founder;
-use super::filing::{closed, file_one, limits};
+use super::filing::{closed, file_accepted, file_one, limits};
 use herd_fixtures::Name;
 use herd_fixtures::Name::Bull;
 use herd_office::*;
@@ -157,10 +157,8 @@ fn file_many<N: OfficeName, R: Wait + Abort>(
 ) -> Option<Slip<N>> {
     let mut last = None;
     for k in 0..500_u16 {
-        let birth = founder(rt, Bull(u32::from(from.wrapping_add(k))));
-        let filed = desk.file(rt, office, birth).expect(rt, "filed");
-        assert_eq!(rt; filed.reply, Reply::Accepted);
-        last = Some(filed.slip);
+        let slip = file_accepted(rt, office, &mut desk, Bull(u32::from(from.wrapping_add(k))));
+        last = Some(slip);
     }
     last
 }
