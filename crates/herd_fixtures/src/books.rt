@@ -87,33 +87,59 @@ pub fn pedigree_of<A: Allocator + Copy>(
     Ok(pedigree)
 }
 
+// What is frozen of a pedigree.
+fn frozen_pedigree<A: Allocator + Copy>(
+    alloc: A,
+    pedigree: &Pedigree<A>,
+) -> Result<Frozen<A>, BirthFault>
+    ensures { IfOk result (IsFrozenFrom DEPTH_LIMIT MOST_ANIMALS pedigree.now.book) }
+{
+    pedigree.freeze(alloc).map_err(BirthFault::from)
+}
+
 /// The frozen book of these births.
 pub fn frozen_of<A: Allocator + Copy>(alloc: A, births: &[Birth]) -> Result<Frozen<A>, BirthFault>
     ensures { IfOk result (IsFrozenFrom DEPTH_LIMIT MOST_ANIMALS (map entry births.now)) }
 {
     let mut pedigree = Pedigree::new(alloc);
     file_births(&mut pedigree, births)?;
-    Ok(pedigree.freeze(alloc)?)
+    frozen_pedigree(alloc, &pedigree)
+}
+
+fn file_founders<A: Allocator + Copy>(
+    pedigree: &mut Pedigree<A>,
+    count: u16,
+) -> Result<(), BirthFault> {
+    for before in 0..count {
+        let name = Bull(u32::from(before) + 1);
+        file_birth(pedigree, Birth(name, *b"2000-01-01", UNKNOWN))?;
+    }
+    Ok(())
 }
 
 /// The frozen book of so many bulls of unknown parents, numbered from 1.
 pub fn founders<A: Allocator + Copy>(alloc: A, count: u16) -> Result<Frozen<A>, BirthFault> {
     let mut pedigree = Pedigree::new(alloc);
-    for before in 0..count {
-        let name = Bull(u32::from(before) + 1);
-        file_birth(&mut pedigree, Birth(name, *b"2000-01-01", UNKNOWN))?;
+    file_founders(&mut pedigree, count)?;
+    frozen_pedigree(alloc, &pedigree)
+}
+
+fn file_pairs<A: Allocator + Copy>(
+    pedigree: &mut Pedigree<A>,
+    count: u8,
+) -> Result<(), BirthFault> {
+    for generation in 0..count {
+        file_births(pedigree, &pair_of(generation))?;
     }
-    Ok(pedigree.freeze(alloc)?)
+    Ok(())
 }
 
 /// The frozen book of so many generations of a bull and a cow, each of the pair before. Bulls have odd numbers, cows
 /// even ones. The first pair is born on the first day of 2000, and each further one a year later.
 pub fn generations<A: Allocator + Copy>(alloc: A, count: u8) -> Result<Frozen<A>, BirthFault> {
     let mut pedigree = Pedigree::new(alloc);
-    for generation in 0..count {
-        file_births(&mut pedigree, &pair_of(generation))?;
-    }
-    Ok(pedigree.freeze(alloc)?)
+    file_pairs(&mut pedigree, count)?;
+    frozen_pedigree(alloc, &pedigree)
 }
 
 /// The births of such a pair: of the first one, which has no parents, for 0.
