@@ -8,7 +8,7 @@ use herd_animal::AnimalNumber;
 use herd_fixtures::Name::{Bull, Cow};
 use herd_fixtures::{Pair, UNKNOWN};
 use herd_pedigree::{Frozen, ParentFault, Parents, Pedigree};
-use std::alloc::Global;
+use std::alloc::{AllocError, Global};
 use std::process::Abort;
 use std::test::Fail;
 
@@ -106,18 +106,32 @@ fn returning() -> [(Change, ParentFault); 2] {
     ]
 }
 
-#[test]
-fn a_path_that_comes_back_is_too_deep(rt: HostRuntime) -> Result<(), Fail> {
-    let mut pedigree = pedigree_of(&rt, rt.alloc(), &family())?;
-    expect_faults(&rt, &mut pedigree, &returning())?;
-    let parents = Pair::of(Bull(9), Cow(2));
-    let fault = pedigree.check_parents(
+// The fault of the bull as a later calf of these parents.
+fn fault_with(
+    rt: &impl Abort,
+    pedigree: &Pedigree<Global>,
+    parents: Pair,
+) -> Result<Option<ParentFault>, AllocError> {
+    let birth = day(rt, *b"2006-01-01");
+    pedigree.check_parents(
         Bull(1).number(),
-        day(&rt, *b"2006-01-01"),
+        birth,
         parents.sire_number(),
         parents.dam_number(),
         false,
-    )?;
+    )
+}
+
+// The bull's descendants and himself can't be his parents; others can.
+fn expect_too_deep(rt: &impl Abort, pedigree: &mut Pedigree<Global>) -> Result<(), Fail> {
+    expect_faults(rt, pedigree, &returning())?;
+    let fault = fault_with(rt, pedigree, Pair::of(Bull(9), Cow(2)))?;
     assert_eq!(rt; fault, None);
     Ok(())
+}
+
+#[test]
+fn a_path_that_comes_back_is_too_deep(rt: HostRuntime) -> Result<(), Fail> {
+    let mut pedigree = pedigree_of(&rt, rt.alloc(), &family())?;
+    expect_too_deep(&rt, &mut pedigree)
 }

@@ -48,12 +48,16 @@ fn older_bulls() -> [Change; 2] {
 }
 
 // Sixty generations of one pair each, and the two older bulls.
+fn file_generations(rt: &impl Abort, pedigree: &mut Pedigree<Global>) -> Result<(), Fail> {
+    for generation in 0..DEPTH_LIMIT {
+        file_pair(rt, pedigree, generation)?;
+    }
+    file_all(rt, pedigree, &older_bulls())
+}
+
 fn deep_book(rt: &impl Abort, alloc: Global) -> Result<Pedigree<Global>, Fail> {
     let mut pedigree = Pedigree::new(alloc);
-    for generation in 0..DEPTH_LIMIT {
-        file_pair(rt, &mut pedigree, generation)?;
-    }
-    file_all(rt, &mut pedigree, &older_bulls())?;
+    file_generations(rt, &mut pedigree)?;
     Ok(pedigree)
 }
 
@@ -69,31 +73,35 @@ fn expect_depths(rt: &impl Abort, pedigree: &Pedigree<Global>, first: u8) {
     }
 }
 
-#[test]
-fn a_sire_two_steps_deep_makes_paths_too_long(rt: HostRuntime) -> Result<(), Fail> {
-    let mut pedigree = deep_book(&rt, rt.alloc())?;
-    expect_depths(&rt, &pedigree, 0);
-    let first = seen_of(&rt, &pedigree, Bull(0));
+// The first bull can't get a sire with a depth of one, and all is as before.
+fn expect_too_deep(rt: &impl Abort, pedigree: &mut Pedigree<Global>) -> Result<(), Fail> {
+    expect_depths(rt, pedigree, 0);
+    let first = seen_of(rt, pedigree, Bull(0));
     let correction = Change::Parents(Bull(0), Pair::of_sire(Bull(102)));
-    expect_filed(&rt, &mut pedigree, correction, Some(ParentFault::TooDeep))?;
-    assert_eq!(rt; seen_of(&rt, &pedigree, Bull(0)), first);
-    expect_depths(&rt, &pedigree, 0);
+    expect_filed(rt, pedigree, correction, Some(ParentFault::TooDeep))?;
+    assert_eq!(rt; seen_of(rt, pedigree, Bull(0)), first);
+    expect_depths(rt, pedigree, 0);
     Ok(())
 }
 
-// The first bull gets this sire, and so a depth of one.
-fn set_sire(rt: &impl Abort, pedigree: &mut Pedigree<Global>) -> Result<(), Fail> {
+#[test]
+fn a_sire_two_steps_deep_makes_paths_too_long(rt: HostRuntime) -> Result<(), Fail> {
+    let mut pedigree = deep_book(&rt, rt.alloc())?;
+    expect_too_deep(&rt, &mut pedigree)
+}
+
+// The first bull gets this sire, and so a depth of one, until that is taken back.
+fn expect_taken_back(rt: &impl Abort, pedigree: &mut Pedigree<Global>) -> Result<(), Fail> {
     let correction = Change::Parents(Bull(0), Pair::of_sire(Bull(101)));
     expect_filed(rt, pedigree, correction, None)?;
     expect_depths(rt, pedigree, 1);
+    take_back(rt, pedigree);
+    expect_depths(rt, pedigree, 0);
     Ok(())
 }
 
 #[test]
 fn sixty_depths_are_taken_back(rt: HostRuntime) -> Result<(), Fail> {
     let mut pedigree = deep_book(&rt, rt.alloc())?;
-    set_sire(&rt, &mut pedigree)?;
-    take_back(&rt, &mut pedigree);
-    expect_depths(&rt, &pedigree, 0);
-    Ok(())
+    expect_taken_back(&rt, &mut pedigree)
 }

@@ -1,14 +1,16 @@
 //! Books that are frozen: their rows, and the ranks of numbers.
-ghost use Rattle.std.specs.Prelude.{IfOk};
+ghost use Rattle.std.specs.Prelude.{◌≡◌, [], ◌∷◌, length, map, IfOk, OnOk};
+ghost use Rattle.herd_fixtures.specs.Birth.{entry};
 ghost use Rattle.herd_pedigree.specs.rules.Lawful.{IsLawful};
 ghost use Rattle.herd_pedigree.specs.declared.TheConstants.{DEPTH_LIMIT, MOST_ANIMALS};
 
-use herd_animal::AnimalNumber;
+use herd_animal::{AnimalNumber, DayFault};
 use herd_fixtures::Name::{Bull, Cow};
-use herd_fixtures::{Birth, Pair, UNKNOWN, pedigree_of, row_at};
+use herd_fixtures::{Birth, BirthFault, Pair, UNKNOWN, pedigree_of, row_at};
 use herd_pedigree::{Animal, Frozen, Parents, Pedigree, Row, freeze_list};
 use linked_list_allocator::LocalHeap;
 use std::alloc::{Allocator, Global};
+use std::process::Abort;
 use std::test::Fail;
 
 const FOUNDER: Parents = Parents {
@@ -23,19 +25,53 @@ const OFFSPRING: Parents = Parents {
     depth: 1,
 };
 
-// A bull, a cow and their calf, in order of registration. They are the records of a book, so they are lawful.
+// A bull, a cow and their calf, in order of registration.
+fn births() -> [Birth; 3] {
+    [
+        Birth(Bull(1), *b"2000-01-01", UNKNOWN),
+        Birth(Cow(2), *b"2000-01-01", UNKNOWN),
+        Birth(Bull(3), *b"2002-01-01", Pair::of(Bull(1), Cow(2))),
+    ]
+}
+
+// Lets a book go. Its records are lawful, as it tells with any depth.
+fn let_go(pedigree: Pedigree<Global>)
+    ensures { IsLawful DEPTH_LIMIT MOST_ANIMALS pedigree.book }
+{
+    pedigree.depth(&Bull(1).number());
+}
+
+// Births that a book takes are lawful records.
+fn expect_lawful(alloc: Global, births: &[Birth]) -> Result<(), BirthFault>
+    ensures { OnOk result (IsLawful DEPTH_LIMIT MOST_ANIMALS (map entry births.now)) }
+{
+    pedigree_of(alloc, births).map(let_go)
+}
+
+fn records_of(bull: Birth, cow: Birth, calf: Birth) -> Result<[(AnimalNumber, Animal); 3], DayFault>
+    ensures { IfOk result (λ records. records ≡ entry bull ∷ entry cow ∷ entry calf ∷ []) }
+{
+    Ok([bull.entry()?, cow.entry()?, calf.entry()?])
+}
+
+fn lawful_records(
+    alloc: Global,
+    bull: Birth,
+    cow: Birth,
+    calf: Birth,
+) -> Result<[(AnimalNumber, Animal); 3], Fail>
+    ensures { IfOk result (IsLawful DEPTH_LIMIT MOST_ANIMALS) }
+{
+    expect_lawful(alloc, &[bull, cow, calf])?;
+    Ok(records_of(bull, cow, calf)?)
+}
+
+// The records of the family, which are lawful.
 fn family(alloc: Global) -> Result<[(AnimalNumber, Animal); 3], Fail>
     ensures { IfOk result (IsLawful DEPTH_LIMIT MOST_ANIMALS) }
 {
-    let bull = Birth(Bull(1), *b"2000-01-01", UNKNOWN);
-    let cow = Birth(Cow(2), *b"2000-01-01", UNKNOWN);
-    let calf = Birth(Bull(3), *b"2002-01-01", Pair::of(Bull(1), Cow(2)));
-    let pedigree = pedigree_of(alloc, &[bull, cow, calf])?;
-    pedigree.depth(&calf.0.number());
-    let kept_bull = bull.entry()?;
-    let kept_cow = cow.entry()?;
-    let kept_calf = calf.entry()?;
-    Ok([kept_bull, kept_cow, kept_calf])
+    let [bull, cow, calf] = births();
+    lawful_records(alloc, bull, cow, calf)
 }
 
 // The rows of the family in age order: of one day, the cow's number is the smaller.
@@ -66,19 +102,43 @@ fn rows_in<A: Allocator>(frozen: &Frozen<A>) -> Option<[Row; 3]> {
     Some([row_at(frozen, 0)?, row_at(frozen, 1)?, row_at(frozen, 2)?])
 }
 
+fn has_family_rows<A: Allocator>(
+    frozen: &Frozen<A>,
+    records: &[(AnimalNumber, Animal); 3],
+) -> bool {
+    rows_in(frozen) == Some(family_rows(records))
+}
+
+// The parents of the bull and of the calf.
+fn has_family_parents<A: Allocator>(frozen: &Frozen<A>) -> bool
+    requires { length frozen.now ≡ 3 }
+{
+    frozen.parents(1) == FOUNDER && frozen.parents(2) == OFFSPRING
+}
+
+fn has_family_levels<A: Allocator>(frozen: &Frozen<A>) -> bool {
+    frozen.level(0) == [0, 1].as_slice()
+        && frozen.level(1) == [2].as_slice()
+        && frozen.level(2).is_empty()
+        && frozen.level(61).is_empty()
+}
+
+fn expect_family<A: Allocator>(
+    rt: &impl Abort,
+    frozen: &Frozen<A>,
+    records: &[(AnimalNumber, Animal); 3],
+) {
+    assert!(rt; has_family_rows(frozen, records));
+    assert_eq!(rt; frozen.len(), 3);
+    assert!(rt; has_family_parents(frozen));
+    assert!(rt; has_family_levels(frozen));
+}
+
 #[test]
 fn freezes_a_family(rt: HostRuntime) -> Result<(), Fail> {
     let records = family(rt.alloc())?;
     let frozen = freeze_list(rt.alloc(), &records)?;
-    assert_eq!(rt; rows_in(&frozen), Some(family_rows(&records)));
-    assert_eq!(rt; frozen.len(), 3);
-    assert_eq!(rt;
-        [frozen.parents(1), frozen.parents(2)],
-        [FOUNDER, OFFSPRING]
-    );
-    assert_eq!(rt; frozen.level(0), [0, 1].as_slice());
-    assert_eq!(rt; frozen.level(1), [2].as_slice());
-    assert!(rt; frozen.level(2).is_empty() && frozen.level(61).is_empty());
+    expect_family(&rt, &frozen, &records);
     Ok(())
 }
 
@@ -100,7 +160,7 @@ fn answers_memory_or_the_family(rt: HostRuntime) -> Result<(), Fail> {
     for blocks in 1..400 {
         let heap = LocalHeap::new(rt.alloc(), 16 * blocks)?;
         match freeze_list(&heap, &records) {
-            Ok(frozen) => assert_eq!(rt; rows_in(&frozen), Some(family_rows(&records))),
+            Ok(frozen) => assert!(rt; has_family_rows(&frozen, &records)),
             Err(_) => refused = refused.saturating_add(1),
         }
     }

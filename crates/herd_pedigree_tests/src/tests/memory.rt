@@ -1,8 +1,8 @@
 //! A pedigree whose memory is refused answers so and is as before, or it answers in full.
 
-use super::changes::{Change, expect_filed, file, file_all, pedigree_of};
+use super::changes::{Change, file, file_all, pedigree_of};
 use super::family::{birth, cows, family, no_parents, older_sire, sire};
-use super::seen::{Seen, family_seen};
+use super::seen::{Seen, family_seen, tells};
 use herd_fixtures::row_at;
 use herd_pedigree::{Frozen, Pedigree, Row};
 use linked_list_allocator::LocalHeap;
@@ -45,11 +45,22 @@ fn refusals(
         if file(rt, pedigree, change).is_ok() {
             return refused;
         }
-        assert_eq!(rt; family_seen(rt, pedigree), before, "{change:?}");
+        assert!(rt; tells(rt, pedigree, &before), "{change:?}");
         assert_eq!(rt; pedigree.can_take_back(), can_take_back, "{change:?}");
         drop(blocks.pop());
     }
     TIMES
+}
+
+// The family's book after some changes.
+fn family_after<A: Allocator + Copy>(
+    rt: &impl Abort,
+    alloc: A,
+    before: &[Change],
+) -> Result<Pedigree<A>, Fail> {
+    let mut pedigree = pedigree_of(rt, alloc, &family())?;
+    file_all(rt, &mut pedigree, before)?;
+    Ok(pedigree)
 }
 
 // What the family's book tells after some changes and one more, where there is enough memory.
@@ -59,10 +70,35 @@ fn seen_after(
     before: &[Change],
     change: Change,
 ) -> Result<[Seen; 6], Fail> {
-    let mut pedigree = pedigree_of(rt, alloc, &family())?;
-    file_all(rt, &mut pedigree, before)?;
-    expect_filed(rt, &mut pedigree, change, None)?;
+    let mut pedigree = family_after(rt, alloc, before)?;
+    file_all(rt, &mut pedigree, &[change])?;
     Ok(family_seen(rt, &pedigree))
+}
+
+// Whether a change is refused in the crowded heap at first. It is made then, and this is told of the family.
+fn is_made_in_time(
+    rt: &impl Abort,
+    mut blocks: Blocks<'_>,
+    pedigree: &mut Pedigree<&LocalHeap>,
+    change: Change,
+    wanted: &[Seen; 6],
+) -> bool {
+    refusals(rt, pedigree, &mut blocks, change) > 0 && tells(rt, pedigree, wanted)
+}
+
+fn expect_in_crowd(
+    rt: &impl Abort,
+    alloc: Global,
+    heap: &LocalHeap,
+    before: &[Change],
+    change: Change,
+    wanted: &[Seen; 6],
+) -> Result<(), Fail> {
+    let mut pedigree = family_after(rt, heap, before)?;
+    let blocks = crowd(alloc, heap)?;
+    let is_made = is_made_in_time(rt, blocks, &mut pedigree, change, wanted);
+    assert!(rt; is_made, "{change:?}");
+    Ok(())
 }
 
 // In a crowded heap a change that follows some others is refused at first, and then made.
@@ -72,20 +108,9 @@ fn expect_in_time(
     before: &[Change],
     change: Change,
 ) -> Result<(), Fail> {
+    let wanted = seen_after(rt, alloc, before, change)?;
     let heap = small_heap(alloc)?;
-    let mut pedigree = pedigree_of(rt, &heap, &family())?;
-    file_all(rt, &mut pedigree, before)?;
-    let mut blocks = crowd(alloc, &heap)?;
-    assert!(rt;
-        refusals(rt, &mut pedigree, &mut blocks, change) > 0,
-        "{change:?}"
-    );
-    assert_eq!(rt;
-        family_seen(rt, &pedigree),
-        seen_after(rt, alloc, before, change)?,
-        "{change:?}"
-    );
-    Ok(())
+    expect_in_crowd(rt, alloc, &heap, before, change, &wanted)
 }
 
 // A ninth animal, for which there is no room; a correction whose check searches the descendants; and two that ask the
@@ -112,20 +137,28 @@ fn rows_of<A: Allocator>(frozen: &Frozen<A>) -> Option<[Row; 5]> {
     ])
 }
 
-// Freezes a book, with one more free block each time, until that is accepted. Returns the rows, and how often it
-// wasn't.
-fn freeze_in_time(
+fn has_rows<A: Allocator>(frozen: &Frozen<A>, rows: &[Row; 5]) -> bool {
+    match rows_of(frozen) {
+        Some(found) => found == *rows,
+        None => false,
+    }
+}
+
+// Freezes a book, with one more free block each time, until that is accepted. Returns whether it wasn't at first, and
+// then the rows are these.
+fn is_frozen_in_time(
     pedigree: &Pedigree<Global>,
     heap: &LocalHeap,
     blocks: &mut Blocks<'_>,
-) -> (Option<[Row; 5]>, u32) {
+    rows: &[Row; 5],
+) -> bool {
     for refused in 0..TIMES {
         if let Ok(frozen) = pedigree.freeze(heap) {
-            return (rows_of(&frozen), refused);
+            return refused > 0 && has_rows(&frozen, rows);
         }
         drop(blocks.pop());
     }
-    (None, TIMES)
+    false
 }
 
 fn frozen_rows(pedigree: &Pedigree<Global>, alloc: Global) -> Result<Option<[Row; 5]>, AllocError> {
@@ -133,13 +166,33 @@ fn frozen_rows(pedigree: &Pedigree<Global>, alloc: Global) -> Result<Option<[Row
     Ok(rows_of(&frozen))
 }
 
+// In a crowded heap a book is refused to be frozen at first, and then frozen to these rows.
+fn expect_frozen_in_time(
+    rt: &impl Abort,
+    alloc: Global,
+    pedigree: &Pedigree<Global>,
+    rows: &[Row; 5],
+) -> Result<(), Fail> {
+    let heap = small_heap(alloc)?;
+    let mut blocks = crowd(alloc, &heap)?;
+    assert!(rt; is_frozen_in_time(pedigree, &heap, &mut blocks, rows));
+    Ok(())
+}
+
+// A book is frozen in time to the rows that it has where there is enough memory.
+fn expect_same_rows(
+    rt: &impl Abort,
+    alloc: Global,
+    pedigree: &Pedigree<Global>,
+) -> Result<(), Fail> {
+    match frozen_rows(pedigree, alloc)? {
+        Some(rows) => expect_frozen_in_time(rt, alloc, pedigree, &rows),
+        None => Err(Fail::from("there aren't five rows")),
+    }
+}
+
 #[test]
 fn freezes_in_time(rt: HostRuntime) -> Result<(), Fail> {
     let pedigree = pedigree_of(&rt, rt.alloc(), &family())?;
-    let heap = small_heap(rt.alloc())?;
-    let mut blocks = crowd(rt.alloc(), &heap)?;
-    let (rows, refused) = freeze_in_time(&pedigree, &heap, &mut blocks);
-    assert!(rt; rows.is_some() && refused > 0);
-    assert_eq!(rt; rows, frozen_rows(&pedigree, rt.alloc())?);
-    Ok(())
+    expect_same_rows(&rt, rt.alloc(), &pedigree)
 }

@@ -36,6 +36,15 @@ pub(super) fn family_seen<A: Allocator>(rt: &impl Abort, pedigree: &Pedigree<A>)
     ]
 }
 
+/// Whether the pedigree tells just this of the family.
+pub(super) fn tells<A: Allocator>(
+    rt: &impl Abort,
+    pedigree: &Pedigree<A>,
+    wanted: &[Seen; 6],
+) -> bool {
+    family_seen(rt, pedigree) == *wanted
+}
+
 pub(super) fn depth_of<A: Allocator>(pedigree: &Pedigree<A>, name: Name) -> Option<u8> {
     pedigree.depth(&name.number())
 }
