@@ -9,9 +9,29 @@ use herd_fixtures::Name::{Bull, Cow};
 use herd_fixtures::{Birth, Pair, UNKNOWN, heap_of, herd_of};
 use herd_pedigree::{Animal, Frozen, Row};
 use herd_register::{Copybook, Limits, Refusal, Register, Reply, Step};
+use linked_list_allocator::LocalHeap;
 use std::alloc::{AllocError, Allocator, Global};
 use std::process::Abort;
 use std::test::Fail;
+
+// Steps of each kind that are accepted.
+fn seven() -> [Text; 7] {
+    [
+        Text::Founder(Bull(1)),
+        Text::Founder(Cow(2)),
+        Text::Birth(Bull(3), "2002-01-01", Pair::of_sire(Bull(1))),
+        Text::Parents(Bull(3), Pair::of(Bull(1), Cow(2))),
+        Text::Exit(Cow(2), "2003-01-01"),
+        Text::EmbryoBirth(Cow(4), "2004-01-01", Pair::of(Bull(3), Cow(2))),
+        Text::Transfer(Bull(3), "2005-01-01", "1", "2"),
+    ]
+}
+
+fn file_eight(rt: &impl Abort, register: &mut Register<Global>) -> Result<(), Fail> {
+    file_all(rt, register, &seven())?;
+    let early = Text::Exit(Bull(3), "2004-12-31");
+    file(rt, register, early, Reply::Refused(Refusal::DayTooEarly))
+}
 
 /// A register with as many steps as its limits allow: one of each kind and more, and a refused one at the end.
 pub(super) fn full_register(rt: &impl Abort, alloc: Global) -> Result<Register<Global>, Fail> {
@@ -20,26 +40,7 @@ pub(super) fn full_register(rt: &impl Abort, alloc: Global) -> Result<Register<G
         steps: 8,
     };
     let mut register = Register::new(alloc, limits);
-    file_all(
-        rt,
-        &mut register,
-        &[
-            Text::Founder(Bull(1)),
-            Text::Founder(Cow(2)),
-            Text::Birth(Bull(3), "2002-01-01", Pair::of_sire(Bull(1))),
-            Text::Parents(Bull(3), Pair::of(Bull(1), Cow(2))),
-            Text::Exit(Cow(2), "2003-01-01"),
-            Text::EmbryoBirth(Cow(4), "2004-01-01", Pair::of(Bull(3), Cow(2))),
-            Text::Transfer(Bull(3), "2005-01-01", "1", "2"),
-        ],
-    )?;
-    let early = Text::Exit(Bull(3), "2004-12-31");
-    file(
-        rt,
-        &mut register,
-        early,
-        Reply::Refused(Refusal::DayTooEarly),
-    )?;
+    file_eight(rt, &mut register)?;
     Ok(register)
 }
 
@@ -127,25 +128,34 @@ fn full_copy<A: Allocator, B: Allocator + Copy>(
 }
 
 // What a full copy has, and that another step changes nothing of it.
-fn expect_full(rt: &impl Abort, mut copybook: Copybook<Global>) -> Result<(), Fail>
-    requires legal { IsLegal copybook.limits copybook.journal }
-    requires full { length copybook.journal ≡ copybook.limits.steps }
+fn expect_full(rt: &impl Abort, copybook: &mut Copybook<Global>) -> Result<(), Fail>
+    requires legal { IsLegal copybook.old.limits copybook.old.journal }
+    requires full { length copybook.old.journal ≡ copybook.old.limits.steps }
 {
     let records = records()?;
     let step = accepted(Text::Founder(Bull(5)))?;
-    assert!(rt; has_records(&copybook, &records));
-    assert!(rt; takes_no_more(&mut copybook, &step, &records));
+    assert!(rt; has_records(copybook, &records));
+    assert!(rt; takes_no_more(copybook, &step, &records));
     assert_eq!(rt; copybook.steps(), 8);
     Ok(())
+}
+
+// The copy of a full register is full.
+fn expect_full_copy(
+    rt: &impl Abort,
+    alloc: Global,
+    register: &Register<Global>,
+) -> Result<(), Fail> {
+    match full_copy(alloc, register)? {
+        Some(mut copybook) => expect_full(rt, &mut copybook),
+        None => Err(Fail::from("the register isn't full")),
+    }
 }
 
 #[test]
 fn takes_over_as_many_steps_as_the_limits_allow(rt: HostRuntime) -> Result<(), Fail> {
     let register = full_register(&rt, rt.alloc())?;
-    match full_copy(rt.alloc(), &register)? {
-        Some(copybook) => expect_full(&rt, copybook),
-        None => Err(Fail::from("the register isn't full")),
-    }
+    expect_full_copy(&rt, rt.alloc(), &register)
 }
 
 // No register tells such steps: births of more animals than the limits allow, and changes of one that isn't there. They
@@ -166,6 +176,17 @@ fn take_over_more_than_fits<A: Allocator>(copybook: &mut Copybook<A>) -> Result<
 }
 
 // No memory is taken for them.
+fn expect_nothing_set(
+    rt: &impl Abort,
+    heap: &LocalHeap,
+    copybook: &mut Copybook<&LocalHeap>,
+) -> Result<(), Fail> {
+    let used = heap.used();
+    take_over_more_than_fits(copybook)?;
+    assert_eq!(rt; (copybook.steps(), heap.used()), (5, used));
+    Ok(())
+}
+
 #[test]
 fn takes_over_steps_that_set_nothing(rt: HostRuntime) -> Result<(), Fail> {
     let limits = Limits {
@@ -174,10 +195,7 @@ fn takes_over_steps_that_set_nothing(rt: HostRuntime) -> Result<(), Fail> {
     };
     let heap = heap_of(rt.alloc(), 4096)?;
     let mut copybook = Copybook::new(&heap, limits)?;
-    let used = heap.used();
-    take_over_more_than_fits(&mut copybook)?;
-    assert_eq!(rt; (copybook.steps(), heap.used()), (5, used));
-    Ok(())
+    expect_nothing_set(&rt, &heap, &mut copybook)
 }
 
 /// The rows of the full register. Of one day, the cow's number is the smaller.
@@ -237,10 +255,18 @@ pub(super) fn freezes_to<B: Allocator + Clone>(
     is_frozen_as(&copybook, frozen, rows)
 }
 
+fn expect_age_order(
+    rt: &impl Abort,
+    alloc: Global,
+    register: &Register<Global>,
+) -> Result<(), Fail> {
+    let rows = rows()?;
+    assert!(rt; freezes_to(alloc, register, alloc, &rows)?);
+    Ok(())
+}
+
 #[test]
 fn freezes_in_age_order(rt: HostRuntime) -> Result<(), Fail> {
     let register = full_register(&rt, rt.alloc())?;
-    let rows = rows()?;
-    assert!(rt; freezes_to(rt.alloc(), &register, rt.alloc(), &rows)?);
-    Ok(())
+    expect_age_order(&rt, rt.alloc(), &register)
 }

@@ -5,7 +5,7 @@ use herd_fixtures::{heap_of, spare_of};
 use herd_pedigree::Row;
 use herd_register::{Copybook, Register, Step};
 use linked_list_allocator::LocalHeap;
-use std::alloc::{Allocator, Global};
+use std::alloc::{AllocError, Allocator, Global};
 use std::process::Abort;
 use std::test::Fail;
 
@@ -35,6 +35,18 @@ fn is_copied(rt: &impl Abort, heap: &LocalHeap, register: &Register<Global>) -> 
     }
 }
 
+// Whether there is no room for a copy while the spare bytes are taken.
+fn is_refused_a_copy(
+    rt: &impl Abort,
+    heap: &LocalHeap,
+    register: &Register<Global>,
+) -> Result<bool, AllocError> {
+    let spare = spare_of(heap)?;
+    let is_small = !is_copied(rt, heap, register);
+    drop(spare);
+    Ok(is_small)
+}
+
 // Whether a heap with so many bytes is too small for a copy, which is made once the spare bytes are given back.
 fn is_too_small_to_copy(
     rt: &(impl Abort + AllocGlobal),
@@ -42,22 +54,38 @@ fn is_too_small_to_copy(
     register: &Register<Global>,
 ) -> Result<bool, Fail> {
     let heap = heap_of(rt.alloc(), bytes)?;
-    let spare = spare_of(&heap)?;
-    let is_small = !is_copied(rt, &heap, register);
-    drop(spare);
+    let is_small = is_refused_a_copy(rt, &heap, register)?;
     assert!(rt; is_copied(rt, &heap, register));
     Ok(is_small)
+}
+
+// Each growth of a copy is refused in turn: the heap is a little larger each time.
+fn expect_copies(rt: &(impl Abort + AllocGlobal), register: &Register<Global>) -> Result<(), Fail> {
+    assert!(rt; is_too_small_to_copy(rt, 16, register)?);
+    for size in 1..512 {
+        is_too_small_to_copy(rt, 16 * size, register)?;
+    }
+    assert!(rt; !is_too_small_to_copy(rt, 8192, register)?);
+    Ok(())
 }
 
 #[test]
 fn copies_with_memory_alone(rt: HostRuntime) -> Result<(), Fail> {
     let register = full_register(&rt, rt.alloc())?;
-    assert!(rt; is_too_small_to_copy(&rt, 16, &register)?);
-    for size in 1..512 {
-        is_too_small_to_copy(&rt, 16 * size, &register)?;
-    }
-    assert!(rt; !is_too_small_to_copy(&rt, 8192, &register)?);
-    Ok(())
+    expect_copies(&rt, &register)
+}
+
+// Whether the frozen book of a copy has these rows, where there is room for it while the spare bytes are taken.
+fn frozen_without_spare(
+    alloc: Global,
+    heap: &LocalHeap,
+    register: &Register<Global>,
+    rows: &[Row],
+) -> Result<Option<bool>, AllocError> {
+    let spare = spare_of(heap)?;
+    let frozen = freezes_to(alloc, register, heap, rows);
+    drop(spare);
+    Ok(frozen.ok())
 }
 
 // Whether a heap with so many bytes is too small for the frozen book of a copy, which has these rows; it is frozen once
@@ -69,22 +97,25 @@ fn is_too_small_to_freeze(
     rows: &[Row],
 ) -> Result<bool, Fail> {
     let heap = heap_of(rt.alloc(), bytes)?;
-    let spare = spare_of(&heap)?;
-    let frozen = freezes_to(rt.alloc(), register, &heap, rows);
+    let frozen = frozen_without_spare(rt.alloc(), &heap, register, rows)?;
     assert!(rt; frozen.unwrap_or(true));
-    drop(spare);
     assert!(rt; freezes_to(rt.alloc(), register, &heap, rows)?);
-    Ok(frozen.is_err())
+    Ok(frozen.is_none())
+}
+
+// Each growth of a frozen book is refused in turn.
+fn expect_frozen(rt: &(impl Abort + AllocGlobal), register: &Register<Global>) -> Result<(), Fail> {
+    let rows = rows()?;
+    assert!(rt; is_too_small_to_freeze(rt, 16, register, &rows)?);
+    for size in 1..512 {
+        is_too_small_to_freeze(rt, 16 * size, register, &rows)?;
+    }
+    assert!(rt; !is_too_small_to_freeze(rt, 8192, register, &rows)?);
+    Ok(())
 }
 
 #[test]
 fn freezes_with_memory_alone(rt: HostRuntime) -> Result<(), Fail> {
     let register = full_register(&rt, rt.alloc())?;
-    let rows = rows()?;
-    assert!(rt; is_too_small_to_freeze(&rt, 16, &register, &rows)?);
-    for size in 1..512 {
-        is_too_small_to_freeze(&rt, 16 * size, &register, &rows)?;
-    }
-    assert!(rt; !is_too_small_to_freeze(&rt, 8192, &register, &rows)?);
-    Ok(())
+    expect_frozen(&rt, &register)
 }

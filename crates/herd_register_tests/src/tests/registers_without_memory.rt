@@ -6,6 +6,7 @@ use super::seen::{expect_depths, is_seen, seen_of};
 use super::texts::Text;
 use herd_fixtures::{heap_of, spare_of};
 use herd_register::{FileFault, Limits, Register, Reply};
+use linked_list_allocator::LocalHeap;
 use std::alloc::Allocator;
 use std::process::Abort;
 use std::test::Fail;
@@ -61,26 +62,48 @@ fn expect_answered<A: Allocator + Copy>(
     Ok(())
 }
 
-// Whether a heap with so many bytes is too small for the texts. They are answered once the spare bytes are given back,
-// and the calf has this depth then, each bull of its line a step more.
+// How many texts are answered while the spare bytes of the heap are taken.
+fn answered_without_spare(
+    rt: &impl Abort,
+    heap: &LocalHeap,
+    register: &mut Register<&LocalHeap>,
+    texts: &[Text],
+) -> Result<usize, Fail> {
+    let spare = spare_of(heap)?;
+    let answered = answered_first(rt, register, texts)?;
+    drop(spare);
+    Ok(answered)
+}
+
+// Whether the heap is too small for the texts. They are answered once the spare bytes are given back, and the calf has
+// this depth then, each bull of its line a step more.
+fn is_filed_late(
+    rt: &impl Abort,
+    heap: &LocalHeap,
+    register: &mut Register<&LocalHeap>,
+    texts: &[Text],
+    depth: u8,
+) -> Result<bool, Fail> {
+    let answered = answered_without_spare(rt, heap, register, texts)?;
+    expect_answered(rt, register, texts, answered)?;
+    expect_depths(rt, register, depth);
+    Ok(answered < texts.len())
+}
+
+// Whether a heap with so many bytes is too small for the texts.
 fn is_too_small(
     rt: &(impl Abort + AllocGlobal),
     bytes: usize,
     texts: &[Text],
     depth: u8,
 ) -> Result<bool, Fail> {
-    let heap = heap_of(rt.alloc(), bytes)?;
-    let spare = spare_of(&heap)?;
     let limits = Limits {
         animals: 8,
         steps: 9,
     };
+    let heap = heap_of(rt.alloc(), bytes)?;
     let mut register = Register::new(&heap, limits);
-    let answered = answered_first(rt, &mut register, texts)?;
-    drop(spare);
-    expect_answered(rt, &mut register, texts, answered)?;
-    expect_depths(rt, &register, depth);
-    Ok(answered < texts.len())
+    is_filed_late(rt, &heap, &mut register, texts, depth)
 }
 
 // The line, its calf's dam, and a last text, at which the journal grows.

@@ -40,22 +40,31 @@ fn withdraw<A: Allocator>(rt: &impl Abort, register: &mut Register<A>) {
 }
 
 // A refused step sets nothing, and an accepted one is taken out with all that it set.
+fn expect_withdrawn(
+    rt: &impl Abort,
+    register: &mut Register<Global>,
+    text: Text,
+    reply: Reply,
+) -> Result<(), Fail> {
+    file_all(rt, register, &line())?;
+    let before = seen_of(register);
+    file(rt, register, text, reply)?;
+    if reply != Reply::Accepted {
+        assert!(rt; is_seen(register, &before));
+    }
+    withdraw(rt, register);
+    assert!(rt; is_seen(register, &before));
+    expect_depths(rt, register, 1);
+    Ok(())
+}
+
 fn file_and_withdraw(rt: &impl Abort, alloc: Global, text: Text, reply: Reply) -> Result<(), Fail> {
     let limits = Limits {
         animals: 8,
         steps: 8,
     };
     let mut register = Register::new(alloc, limits);
-    file_all(rt, &mut register, &line())?;
-    let before = seen_of(&register);
-    file(rt, &mut register, text, reply)?;
-    if reply != Reply::Accepted {
-        assert!(rt; is_seen(&register, &before));
-    }
-    withdraw(rt, &mut register);
-    assert!(rt; is_seen(&register, &before));
-    expect_depths(rt, &register, 1);
-    Ok(())
+    expect_withdrawn(rt, &mut register, text, reply)
 }
 
 #[test]
