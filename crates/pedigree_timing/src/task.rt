@@ -7,7 +7,7 @@ ghost use Rattle.pedigree_timing.specs.declared.task.Task.{Task};
 use crate::filling::{calves, correct_heads, lines};
 use anyhow::{Context, Result, bail};
 use herd_pedigree::Pedigree;
-use std::alloc::Global;
+use std::alloc::{AllocError, Global};
 
 /// What is done, with how many animals.
 #[derive(Clone, Copy, Debug, PartialEq, Eq)]
@@ -45,7 +45,7 @@ impl Task {
     {
         let pedigree = self.filled(alloc)?;
         if let Task::Freeze { .. } = self {
-            Ok(pedigree.freeze(alloc)?.len())
+            Ok(frozen_len(&pedigree, alloc)?)
         } else {
             Ok(pedigree.len())
         }
@@ -65,6 +65,14 @@ impl Task {
             }
         }
     }
+}
+
+// How many animals there are, by the frozen book.
+fn frozen_len(pedigree: &Pedigree<Global>, alloc: Global) -> Result<u32, AllocError>
+    ensures { IfOk result (λ animals. animals ≡ length pedigree.now.book) }
+{
+    let frozen = pedigree.freeze(alloc)?;
+    Ok(frozen.len())
 }
 
 fn number(words: &[String], place: usize) -> Result<u32>
