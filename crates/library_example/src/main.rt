@@ -43,14 +43,15 @@ fn main(rt: HostRuntime) -> Result<()> {
 
     // `freeze` gives the book of this moment, in age order, with each animal's parents as ranks in it.
     let frozen = register.pedigree().freeze(rt.alloc())?;
-    // `coefficients_plain` gives the coefficients of all its animals, by their ranks.
-    let coefficients = coefficients_plain(rt.alloc(), &frozen)?;
-    print_coefficients(&rt, &frozen, &coefficients)?;
+    print_book(&rt, rt.alloc(), &frozen)
+}
 
-    let sire: AnimalNumber = SON.parse()?;
-    let dam: AnimalNumber = CALF.parse()?;
-    print_mating(&rt, rt.alloc(), &frozen, &coefficients, sire, dam)?;
-    Ok(())
+// What is computed from a frozen book.
+fn print_book(rt: &impl Print, alloc: Global, frozen: &Frozen<Global>) -> Result<()> {
+    // `coefficients_plain` gives the coefficients of all its animals, by their ranks.
+    let coefficients = coefficients_plain(alloc, frozen)?;
+    print_coefficients(rt, frozen, &coefficients)?;
+    print_mating(rt, alloc, frozen, &coefficients, SON, CALF)
 }
 
 // Parents come before their calves.
@@ -157,11 +158,13 @@ fn print_mating(
     alloc: Global,
     frozen: &Frozen<Global>,
     coefficients: &Coefficients<Global>,
-    sire: AnimalNumber,
-    dam: AnimalNumber,
-) -> io::Result<()>
+    sire: &str,
+    dam: &str,
+) -> Result<()>
     requires { AreCoefficients DEPTH_LIMIT frozen.now coefficients.now }
 {
+    let sire: AnimalNumber = sire.parse()?;
+    let dam: AnimalNumber = dam.parse()?;
     // `mating` gives the coefficient that a calf of the two would have, or tells why there is none.
     match mating(alloc, frozen, coefficients, &sire, &dam) {
         Ok(numerator) => {
@@ -169,8 +172,9 @@ fn print_mating(
             println!(rt;
                 "their calf {}/{}",
                 coefficient.numerator, coefficient.denominator
-            )
+            )?;
         }
-        Err(fault) => println!(rt; "no calf: {fault}"),
+        Err(fault) => println!(rt; "no calf: {fault}")?,
     }
+    Ok(())
 }
