@@ -18,7 +18,7 @@ use herd_kinship::{coefficients_plain, fraction};
 use herd_office::{Desk, FreezeFault, Inspector, Office, OfficeName, OfficeParts};
 use herd_pedigree::{Frozen, MOST_ANIMALS};
 use herd_register::{Command, FileFault, Limits, MOST_STEPS};
-use std::alloc::Global;
+use std::alloc::{AllocError, Global};
 use std::marker::Brand;
 use std::sync::Wait;
 use std::thread::{Threads, join};
@@ -57,29 +57,58 @@ fn keep_office<N: OfficeName + Send + Sync, R: Threads + Wait + Print + Sync>(
 {
     // Each desk and each inspector is a value of its own, which moves to the thread that works with it.
     let (office, mut desks, mut inspectors) = Office::<N, &R>::open(alloc, parts)?;
-    let second = desks.pop().context("no second desk")?;
-    let first = desks.pop().context("no first desk")?;
-    let inspector = inspectors.pop().context("no inspector")?;
-
-    let founders = births_of(FOUNDERS, "2015-03-01", None)?;
-    let first = file_births(rt, &office, first, &founders)?;
-    let (first, mut second, mut inspector) = work_side_by_side(
-        rt,
-        alloc,
-        &office,
-        (first, second),
-        inspector,
-    )?;
-    let frozen = file_calf(rt, alloc, &office, &mut second, &mut inspector)?;
-    print_coefficient(rt, alloc, &frozen)?;
-
+    let staff = staff_of(&mut desks, &mut inspectors)?;
+    let staff = work(rt, alloc, &office, staff)?;
     // The office is closed with all that it was opened with.
-    desks.push(first)?;
-    desks.push(second)?;
-    inspectors.push(inspector)?;
+    hand_back(&mut desks, &mut inspectors, staff)?;
     let steps = steps_at_close(rt, office, desks, inspectors)?;
     println!(rt; "the journal has {steps} steps")?;
     Ok(())
+}
+
+type Staff<N> = (Desk<N>, Desk<N>, Inspector<N>);
+
+// Two desks and the inspector, each a value of its own.
+fn staff_of<N: OfficeName>(
+    desks: &mut Vec<Desk<N>>,
+    inspectors: &mut Vec<Inspector<N>>,
+) -> Result<Staff<N>> {
+    let second = desks.pop().context("no second desk")?;
+    let first = desks.pop().context("no first desk")?;
+    let inspector = inspectors.pop().context("no inspector")?;
+    Ok((first, second, inspector))
+}
+
+fn hand_back<N: OfficeName>(
+    desks: &mut Vec<Desk<N>>,
+    inspectors: &mut Vec<Inspector<N>>,
+    (first, second, inspector): Staff<N>,
+) -> Result<(), AllocError> {
+    desks.push(first)?;
+    desks.push(second)?;
+    inspectors.push(inspector)?;
+    Ok(())
+}
+
+// All that is done while the office is open.
+fn work<N: OfficeName + Send + Sync, R: Threads + Wait + Print + Sync>(
+    rt: &R,
+    alloc: Global,
+    office: &Office<N, &R>,
+    (first, second, inspector): Staff<N>,
+) -> Result<Staff<N>> {
+    let founders = births_of(FOUNDERS, "2015-03-01", None)?;
+    let first = file_births(rt, office, first, &founders)?;
+    let (first, mut second, mut inspector) = work_side_by_side(
+        rt,
+        alloc,
+        office,
+        (first, second),
+        inspector,
+    )?;
+    let frozen = file_calf(rt, alloc, office, &mut second, &mut inspector)?;
+    print_coefficient(rt, alloc, &frozen, CALF)?;
+    Ok((first, second, inspector))
 }
 
 // The sons are filed at the first desk and the daughters at the second, in whatever order the threads run.
@@ -89,7 +118,7 @@ fn work_side_by_side<N: OfficeName + Send + Sync, R: Threads + Wait + Sync>(
     office: &Office<N, &R>,
     desks: (Desk<N>, Desk<N>),
     inspector: Inspector<N>,
-) -> Result<(Desk<N>, Desk<N>, Inspector<N>)> {
+) -> Result<Staff<N>> {
     let (first, second) = desks;
     let parents = Some((FOUNDERS[0], FOUNDERS[1]));
     let sons = &births_of(SONS, "2018-02-20", parents)?;
@@ -155,11 +184,16 @@ fn file_calf<N: OfficeName, R: Wait + Print>(
     Ok(inspector.freeze(alloc)?)
 }
 
-fn print_coefficient(rt: &impl Print, alloc: Global, frozen: &Frozen<Global>) -> Result<()> {
+fn print_coefficient(
+    rt: &impl Print,
+    alloc: Global,
+    frozen: &Frozen<Global>,
+    animal: &str,
+) -> Result<()> {
     let coefficients = coefficients_plain(alloc, frozen)?;
-    let rank = frozen.rank(&CALF.parse()?).context("no calf")?;
+    let rank = frozen.rank(&animal.parse()?).context("no such animal")?;
     let value = fraction(coefficients.numerator(rank));
-    println!(rt; "{CALF} {}/{}", value.numerator, value.denominator)?;
+    println!(rt; "{animal} {}/{}", value.numerator, value.denominator)?;
     Ok(())
 }
 
