@@ -79,11 +79,16 @@ fn expect_nothing_new(
     Ok(())
 }
 
+// A transfer that was made before, and the parents that an animal has.
+fn expect_values_kept(rt: &impl Abort, pedigree: &mut Pedigree<Global>) -> Result<(), Fail> {
+    expect_filed(rt, pedigree, transfer(), None)?;
+    expect_nothing_new(rt, pedigree, transfer())?;
+    let parents = Change::Parents(Cow(3), Pair::of_sire(Bull(1)));
+    expect_nothing_new(rt, pedigree, parents)
+}
+
 #[test]
 fn values_that_were_there_are_taken_back(rt: HostRuntime) -> Result<(), Fail> {
     let mut pedigree = pedigree_of(&rt, rt.alloc(), &family())?;
-    expect_filed(&rt, &mut pedigree, transfer(), None)?;
-    expect_nothing_new(&rt, &mut pedigree, transfer())?;
-    let parents = Change::Parents(Cow(3), Pair::of_sire(Bull(1)));
-    expect_nothing_new(&rt, &mut pedigree, parents)
+    expect_values_kept(&rt, &mut pedigree)
 }
