@@ -91,12 +91,13 @@ def full_sibs(generations):
     return "".join(lines)
 
 
-def couples(count, first):
-    """So many bulls, each with a cow and a calf of the two, numbered from `first` on."""
+def couples(count, first, calves=1):
+    """So many bulls, each with a cow and so many calves of the two, numbered from `first` on."""
     text = ""
-    for one in range(first, first + 3 * count, 3):
+    for one in range(first, first + (2 + calves) * count, 2 + calves):
         sire, dam = animal("M", one), animal("F", one + 1)
-        text += founder(sire) + founder(dam) + f"birth,{animal('M', one + 2)},2003-01-01,{sire},{dam},,1\n"
+        text += founder(sire) + founder(dam)
+        text += "".join(f"birth,{animal('M', calf)},2003-01-01,{sire},{dam},,1\n" for calf in range(one + 2, one + 2 + calves))
     return text
 
 
@@ -528,17 +529,18 @@ class Checks:
 
     def refused_threads(self):
         """Each start of a thread is refused in turn: there are as many as desks, and in a level one fewer than workers, or
-        than blocks that have a sire."""
+        than blocks that have a sire, and no more than one for each 32 calves."""
         right = lambda wanted, done: done == fault("no thread")
         inbreeding = lambda workers, block: ["inbreeding", "--workers", str(workers), "--block", str(block)]
         clerks = lambda desks: ["clerks", "--desks", str(desks), "--base", "1000000"]
-        for words, threads in [
-            (inbreeding(1, 1), 0), (inbreeding(2, 1), 1), (inbreeding(4, 1), 3), (inbreeding(16, 1), 7), (inbreeding(16, 3), 3),
-            (inbreeding(4, 4), 1), (inbreeding(4, 8), 0), (clerks(1), 1), (clerks(4), 4), (clerks(16), 16),
+        for words, calves, threads in [
+            (inbreeding(1, 1), 32, 0), (inbreeding(2, 1), 32, 1), (inbreeding(4, 1), 32, 3), (inbreeding(16, 1), 32, 7), (inbreeding(16, 3), 32, 3),
+            (inbreeding(4, 4), 32, 1), (inbreeding(4, 8), 32, 0), (inbreeding(16, 1), 3, 0), (inbreeding(16, 1), 4, 1), (inbreeding(16, 1), 8, 2),
+            (clerks(1), 1, 1), (clerks(4), 1, 4), (clerks(16), 1, 16),
         ]:  # fmt: skip
-            # the eight cows have the first ranks, and then come the eight bulls
-            refused = self.until_none("thread", words, HEADER + couples(8, 1), {"REFUSE": "thread"}, right)
-            self.count(refused == threads, f"{refused} threads were started: {words}")
+            # the eight cows have the first ranks, and then come the eight bulls, each with so many calves
+            refused = self.until_none("thread", words, HEADER + couples(8, 1, calves), {"REFUSE": "thread"}, right)
+            self.count(refused == threads, f"{refused} threads were started: {words}, {calves} calves of each bull")
 
     def little_memory(self):
         """The system itself refuses memory: from the least room in which the version is told, each end is the full answer or a text that may come.
@@ -645,8 +647,8 @@ class Folder:
         return self.file
 
 
-# Several blocks of its first level have a sire, so that workers start threads.
-SMALL = HEADER + couples(2, 21) + full_sibs(4).removeprefix(HEADER) + f"exit,{animal('M', 1)},2010-01-01,,,,\nparents,{animal('F', 8)},,{animal('M', 1)},0,,\n" + founder(animal("M", 1))
+# Several blocks of its first level have a sire, and there are enough calves, so that workers start a thread.
+SMALL = HEADER + couples(2, 21, 16) + full_sibs(4).removeprefix(HEADER) + f"exit,{animal('M', 1)},2010-01-01,,,,\nparents,{animal('F', 8)},,{animal('M', 1)},0,,\n" + founder(animal("M", 1))
 
 
 ONE_CLERK = ["clerks", "--desks", "1"]
@@ -663,7 +665,7 @@ def each_order():
         ["mating", "--dam", animal("F", 6), animal("M", 5), animal("F", 8), animal("M", 7)],
         ["inverse"],
         ONE_CLERK,
-        ["clerks", "--desks", "3", "--base", "14"],
+        ["clerks", "--desks", "3", "--base", "44"],
     ]
 
 

@@ -1,13 +1,15 @@
 -- The links from calf to calf: how they are made, and what is done for each calf while they are followed.
-use Rattle.std.proofs.Common.{ℕ, ◌+◌, ◌<◌, ◌≤◌, ◌≡◌, ◌⊎◌, ⊎_elim, true, false, is_some, List, length, get_or, set, slice_get, Option, Some, None, arith, refl, sym, ◌∙◌, ap, subst}
+use Rattle.std.proofs.Common.{ℕ, ◌+◌, ◌<◌, ◌≤◌, ◌≡◌, ◌⊎◌, inr, ⊎_elim, true, false, is_some, List, length, get_or, set, slice_get, Option, Some, None, arith, refl, sym, ◌∙◌, ap, subst}
 use Rattle.std.proofs.lemmas.Bool.{cases_lt, cases_eq}
 use Rattle.std.proofs.lemmas.List.{get_or-set_same, get_or-set_other, length-set, get_or_read}
 use Rattle.std.proofs.lemmas.Option.{slice_get_within}
 use Rattle.herd_pedigree.specs.declared.freezing.frozen.Parents.{Parents}
 use Rattle.herd_pedigree.specs.declared.freezing.frozen.Row.{Row}
+use Rattle.herd_pedigree.specs.freezing.Frozen.{IsFrozen}
 use Rattle.herd_kinship.specs.CalfLinks.{IsCalf, IsLink, AreLinked}
 use Rattle.herd_kinship.specs.Ranks.{AreParentsAt, sire_rank}
 use Rattle.herd_kinship.proofs.Brought.{option_cases}
+use Rattle.herd_kinship.proofs.FrozenFacts.{frozen-ranked}
 use Rattle.herd_kinship.proofs.ParentsFacts.{parents-sire, parents-dam}
 
 -- a border that passes an animal that is no calf of s
@@ -133,6 +135,10 @@ calf-pair rows i p parents at sire dam =
     (λ (none : parents.dam ≡ None). let some : is_some parents.dam ≡ false = ap is_some none in absurd (cc))
     (λ there. (parents-sire rows i parents at ∙ sire, there.0, parents-dam rows i parents at ∙ there.1))
     (option_cases parents.dam)
+
+-- the known dam of a calf stands before it
+pub dam-older : (l most : ℕ) (rows : List Row) (s x : ℕ) (parents : Parents) → IsFrozen l most rows → IsCalf rows s x → AreParentsAt rows x parents → (d : ℕ) → parents.dam ≡ Some d → d < x
+dam-older l most rows s x parents frozen calf at d is = (frozen-ranked l most rows frozen).below x d (calf-within rows s x calf) (inr (parents-dam rows x parents at ∙ is))
 
 pub no-calf : (rows : List Row) (i : ℕ) (parents : Parents) → AreParentsAt rows i parents → (parents.sire ≡ None) ⊎ (parents.dam ≡ None) → (s : ℕ) → IsCalf rows s i → ⊥
 no-calf rows i parents at unknown s calf =

@@ -37,6 +37,7 @@ pub mod PassedOn
 pub mod RelationshipFacts
 pub mod Collecting
 pub mod CalfFacts
+pub mod CalfCounts
 pub mod CalfListFacts
 pub mod BySires
 -- mating advice, and contributions to the inverse

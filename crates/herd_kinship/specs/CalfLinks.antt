@@ -1,6 +1,8 @@
 -- The calves of each sire of which the dam is known too, linked from the youngest to the oldest. Animals are named
 -- by their ranks.
-use Rattle.std.specs.Prelude.{◌≡◌, ℕ, ◌<◌, ◌≤◌, List, length, slice_index_or, Option, None, Some}
+use Rattle.std.specs.Prelude.{◌≡◌, ℕ, ◌<◌, ◌≤◌, Bool, false, ◌&&◌, count_by, is_some, List, length, nat_eq, slice_index_or, Option, None, Some}
+use Rattle.std.specs.List.{range_with_len}
+use Rattle.std.specs.Option.{option_map_or}
 use Rattle.herd_pedigree.specs.declared.freezing.frozen.Row.{Row}
 use Rattle.herd_kinship.specs.Ranks.{sire_rank, dam_rank}
 use Rattle.herd_kinship.specs.declared.calves.Calves.{Calves}
@@ -8,6 +10,14 @@ use Rattle.herd_kinship.specs.declared.calves.Calves.{Calves}
 -- x is a calf of s and of a known dam
 abbrev pub IsCalf : List Row → ℕ → ℕ → Type 0
 IsCalf rows s x = (sire_rank rows x ≡ Some s) × (d : ℕ) × (dam_rank rows x ≡ Some d)
+
+-- whether x is a calf of s and of a known dam
+abbrev pub is_calf : List Row → ℕ → ℕ → Bool
+is_calf rows s x = is_some (dam_rank rows x) && option_map_or (nat_eq s) (sire_rank rows x) false
+
+-- how many calves s has of known dams
+abbrev pub calf_count : List Row → ℕ → ℕ
+calf_count rows s = count_by (is_calf rows s) (range_with_len 0 (length rows))
 
 -- the link leads to the youngest calf of s below a border, if there is one
 pub record IsLink (rows : List Row) (s border : ℕ) (link : Option ℕ) : Type 0 where

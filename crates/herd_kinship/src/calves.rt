@@ -1,6 +1,6 @@
 ghost use Rattle.std.specs.Prelude.{◌≡◌, ℕ, ◌+◌, ◌*◌, ◌-◌, ◌/◌, ◌<◌, ◌≤◌, ◌⊎◌, is_some, length, true, IsTrue, IsFalse, IfOk, IfSome, IfNone, None, Some};
 ghost use Rattle.herd_kinship.specs.CalfCoefficients.{GoesOnWith};
-ghost use Rattle.herd_kinship.specs.CalfLinks.{AreCalvesOf, IsCalf};
+ghost use Rattle.herd_kinship.specs.CalfLinks.{AreCalvesOf, IsCalf, IsLink, calf_count};
 ghost use Rattle.herd_kinship.specs.Columns.{at_parent};
 ghost use Rattle.herd_kinship.specs.Pending.{mark};
 ghost use Rattle.herd_kinship.specs.Ranks.{sire_rank, dam_rank};
@@ -67,15 +67,50 @@ impl<A: Allocator + Clone> Calves<A> {
 }
 
 impl<A: Allocator> Calves<A> {
+    // A sire's youngest calf.
+    fn youngest<F: Allocator>(&self, frozen: &Frozen<F>, sire: u32) -> Option<u32>
+        requires calves { AreCalvesOf frozen.now self.now }
+        requires sire { sire < length frozen.now }
+        ensures { IsLink frozen.now sire (length frozen.now) result }
+    {
+        prove!(sire < frozen.len());
+        self.latest[sire as usize].get()
+    }
+
+    // The next older calf of a calf's sire.
+    fn older<F: Allocator>(&self, frozen: &Frozen<F>, calf: u32) -> Option<u32>
+        requires calves { AreCalvesOf frozen.now self.now }
+        requires calf { calf < length frozen.now }
+        ensures { (sire : ℕ) → IsCalf frozen.now sire calf → IsLink frozen.now sire calf result }
+    {
+        prove!(calf < frozen.len());
+        self.earlier[calf as usize].get()
+    }
+
+    /// How many calves of known dams the sire at a rank has.
+    pub fn count<F: Allocator>(&self, frozen: &Frozen<F>, sire: u32) -> u32
+        requires calves { AreCalvesOf frozen.now self.now }
+        requires sire { sire < length frozen.now }
+        ensures { result ≡ calf_count frozen.now sire }
+    {
+        prove!(sire < frozen.len());
+        let mut count = 0;
+        let mut link = self.youngest(frozen, sire);
+        while let Some(calf) = link {
+            count += 1;
+            link = self.older(frozen, calf);
+        }
+        count
+    }
+
     /// Whether the sire at a rank has a calf of a known dam.
-    pub fn has_calves<F: Allocator>(&self, frozen: &Frozen<F>, sire: u32) -> bool
+    pub(crate) fn has_calves<F: Allocator>(&self, frozen: &Frozen<F>, sire: u32) -> bool
         requires calves { AreCalvesOf frozen.now self.now }
         requires sire { sire < length frozen.now }
         ensures yes { IsTrue result → (calf : ℕ) × IsCalf frozen.now sire calf }
         ensures no { IsFalse result → (calf : ℕ) → IsCalf frozen.now sire calf → ⊥ }
     {
-        prove!(sire < frozen.len());
-        self.latest[sire as usize].get().is_some()
+        self.youngest(frozen, sire).is_some()
     }
 
     /// Marks the mates of a sire by their distances from the last rank.
@@ -97,10 +132,10 @@ impl<A: Allocator> Calves<A> {
             → mark marked.new.chunks.items (last - dam) ≡ 1 }
     {
         prove!(sire < frozen.len());
-        let mut link = self.latest[sire as usize].get();
+        let mut link = self.youngest(frozen, sire);
         while let Some(calf) = link {
             mark_parent(marked, last, parents_at(frozen, calf).dam);
-            link = self.earlier[calf as usize].get();
+            link = self.older(frozen, calf);
         }
     }
 
@@ -119,11 +154,11 @@ impl<A: Allocator> Calves<A> {
             (λ calf. at_parent column.now (dam_rank frozen.now calf) / 2) list.old.items list.new.items) }
     {
         prove!(sire < frozen.len());
-        let mut link = self.latest[sire as usize].get();
+        let mut link = self.youngest(frozen, sire);
         while let Some(rank) = link {
             let numerator = with_parent(column, parents_at(frozen, rank).dam) / 2;
             list.push(CalfCoefficient { rank, numerator })?;
-            link = self.earlier[rank as usize].get();
+            link = self.older(frozen, rank);
         }
         Ok(())
     }

@@ -87,11 +87,9 @@ fn write_calves_of<F: Allocator, C: Allocator, A: Allocator>(
     ensures known { IfOk result (λ _. KnowsReached DEPTH_LIMIT frozen.now (IsBefore (sire + 1)) known.new) }
 {
     prove!(sire < frozen.len());
-    if calves.has_calves(frozen, sire) {
-        list.clear();
-        mates.append_calves(frozen, calves, known, sire, list)?;
-        write_calves(list, known);
-    }
+    list.clear();
+    mates.append_calves(frozen, calves, known, sire, list)?;
+    write_calves(list, known);
     Ok(())
 }
 

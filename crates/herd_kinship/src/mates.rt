@@ -74,7 +74,7 @@ impl<A: Allocator> Mates<A> {
         Ok(())
     }
 
-    /// Appends the coefficients of a sire's calves by known dams to a list, in no promised order.
+    /// Appends the coefficients of a sire's calves by known dams to a list, in no promised order, if it has any.
     ///
     /// Each is half the sire's relationship with the calf's dam (Colleau 2002). Only the numerators of the sire's
     /// ancestors need be right in `known`. The only error is a growth of memory that is refused; the scratch is of no
@@ -96,7 +96,11 @@ impl<A: Allocator> Mates<A> {
             (coefficient_at DEPTH_LIMIT frozen.now) list.old.items list.new.items) }
     {
         prove!(sire < frozen.len());
-        self.relate_to(frozen, calves, known, sire)?;
-        calves.append_halves(frozen, sire, &self.column, list)
+        if calves.has_calves(frozen, sire) {
+            self.relate_to(frozen, calves, known, sire)?;
+            calves.append_halves(frozen, sire, &self.column, list)
+        } else {
+            Ok(())
+        }
     }
 }

@@ -6,5 +6,6 @@ mod fractions;
 mod inverse_elements;
 mod matings;
 mod memory;
+mod sires;
 mod tabular;
 mod tracing;

@@ -1,12 +1,12 @@
 -- The calves of a level's sires: how they are collected, block by block, and what is known once they are written.
-use Rattle.std.proofs.Common.{◌≡◌, ℕ, suc, ◌+◌, ◌<◌, ◌≤◌, ◌⊎◌, List, [], length, get_or, slice_index, take, Vec, sym, ap, subst, inl, inr, ◌∙◌, ⊎_elim, arith}
+use Rattle.std.proofs.Common.{◌≡◌, ℕ, ◌+◌, ◌<◌, ◌≤◌, List, [], length, get_or, slice_index, take, Vec, sym, ap, subst, inl, inr, ◌∙◌, ⊎_elim, arith}
 use Rattle.std.specs.Int.{div_ceil}
 use Rattle.std.specs.List.{All}
 use Rattle.std.proofs.lemmas.Bool.{cases_lt}
-use Rattle.std.proofs.lemmas.List.Elements.{All-from_get_or, All-more, All-weaker}
+use Rattle.std.proofs.lemmas.List.Elements.{All-more, All-weaker}
 use Rattle.herd_pedigree.specs.declared.freezing.frozen.Row.{Row}
-use Rattle.herd_pedigree.specs.freezing.Frozen.{IsFrozen, depth_at, level_of}
-use Rattle.herd_kinship.specs.CalfCoefficients.{AreCalvesWith, GoesOnWith}
+use Rattle.herd_pedigree.specs.freezing.Frozen.{depth_at, level_of}
+use Rattle.herd_kinship.specs.CalfCoefficients.{GoesOnWith}
 use Rattle.herd_kinship.specs.CalfLinks.{IsCalf}
 use Rattle.herd_kinship.specs.Coefficients.{IsLessDeep, coefficient_at}
 use Rattle.herd_kinship.specs.declared.calf_coefficients.CalfCoefficient.{CalfCoefficient}

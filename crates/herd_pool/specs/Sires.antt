@@ -1,13 +1,16 @@
 -- What is known and computed where a level's sires are gone through. l is the limit of depths.
-use Rattle.std.specs.Prelude.{◌≡◌, ℕ, ◌<◌, All, List, length, slice_index}
+use Rattle.std.specs.Prelude.{◌≡◌, ℕ, ◌+◌, ◌/◌, ◌<◌, All, List, count_by, length, min, nat_lt, slice_index, sum_by}
+use Rattle.std.specs.Int.{div_ceil}
+use Rattle.std.specs.List.{range_with_len}
 use Rattle.herd_pedigree.specs.declared.freezing.frozen.Row.{Row}
 use Rattle.herd_pedigree.specs.freezing.Frozen.{IsFrozen, level_of}
 use Rattle.herd_kinship.specs.CalfCoefficients.{AreCalvesWith}
-use Rattle.herd_kinship.specs.CalfLinks.{AreCalvesOf}
+use Rattle.herd_kinship.specs.CalfLinks.{AreCalvesOf, calf_count}
 use Rattle.herd_kinship.specs.Coefficients.{IsLessDeep, KnowsReached, coefficient_at}
 use Rattle.herd_kinship.specs.declared.calf_coefficients.CalfCoefficient.{CalfCoefficient}
 use Rattle.herd_kinship.specs.declared.calves.Calves.{Calves}
 use Rattle.herd_pool.specs.Levels.{block_of}
+use Rattle.herd_pool.specs.declared.limits.TheConstants.{CALVES_FOR_A_WORKER}
 
 -- The numerators of a frozen book on the way: there is one for each animal, and the calves of all sires of less depth have their
 -- coefficient
@@ -36,3 +39,21 @@ HaveValues f calves = All (λ calf. calf.numerator ≡ f calf.rank) calves
 -- at each calf's rank stands f of it
 abbrev pub AreWritten : (ℕ → ℕ) → List ℕ → List CalfCoefficient → Type 0
 AreWritten f known calves = All (λ calf. slice_index known calf.rank ≡ f calf.rank) calves
+
+-- how many calves the sires of a block have
+abbrev pub calves_of : List Row → ℕ → ℕ → ℕ → ℕ
+calves_of rows depth len number = sum_by (calf_count rows) (block_of len number (level_of depth rows))
+
+-- of the first n blocks of a level: how many have a sire with calves, and how many calves their sires have
+abbrev pub busy_among : List Row → ℕ → ℕ → ℕ → ℕ
+busy_among rows depth len n = count_by (λ number. nat_lt 0 (calves_of rows depth len number)) (range_with_len 0 n)
+
+abbrev pub calves_among : List Row → ℕ → ℕ → ℕ → ℕ
+calves_among rows depth len n = sum_by (calves_of rows depth len) (range_with_len 0 n)
+
+-- How many workers a level is worth, at most so many: no more than it has blocks with a sire that has calves, and but one more for
+-- each so many calves
+abbrev pub crew_of : List Row → ℕ → ℕ → ℕ → ℕ
+crew_of rows depth len workers =
+    let blocks = div_ceil (length (level_of depth rows)) len in
+    min (min workers (busy_among rows depth len blocks)) (1 + calves_among rows depth len blocks / CALVES_FOR_A_WORKER)

@@ -51,12 +51,17 @@ pub fn compute_blocks<R: Threads + Wait + Sync, A: Allocator + Copy + Send + Syn
         return Ok((blocks, idle));
     }
     let queue = filled(alloc, count)?;
+    let stealer = queue.stealer()?;
     let starter = Starter {
         queue,
         blocks,
         idle,
     };
-    let starter = share(rt, alloc, on, starter, workers)?;
+    let task = Task {
+        work: on,
+        stealer: &stealer,
+    };
+    let starter = share(rt, alloc, task, starter, workers)?;
     let Starter { blocks, idle, .. } = take_blocks(rt, alloc, on, starter)?;
     Ok((blocks, idle))
 }
@@ -66,43 +71,22 @@ pub fn compute_blocks<R: Threads + Wait + Sync, A: Allocator + Copy + Send + Syn
 fn share<R: Threads + Wait + Sync, A: Allocator + Copy + Send + Sync, W: Work<A>>(
     rt: &R,
     alloc: A,
-    on: &W,
-    starter: Starter<W::Scratch, W::Output, A>,
-    workers: u32,
-) -> Result<Starter<W::Scratch, W::Output, A>, PoolFault>
-    requires knows { W.knows on.now }
-    requires starter { IsStarter (W.is_ready on.now) (W.is_computed on.now) 0
-        (worker_view starter.queue).pushed starter }
-    ensures starter { IfOk result
-        (IsStarter (W.is_ready on.now) (W.is_computed on.now) 0 (worker_view starter.queue).pushed) }
-    ensures one_worker { workers ≤ 1 → IfErr result (λ fault. fault ≡ PoolFault.Memory) }
-{
-    if workers <= 1 {
-        return Ok(starter);
-    }
-    let stealer = starter.queue.stealer()?;
-    let task = Task {
-        work: on,
-        stealer: &stealer,
-    };
-    run_threads(rt, alloc, task, starter, workers - 1)
-}
-
-// Takes blocks beside this many threads, and joins them.
-fn run_threads<R: Threads + Wait + Sync, A: Allocator + Copy + Send + Sync, W: Work<A>>(
-    rt: &R,
-    alloc: A,
     task: Task<'_, W, A>,
     starter: Starter<W::Scratch, W::Output, A>,
-    threads: u32,
+    workers: u32,
 ) -> Result<Starter<W::Scratch, W::Output, A>, PoolFault>
     requires knows { W.knows task.work.now }
     requires deque { worker_deque starter.queue ≡ stealer_deque task.stealer.now }
     requires starter { IsStarter (W.is_ready task.work.now) (W.is_computed task.work.now) 0
         (worker_view starter.queue).pushed starter }
-    ensures { IfOk result (IsStarter (W.is_ready task.entry.work.now) (W.is_computed task.entry.work.now) 0
+    ensures starter { IfOk result (IsStarter (W.is_ready task.entry.work.now) (W.is_computed task.entry.work.now) 0
         (worker_view starter.queue).pushed) }
+    ensures one_worker { workers ≤ 1 → IfErr result (λ fault. fault ≡ PoolFault.Memory) }
 {
+    if workers <= 1 {
+        return Ok(starter);
+    }
+    let threads = workers as usize - 1;
     // The closures take the references one by one: nothing is known of one that takes a struct of references.
     let Task { work: on, stealer } = task;
     thread::scope(
@@ -119,7 +103,7 @@ fn run_threads<R: Threads + Wait + Sync, A: Allocator + Copy + Send + Sync, W: W
                 (worker_view starter.queue).pushed) }
         {
             let task = Task { work: on, stealer };
-            let room = Vec::with_capacity(alloc, threads as usize)?;
+            let room = Vec::with_capacity(alloc, threads)?;
             let (starter, started) = start_all(scope, rt, alloc, task, starter, room)?;
             let starter = take_blocks(rt, alloc, on, starter)?;
             Ok(join_all(rt, task, started, starter)?)

@@ -1,12 +1,9 @@
 ghost use Rattle.std.specs.Prelude.{◌≡◌, ◌+◌, ◌<◌, ◌≤◌, All, length, IfOk, IfErr, OnOk};
 ghost use Rattle.herd_pedigree.specs.declared.TheConstants.{DEPTH_LIMIT, MOST_ANIMALS};
-ghost use Rattle.std.specs.Int.{div_ceil};
-ghost use Rattle.herd_pedigree.specs.freezing.Frozen.{level_of};
 ghost use Rattle.herd_kinship.specs.Coefficients.{AreCoefficients};
 ghost use Rattle.herd_kinship.specs.Mates.{IsReady};
-ghost use Rattle.herd_pool.specs.Levels.{AreTraced, KnowsBelow};
-ghost use Rattle.herd_pool.specs.Sires.{HasCalvesOf, KnowsCalvesBelow};
-ghost use Rattle.herd_pool.specs.Workers.{AreBlocks};
+ghost use Rattle.herd_pool.specs.Levels.{KnowsBelow};
+ghost use Rattle.herd_pool.specs.Sires.{KnowsCalvesBelow};
 ghost use Rattle.herd_pool.specs.declared.limits.TheConstants.{MOST_WORKERS};
 ghost use Rattle.herd_pool.specs.declared.pool_fault.PoolFault.{PoolFault};
 
@@ -17,8 +14,7 @@ use crate::merge::{write_calves_of, write_traced};
 use crate::pool_fault::PoolFault;
 use crate::sires::SireLevel;
 use crate::traced::TracedLevel;
-use crate::work::ComputedBlock;
-use herd_kinship::{CalfCoefficient, Calves, Coefficients, Mates};
+use herd_kinship::{Calves, Coefficients, Mates};
 use herd_pedigree::{DEPTH_LIMIT, Frozen};
 use std::alloc::Allocator;
 use std::sync::Wait;
@@ -80,54 +76,22 @@ fn add_level<
         (KnowsBelow DEPTH_LIMIT MOST_ANIMALS level.entry.frozen.now known.new (level.entry.depth + 1)) }
     ensures one_worker { workers ≡ 1 → IfErr result (λ fault. fault ≡ PoolFault.Memory) }
 {
-    let blocks = trace_level(rt, alloc, level, known, workers, gate)?;
+    let count = level.blocks();
+    let traced = TracedLevel { level, known, gate };
+    let idle = Vec::new(alloc);
+    let (blocks, _) = compute_blocks(rt, alloc, &traced, count, workers.min(count), idle)?;
     write_traced(known, level, &blocks);
     Ok(())
-}
-
-// Traces the animals of a level, block by block.
-fn trace_level<
-    R: Threads + Wait + Sync,
-    F: Allocator + Sync,
-    A: Allocator + Copy + Send + Sync,
-    G: Gate,
->(
-    rt: &R,
-    alloc: A,
-    level: Level<'_, F>,
-    known: &[u128],
-    workers: u32,
-    gate: &G,
-) -> Result<Vec<ComputedBlock<Vec<u128, A>>, A>, PoolFault>
-    requires known { KnowsBelow DEPTH_LIMIT MOST_ANIMALS level.frozen.now known.now level.depth }
-    requires block { 0 < level.block }
-    ensures blocks { IfOk result
-        (λ blocks. AreBlocks
-        (λ block. AreTraced DEPTH_LIMIT level.entry.frozen.now level.entry.depth level.entry.block block.number
-        block.output.items)
-        (div_ceil (length (level_of level.entry.depth level.entry.frozen.now)) level.entry.block) blocks.items) }
-    ensures one_worker { workers ≡ 1 → IfErr result (λ fault. fault ≡ PoolFault.Memory) }
-{
-    let traced = TracedLevel { level, known, gate };
-    let count = level.blocks();
-    let (blocks, _) = compute_blocks(
-        rt,
-        alloc,
-        &traced,
-        count,
-        workers.min(count),
-        Vec::new(alloc),
-    )?;
-    Ok(blocks)
 }
 
 /// The coefficients of a book, sire by sire, by this many workers, who take the blocks of each level from a queue.
 ///
 /// They are the same as those of `herd_kinship::coefficients_plain`, whatever the number of workers and the length of a
 /// block; a block has `block` animals, and who takes it goes through the sires among them. The calling thread is one of
-/// the workers, and the only one of a level in which fewer than two blocks have a sire with calves. The threads of a
-/// level end with it, and all have ended when the call returns, also with an error: a growth of memory that is refused,
-/// or with more than one worker a thread that can't be started.
+/// the workers, and the only one of a level in which fewer than two blocks have a sire with calves, or whose sires have
+/// so few calves that a thread isn't worth its start. The threads of a level end with it, and all have ended when the
+/// call returns, also with an error: a growth of memory that is refused, or with more than one worker a thread that
+/// can't be started.
 pub fn coefficients_by_sires<
     R: Threads + Wait + Sync,
     F: Allocator + Sync,
@@ -177,43 +141,14 @@ fn add_calves<R: Threads + Wait + Sync, F: Allocator + Sync, A: Allocator + Copy
     ensures idle { IfOk result (λ idle. All (IsReady (length level.entry.frozen.now)) idle.items) }
     ensures one_worker { workers ≡ 1 → IfErr result (λ fault. fault ≡ PoolFault.Memory) }
 {
-    let (blocks, idle) = relate_level(rt, alloc, level, calves, known, workers, idle)?;
-    write_calves_of(known, &blocks);
-    Ok(idle)
-}
-
-// Goes through the sires of a level, block by block.
-fn relate_level<R: Threads + Wait + Sync, F: Allocator + Sync, A: Allocator + Copy + Send + Sync>(
-    rt: &R,
-    alloc: A,
-    level: Level<'_, F>,
-    calves: &Calves<A>,
-    known: &[u128],
-    workers: u32,
-    idle: Vec<Mates<A>, A>,
-) -> Result<
-    (
-        Vec<ComputedBlock<Vec<CalfCoefficient, A>>, A>,
-        Vec<Mates<A>, A>,
-    ),
-    PoolFault,
->
-    requires known { KnowsCalvesBelow DEPTH_LIMIT MOST_ANIMALS level.frozen.now calves.now known.now level.depth }
-    requires idle { All (IsReady (length level.frozen.now)) idle.items }
-    requires block { 0 < level.block }
-    ensures blocks { IfOk result
-        (λ r. AreBlocks
-        (λ block. HasCalvesOf DEPTH_LIMIT level.entry.frozen.now level.entry.depth level.entry.block block.number
-        block.output.items)
-        (div_ceil (length (level_of level.entry.depth level.entry.frozen.now)) level.entry.block) r.0.items) }
-    ensures idle { IfOk result (λ r. All (IsReady (length level.entry.frozen.now)) r.1.items) }
-    ensures one_worker { workers ≡ 1 → IfErr result (λ fault. fault ≡ PoolFault.Memory) }
-{
     let sires = SireLevel {
         level,
         known,
         calves,
     };
+    let count = level.blocks();
     let crew = sires.crew(workers);
-    compute_blocks(rt, alloc, &sires, level.blocks(), crew, idle)
+    let (blocks, idle) = compute_blocks(rt, alloc, &sires, count, crew, idle)?;
+    write_calves_of(known, &blocks);
+    Ok(idle)
 }

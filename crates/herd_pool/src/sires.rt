@@ -1,15 +1,13 @@
 //! A level whose sires are gone through: each has its relationships with its mates, half of which their calves have for
 //! coefficient.
-ghost use Rattle.std.specs.Prelude.{◌≡◌, ◌<◌, ◌≤◌, length, IfOk};
+ghost use Rattle.std.specs.Prelude.{◌≡◌, ◌<◌};
 ghost use Rattle.herd_pedigree.specs.declared.TheConstants.{DEPTH_LIMIT, MOST_ANIMALS};
-ghost use Rattle.herd_pedigree.specs.freezing.Frozen.{IsFrozen, depth_at};
-ghost use Rattle.herd_kinship.specs.CalfCoefficients.{GoesOnWith};
+ghost use Rattle.herd_pedigree.specs.freezing.Frozen.{IsFrozen};
 ghost use Rattle.herd_kinship.specs.CalfLinks.{AreCalvesOf};
-ghost use Rattle.herd_kinship.specs.Coefficients.{coefficient_at};
-ghost use Rattle.herd_kinship.specs.Mates.{IsReady};
-ghost use Rattle.herd_pool.specs.Sires.{HasCalvesOf, KnowsCalvesBelow};
+ghost use Rattle.herd_pool.specs.Sires.{calves_of, crew_of};
 
 use crate::level::Level;
+use crate::limits::CALVES_FOR_A_WORKER;
 use crate::work::{ComputedBlock, Work};
 use herd_kinship::{CalfCoefficient, Calves, Mates};
 use std::alloc::{AllocError, Allocator};
@@ -23,81 +21,39 @@ pub struct SireLevel<'a, F: Allocator, A: Allocator> {
     pub calves: &'a Calves<A>,
 }
 
-impl<'a, F: Allocator, A: Allocator + Copy> SireLevel<'a, F, A> {
-    /// How many workers it is worth, at most so many: a block without a sire that has calves asks for none.
+impl<'a, F: Allocator, A: Allocator> SireLevel<'a, F, A> {
+    /// How many workers it is worth, at most so many: no more than it has blocks with a sire that has calves, and but
+    /// one more for each so many calves.
     pub fn crew(&self, workers: u32) -> u32
         requires frozen { IsFrozen DEPTH_LIMIT MOST_ANIMALS self.now.level.frozen.now }
         requires calves { AreCalvesOf self.now.level.frozen.now self.now.calves.now }
         requires block { 0 < self.now.level.block }
-        ensures { result ≤ workers }
+        ensures { result ≡ crew_of self.now.level.frozen.now self.now.level.depth self.now.level.block workers }
     {
-        let mut crew = 0;
+        let mut busy = 0;
+        let mut calves = 0;
         for number in 0..self.level.blocks() {
-            if crew == workers {
-                break;
+            let more = self.count_calves(number);
+            if more > 0 {
+                busy += 1;
             }
-            if self.has_sire(number) {
-                crew += 1;
-            }
+            calves += u64::from(more);
         }
-        crew
+        let worth = 1 + calves / u64::from(CALVES_FOR_A_WORKER);
+        u64::from(workers.min(busy)).min(worth) as u32
     }
 
-    // Whether a sire of the block has calves.
-    fn has_sire(&self, number: u32) -> bool
-        requires { AreCalvesOf self.now.level.frozen.now self.now.calves.now }
+    // How many calves the sires of a block have.
+    fn count_calves(&self, number: u32) -> u32
+        requires frozen { IsFrozen DEPTH_LIMIT MOST_ANIMALS self.now.level.frozen.now }
+        requires calves { AreCalvesOf self.now.level.frozen.now self.now.calves.now }
+        ensures { result ≡ calves_of self.now.level.frozen.now self.now.level.depth self.now.level.block number }
     {
+        let mut calves = 0;
         for sire in self.level.ranks(number) {
-            if self.calves.has_calves(self.level.frozen, *sire) {
-                return true;
-            }
+            calves += self.calves.count(self.level.frozen, *sire);
         }
-        false
-    }
-
-    // The calves of a block's sires.
-    fn calves_of_block(
-        &self,
-        alloc: A,
-        mates: &mut Mates<A>,
-        number: u32,
-    ) -> Result<Vec<CalfCoefficient, A>, AllocError>
-        requires knows { KnowsCalvesBelow DEPTH_LIMIT MOST_ANIMALS self.now.level.frozen.now self.now.calves.now
-            self.now.known.now self.now.level.depth }
-        requires ready { IsReady (length self.now.level.frozen.now) mates.old }
-        ensures ready { IfOk result (λ _. IsReady (length self.now.level.frozen.now) mates.new) }
-        ensures calves { IfOk result
-            (λ calves. HasCalvesOf DEPTH_LIMIT self.now.level.frozen.now self.now.level.depth self.now.level.block
-            number calves.items) }
-    {
-        let mut list = Vec::new(alloc);
-        for sire in self.level.ranks(number) {
-            self.append_calves(mates, *sire, &mut list)?;
-        }
-        Ok(list)
-    }
-
-    // Goes on with a sire's calves, if it has any.
-    fn append_calves(
-        &self,
-        mates: &mut Mates<A>,
-        sire: u32,
-        list: &mut Vec<CalfCoefficient, A>,
-    ) -> Result<(), AllocError>
-        requires knows { KnowsCalvesBelow DEPTH_LIMIT MOST_ANIMALS self.now.level.frozen.now self.now.calves.now
-            self.now.known.now self.now.level.depth }
-        requires ready { IsReady (length self.now.level.frozen.now) mates.old }
-        requires sire { sire < length self.now.level.frozen.now }
-        requires deep { depth_at self.now.level.frozen.now sire ≡ self.now.level.depth }
-        ensures ready { IfOk result (λ _. IsReady (length self.now.level.frozen.now) mates.new) }
-        ensures calves { IfOk result (λ _. GoesOnWith self.now.level.frozen.now (λ s. s ≡ sire)
-            (coefficient_at DEPTH_LIMIT self.now.level.frozen.now) list.old.items list.new.items) }
-    {
-        if self.calves.has_calves(self.level.frozen, sire) {
-            mates.append_calves(self.level.frozen, self.calves, self.known, sire, list)
-        } else {
-            Ok(())
-        }
+        calves
     }
 }
 
@@ -130,7 +86,16 @@ impl<'a, F: Allocator + Sync, A: Allocator + Copy + Send + Sync> Work<A> for Sir
         mates: &mut Mates<A>,
         number: u32,
     ) -> Result<ComputedBlock<Vec<CalfCoefficient, A>>, AllocError> {
-        let output = self.calves_of_block(alloc, mates, number)?;
+        let mut output = Vec::new(alloc);
+        for sire in self.level.ranks(number) {
+            mates.append_calves(
+                self.level.frozen,
+                self.calves,
+                self.known,
+                *sire,
+                &mut output,
+            )?;
+        }
         Ok(ComputedBlock { number, output })
     }
 }

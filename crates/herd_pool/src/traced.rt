@@ -15,16 +15,13 @@ pub struct TracedLevel<'a, F: Allocator, G> {
     pub gate: &'a G,
 }
 
-/// What a worker keeps who traces: nothing.
-#[derive(Clone, Copy)]
-pub struct NoScratch;
-
 impl<'a, F: Allocator + Sync, G: Gate, A: Allocator + Copy + Send + Sync> Work<A>
     for TracedLevel<'a, F, G> {
     ghost use Rattle.herd_pedigree.specs.declared.TheConstants.{DEPTH_LIMIT, MOST_ANIMALS};
     ghost use Rattle.herd_pool.specs.Levels.{AreTraced, KnowsBelow};
 
-    type Scratch = NoScratch;
+    /// Nothing.
+    type Scratch = ();
 
     /// The numerators of a block's animals, in the order of the ranks.
     type Output = Vec<u128, A>;
@@ -37,14 +34,14 @@ impl<'a, F: Allocator + Sync, G: Gate, A: Allocator + Copy + Send + Sync> Work<A
     ghost is_computed = { λ traced block. AreTraced DEPTH_LIMIT traced.level.frozen.now traced.level.depth
         traced.level.block block.number block.output.items };
 
-    fn scratch(&self, _alloc: A) -> Result<NoScratch, AllocError> {
-        Ok(NoScratch)
+    fn scratch(&self, _alloc: A) -> Result<(), AllocError> {
+        Ok(())
     }
 
     fn compute(
         &self,
         alloc: A,
-        _scratch: &mut NoScratch,
+        _scratch: &mut (),
         number: u32,
     ) -> Result<ComputedBlock<Vec<u128, A>>, AllocError> {
         self.gate.enter(self.level.depth, number);

@@ -1,7 +1,6 @@
-use Rattle.std.proofs.Common.{◌≡◌, ℕ, ◌+◌, inl, List, arith, refl, subst}
+use Rattle.std.proofs.Common.{◌≡◌, ℕ, ◌+◌, List, arith, subst}
 use Rattle.herd_pedigree.specs.declared.TheConstants.{DEPTH_LIMIT, MOST_ANIMALS}
 use Rattle.herd_kinship.specs.CalfCoefficients.{AreCalvesWith, HasWritten}
-use Rattle.herd_kinship.specs.CalfLinks.{IsCalf}
 use Rattle.herd_kinship.specs.Coefficients.{IsBefore, coefficient_at}
 use Rattle.herd_kinship.proofs.BySires.{before-next, reached-ancestors, reached-more}
 use Rattle.herd_kinship.proofs.CalfListFacts.{calves-alone, calves-values, calves-within, calves-written}
@@ -27,23 +26,15 @@ write_calves-requires g c = rw c.deref.ensures.value (λ k d low.
     let each = c.requires.known.each in
     omega arith)
 
-pub returns-in_ok-append_calves-clause-known : goal.returns-in_ok-append_calves-clause-known
-returns-in_ok-append_calves-clause-known g c =
+pub returns-clause-known : goal.returns-clause-known
+returns-clause-known g c =
     let rows = c.args.frozen.now in
     let s : ℕ = c.args.sire in
     let f : ℕ → ℕ = coefficient_at DEPTH_LIMIT rows in
     let calves = c.append_calves.new.list.items in
     let old : List ℕ = c.args.known.now in
     let new : List ℕ = c.write_calves.new.known in
-    let are : AreCalvesWith rows (λ t. t ≡ s) f calves = listed g (goal.at.returns-in_ok-append_calves-clause-known g c).In_ok-append_calves in
+    let are : AreCalvesWith rows (λ t. t ≡ s) f calves = listed g (goal.at.returns-clause-known g c).In_ok-append_calves in
     let has : HasWritten f calves old new = subst (λ xs. HasWritten f xs old new) c.deref.ensures.value (c.write_calves.ensures.written f (rw c.deref.ensures.value (calves-values rows (λ t. t ≡ s) f calves are))) in
     reached-more DEPTH_LIMIT rows (IsBefore s) (λ t. t ≡ s) (IsBefore (s + 1)) (before-next s) old new c.write_calves.ensures.each (λ x lx. has.kept x)
     (calves-written rows (λ t. t ≡ s) f calves old new are has) c.requires.known
-
-pub returns-else-has_calves-clause-known : goal.returns-else-has_calves-clause-known
-returns-else-has_calves-clause-known g c =
-    let rows = c.args.frozen.now in
-    let s : ℕ = c.args.sire in
-    let old : List ℕ = c.args.known.now in
-    reached-more DEPTH_LIMIT rows (IsBefore s) (λ t. t ≡ s) (IsBefore (s + 1)) (before-next s) old old refl (λ x lx. inl refl)
-    (λ t x is calf. absurd (c.has_calves.ensures.no c.if-has_calves.false x (subst (λ v. IsCalf rows v x) is calf))) c.requires.known

@@ -1,5 +1,4 @@
 use Rattle.std.proofs.Common.{rules, arith, suc, List, get_or, ◌≡◌, ◌++◌, [], ◌∷◌, ◌-◌, ap, subst, ◌∙◌, sym}
-use Rattle.std.specs.List.{All}
 use Rattle.std.specs.Vec.Iter.{into_iter_len}
 use Rattle.std.proofs.lemmas.List.Elements.{All-append, All-push, All-same}
 use Rattle.crossbeam_deque.specs.Handles.{worker_view}

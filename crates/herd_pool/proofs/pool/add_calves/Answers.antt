@@ -1,8 +1,9 @@
-use Rattle.std.proofs.Common.{◌<◌, List, Vec, length, arith, subst, sym}
+use Rattle.std.proofs.Common.{◌<◌, List, Vec, length, arith, ◌∙◌, ap, subst, sym}
 use Rattle.std.specs.List.{All}
 use Rattle.herd_pedigree.specs.declared.TheConstants.{DEPTH_LIMIT, MOST_ANIMALS}
 use Rattle.herd_kinship.specs.Coefficients.{coefficient_at}
 use Rattle.herd_kinship.specs.declared.calf_coefficients.CalfCoefficient.{CalfCoefficient}
+use Rattle.herd_pool.specs.Blocks.{once_below}
 use Rattle.herd_pool.specs.Sires.{AreWritten, HaveValues}
 use Rattle.herd_pool.specs.declared.work.ComputedBlock.{ComputedBlock}
 use Rattle.herd_pool.proofs.SireFacts.{blocks_values, blocks_within, calves_known}
@@ -26,5 +27,5 @@ returns-clause-known g c =
     let blocks = c.in_ok-blocks.blocks.items in
     let values = blocks_values DEPTH_LIMIT rows level.depth level.block blocks are.computed in
     let wrote = c.write_calves_of.ensures f (subst (λ (bs : List (ComputedBlock (Vec CalfCoefficient _))). All (λ block. HaveValues f block.output.items) bs) (sym c.deref.ensures.value) values) in
-    calves_known DEPTH_LIMIT MOST_ANIMALS rows c.args.calves.now c.args.known.now new level.depth level.block blocks c.requires.block (omega arith) c.requires.known are.each_once are.computed wrote.0
+    calves_known DEPTH_LIMIT MOST_ANIMALS rows c.args.calves.now c.args.known.now new level.depth level.block blocks c.requires.block (omega arith) c.requires.known (λ number. are.each_once number ∙ ap (once_below number) c.blocks-count.ensures) are.computed wrote.0
     (subst (λ (bs : List (ComputedBlock (Vec CalfCoefficient _))). All (λ block. AreWritten f new block.output.items) bs) c.deref.ensures.value wrote.1)

@@ -1,7 +1,8 @@
-use Rattle.std.proofs.Common.{arith, subst}
+use Rattle.std.proofs.Common.{arith, ◌∙◌, ap, subst}
 use Rattle.herd_pedigree.specs.freezing.Frozen.{level_of}
 use Rattle.herd_pedigree.specs.declared.TheConstants.{DEPTH_LIMIT, MOST_ANIMALS}
 use Rattle.herd_kinship.specs.Coefficients.{coefficient_at}
+use Rattle.herd_pool.specs.Blocks.{once_below}
 use Rattle.herd_pool.proofs.Writes.{HasBlocks, level_known}
 use Rattle.herd_pool.proofs.pool.add_level.Goals as goal
 
@@ -11,4 +12,4 @@ returns-clause-known g c =
     let rows = level.frozen.now in
     let new = c.write_traced.new.known in
     let written = subst (HasBlocks (coefficient_at DEPTH_LIMIT rows) level.block (level_of level.depth rows) new) c.deref.ensures.value c.write_traced.ensures.written in
-    level_known DEPTH_LIMIT MOST_ANIMALS rows c.args.known.now new level.depth level.block c.in_ok-blocks.blocks.items c.requires.block (omega arith) c.requires.known c.in_ok-blocks.ensures.blocks.each_once c.write_traced.ensures.kept written
+    level_known DEPTH_LIMIT MOST_ANIMALS rows c.args.known.now new level.depth level.block c.in_ok-blocks.blocks.items c.requires.block (omega arith) c.requires.known (λ number. c.in_ok-blocks.ensures.blocks.each_once number ∙ ap (once_below number) c.blocks-count.ensures) c.write_traced.ensures.kept written

@@ -1,4 +1,5 @@
-use Rattle.std.proofs.Common.{◌≡◌, ℕ, ◌/◌, ◌∙◌, ap, subst}
+use Rattle.std.proofs.Common.{◌≡◌, ℕ, ◌/◌, [], sym, ◌∙◌, ap, subst}
+use Rattle.std.proofs.lemmas.List.{append-nil}
 use Rattle.std.proofs.lemmas.Result.{IfOk-weaker}
 use Rattle.herd_pedigree.specs.declared.TheConstants.{DEPTH_LIMIT, MOST_ANIMALS}
 use Rattle.herd_kinship.specs.CalfCoefficients.{GoesOnWith}
@@ -7,12 +8,12 @@ use Rattle.herd_kinship.specs.Coefficients.{coefficient_at}
 use Rattle.herd_kinship.specs.Columns.{at_parent}
 use Rattle.herd_kinship.specs.Ranks.{dam_rank}
 use Rattle.herd_kinship.proofs.CalfFacts.{calf-within}
-use Rattle.herd_kinship.proofs.CalfListFacts.{goes-on-values}
+use Rattle.herd_kinship.proofs.CalfListFacts.{calves-none, goes-on-values}
 use Rattle.herd_kinship.proofs.ColumnFacts.{coefficient-related}
 use Rattle.herd_kinship.proofs.mates.Mates.append_calves.Goals as goal
 
-pub returns-clause-calves : goal.returns-clause-calves
-returns-clause-calves g c =
+pub returns-in_ok-relate_to-clause-calves : goal.returns-in_ok-relate_to-clause-calves
+returns-in_ok-relate_to-clause-calves g c =
     let rows = c.args.frozen.now in
     let s : ℕ = c.args.sire in
     let half : ℕ → ℕ = λ x. at_parent c.deref.result.now (dam_rank rows x) / 2 in
@@ -26,3 +27,13 @@ returns-clause-calves g c =
     ∙ coefficient-related DEPTH_LIMIT MOST_ANIMALS rows c.len.ensures.frozen s c.requires.sire mine.1 x (calf-within rows s x mine) mine.0 mine.2 in
     IfOk-weaker c.append_halves.result (λ _. GoesOnWith rows (λ t. t ≡ s) half old new) (λ _. GoesOnWith rows (λ t. t ≡ s) (coefficient_at DEPTH_LIMIT rows) old new)
     (λ _. goes-on-values rows (λ t. t ≡ s) half (coefficient_at DEPTH_LIMIT rows) old new same) c.append_halves.ensures
+
+pub returns-else-has_calves-clause-calves : goal.returns-else-has_calves-clause-calves
+returns-else-has_calves-clause-calves g c =
+    let rows = c.args.frozen.now in
+    record {
+      more = [];
+      appended = sym (append-nil c.args.list.now.items);
+      calves = calves-none rows (λ s. s ≡ c.args.sire) (coefficient_at DEPTH_LIMIT rows)
+          (λ s x is calf. c.has_calves.ensures.no c.if-has_calves.false x (subst (λ (v : ℕ). IsCalf rows v x) is calf));
+    }

@@ -1,5 +1,9 @@
-use Rattle.std.proofs.Common.{◌≤◌}
+use Rattle.std.proofs.Common.{◌≡◌}
+use Rattle.herd_pool.specs.Sires.{busy_among, calves_among}
 use Rattle.herd_pool.proofs.sires.SireLevel.crew.Given as goal
 
 abbrev pub invariant-loop-number : goal.invariant-loop-number
-invariant-loop-number g l = l.crew ≤ l.workers
+invariant-loop-number g l = record {
+  busy : l.busy ≡ busy_among l.self.level.frozen.now l.self.level.depth l.self.level.block l.number;
+  calves : l.calves ≡ calves_among l.self.level.frozen.now l.self.level.depth l.self.level.block l.number;
+}

@@ -4,11 +4,11 @@ use Rattle.herd_pedigree.specs.declared.TheConstants.{DEPTH_LIMIT}
 use Rattle.herd_kinship.specs.Mates.{IsReady}
 use Rattle.herd_pool.specs.Levels.{block_of}
 use Rattle.herd_pool.specs.Sires.{AreCalvesAmong}
-use Rattle.herd_pool.proofs.sires.SireLevel.calves_of_block.Given as goal
+use Rattle.herd_pool.proofs.sires.SireLevelWork.compute.Given as goal
 
 abbrev pub invariant-loop-sire : goal.invariant-loop-sire
 invariant-loop-sire g l = record {
   ranks : l.sire-items ≡ block_of l.self.level.block l.number (level_of l.self.level.depth l.self.level.frozen.now);
   ready : IsReady (length l.self.level.frozen.now) l.mates;
-  calves : AreCalvesAmong DEPTH_LIMIT l.self.level.frozen.now l.sire-items l.sire-index l.list.items;
+  calves : AreCalvesAmong DEPTH_LIMIT l.self.level.frozen.now l.sire-items l.sire-index l.output.items;
 }

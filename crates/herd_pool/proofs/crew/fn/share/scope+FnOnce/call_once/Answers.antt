@@ -1,5 +1,5 @@
 use Rattle.std.proofs.Common.{rules}
-use Rattle.herd_pool.proofs.crew.fn.run_threads.scope+FnOnce.call_once.Goals as goal
+use Rattle.herd_pool.proofs.crew.fn.share.scope+FnOnce.call_once.Goals as goal
 
 pub scope-requires : goal.scope-requires
 scope-requires g c = search rules
