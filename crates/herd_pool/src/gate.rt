@@ -11,8 +11,9 @@ use std::alloc::{AllocError, Allocator};
 /// The list of coefficients is proved, whatever the gate does. That `enter` is called for each block of a level once,
 /// before the first of its animals, and `trace` for each animal once, on the thread that took its block, is not:
 /// nor is it that several threads take blocks. Tests try it with gates that count blocks by level and animals by
-/// rank, on founders and on full sibs of sixty-one generations, and with gates that wait for one another, among
-/// founders and at depths 1 and 4. On which thread an animal is traced, no test tells.
+/// rank, on founders and on full sibs of sixty-one generations, with gates that wait for one another, among founders
+/// and at depths 1 and 4, and with gates that hold one of two workers until the other has traced the animals of its
+/// block, among founders and at depth 1.
 pub trait Gate: Sync {
     /// A thread has taken this block of the level, both counted from 0, and begins with it.
     fn enter(&self, level: u8, block: u32);

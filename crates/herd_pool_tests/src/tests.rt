@@ -7,7 +7,7 @@ ghost use Rattle.std.specs.Prelude.{◌≤◌, ◌*◌};
 ghost use Rattle.herd_pool.specs.declared.limits.TheConstants.{MOST_WORKERS};
 
 use drawn::{SHAPES, drawn};
-use gates::{AtAnimals, AtBlocks, Counts, Meeting, OneRefused, ThirdFirst};
+use gates::{AtAnimals, AtBlocks, Counts, Meeting, OneRefused, OtherHeld, ThirdFirst};
 use herd_fixtures::{founders, generations};
 use herd_kinship::{ONE, coefficients_plain};
 use herd_pedigree::Frozen;
@@ -128,6 +128,35 @@ fn two_workers_trace_at_once(rt: HostRuntime) -> Result<(), Fail> {
         assert_eq!(rt; found.list(), FIVE_GENERATIONS.as_slice());
         assert!(rt; !gate.meeting.is_late());
     }
+    Ok(())
+}
+
+// Of a level of two blocks of this length.
+fn expect_traced_where_entered<R: Threads + Wait + Abort + Sync>(
+    rt: &R,
+    alloc: Global,
+    frozen: &Frozen<Global>,
+    level: u8,
+    length: u32,
+) -> Result<(), PoolFault>
+    requires { 1 ≤ length }
+{
+    for block in 0..2 {
+        let gate = OtherHeld::of(level, block, length, LONG);
+        coefficients(rt, alloc, frozen, 2, length, &gate)?;
+        assert!(rt; !gate.is_late(), "level {level}, block {block}");
+    }
+    Ok(())
+}
+
+// Among founders, and among full sibs: whoever enters a block traces its animals.
+#[test]
+fn traced_on_the_thread_that_entered(rt: HostRuntime) -> Result<(), Fail> {
+    let frozen = founders(rt.alloc(), 6)?;
+    expect_traced_where_entered(&rt, rt.alloc(), &frozen, 0, 3)?;
+    let frozen = generations(rt.alloc(), 5)?;
+    expect_traced_where_entered(&rt, rt.alloc(), &frozen, 0, 1)?;
+    expect_traced_where_entered(&rt, rt.alloc(), &frozen, 1, 1)?;
     Ok(())
 }
 

@@ -103,6 +103,65 @@ impl Gate for ThirdFirst {
     }
 }
 
+/// Holds whoever enters the other block of a level until the animals of one block were traced. Both must have been
+/// entered before, so where two workers share the level, only the thread that entered the one can trace its animals.
+#[derive(Drop)]
+pub struct OtherHeld {
+    level: u8,
+    block: u32,
+    first: u32,
+    end: u32,
+    entered: Meeting,
+    traced: Meeting,
+}
+
+impl OtherHeld {
+    /// For a book whose levels follow one another by rank, each of two blocks of this length.
+    pub(crate) fn of(level: u8, block: u32, length: u32, turns: u32) -> OtherHeld {
+        let blocks_before = 2u32.wrapping_mul(u32::from(level)).wrapping_add(block);
+        let first = blocks_before.wrapping_mul(length);
+        OtherHeld {
+            level,
+            block,
+            first,
+            end: first.wrapping_add(length),
+            entered: Meeting::of(2, turns),
+            traced: Meeting::of(u64::from(length), turns),
+        }
+    }
+
+    /// Someone has waited for all turns, in vain.
+    pub(crate) fn is_late(&self) -> bool {
+        self.entered.is_late() || self.traced.is_late()
+    }
+}
+
+impl Gate for OtherHeld {
+    fn enter(&self, level: u8, block: u32) {
+        if level == self.level {
+            self.entered.arrive();
+            self.entered.wait();
+            if block != self.block {
+                self.traced.wait();
+            }
+        }
+    }
+
+    fn trace<F: Allocator, A: Allocator + Clone>(
+        &self,
+        alloc: A,
+        frozen: &Frozen<F>,
+        known: &[u128],
+        rank: u32,
+    ) -> Result<u128, AllocError> {
+        let value = herd_kinship::trace(alloc, frozen, known, rank)?;
+        if self.first <= rank && rank < self.end {
+            self.traced.arrive();
+        }
+        Ok(value)
+    }
+}
+
 /// Counts how often each block begins and each animal is traced.
 ///
 /// It serves for books whose levels follow one another by rank and have as many blocks each, all of them full but the
