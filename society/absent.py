@@ -2,11 +2,15 @@
 from __future__ import annotations
 
 import collections
+import shlex
 
 from society.animals import ROLES, Animal
 from society.book import Book
 from society.dates import ANY_DAY, Span
 from society.report import ADDED, GONE, INFERRED, Report
+
+# of so many links a parent without a row that is a sire and a dam is told
+MANY = 3
 
 
 def animals_of_book(book: Book, animals: dict[str, Animal]) -> dict[str, Animal]:
@@ -96,6 +100,7 @@ class Names:
     def add_parents(self) -> None:
         """A founder for each parent without a row."""
         calves = collections.Counter(parent for animal in self.animals.values() for _, parent in animal.parents())
+        self.advise_unknown()
         for animal in list(self.animals.values()):
             for role, parent in animal.parents():
                 if parent not in self.animals:
@@ -103,6 +108,16 @@ class Names:
                     why = f"the {role} of {animal.id}{more} has no row: added without parents{self.hint(animal, parent)}"
                     self.report.tell(ADDED, animal.line, parent, why)
                     self.animals[parent] = Animal(parent)
+
+    def advise_unknown(self) -> None:
+        """A parent without a row that is a sire and a dam of many may be a word for an unknown one."""
+        links = collections.Counter((parent, role) for animal in self.animals.values() for role, parent in animal.parents())
+        for (parent, role), dams in links.items():
+            sires = links.get((parent, "sire"), 0)
+            has_row = parent in self.animals and self.animals[parent].line
+            if role == "dam" and sires and sires + dams >= MANY and not has_row and "," not in parent:
+                many = f"{parent} has no row, and is the sire of {sires} and the dam of {dams}"
+                self.report.advice.append(f"{many}: if it means an unknown parent, take this again with --unknown={shlex.quote(parent)} --drop-gone")
 
     def hint(self, calf: Animal, text: str) -> str:
         """Which id may be meant by a text that is none."""

@@ -8,7 +8,7 @@ from dataclasses import dataclass, field
 
 from society.columns import KNOWN_NO, KNOWN_SEXES, KNOWN_YES, sex_word
 from society.dates import ANY_DAY, MonthFirst, Span, Unreadable, read_span
-from society.report import INFERRED, LEFT_OUT, Mistake, Report
+from society.report import CELL, INFERRED, ROW, Mistake, Report
 from society.sheet import Sheet, squeezed
 
 ROLES = {"sire": "M", "dam": "F"}
@@ -50,6 +50,14 @@ class Animal:
         """The known parents, each with its role."""
         return [(role, parent) for role, parent in (("sire", self.sire), ("dam", self.dam)) if parent]
 
+    def has_id_too(self, sire: str, dam: str) -> str:
+        """Why a later row with this animal's id is left out: what it says of the parents is told where it differs."""
+        why = f"line {self.line} has this id too"
+        if (sire, dam) == (self.sire, self.dam):
+            return why
+        before, here = (" and ".join(parent or "unknown" for parent in pair) for pair in ((self.sire, self.dam), (sire, dam)))
+        return f"{why}, with other parents, which are taken ({before}; here they are {here})"
+
     def has_day(self) -> bool:
         return self.birth.is_day
 
@@ -84,15 +92,15 @@ class Rows:
         for line, cells in self.sheet.rows:
             id = self.cell(cells, "id")
             if len(cells) > usual or any(squeezed(cell) for cell in cells[titles:]):
-                why = f"the row has {len(cells)} cells, and there are {titles} titles: is there a separator too many?"
+                why = f"it has {len(cells)} cells, and there are {titles} titles: is there a separator too many?"
             elif id.casefold() in self.unknown:
-                why = f"'{id}' is a word for an unknown animal: give it another id" if id else "the row has no id"
+                why = f"'{id}' is a word for an unknown animal: give it another id" if id else "it has no id"
             elif id in found:
-                why = f"line {found[id].line} has this id too: the row is left out"
+                why = found[id].has_id_too(*(self.parent(cells, role) for role in ROLES))
             else:
                 found[id] = self.animal(line, id, cells)
                 continue
-            self.report.tell(LEFT_OUT, line, id, why)
+            self.report.leave_out(ROW, line, id, "the row", why)
         self.mostly_unread()
         return found
 
@@ -124,10 +132,10 @@ class Rows:
         parent = self.cell(cells, role)
         return "" if parent.casefold() in self.unknown else parent
 
-    def leave_out(self, animal: Animal, field: str, text: str, why: str) -> None:
+    def leave_out(self, animal: Animal, field: str, text: str, what: str, why: str) -> None:
         animal.unread.append(field)
         self.unread[field].append((text, animal.line))
-        self.report.tell(LEFT_OUT, animal.line, animal.id, why)
+        self.report.leave_out(CELL, animal.line, animal.id, what, why)
 
     def sex(self, animal: Animal, text: str) -> str:
         word = sex_word(text)
@@ -136,7 +144,8 @@ class Rows:
         self.read["sex"] += 1
         sex = self.sexes.get(word, "")
         if not sex:
-            self.leave_out(animal, "sex", text, f"the sex '{text}' isn't known: write M or F, or name it as --sexes {text}=m or {text}=f")
+            why = f"'{text}' isn't known: write M or F, or name it as --sexes {text}=m or {text}=f"
+            self.leave_out(animal, "sex", text, "its sex", why)
         return sex
 
     def span(self, animal: Animal, field: str, text: str) -> Span | None:
@@ -152,13 +161,13 @@ class Rows:
                 "write all days as 2001-03-01 or 01.03.2001"
             ) from None
         except Unreadable as why:
-            self.leave_out(animal, field, text, f"{name}: {why}")
+            self.leave_out(animal, field, text, f"its {name}", str(why))
             return None
 
     def is_embryo(self, animal: Animal, text: str) -> bool:
         self.read["embryo"] += bool(text)
         if text and text.casefold() not in KNOWN_YES | KNOWN_NO | self.unknown:
-            self.leave_out(animal, "embryo", text, f"the cell '{text}' for a calf from a stored embryo isn't known: write 1 or nothing")
+            self.leave_out(animal, "embryo", text, "its cell for a stored embryo", f"'{text}' isn't known: write 1 or nothing")
         return text.casefold() in KNOWN_YES
 
     def mostly_unread(self) -> None:

@@ -5,7 +5,7 @@ import datetime
 
 from society.animals import Animal
 from society.dates import ANY_DAY, FIRST_DAY, Span
-from society.report import INFERRED, LEFT_OUT, Report
+from society.report import INFERRED, PARENT, Report
 
 # days between a parent's birth and a calf's, where only one of the two is known
 GENERATION = 730
@@ -42,8 +42,8 @@ def cut_cycles(animals: dict[str, Animal], report: Report) -> None:
         calf, role, parent = faulty_link(animals, cycle)
         path = " > ".join([calf, *ancestors_round(cycle, calf)])
         setattr(animals[calf], role, "")
-        why = f"it would be its own ancestor ({path}): {parent} is left out as its {role}"
-        report.tell(LEFT_OUT, animals[calf].line, calf, why)
+        why = f"{calf} would be its own ancestor ({path})"
+        report.leave_out(PARENT, animals[calf].line, calf, f"its {role} {parent}", why)
         left -= set(in_order({id: animals[id] for id in left}))
 
 

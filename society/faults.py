@@ -3,13 +3,20 @@ from __future__ import annotations
 
 from society.animals import Animal
 from society.commands import birth, leave
+from society.depth import too_deep
 from society.program import REFUSALS, Herdbook
-from society.report import LEFT_OUT, MOST_SHOWN, Mistake
+from society.report import PARENT, Mistake
 from society.taking import Taking
 
-MOST_STEPS = 60
 # the refusals of parents, by the link that each is about
 SIRE_FAULTS, DAM_FAULTS, TOO_DEEP = (5, 7), (6, 8, 9), 10
+WHY = {
+    5: "it isn't male",
+    6: "it isn't female",
+    7: "it isn't at least a day older",
+    8: "it isn't at least a day older",
+    9: "it left on a day before the birth",
+}
 
 
 def leave_out_faulty_parents(taking: Taking, program: Herdbook) -> None:
@@ -24,23 +31,17 @@ def leave_out_faulty_parents(taking: Taking, program: Herdbook) -> None:
         faults = [(calves[place - len(first)], refusal) for place, refusal in refused.items() if place >= len(first)]
         if not faults:
             return
-        too_deep([animal for animal, refusal in faults if refusal == TOO_DEEP])
+        # paths come last: without a parent that is refused they may be shorter
+        deep = [animal for animal, refusal in faults if refusal == TOO_DEEP]
+        if len(deep) == len(faults):
+            raise too_deep(taking.animals, deep)
         for animal, refusal in faults:
-            leave_out_parent(taking, animal, refusal)
-
-
-def too_deep(animals: list[Animal]) -> None:
-    if animals:
-        more = [f"and {len(animals) - MOST_SHOWN} more"] if len(animals) > MOST_SHOWN else []
-        raise Mistake(
-            *(f"{one.where()}{REFUSALS[TOO_DEEP]}, which is the limit (refusal {TOO_DEEP})" for one in animals[:MOST_SHOWN]),
-            *more,
-            f"there are paths of parents of more than {MOST_STEPS} steps: leave out the oldest animals, and take the rest",
-        )
+            if refusal != TOO_DEEP:
+                leave_out_parent(taking, animal, refusal)
 
 
 def leave_out_parent(taking: Taking, animal: Animal, refusal: int) -> None:
-    if refusal not in SIRE_FAULTS + DAM_FAULTS:
+    if refusal not in WHY:
         raise Mistake(f"{animal.where()}{REFUSALS[refusal]} (refusal {refusal})")
     role = "sire" if refusal in SIRE_FAULTS else "dam"
     parent = taking.animals[getattr(animal, role)]
@@ -50,10 +51,10 @@ def leave_out_parent(taking: Taking, animal: Animal, refusal: int) -> None:
     if refusal == 9:
         facts.append(f"left {parent.left}{' (inferred)' if parent.left_inferred else ''}")
     of_parent = f"{parent.id} ({', '.join(facts)})" if facts else parent.id
-    why = f"{REFUSALS[refusal]} (refusal {refusal}): {of_parent} is left out as its {role}"
+    why = f"{WHY[refusal]} (refusal {refusal})"
     if refusal not in (5, 6):
         why += f"; {animal.id} was born {animal.born_marked()}"
     if refusal == 9:
         why += "; a calf from a stored embryo needs 1 in the column embryo"
-    taking.report.tell(LEFT_OUT, animal.line, animal.id, why)
+    taking.report.leave_out(PARENT, animal.line, animal.id, f"its {role} {of_parent}", why)
     setattr(animal, role, "")

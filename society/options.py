@@ -29,6 +29,17 @@ class Parser(argparse.ArgumentParser):
         raise Mistake(f"{message}: {hint}`{self.prog} --help` shows what can be written")
 
 
+def joined(words: list[str]) -> list[str]:
+    """The words, with `--unknown -9,00` as `--unknown=-9,00`: else `-9,00` would be taken for an option."""
+    found: list[str] = []
+    for word in words:
+        if found and found[-1] == "--unknown" and re.match("-(?!-.)", word):
+            found[-1] += f"={word}"
+        else:
+            found.append(word)
+    return found
+
+
 def three_letters(text: str) -> str:
     if not re.fullmatch("[A-Z]{3}", text):
         raise argparse.ArgumentTypeError(f"'{text}' isn't three letters A to Z")

@@ -1,128 +1,130 @@
-"""A geneticist's pedigree, `id sire dam`: sexes and birth days are invented so that nothing is refused for them."""
+"""Sexes and birth days for a geneticist's pedigree, `id sire dam`: invented so that nothing is refused for them."""
 from __future__ import annotations
 
-import csv
 import datetime
 import heapq
-import pathlib
 
 from society.animals import ROLES, Animal
 from society.births import calves_of, cut_cycles
 from society.book import INVENTED
-from society.columns import KNOWN_TITLES, plain
 from society.dates import FIRST_DAY
-from society.report import CHANGED, LEFT_OUT, Mistake, Report
-from society.sheet import decoded
+from society.report import CHANGED, PARENT, Report
 
-
-def read_triples(path: pathlib.Path, unknown: set[str], report: Report) -> dict[str, Animal]:
-    """The animals by id, in the order of the lines."""
-    try:
-        text, _ = decoded(path, path.read_bytes())
-    except OSError as error:
-        raise Mistake(f"{path} can't be read: {error.strerror or error}. Is the name right?") from None
-    animals: dict[str, Animal] = {}
-    columns = [0, 1, 2]
-    for line, cells in records(text):
-        if not animals and has_titles(cells):
-            columns = title_places(cells)
-            continue
-        if len(cells) <= max(columns):
-            row = f"line {line}: '{' '.join(cells)}' has {len(cells)} cells"
-            raise Mistake(f"{row}: write an id, its sire and its dam, 0 for an unknown one")
-        id, sire, dam = (cells[at] for at in columns)
-        if id.casefold() in unknown:
-            raise Mistake(f"line {line}: '{id}' is a word for an unknown parent, and stands for an animal: give it another id")
-        sire, dam = ("" if parent.casefold() in unknown else parent for parent in (sire, dam))
-        if id in animals:
-            report.tell(LEFT_OUT, line, id, f"line {animals[id].line} has this id too: this line is left out")
-        else:
-            animals[id] = Animal(id, line, sire=sire, dam=dam)
-    if not animals:
-        raise Mistake(f"{path} has no animals: write a line `id sire dam` for each")
-    return animals
-
-
-def records(text: str) -> list[tuple[int, list[str]]]:
-    """The cells of each line that has some; `#` begins a comment."""
-    numbered = enumerate(text.splitlines(), 1)
-    lines = [(line, part) for line, part in numbered if part.strip() and not part.lstrip().startswith("#")]
-    separator = next((one for one in ";\t," if lines and one in lines[0][1]), None)
-    if separator is None:
-        return [(line, [cell.strip('"') for cell in part.split()]) for line, part in lines]
-    return [(line, [cell.strip() for cell in next(csv.reader([part], delimiter=separator))]) for line, part in lines]
-
-
-def has_titles(cells: list[str]) -> bool:
-    return sum(plain(cell) in KNOWN_TITLES[field] for cell in cells for field in ("id", "sire", "dam")) >= 2
-
-
-def title_places(cells: list[str]) -> list[int]:
-    titles = [plain(cell) for cell in cells]
-    known = [KNOWN_TITLES[field] for field in ("id", "sire", "dam")]
-    places = [next((at for at, title in enumerate(titles) if title in usual), None) for usual in known]
-    if None in places:
-        raise Mistake("line 1: the titles have to be id, sire and dam")
-    return places
+# so many couples that no sexes fit are named
+MOST_COUPLES = 9
 
 
 def invent_sexes(animals: dict[str, Animal], report: Report) -> None:
     """A sire is a male and a dam a female. Where an animal is both, sexes are sought that make a male and a female of
-    each couple, and the parents of some are swapped, which changes no coefficient."""
+    each couple, and the parents of some are swapped, which changes no coefficient. Cycles are cut before: what is told
+    of them are the parents of the file."""
     for animal in animals.values():
         if animal.sire and animal.sire == animal.dam:
-            why = f"{animal.sire} is its sire and its dam: no calf has one parent twice, so it is left out as its dam"
-            report.tell(LEFT_OUT, animal.line, animal.id, why)
+            why = f"{animal.sire} is its sire too, and no calf has one parent twice"
+            report.leave_out(PARENT, animal.line, animal.id, f"its dam {animal.dam}", why)
             animal.dam = ""
-    sires = {animal.sire for animal in animals.values()} - {""}
-    dams = {animal.dam for animal in animals.values()} - {""}
-    if sires & dams:
-        colour(animals, sires)
-    else:
-        for id, animal in animals.items():
-            animal.sex = "M" if id in sires else "F"
+    cut_cycles(animals, report)
+    sexes = Sexes(animals)
     for animal in animals.values():
         animal.sex_inferred = INVENTED
-        place_parents(animal, animals, report)
-
-
-def colour(animals: dict[str, Animal], sires: set[str]) -> None:
-    """Gives the sexes, couple by couple: the mates of a male are females, and theirs are males."""
-    mates: dict[str, list[str]] = {}
     for animal in animals.values():
-        if animal.sire and animal.dam:
-            mates.setdefault(animal.sire, []).append(animal.dam)
-            mates.setdefault(animal.dam, []).append(animal.sire)
-    for id, animal in animals.items():
-        if animal.sex:
-            continue
-        animal.sex = "M" if id in sires else "F"
-        reached = [id]
+        sexes.place_parents(animal, report)
+
+
+class Sexes:
+    """The sexes of all animals, couple by couple: the mates of a male are females, and theirs are males."""
+
+    def __init__(self, animals: dict[str, Animal]) -> None:
+        self.animals = animals
+        # the first calf of each parent in each role, and the mates of each with their first calf
+        self.calf: dict[str, dict[str, Animal]] = {"sire": {}, "dam": {}}
+        self.mates: dict[str, dict[str, Animal]] = {}
+        for animal in animals.values():
+            for role, parent in animal.parents():
+                self.calf[role].setdefault(parent, animal)
+            if animal.sire and animal.dam:
+                self.mates.setdefault(animal.sire, {}).setdefault(animal.dam, animal)
+                self.mates.setdefault(animal.dam, {}).setdefault(animal.sire, animal)
+        # for each animal the mate by which its sex was found
+        self.found_by: dict[str, str] = {}
+        for id, animal in animals.items():
+            if not animal.sex:
+                self.colour(id)
+        both = self.calf["sire"].keys() & self.calf["dam"].keys()
+        # for each animal one that is both, the nearest by mates, and how far it is
+        self.both: dict[str, tuple[int, str]] = {id: (0, id) for id in animals if id in both}
+        self.spread_both()
+
+    def colour(self, first: str) -> None:
+        """Gives an animal the sex of its role, and all that are joined to it by couples theirs."""
+        self.animals[first].sex = "M" if first in self.calf["sire"] else "F"
+        reached = [first]
         for one in reached:
-            for mate in mates.get(one, ()):
-                if not animals[mate].sex:
-                    animals[mate].sex = "F" if animals[one].sex == "M" else "M"
+            for mate in self.mates.get(one, ()):
+                if not self.animals[mate].sex:
+                    self.animals[mate].sex = "F" if self.animals[one].sex == "M" else "M"
+                    self.found_by[mate] = one
                     reached.append(mate)
 
+    def spread_both(self) -> None:
+        reached = list(self.both)
+        for one in reached:
+            steps, both = self.both[one]
+            for mate in self.mates.get(one, ()):
+                if mate not in self.both:
+                    self.both[mate] = steps + 1, both
+                    reached.append(mate)
 
-def place_parents(animal: Animal, animals: dict[str, Animal], report: Report) -> None:
-    """Puts the male parent in the sire's place and the female one in the dam's."""
-    sexes = [animals[parent].sex for _, parent in animal.parents()]
-    if len(sexes) == 2 and sexes[0] == sexes[1]:
-        why = f"no choice of sexes fits all couples: {animal.dam} is left out as its dam, beside {animal.sire}"
-        report.tell(LEFT_OUT, animal.line, animal.id, why)
-        animal.dam = ""
-        sexes = sexes[:1]
-    if any(ROLES[role] != animals[parent].sex for role, parent in animal.parents()):
-        animal.sire, animal.dam = animal.dam, animal.sire
-        couple = f"the sire {animal.sire or 'unknown'} and the dam {animal.dam or 'unknown'}"
-        why = f"taken with {couple}, since an animal is a sire in one line and a dam in another"
-        report.tell(CHANGED, animal.line, animal.id, why)
+    def place_parents(self, animal: Animal, report: Report) -> None:
+        """Puts the male parent in the sire's place and the female one in the dam's."""
+        sexes = [self.animals[parent].sex for _, parent in animal.parents()]
+        if len(sexes) == 2 and sexes[0] == sexes[1]:
+            couples = f"no choice of sexes fits all of the couples {self.couples_round(animal)}"
+            report.leave_out(PARENT, animal.line, animal.id, f"its dam {animal.dam}", couples)
+            animal.dam = ""
+        if any(ROLES[role] != self.animals[parent].sex for role, parent in animal.parents()):
+            why = self.why_swapped(animal)
+            animal.sire, animal.dam = animal.dam, animal.sire
+            couple = f"the sire {animal.sire or 'unknown'} and the dam {animal.dam or 'unknown'}"
+            report.tell(CHANGED, animal.line, animal.id, f"taken with {couple}, {why}")
+
+    def why_swapped(self, animal: Animal) -> str:
+        """Which animal is a sire in one line and a dam in another: a parent of this one, or one that couples join to it."""
+        found = [(*self.both[parent], role, parent) for role, parent in animal.parents()]
+        steps, both, role, parent = min(found, key=lambda one: one[0])
+        calves = {one: self.calf[one][both] for one in self.calf}
+        if not steps:
+            calves[role] = animal
+        joined = f", which couples join to {parent}," if steps else ""
+        return f"since {both}{joined} is a sire {place(calves['sire'])} and a dam {place(calves['dam'])}"
+
+    def couples_round(self, animal: Animal) -> str:
+        """The couples that lead from the sire by mates to the dam, and with this animal's back: an odd number of them."""
+        up, down = self.way(animal.sire), self.way(animal.dam)
+        while len(up) > 1 and len(down) > 1 and up[-2] == down[-2]:
+            del up[-1], down[-1]
+        way = up + down[-2::-1]
+        couples = [(one, mate, self.mates[one][mate]) for one, mate in zip(way, way[1:])]
+        couples.append((animal.dam, animal.sire, animal))
+        words = [f"{one} and {mate} ({place(calf).removeprefix('in ')})" for one, mate, calf in couples]
+        more = len(words) - MOST_COUPLES
+        return ", ".join(words) if more <= 0 else f"{', '.join(words[-MOST_COUPLES:])} and {more} more"
+
+    def way(self, id: str) -> list[str]:
+        """From an animal by mates to the first of those that are joined to it."""
+        way = [id]
+        while way[-1] in self.found_by:
+            way.append(self.found_by[way[-1]])
+        return way
 
 
-def invent_days(animals: dict[str, Animal], report: Report) -> None:
+def place(calf: Animal) -> str:
+    """Where a calf names its parents."""
+    return f"in line {calf.line}" if calf.line else "in the book"
+
+
+def invent_days(animals: dict[str, Animal]) -> None:
     """A day for each animal, one after the other, in the order of the lines wherever parents allow it."""
-    cut_cycles(animals, report)
     calves = calves_of(animals)
     key = {id: (animal.line, 1) for id, animal in animals.items()}
     for parent, its in calves.items():

@@ -7,6 +7,8 @@ from typing import NamedTuple
 # what an entry is about, in the order in which the report has them
 LEFT_OUT, INFERRED, CHANGED, GONE, ADDED, NEW = "left out", "inferred", "changed", "gone", "added", "new"
 ORDER = (LEFT_OUT, INFERRED, CHANGED, GONE, ADDED, NEW)
+# what of a sheet is left out: a row of it (of a pedigree a line), a cell, or the link to one parent
+ROW, LINE, CELL, PARENT = "row", "line", "cell", "parent"
 # so many of a kind are printed; the report has all
 MOST_SHOWN = 25
 
@@ -26,11 +28,13 @@ class Entry(NamedTuple):
     id: str
     what: str
     why: str
+    # of what is left out: a row, a cell or a parent
+    part: str = ""
 
     def sentence(self) -> str:
         where = f"line {self.line}: " if self.line else ""
         name = f"{self.id}: " if self.id else ""
-        return f"{where}{name}{self.what}: {self.why}"
+        return f"{where}{name}{self.why if self.part else f'{self.what}: {self.why}'}"
 
 
 class Report:
@@ -38,9 +42,21 @@ class Report:
 
     def __init__(self) -> None:
         self.entries: list[Entry] = []
+        # what to do about more than one entry
+        self.advice: list[str] = []
 
     def tell(self, what: str, line: int, id: str, why: str) -> None:
         self.entries.append(Entry(line, id, what, why))
+
+    def leave_out(self, part: str, line: int, id: str, what: str, why: str) -> None:
+        """A row, a cell or a parent is left out: `what` is the words for it."""
+        self.entries.append(Entry(line, id, LEFT_OUT, f"{what} is left out: {why}", part))
+
+    def left_out(self) -> str:
+        """How many rows, cells and parents are left out, in words."""
+        counts = collections.Counter(entry.part for entry in self.entries if entry.what == LEFT_OUT)
+        parts = [f"{counts[part]} {part}{'s' if counts[part] > 1 else ''}" for part in (ROW, LINE, CELL, PARENT) if counts[part]]
+        return f"{counts.total()} left out" + (f" ({', '.join(parts)})" if parts else "")
 
     def counts(self) -> collections.Counter[str]:
         return collections.Counter(entry.what for entry in self.entries)

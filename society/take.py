@@ -10,11 +10,12 @@ from society.book import REPORT, Book
 from society.columns import find_columns, known_titles, read_given, read_sexes, unknown_words
 from society.faults import leave_out_faulty_parents
 from society.filing import Filing
-from society.pedigree import invent_days, invent_sexes, read_triples
+from society.pedigree import invent_days, invent_sexes
 from society.program import Herdbook
 from society.report import ADDED, CHANGED, GONE, INFERRED, LEFT_OUT, MOST_SHOWN, NEW, ORDER, Mistake, Report
 from society.sheet import read_sheet
 from society.taking import Taking
+from society.triples import read_triples
 
 
 @dataclass
@@ -58,7 +59,7 @@ def take_sheet(path: pathlib.Path, wishes: Wishes) -> None:
 
 def take_pedigree(path: pathlib.Path, wishes: Wishes) -> None:
     report = Report()
-    animals = read_triples(path, unknown_words(wishes.unknown), report)
+    animals, columns = read_triples(path, unknown_words(wishes.unknown), report)
     program = Herdbook()
     book = Book(wishes.book)
     book.load(program)
@@ -67,9 +68,9 @@ def take_pedigree(path: pathlib.Path, wishes: Wishes) -> None:
     for animal in animals.values():
         animal.sex = ""
     invent_sexes(animals, report)
-    invent_days(animals, report)
+    invent_days(animals)
     what = f"the sexes and birth days of all {len(animals)} animals"
-    about = [f"{path}: {what} are invented so that parents are older than their offspring"]
+    about = [columns] * bool(columns) + [f"{path}: {what} are invented so that parents are older than their offspring"]
     finish(taking, program, wishes, about, len(animals))
 
 
@@ -80,7 +81,8 @@ def finish(taking: Taking, program: Herdbook, wishes: Wishes, about: list[str], 
     leave_out_faulty_parents(taking, program)
     left_out = [entry for entry in report.in_order() if entry.what == LEFT_OUT]
     if wishes.strict and left_out:
-        raise Mistake(*(entry.sentence() for entry in left_out), f"{len(left_out)} left out: with --strict nothing is taken")
+        told = [entry.sentence() for entry in left_out] + report.advice
+        raise Mistake(*told, f"{report.left_out()}: with --strict nothing is taken")
     before = len(book.records)
     filing = Filing(taking, wishes.day)
     commands, is_anew = filing.filed(program)
@@ -95,9 +97,12 @@ def finish(taking: Taking, program: Herdbook, wishes: Wishes, about: list[str], 
     counts = report.counts()
     if counts[GONE] and not wishes.drop_gone:
         print("those that are gone stay: with --drop-gone they are dropped, but for the ancestors of animals that have a row")
+    print("".join(f"{sentence}\n" for sentence in report.advice), end="")
+    inferred = [f"{invented} invented"] * bool(invented) + [f"{counts[INFERRED]} inferred"] * bool(counts[INFERRED] or not invented)
+    each = f": {book.folder / REPORT} has each" if report.entries else ""
     print(
-        f"{book.folder}: {len(taking.animals)} animals, {new} new, {counts[CHANGED]} changed, "
-        f"{counts[INFERRED] + invented} inferred, {counts[LEFT_OUT]} left out, {counts[ADDED]} added, {counts[GONE]} gone: {book.folder / REPORT} has each"
+        f"{book.folder}: {len(taking.animals)} animals, {new} new, {counts[CHANGED]} changed, {', '.join(inferred)}, "
+        f"{report.left_out()}, {counts[ADDED]} added, {counts[GONE]} gone{each}"
     )
 
 

@@ -50,7 +50,7 @@ def scale_for(value: float, least: float, steps: tuple[float, ...]) -> float:
 def trend_picture(book: Book, coefficients: dict[str, Coefficient]) -> str:
     years, without = years_of(book, coefficients)
     if not years:
-        raise Mistake("no animal of the book has a known birth year, so there is no trend to draw")
+        raise Mistake("no animal of the book has a known birth year, so there is no trend to draw: take a sheet with birth days")
     first, last = years[0].year, years[-1].year
     step = (WIDTH - LEFT - RIGHT) / (last - first + 1)
     most_percent = scale_for(float(max(year.mean for year in years)) * 100, 0.04, (1, 1.5, 2, 2.5, 3, 4, 5, 6, 8, 10))

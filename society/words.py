@@ -8,7 +8,7 @@ from society.book import Book, open_book, write_file
 from society.certificate import certificate_page
 from society.listing import advise, coefficients, list_all, list_text
 from society.matrix import write_inverse
-from society.options import parser
+from society.options import joined, parser
 from society.pages import file_name
 from society.program import Herdbook
 from society.report import Mistake
@@ -90,7 +90,7 @@ def main(words: list[str]) -> int:
     for stream in sys.stdout, sys.stderr:
         stream.reconfigure(encoding="utf-8", errors="backslashreplace")
     try:
-        do(parser().parse_args(words))
+        do(parser().parse_args(joined(words)))
         sys.stdout.flush()
         return 0
     except Mistake as mistake:

@@ -188,7 +188,7 @@ class Checks:
         """The society's spreadsheet becomes a book of which nothing is refused; the recipes on it."""
         room = self.example_room("examples")
         taken = self.shell("society/society take examples/society.csv", room)
-        told = b"book: 502 animals, 500 new, 0 changed, 4 inferred, 3 left out, 2 added, 0 gone: book/report.csv has each"
+        told = b"book: 502 animals, 500 new, 0 changed, 4 inferred, 3 left out (1 row, 1 cell, 1 parent), 2 added, 0 gone: book/report.csv has each"
         self.count(taken.status == 0 and taken.out.splitlines()[-1:] == [told], f"the society's spreadsheet: {taken}")
         book = (room / "book/commands.csv").read_text()
         accepted = "".join(f"{serial},accepted\n" for serial in range(1, 503))

@@ -23,16 +23,17 @@ from front_desk.inferring import InferringChecks
 from front_desk.leaving import LeavingChecks
 from front_desk.mistaken import MistakeChecks
 from front_desk.pedigrees import PedigreeChecks
+from front_desk.triples import TripleChecks
 
 
-class AllChecks(FirstChecks, FormChecks, InferringChecks, LeavingChecks, MistakeChecks, PageChecks, PedigreeChecks):
+class AllChecks(FirstChecks, FormChecks, InferringChecks, LeavingChecks, MistakeChecks, PageChecks, PedigreeChecks, TripleChecks):
     """The groups of all modules."""
 
 
 GROUPS = """
     three_commands ten_more_rows forms numbers_of_others words_for_sexes inferred_days days_that_come sexes named_parents
     faulty_parents faulty_rows corrections dropped mistakes limits pictures escaped languages textbook inverse_of_many
-    odd_pedigrees help
+    odd_pedigrees lost_links odd_cells unknown_words long_paths help
 """.split()
 
 

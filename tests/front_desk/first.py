@@ -14,12 +14,12 @@ class FirstChecks(Checks):
         """From the sheet to a list, a certificate and advice."""
         her, desk = Secretary(), Desk(self, "secretary")
         done = desk.take(sheet_text(her.rows))
-        summary = "book: 201 animals, 200 new, 0 changed, 2 inferred, 2 left out, 1 added, 0 gone: book/report.csv has each"
+        summary = "book: 201 animals, 200 new, 0 changed, 2 inferred, 2 left out (2 parents), 1 added, 0 gone: book/report.csv has each"
         self.count(done.last == summary, f"the secretary's sheet: {done.last}")
-        cow = f"{her.cow} (line {her.line_of(her.cow)}) is left out as its sire"
-        self.told(done, f"line {her.line_of(her.misled)}: {her.misled}: left out: its sire isn't male (refusal 5): {cow}")
-        path = f"left out: it would be its own ancestor ({her.grandsire} > {her.grandchild} > "
-        self.count(f"line {her.line_of(her.grandsire)}: {her.grandsire}: {path}" in done.out and path.count(">") == 2, f"{done.out}")
+        cow = f"its sire {her.cow} (line {her.line_of(her.cow)})"
+        self.told(done, f"line {her.line_of(her.misled)}: {her.misled}: {cow} is left out: it isn't male (refusal 5)")
+        dam = f"its dam {her.grandchild} is left out: {her.grandsire} would be its own ancestor ({her.grandsire} > {her.grandchild} > "
+        self.count(f"line {her.line_of(her.grandsire)}: {her.grandsire}: {dam}" in done.out and dam.count(">") == 2, f"{done.out}")
         self.count(f"line {her.line_of(her.undated)}: {her.undated}: inferred: birth day" in done.out, f"{done.out}")
         self.count(f"{her.imported}: added: the sire of " in done.out, f"{done.out}")
         self.her_list(her, desk)
@@ -95,7 +95,7 @@ class FirstChecks(Checks):
         desk.take(sheet_text(her.rows))
         numbers, before = desk.numbers(), desk.commands()
         unchanged = desk.take(sheet_text(her.rows))
-        self.count(desk.commands() == before and ", 0 new, 0 changed, 2 inferred, 2 left out, 0 added, 0 gone" in unchanged.last, f"unchanged: {unchanged}")
+        self.count(desk.commands() == before and ", 0 new, 0 changed, 2 inferred, 2 left out (2 parents), 0 added, 0 gone" in unchanged.last, f"unchanged: {unchanged}")
         living = [row for row in her.rows if not row["Abgang"] and row["Geburtsdatum"][-4:] == "2015"]
         moved, gone, leaving, orphan = living[:4]
         moved["Besitzer"] = "Neuer Hof, Übersee"

@@ -49,10 +49,10 @@ class FormChecks(Checks):
             [276001234567802.0, "Löwe", "Bock", 2001, 0, None], [], [276001234567803, None, "w", 3.2004, 276001234567802, 276001234567801.0, 2009, True], [17, None, "w", 37800, None, None],
         ])  # fmt: skip
         done = numbers.good("take", "sheet.xlsx")
-        self.told(done, "line 6: 17: left out: birth day: '37800' is a number: give the column the format of a date, and save the sheet again")
+        self.told(done, "line 6: 17: its birth day is left out: '37800' is a number: give the column the format of a date, and save the sheet again")
         self.count(numbers.parents()["276001234567803"] == ("276001234567802", "276001234567801"), f"{numbers.parents()}")
         days = {"276001234567801": "2001-03-01", "276001234567802": "2001-07-02", "276001234567803": "2004-03-16"}
-        self.count(days.items() <= numbers.born().items() and " 4 inferred, 1 left out, 0 added" in done.last, f"{done}")
+        self.count(days.items() <= numbers.born().items() and " 4 inferred, 1 left out (1 cell), 0 added" in done.last, f"{done}")
         self.count(any(line.endswith(",1") for line in numbers.commands()), "a calf from a stored embryo")
         desk.write("openpyxl.py", "def load_workbook(*_, **__): raise KeyError('no workbook')")
         desk.wrong("broken.xlsx can't be read as an .xlsx file", "take", desk.write("broken.xlsx", b"PK\3\4"))

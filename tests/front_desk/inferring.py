@@ -68,7 +68,7 @@ class InferringChecks(Checks):
         self.count(desk.numbers()["d"] == "HOLGBRM000000000004", f"{desk.numbers()}")
         done = desk.take("id,sex,born,sire,dam\na,M,2001-01-01,,\nb,F,2001-02-01,,\nc,M,2003-01-01,a,b\nd,M,2004-01-01,,\ne,F,2008-01-01,d,c\n")
         self.count(desk.numbers()["c"] == "HOLGBRM000000000003", f"{desk.numbers()}")
-        self.told(done, "line 6: e: left out: its dam isn't female (refusal 6): c (line 4) is left out as its dam")
+        self.told(done, "line 6: e: its dam c (line 4) is left out: it isn't female (refusal 6)")
         self.told(done, "line 4: c: changed: number: HOLGBRM000000000003, before HOLGBRF000000000003", "line 6: e: changed: dam: none, before c")
 
     def named_parents(self) -> None:
@@ -101,9 +101,9 @@ class InferringChecks(Checks):
             "line 11: Leo: added: the sire of L3 and of 1 more has no row: added without parents (is R5 meant?)",
             "line 11: Moritz: added: the dam of L3 has no row: added without parents (2 animals have this name, R2, L1: write the id of the one that is meant)",
             "line 12: Rosi: added: the sire of L4 has no row: added without parents (is E4 meant?)",
-            "line 12: L4: left out: its dam isn't female (refusal 6): R1 (line 2) is left out as its dam",
+            "line 12: L4: its dam R1 (line 2) is left out: it isn't female (refusal 6)",
         )
-        self.count(" 8 inferred, 1 left out, 4 added, 0 gone" in done.last, done.last)
+        self.count(" 8 inferred, 1 left out (1 parent), 4 added, 0 gone" in done.last, done.last)
         parents = desk.parents()
         wanted = {"L1": ("R2", "E3"), "L2": ("R1", "Lotte"), "L3": ("Leo", "Moritz"), "L4": ("Rosi", ""), "L6": ("Leo", "E4")}
         self.count(wanted.items() <= parents.items(), f"{parents}")

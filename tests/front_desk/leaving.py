@@ -26,22 +26,22 @@ class LeavingChecks(Checks):
         done = desk.take(sheet)
         self.told(
             done,
-            "line 4: self: left out: it would be its own ancestor (self > self): self is left out as its sire",
-            "line 5: young: left out: its dam isn't at least a day older (refusal 8): late (line 6, born 2005-01-01) is left out as its dam; young was born 2004-01-01",
-            "line 7: after: left out: its dam left on a day before the birth (refusal 9): b (line 3, left 2003-01-01) is left out as its dam; "
+            "line 4: self: its sire self is left out: self would be its own ancestor (self > self)",
+            "line 5: young: its dam late (line 6, born 2005-01-01) is left out: it isn't at least a day older (refusal 8); young was born 2004-01-01",
+            "line 7: after: its dam b (line 3, left 2003-01-01) is left out: it left on a day before the birth (refusal 9); "
             "after was born 2004-02-01; a calf from a stored embryo needs 1 in the column embryo",
-            "line 9: both: left out: its sire isn't male (refusal 5): b (line 3) is left out as its sire",
-            "line 9: both: left out: its dam isn't female (refusal 6): a (line 2) is left out as its dam",
-            "line 12: z: left out: it would be its own ancestor (z > y > x > z): y is left out as its sire",
+            "line 9: both: its sire b (line 3) is left out: it isn't male (refusal 5)",
+            "line 9: both: its dam a (line 2) is left out: it isn't female (refusal 6)",
+            "line 12: z: its sire y is left out: z would be its own ancestor (z > y > x > z)",
         )
-        self.count("11 animals, 11 new, 0 changed, 2 inferred, 6 left out, 0 added, 0 gone" in done.last, done.last)
+        self.count("11 animals, 11 new, 0 changed, 2 inferred, 6 left out (6 parents), 0 added, 0 gone" in done.last, done.last)
         numbers, births = desk.numbers(), {line.split(",")[1]: line.split(",")[3:5] for line in desk.commands() if line.startswith("birth")}
         found = {id: births[number] for id, number in numbers.items()}
         wanted = {"young": ["a", 0], "after": ["a", 0], "frozen": ["a", "b"], "both": [0, 0], "x": ["z", 0], "y": ["x", 0], "z": [0, 0], "self": [0, 0]}
         self.count(all(found[id] == [numbers.get(one, "0") for one in parents] for id, parents in wanted.items()), f"{found}")
         strict = Desk(self, "strict")
-        done = strict.wrong("6 left out: with --strict nothing is taken", "take", strict.write("sheet.csv", sheet), "--strict")
-        self.count("society: line 4: self: left out: it would be its own ancestor" in done.err, f"{done}")
+        done = strict.wrong("6 left out (6 parents): with --strict nothing is taken", "take", strict.write("sheet.csv", sheet), "--strict")
+        self.count("society: line 4: self: its sire self is left out: self would be its own ancestor" in done.err, f"{done}")
         strict.take("id,born,sire,dam\na,2001,,\nb,2003-01-01,a,c\n", "--strict")
 
     def faulty_rows(self) -> None:
@@ -68,20 +68,20 @@ class LeavingChecks(Checks):
         )
         self.told(
             done,
-            "line 3: a: left out: line 2 has this id too: the row is left out",
-            "line 4: left out: the row has no id",
-            "line 5: unknown: left out: 'unknown' is a word for an unknown animal: give it another id",
-            "line 6: e: left out: birth day: there is no day 2002-02-31",
-            "line 7: f: left out: birth day: '01.02.98' has two digits of the year: write all four",
-            "line 8: g: left out: the sex 'cat' isn't known: write M or F, or name it as --sexes cat=m or cat=f",
-            "line 8: g: left out: exit: 'sold' is no day: write it as 2001-03-01 or 01.03.2001, or 03.2001 or 2001 alone",
-            "line 9: h: left out: the row has 9 cells, and there are 8 titles: is there a separator too many?",
-            "line 10: i: left out: the cell 'maybe' for a calf from a stored embryo isn't known: write 1 or nothing",
-            "line 15: n: left out: birth day: '37800' is a number: give the column the format of a date, and save the sheet again",
-            "line 11: j: left out: birth day: the year 2300 isn't one of 1900 to 2199",
+            "line 3: a: the row is left out: line 2 has this id too",
+            "line 4: the row is left out: it has no id",
+            "line 5: unknown: the row is left out: 'unknown' is a word for an unknown animal: give it another id",
+            "line 6: e: its birth day is left out: there is no day 2002-02-31",
+            "line 7: f: its birth day is left out: '01.02.98' has two digits of the year: write all four",
+            "line 8: g: its sex is left out: 'cat' isn't known: write M or F, or name it as --sexes cat=m or cat=f",
+            "line 8: g: its exit is left out: 'sold' is no day: write it as 2001-03-01 or 01.03.2001, or 03.2001 or 2001 alone",
+            "line 9: h: the row is left out: it has 9 cells, and there are 8 titles: is there a separator too many?",
+            "line 10: i: its cell for a stored embryo is left out: 'maybe' isn't known: write 1 or nothing",
+            "line 15: n: its birth day is left out: '37800' is a number: give the column the format of a date, and save the sheet again",
+            "line 11: j: its birth day is left out: the year 2300 isn't one of 1900 to 2199",
             "line 10: A: added: the sire of i has no row: added without parents (is a meant?)",
         )
-        self.count(" 11 left out, 1 added" in done.last, done.last)
+        self.count(" 11 left out (4 rows, 7 cells), 1 added" in done.last, done.last)
 
     def corrections(self) -> None:
         """An exit that changes or is withdrawn, and a parent added later as a row of its own."""

@@ -18,7 +18,7 @@ class MistakeChecks(Checks):
             ("id,born\na,2001\n", "line 1: no column for sire or dam is found. The titles are 'id', 'born'. Say which it is, as --columns sire=TITLE,dam=TITLE"),
             ("ab,cd\n1,2\n", "line 1: no column for id or birth or sire or dam is found"),
             ("id,born,sire,dam\n", "has no row that can be taken"),
-            ("id,born,sire,dam\n,2001,,\n", "line 2: left out: the row has no id"),
+            ("id,born,sire,dam\n,2001,,\n", "line 2: the row is left out: it has no id"),
             ('id,born,sire,dam\na,2001,,\n"b,2002,,\n', 'line 3: a cell begins with a quotation mark (")'),
             (b"id,born,sire,dam\n\x81\x8d,2001,,\n", "is no text in UTF-8 or Windows-1252"),
             (b"\xd0\xcf\x11\xe0abc", "is an old Excel file (.xls): save the sheet as CSV or .xlsx"),
@@ -98,7 +98,7 @@ class MistakeChecks(Checks):
         line = lambda count: "id,sex,born,sire,dam\n" + "".join(f"a{at},M,{1900 + at},{f'a{at - 1}' if at else ''},\n" for at in range(count))
         desk.take(line(61), "--book", "deep")
         done = desk.wrong("line 63: a61: a path of parents would be longer than 60 steps, which is the limit (refusal 10)", "take", desk.write("deep.csv", line(62)))
-        self.count("there are paths of parents of more than 60 steps" in done.err, f"{done}")
+        self.count("the longest path has 61 steps, 1 more than 60, from a61 (line 63) up to a0 (line 2)" in done.err, f"{done}")
         many = "id,sex,born,sire,dam\n" + "".join(f"{at + 1},M,2001-01-01,,\n" for at in range(60_001))
         desk.wrong("the sheet and the book have 60,001 animals together, and a book holds at most 60,000", "take", desk.write("many.csv", many))
         desk.write("deep.txt", "".join(f"{at + 1} {at} 0\n" for at in range(62)))

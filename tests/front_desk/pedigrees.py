@@ -80,12 +80,19 @@ class PedigreeChecks(Checks):
         self.count(" 0 left out" in done.last, f"{done}")
         found = {row["id"]: row["coefficient"] for row in desk.listed("list")}
         self.count(found == {"a": "0", "b": "0", "c": "0", "d": "1/4", "e": "3/8", "f": "0"}, f"{found}")
-        taken = "since an animal is a sire in one line and a dam in another"
-        self.told(done, f"line 4: d: changed: taken with the sire a and the dam c, {taken}", f"line 6: f: changed: taken with the sire d and the dam unknown, {taken}")
+        self.told(
+            done,
+            "line 4: d: changed: taken with the sire a and the dam c, since c is a sire in line 4 and a dam in line 5",
+            "line 6: f: changed: taken with the sire d and the dam unknown, since d is a sire in line 5 and a dam in line 6",
+        )
         done = desk.good("take", "--pedigree", desk.write("odd.txt", "a b 0\nb a 0\nc a a\nd a b\ne b c\nf c a\n"), "--book", "odd")
-        self.count("line 3: c: left out: a is its sire and its dam: no calf has one parent twice, so it is left out as its dam" in done.out, f"{done}")
-        self.count("line 2: b: left out: it would be its own ancestor (b > a > b): a is left out as its" in done.out, f"{done}")
-        self.count("no choice of sexes fits all couples" in done.out and " 3 left out" in done.last, f"{done}")
+        self.told(
+            done,
+            "line 3: c: its dam a is left out: a is its sire too, and no calf has one parent twice",
+            "line 2: b: its sire a is left out: b would be its own ancestor (b > a > b)",
+            "line 5: e: its dam c is left out: no choice of sexes fits all of the couples b and a (line 4), a and c (line 6), c and b (line 5)",
+        )
+        self.count(" 3 left out (3 parents), " in done.last, f"{done}")
         done = desk.good("take", "--pedigree", desk.write("more.txt", "g f e\na 0 0\nb 0 0\nc a b\nd c a\ne d c\nf 0 d\n"))
         self.count(", 1 new, " in done.last, f"{done}")
         done = desk.good("take", "--pedigree", "both.txt", "--drop-gone")
@@ -97,4 +104,4 @@ class PedigreeChecks(Checks):
             desk.wrong(told, "take", "--pedigree", desk.write("wrong.txt", text), "--book", "wrong")
         desk.wrong("can't be read: No such file or directory", "take", "--pedigree", "absent.txt")
         desk.wrong("name a sheet, or a pedigree", "take", "both.txt", "--pedigree", "both.txt")
-        done = desk.wrong("no animal of the book has a known birth year", "trend")
+        done = desk.wrong("no animal of the book has a known birth year, so there is no trend to draw: take a sheet with birth days", "trend")
