@@ -4,7 +4,7 @@ from __future__ import annotations
 import random
 import re
 
-from front_desk.desk import Checks, Desk, Done
+from front_desk.desk import TOP, Checks, Desk, Done
 
 LOST = re.compile(r"line (\d+): (\S+): its (sire|dam) (\S+) is left out: ")
 TAKEN = re.compile(r"line (\d+): (\S+): changed: taken with the sire (\S+) and the dam (\S+), since (\S+?)(?:, which couples join to (\S+),)? is a sire in line (\d+) and a dam in line (\d+)")
@@ -76,6 +76,18 @@ class TripleChecks(Checks):
         ids = {row["number"]: row["id"] for row in desk.table(f"{book}/ids.csv")} | {"0": "0"}
         births = [line.split(",") for line in (desk.room / book / "commands.csv").read_text().splitlines()[1:]]
         return {ids[birth[1]]: tuple(ids[parent] for parent in birth[3:5]) for birth in births}
+
+    def relationships(self) -> None:
+        """With the lines `u x 0` and `calf u y` the relationship of x and y, whatever their sexes, is four times F of `calf`."""
+        desk = Desk(self, "relationships")
+        rows = [line.split() for line in (TOP / "examples/mrode.txt").read_text().splitlines() if line[:1].isdigit()]
+        # as published, above the diagonal too
+        wanted = {"11": 1, "14": 0.5, "25": 0.25, "33": 1, "34": 0.25, "45": 0.625, "55": 1.125, "36": 0.5625, "66": 1.125, "12": 0}
+        for x, y in wanted:
+            desk.write("more.txt", text_of([*rows, ["u", x, "0"], ["calf", "u", y]]))
+            desk.good("take", "--pedigree", "more.txt", "--book", f"book{x}{y}")
+            found = {row["id"]: row["decimal"] for row in desk.listed("list", "--book", f"book{x}{y}")}
+            self.count(4 * float(found["calf"]) == wanted[x + y], f"a({x}, {y}): {found}")
 
     def odd_cells(self) -> None:
         """Other columns need titles, and what stands between cells is the same in all lines."""
