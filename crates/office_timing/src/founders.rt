@@ -17,8 +17,12 @@ pub struct Founders {
 impl Founders {
     /// Those of 2000-01-01 in herd 1.
     pub fn new() -> Result<Founders> {
+        Founders::born(b"2000-01-01")
+    }
+
+    fn born(day: &[u8]) -> Result<Founders> {
         Ok(Founders {
-            day: Day::parse(b"2000-01-01")?,
+            day: Day::parse(day)?,
             herd: herd_of(1),
         })
     }
