@@ -84,7 +84,7 @@ def parser() -> Parser:
     )
     take.add_argument(
         "--pedigree", type=pathlib.Path, metavar="TRIPLES",
-        help="a text file with `id sire dam` in each line, in place of a sheet",
+        help="a text file with `id sire dam` in each line, or with these among its titles, in place of a sheet",
     )
     take.add_argument(
         "--columns", action="append", default=[], metavar="FIELD=TITLE,..",

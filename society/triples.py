@@ -91,7 +91,8 @@ def check_cells(line: Line, titles: Line | None, last: int) -> None:
 
 
 def has_titles(cells: list[str]) -> bool:
-    return sum(plain(cell) in KNOWN_TITLES[field] for cell in cells for field in FIELDS) >= 2
+    """Two usual titles, or that of ids in the first place."""
+    return plain(cells[0]) in KNOWN_TITLES["id"] or sum(plain(cell) in KNOWN_TITLES[field] for cell in cells for field in FIELDS) >= 2
 
 
 def title_places(line: Line) -> list[int]:
@@ -99,7 +100,7 @@ def title_places(line: Line) -> list[int]:
     titles = [plain(cell) for cell in line.cells]
     places = [next((titles.index(usual) for usual in KNOWN_TITLES[field] if usual in titles), None) for field in FIELDS]
     if None in places:
-        raise Mistake(f"line {line.number}: the titles have to be id, sire and dam")
+        raise Mistake(f"{line}: the titles have to be id, sire and dam, or other usual words for these")
     return places
 
 

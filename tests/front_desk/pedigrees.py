@@ -99,7 +99,7 @@ class PedigreeChecks(Checks):
         self.count("book: 6 animals, 0 new, " in done.last and ", 1 gone: " in done.last, f"{done}")
         for text, told in [
             ("a b\n", "line 1: 'a b' has 2 cells: write an id, its sire and its dam"), ("", "has no animals: write a line `id sire dam` for each"),
-            ("a 0 0\n0 a a\n", "line 2: '0' is a word for an unknown parent"), ("id,sire\na,b\n", "line 1: the titles have to be id, sire and dam"),
+            ("a 0 0\n0 a a\n", "line 2: '0' is a word for an unknown parent"), ("id,sire\na,b\n", "line 1: 'id sire': the titles have to be id, sire and dam"),
         ]:  # fmt: skip
             desk.wrong(told, "take", "--pedigree", desk.write("wrong.txt", text), "--book", "wrong")
         desk.wrong("can't be read: No such file or directory", "take", "--pedigree", "absent.txt")

@@ -94,7 +94,7 @@ class TripleChecks(Checks):
         desk = Desk(self, "cells")
         for text, told in [
             ("1 a 0 0\n2 b 0 0\n3 c a b\n", "line 1: '1 a 0 0' has 4 cells, and without titles each line has an id, its sire and its dam alone: write a first line with the titles"),
-            ("a;0;0;x\n", "line 1: 'a 0 0 x' has 4 cells, and without titles"),
+            ("ANIMAL PARENT1 PARENT2\na 0 0\n", "line 1: 'ANIMAL PARENT1 PARENT2': the titles have to be id, sire and dam"), ("a;0;0;x\n", "line 1: 'a 0 0 x' has 4 cells, and without titles"),
             ('"id" "sire" "dam"\n"1" "a" 0 0\n', "line 2: '1 a 0 0' has 4 cells, and line 1 has 3 titles: write one for each column (R writes such a file without row.names = FALSE)"),
             ("a 0 0\nb 0 0\nc , a , b\n", "line 3: 'c , a , b' has ',', and the first line has blanks between its cells: write all lines with the same"),
             ("a 0 0\nc, a, 0\n", "line 2: 'c, a, 0' has ','"), ("a 0 0\n;;\n", "line 2: ';;' has ';'"), ("a,0,0\nb a 0\n", "line 2: 'b a 0' has 1 cells: write an id, its sire"),
