@@ -25,17 +25,28 @@ fn outlive<N: OfficeName, R: Wait + Abort>(
 ) -> Result<(), Fail>
     requires { AreNamed N.name N.parts N.all N.book N.limits parts }
 {
+    let (mut inspector, second) = file_two::<N, _>(rt, alloc, parts)?;
+    expect_no_reading(rt, alloc, &mut inspector, 1);
+    inspector.learn(&second);
+    expect_no_reading(rt, alloc, &mut inspector, 2);
+    Ok(())
+}
+
+// An inspector that froze the first of two births, and the slip of the second. The office is gone.
+fn file_two<N: OfficeName, R: Wait + Abort>(
+    rt: &R,
+    alloc: Global,
+    parts: OfficeParts<&R>,
+) -> Result<(Inspector<N>, Slip<N>), Fail>
+    requires { AreNamed N.name N.parts N.all N.book N.limits parts }
+{
     let (office, mut desks, mut inspectors) = Office::<N, &R>::open(alloc, parts)?;
     let mut desk = desks.pop().expect(rt, "a desk");
     let mut inspector = inspectors.pop().expect(rt, "an inspector");
     let _first = file_accepted(rt, &office, &mut desk, Bull(1));
     assert_eq!(rt; frozen_length(&mut inspector, alloc), Ok(1));
     let second = file_accepted(rt, &office, &mut desk, Bull(2));
-    drop(office);
-    expect_no_reading(rt, alloc, &mut inspector, 1);
-    inspector.learn(&second);
-    expect_no_reading(rt, alloc, &mut inspector, 2);
-    Ok(())
+    Ok((inspector, second))
 }
 
 // It holds so many steps, as before.

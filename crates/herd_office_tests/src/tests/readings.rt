@@ -3,7 +3,7 @@ ghost use Rattle.std.specs.Prelude.{◌≡◌};
 ghost use Rattle.herd_office.specs.Parts.{AreNamed};
 
 use super::commands::founder;
-use super::filing::{closed, file_accepted, file_one, limits};
+use super::filing::{closed, file_accepted, file_one, frozen_length, limits};
 use herd_fixtures::Name;
 use herd_fixtures::Name::Bull;
 use herd_office::*;
@@ -42,14 +42,25 @@ fn inspect<N: OfficeName + Send + Sync, R: Threads + Wait + Abort + Sync>(
     let (office, mut desks, mut inspectors) = Office::<N, &R>::open(alloc, parts)?;
     let desk = desks.pop().expect(rt, "a desk");
     let mut inspector = inspectors.pop().expect(rt, "an inspector");
-    let (desk, first) = see_unlearnt(rt, alloc, &office, desk, &mut inspector);
-    let mut desk = see_learnt(rt, alloc, &office, desk, &mut inspector, &first);
-    see_refused(rt, alloc, &office, &mut desk, &mut inspector);
+    let desk = see_three(rt, alloc, &office, desk, &mut inspector);
     desks.push(desk).expect(rt, "room");
     inspectors.push(inspector).expect(rt, "room");
     let register = closed(rt, office, desks, inspectors)?;
     assert_eq!(rt; register.journal().len(), 3);
     Ok(())
+}
+
+fn see_three<N: OfficeName + Send + Sync, R: Threads + Wait + Abort + Sync>(
+    rt: &R,
+    alloc: Global,
+    office: &Office<N, &R>,
+    desk: Desk<N>,
+    inspector: &mut Inspector<N>,
+) -> Desk<N> {
+    let (desk, first) = see_unlearnt(rt, alloc, office, desk, inspector);
+    let mut desk = see_learnt(rt, alloc, office, desk, inspector, &first);
+    see_refused(rt, alloc, office, &mut desk, inspector);
+    desk
 }
 
 // An inspector that was told nothing sees what a thread filed that was joined.
@@ -82,17 +93,20 @@ fn see_learnt<N: OfficeName, R: Wait + Abort>(
     inspector: &mut Inspector<N>,
     first: &Slip<N>,
 ) -> Desk<N> {
-    let birth = founder(rt, Bull(2));
-    let second = desk.file(rt, office, birth).expect(rt, "filed");
-    inspector.learn(&second.slip);
+    let second = file_accepted(rt, office, &mut desk, Bull(2));
+    inspector.learn(&second);
     inspector.learn(first);
     assert_eq!(rt; inspector.steps_seen(), 2);
-    let both = [Bull(1), Bull(2)];
-    let once = inspector.freeze(alloc).expect(rt, "frozen");
-    let twice = inspector.freeze(alloc).expect(rt, "frozen");
-    assert!(rt; has_all(&once, &both) && has_all(&twice, &both));
-    assert_eq!(rt; inspector.steps_seen(), 2);
+    expect_both(rt, alloc, inspector);
+    expect_both(rt, alloc, inspector);
     desk
+}
+
+// The inspector sees two births.
+fn expect_both<N: OfficeName>(rt: &impl Abort, alloc: Global, inspector: &mut Inspector<N>) {
+    let frozen = inspector.freeze(alloc).expect(rt, "frozen");
+    assert!(rt; has_all(&frozen, &[Bull(1), Bull(2)]));
+    assert_eq!(rt; inspector.steps_seen(), 2);
 }
 
 // A refused command is a step too, which an inspector sees who was told nothing of it.
@@ -129,7 +143,7 @@ fn beside<N: OfficeName + Send + Sync, R: Threads + Wait + Abort + Sync>(
     let left = desks.pop().expect(rt, "two desks");
     let inspector = inspectors.pop().expect(rt, "an inspector");
     let shared = &office;
-    let ((a, b), mut inspector) = join(
+    let ((a, b), inspector) = join(
         rt,
         move || {
             join(
@@ -140,12 +154,22 @@ fn beside<N: OfficeName + Send + Sync, R: Threads + Wait + Abort + Sync>(
         },
         move || freeze_often(rt, alloc, inspector),
     );
+    see_both(rt, alloc, inspector, (a, b));
+    Ok(())
+}
+
+// An inspector that learns the last slips of both desks has seen all their births.
+fn see_both<N: OfficeName>(
+    rt: &impl Abort,
+    alloc: Global,
+    mut inspector: Inspector<N>,
+    (a, b): (Option<Slip<N>>, Option<Slip<N>>),
+) {
     inspector.learn(&a.expect(rt, "a slip"));
     inspector.learn(&b.expect(rt, "a slip"));
     assert_eq!(rt; inspector.steps_seen(), 1000);
-    let frozen = inspector.freeze(alloc).expect(rt, "frozen");
-    assert_eq!(rt; (frozen.len(), inspector.steps_seen()), (1000, 1000));
-    Ok(())
+    let length = frozen_length(&mut inspector, alloc);
+    assert_eq!(rt; (length, inspector.steps_seen()), (Ok(1000), 1000));
 }
 
 // A desk files 500 births. The last slip.
