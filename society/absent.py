@@ -37,7 +37,7 @@ def add_gone(animals: dict[str, Animal], gone: dict[str, Animal], book: Book, dr
     for id, animal in gone.items():
         if id in kept:
             animals[id] = animal
-        had_row = book.known[id].row == "yes"
+        had_row = book.known[id].had_row()
         why = "it has no row any more" if had_row else "no animal has it as a parent any more"
         if id not in kept:
             report.tell(GONE, 0, id, f"{why}: it is dropped from the book")
@@ -72,7 +72,7 @@ class Names:
     def find_parents(self, rows: dict[str, Animal], book: Book) -> None:
         """A parent that is no row's id, but the name of one animal alone, is taken for that one where it can be it. What
         is the parent in the book stays it, whatever other animals have its name."""
-        with_row = rows.keys() | {id for id, known in book.known.items() if known.row == "yes"}
+        with_row = rows.keys() | {id for id, known in book.known.items() if known.had_row()}
         ids = {known.number: id for id, known in book.known.items()}
         links = [(calf, role, text) for calf in rows.values() for role, text in calf.parents() if text not in with_row]
         links = [(calf, role, text) for calf, role, text in links if text.casefold() in self.named]
@@ -107,7 +107,7 @@ class Names:
                     more = f" and of {calves[parent] - 1} more" if calves[parent] > 1 else ""
                     why = f"the {role} of {animal.id}{more} has no row: added without parents{self.hint(animal, parent)}"
                     self.report.tell(ADDED, animal.line, parent, why)
-                    self.animals[parent] = Animal(parent)
+                    self.animals[parent] = Animal(parent, named_in=animal.line)
 
     def advise_unknown(self) -> None:
         """A parent without a row that is a sire and a dam of many may be a word for an unknown one."""
@@ -124,8 +124,13 @@ class Names:
         ids = [one.id for one in self.others(calf, text)]
         if len(ids) > 1:
             return f" ({len(ids)} animals have this name, {', '.join(ids[:5])}: write the id of the one that is meant)"
-        alike = ids[0] if ids else self.alike.get(folded(text.removesuffix(".0")) or text, calf.id)
+        alike = ids[0] if ids else self.alike.get(folded(text.removesuffix(".0")) or text) or self.swapped(folded(text)) or calf.id
         return f" (is {alike} meant?)" if alike != calf.id else ""
+
+    def swapped(self, text: str) -> str:
+        """The animal that is meant where two letters or digits beside each other are swapped."""
+        turned = (text[:at] + text[at + 1] + text[at] + text[at + 2 :] for at in range(len(text) - 1))
+        return next((self.alike[one] for one in turned if one != text and one in self.alike), "")
 
 
 def can_be(parent: Animal, role: str, calf: Animal) -> bool:

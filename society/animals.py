@@ -6,8 +6,9 @@ import datetime
 import re
 from dataclasses import dataclass, field
 
-from society.columns import KNOWN_NO, KNOWN_SEXES, KNOWN_YES, sex_word
-from society.dates import ANY_DAY, MonthFirst, Span, Unreadable, read_span
+from society.book import NO_DAY
+from society.columns import KNOWN_EXITS, KNOWN_NO, KNOWN_SEXES, KNOWN_STAYS, KNOWN_YES, plain, sex_word
+from society.dates import ANY_DAY, MonthFirst, Span, Unreadable, is_span, read_span, span_within
 from society.report import CELL, INFERRED, ROW, Mistake, Report
 from society.sheet import Sheet, squeezed
 
@@ -43,6 +44,8 @@ class Animal:
     birth_inferred: str = ""
     left_inferred: str = ""
     sex_inferred: str = ""
+    # for a parent without a row the line that names it
+    named_in: int = 0
     # the fields whose cells can't be read
     unread: list[str] = field(default_factory=list)
 
@@ -78,6 +81,7 @@ class Rows:
         self.sheet, self.columns, self.unknown, self.report = sheet, columns, unknown, report
         self.sexes = KNOWN_SEXES | sexes
         self.given_sexes = sexes
+        self.short = self.short_words()
         # the texts that can't be read, with the line of each, and how many cells have a text
         self.unread: collections.defaultdict[str, list[tuple[str, int]]] = collections.defaultdict(list)
         self.read: collections.Counter[str] = collections.Counter()
@@ -85,6 +89,7 @@ class Rows:
     def animals(self) -> dict[str, Animal]:
         """The animals by id, in the order of the rows."""
         found: dict[str, Animal] = {}
+        first: dict[str, list[str]] = {}
         titles = len(self.sheet.titles)
         # many sheets have empty cells at the end of all rows
         lengths = collections.Counter(len(cells) for _, cells in self.sheet.rows)
@@ -96,9 +101,9 @@ class Rows:
             elif id.casefold() in self.unknown:
                 why = f"'{id}' is a word for an unknown animal: give it another id" if id else "it has no id"
             elif id in found:
-                why = found[id].has_id_too(*(self.parent(cells, role) for role in ROLES))
+                why = found[id].has_id_too(*(self.parent(cells, role) for role in ROLES)) + self.differing(first[id], cells)
             else:
-                found[id] = self.animal(line, id, cells)
+                found[id], first[id] = self.animal(line, id, cells), cells
                 continue
             self.report.leave_out(ROW, line, id, "the row", why)
         self.mostly_unread()
@@ -107,6 +112,13 @@ class Rows:
     def cell(self, cells: list[str], field: str) -> str:
         at = self.columns.get(field)
         return squeezed(cells[at]) if at is not None and at < len(cells) else ""
+
+    def differing(self, first: list[str], cells: list[str]) -> str:
+        """What a second row of an id says otherwise than the first, but for the parents."""
+        fields = [field for field in self.columns if field not in ROLES]
+        pairs = [(field, self.cell(cells, field), self.cell(first, field)) for field in fields]
+        told = [f"{field} '{here}', there '{there}'" for field, here, there in pairs if here != there]
+        return f" ({'; '.join(told)})" if told else ""
 
     def animal(self, line: int, id: str, cells: list[str]) -> Animal:
         animal = Animal(id, line, name=self.cell(cells, "name"), owner=self.cell(cells, "owner"))
@@ -119,18 +131,23 @@ class Rows:
                 )
         animal.sex = self.sex(animal, self.cell(cells, "sex"))
         animal.birth = self.span(animal, "birth", self.cell(cells, "birth")) or ANY_DAY
-        left = self.span(animal, "exit", self.cell(cells, "exit"))
-        if left:
-            animal.left = left.last
-            animal.left_inferred = "" if left.is_day else left.words()
-        if animal.left_inferred:
-            self.report.tell(INFERRED, line, id, f"exit on {animal.left}, the last day of {animal.left_inferred}")
+        self.read_exit(animal, self.cell(cells, "exit"))
         animal.embryo = self.is_embryo(animal, self.cell(cells, "embryo"))
         return animal
 
     def parent(self, cells: list[str], role: str) -> str:
         parent = self.cell(cells, role)
         return "" if parent.casefold() in self.unknown else parent
+
+    def short_words(self) -> dict[str, list[tuple[str, str]]]:
+        """The sexes of the column's known words, by their first letters: for each the word and its sex."""
+        words = {self.cell(cells, "sex") for _, cells in self.sheet.rows}
+        found: dict[str, list[tuple[str, str]]] = {}
+        for word in sorted(words):
+            known, sex = sex_word(word), self.sexes.get(sex_word(word), "")
+            for length in range(1, len(known) if sex else 0):
+                found.setdefault(known[:length], []).append((word, sex))
+        return found
 
     def leave_out(self, animal: Animal, field: str, text: str, what: str, why: str) -> None:
         animal.unread.append(field)
@@ -142,11 +159,33 @@ class Rows:
         if text.casefold() in self.unknown and word not in self.given_sexes:
             return ""
         self.read["sex"] += 1
-        sex = self.sexes.get(word, "")
+        sex, longer = self.sexes.get(word, ""), self.short.get(word, [])
+        if not sex and len({sex for _, sex in longer}) == 1:
+            whole, sex = longer[0]
+            animal.sex_inferred = f"since '{text}' is taken for '{whole}', which stands in the column too"
+            name = {"M": "male", "F": "female"}[sex]
+            self.report.tell(INFERRED, animal.line, animal.id, f"sex {name}, {animal.sex_inferred}")
         if not sex:
             why = f"'{text}' isn't known: write M or F, or name it as --sexes {text}=m or {text}=f"
             self.leave_out(animal, "sex", text, "its sex", why)
         return sex
+
+    def read_exit(self, animal: Animal, text: str) -> None:
+        """An exit is a day, a text with a day, or a word, such as `sold`: then it has left on a day that isn't known."""
+        if text.casefold() in KNOWN_NO or plain(text) in KNOWN_STAYS:
+            return
+        left = self.span(animal, "exit", text)
+        if left:
+            animal.left = left.last
+            animal.left_inferred = "" if left.is_day else left.words()
+            within = "" if is_span(text) else f", from '{text}'"
+            if animal.left_inferred:
+                why = f"exit on {animal.left}, the last day of {animal.left_inferred}{within}"
+                self.report.tell(INFERRED, animal.line, animal.id, why)
+            elif within:
+                self.report.tell(INFERRED, animal.line, animal.id, f"exit on {animal.left}{within}")
+        elif "exit" in animal.unread:
+            animal.left_inferred = f"{NO_DAY}: '{text}'"
 
     def span(self, animal: Animal, field: str, text: str) -> Span | None:
         if text.casefold() in self.unknown:
@@ -154,14 +193,16 @@ class Rows:
         self.read[field] += 1
         name = {"birth": "birth day", "exit": "exit"}[field]
         try:
-            return read_span(text)
+            within = span_within(text) if field == "exit" and not is_span(text) else None
+            return within or read_span(text)
         except MonthFirst as why:
             raise Mistake(
                 f"line {animal.line}: {animal.id}: {name}: {why}, so days with / can't be told from months: "
                 "write all days as 2001-03-01 or 01.03.2001"
             ) from None
         except Unreadable as why:
-            self.leave_out(animal, field, text, f"its {name}", str(why))
+            gone = ": it counts as gone, on a day that isn't known" if field == "exit" else ""
+            self.leave_out(animal, field, text, f"its {name}", f"{why}{gone}")
             return None
 
     def is_embryo(self, animal: Animal, text: str) -> bool:
@@ -170,12 +211,26 @@ class Rows:
             self.leave_out(animal, "embryo", text, "its cell for a stored embryo", f"'{text}' isn't known: write 1 or nothing")
         return text.casefold() in KNOWN_YES
 
+    def summaries(self) -> list[str]:
+        """For each column the texts that can't be read, and how many there are."""
+        return [self.summary(field, cells) for field, cells in self.unread.items()]
+
+    def summary(self, field: str, cells: list[tuple[str, int]]) -> str:
+        counts = collections.Counter(text for text, _ in cells).most_common()
+        shown = ", ".join(f"'{text}' ({count} times)" if count > 1 else f"'{text}'" for text, count in counts[:9])
+        more = f" and {len(counts) - 9} more" if len(counts) > 9 else ""
+        what = f"{len(cells)} of {self.read[field]} cells for {field} can't be read, the first in line {cells[0][1]}"
+        return f"{what}: {shown}{more}: {ADVICE[field].format(word=counts[0][0])}"
+
     def mostly_unread(self) -> None:
         """A column more than half of whose cells can't be read is a mistake: hardly anything of it would be taken."""
         for field, cells in self.unread.items():
+            # words such as `sold` say something, though no day
+            cells = [(text, line) for text, line in cells if field != "exit" or not says_exit(text)]
             if len(cells) > max(2, self.read[field] // 2):
-                counts = collections.Counter(text for text, _ in cells).most_common()
-                shown = ", ".join(f"'{text}' ({count} times)" if count > 1 else f"'{text}'" for text, count in counts[:9])
-                more = f" and {len(counts) - 9} more" if len(counts) > 9 else ""
-                what = f"{len(cells)} of {self.read[field]} cells for {field} can't be read, the first in line {cells[0][1]}"
-                raise Mistake(f"{what}: {shown}{more}: {ADVICE[field].format(word=counts[0][0])}")
+                raise Mistake(self.summary(field, cells))
+
+
+def says_exit(text: str) -> bool:
+    """Has it a word by which animals leave?"""
+    return any(plain(word) in KNOWN_EXITS for word in text.split())

@@ -102,7 +102,8 @@ class Days:
                 animal.born = animal.birth.first
             else:
                 animal.born, animal.birth_inferred = self.day_for(animal)
-                report.tell(INFERRED, animal.line, id, f"birth day {animal.born}, {animal.birth_inferred}")
+                named = f" (line {animal.named_in} names it)" if animal.named_in else ""
+                report.tell(INFERRED, animal.line, id, f"birth day {animal.born}, {animal.birth_inferred}{named}")
 
     def set_low(self, id: str) -> None:
         animal = self.animals[id]
@@ -127,7 +128,7 @@ class Days:
         if animal.birth != ANY_DAY:
             self.likely[id] = middle(animal.birth), f"from {animal.birth.words()}"
         elif by_calves:
-            self.likely[id] = min(by_calves), "from its calves"
+            self.likely[id] = min(by_calves), "from its offspring"
         elif dated:
             self.likely[id] = max(middle(self.animals[parent].birth) for parent in dated) + GENERATION, "from its parents"
 
@@ -140,7 +141,7 @@ class Days:
         elif parents:
             day, why = max(parents) + GENERATION, "from its parents"
         else:
-            day, why = FIRST_DAY.toordinal(), "the earliest that a book can have, since no parent or calf has one"
+            day, why = FIRST_DAY.toordinal(), "the earliest that a book can have, since no parent and no offspring has one"
         if kept and animal.birth.first <= kept <= animal.birth.last:
             day = kept.toordinal()
             why = why if parents or animal.id in self.likely else "as in the book"

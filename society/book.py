@@ -13,7 +13,12 @@ from society.program import REFUSALS, Herdbook
 from society.report import Entry, Mistake
 
 COMMANDS, IDS, OWNERS, REPORT = "commands.csv", "ids.csv", "owners.csv", "report.csv"
+# what the sheet writes of parents otherwise than the book has them, and the options that a later taking uses again
+PARENTS, OPTIONS = "parents.csv", "options.csv"
 NO_OWNER = 99_999_999
+# how the field `exit` of an animal begins that has left on a day that isn't known: then the book has no exit
+NO_DAY = "day unknown"
+PARENT_TITLES, OPTION_TITLES = ["id", "role", "written"], ["option", "word"]
 # what is inferred from nothing, for a pedigree that has neither days nor sexes
 INVENTED = "invented"
 
@@ -21,7 +26,8 @@ INVENTED = "invented"
 @dataclass(slots=True)
 class Known:
     """What an animal's number stands for, and what was inferred of it: a line of `ids.csv`. `row` is `yes` where the
-    animal has had a row in a sheet, `no` for a parent without one, and `dropped` where it isn't in the book any more."""
+    animal has a row in the last sheet, `gone` where it had one before, `no` for a parent that never had one, and
+    `dropped` where it isn't in the book any more."""
 
     number: str
     id: str
@@ -30,6 +36,13 @@ class Known:
     birth: str = ""
     exit: str = ""
     sex: str = ""
+
+    def had_row(self) -> bool:
+        return self.row in ("yes", "gone")
+
+    def left_unknown_day(self) -> bool:
+        """Has it left on a day that the sheet doesn't say?"""
+        return self.exit.startswith(NO_DAY)
 
     def birth_mark(self) -> str:
         return mark(self.birth)
@@ -57,6 +70,11 @@ class Book:
         self.dropped: dict[str, Known] = {}
         self.owners: dict[str, int] = {}
         self.names_of_herds: dict[int, str] = {}
+        # by an animal's id and `sire` or `dam`: the text of a parent that was left out, or is written by its name
+        self.written: dict[tuple[str, str], str] = {}
+        self.options: list[tuple[str, str]] = []
+        # what is told behind an answer
+        self.notes: list[str] = []
 
     @property
     def path(self) -> pathlib.Path:
@@ -87,9 +105,13 @@ class Book:
         if not all(herd.isdecimal() for herd, _ in owners):
             raise changed(self.folder / OWNERS)
         self.owners = {owner: int(herd) for herd, owner in owners}
+        self.written = {(id, role): text for id, role, text in self.read_table(PARENTS, PARENT_TITLES, needed=False)}
+        self.options = [(option, word) for option, word in self.read_table(OPTIONS, OPTION_TITLES, needed=False)]
 
-    def read_table(self, name: str, titles: list[str]) -> list[list[str]]:
+    def read_table(self, name: str, titles: list[str], needed: bool = True) -> list[list[str]]:
         path = self.folder / name
+        if not needed and not path.exists():
+            return []
         try:
             with open(path, newline="", encoding="utf-8-sig") as file:
                 found, *rows = csv.reader(file)
@@ -99,7 +121,7 @@ class Book:
             raise changed(path)
         return rows
 
-    def save(self, entries: list[Entry]) -> None:
+    def save(self, entries: list[Entry], semicolons: bool) -> None:
         """Writes all files beside the old ones first, and then puts each in its place, the command file last."""
         all_known = sorted((*self.known.values(), *self.dropped.values()), key=lambda known: known.number[7:])
         ids = [astuple(known) for known in all_known]
@@ -108,7 +130,9 @@ class Book:
         texts = {
             IDS: table([field.name for field in fields(Known)], ids),
             OWNERS: table(["herd", "owner"], owners),
-            REPORT: table(["line", "id", "what", "why"], report),
+            PARENTS: table(PARENT_TITLES, [(*of, text) for of, text in self.written.items()]),
+            OPTIONS: table(OPTION_TITLES, self.options),
+            REPORT: table(["line", "id", "what", "why"], report, semicolons),
             COMMANDS: text_of(self.commands),
         }
         write_all(self.folder, texts)
@@ -121,6 +145,13 @@ class Book:
             self.names_of_herds = {number: owner for owner, number in self.owners.items()}
         return self.names_of_herds.get(herd, str(herd))
 
+    def has_left(self, known: Known) -> bool:
+        return self.records[known.number].left is not None or known.left_unknown_day()
+
+    def without_row(self) -> list[Known]:
+        """The added parents, and those that are gone."""
+        return [known for known in self.known.values() if known.row != "yes"]
+
     def by_number(self) -> dict[str, Known]:
         return {known.number: known for known in self.known.values()}
 
@@ -128,6 +159,9 @@ class Book:
         """The animal of an id, a number or a name; a mistake where there is none, or several of a name."""
         word = " ".join(word.split())
         if word in self.known:
+            others = sorted(one.id for one in self.known.values() if one.name.casefold() == word.casefold() and one.id != word)
+            if others:
+                self.notes.append(f"'{word}' is taken for the animal with this id; others have this name: {', '.join(others[:9])}")
             return self.known[word]
         named = [known for known in self.known.values() if word in (known.number, known.name)]
         if not named:
@@ -160,12 +194,13 @@ def changed(path: pathlib.Path) -> Mistake:
     return Mistake(f"{path} is missing or was changed: restore it, or take the sheet into another folder")
 
 
-def table(titles: list[str], rows: list[tuple[object, ...]]) -> bytes:
+def table(titles: list[str], rows: list[tuple[object, ...]], semicolons: bool = False) -> bytes:
+    """A file of rows below their titles; spreadsheets that want semicolons tell UTF-8 by a byte-order mark."""
     text = io.StringIO()
-    writer = csv.writer(text, lineterminator="\n")
+    writer = csv.writer(text, delimiter=";" if semicolons else ",", lineterminator="\n")
     writer.writerow(titles)
     writer.writerows(rows)
-    return text.getvalue().encode()
+    return text.getvalue().encode("utf-8-sig" if semicolons else "utf-8")
 
 
 def write_all(folder: pathlib.Path, texts: dict[str, bytes]) -> None:

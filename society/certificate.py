@@ -3,10 +3,10 @@ from __future__ import annotations
 
 from dataclasses import dataclass
 
-from society.book import Book, Known
-from society.languages import marked, texts_of
+from society.book import NO_OWNER, Book, Known
+from society.languages import Language
 from society.listing import Coefficient
-from society.pages import DAM, FONT, GREY, INBRED, INBRED_INK, INK, LINE, PAPER, SIRE, escape, percent_of
+from society.pages import DAM, FONT, GREY, INBRED, INBRED_INK, INK, LINE, PAPER, SIRE, escape
 from society.program import Herdbook
 
 # the fourteen ancestors, line by line of the drawn pedigree: each stands in the line where it begins
@@ -20,6 +20,8 @@ LINES = [
     ["DD", "DDS"],
     ["DDD"],
 ]
+# the mark of a parent that the sheet writes by its name
+INFERRED = " (inferred)"
 RELATIONS = ("S", "D", "SS", "SD", "DS", "DD")
 
 STYLE = f"""
@@ -74,28 +76,41 @@ def read_certificate(text: str) -> dict[str, str]:
 
 @dataclass
 class Shown:
-    """What a certificate is made from: the book, the coefficients, and the texts of its language."""
+    """What a certificate is made from: the book, the coefficients, its language, and what the sheet writes of parents
+    otherwise than the book has them."""
 
     book: Book
     names: dict[str, Known]
     coefficients: dict[str, Coefficient]
-    texts: dict[str, str]
+    language: Language
+
+    @property
+    def texts(self) -> dict[str, str]:
+        return self.language.texts
+
+    def day(self, day: object, mark: str = "") -> str:
+        return self.language.marked(self.language.day(day), mark)
+
+    def written(self, number: str, role: str) -> str:
+        """What the sheet writes for a parent, where that isn't the parent's id or the parent is left out."""
+        known = self.names.get(number)
+        return self.book.written.get((known.id, role), "") if known else ""
 
     def born(self, known: Known) -> str:
-        return marked(str(self.book.records[known.number].born), known.birth_mark(), self.texts)
+        return self.day(self.book.records[known.number].born, known.birth_mark())
 
 
 def certificate_page(
     book: Book, program: Herdbook, known: Known, coefficients: dict[str, Coefficient], language: str, title: str
 ) -> str:
     told = read_certificate(program.run(["certificate", known.number], book.path.read_bytes()))
-    shown = Shown(book, book.by_number(), coefficients, texts_of(language))
+    shown = Shown(book, book.by_number(), coefficients, Language(language))
     texts, title = shown.texts, title or shown.texts["title"]
     fraction, percent = told["inbreeding"].split(" ")
     own = Coefficient(fraction, percent)
     rows = []
     for line in LINES:
-        cells = [ancestor_cell(letters, told[letters], shown) for letters in line]
+        cells = [ancestor_cell(letters, told, shown) for letters in line]
         rows.append(f"<tr>{''.join(cells)}</tr>\n")
     called = f'<p class="called">{escape(known.name)}</p>' if known.name else ""
     return f"""<!DOCTYPE html>
@@ -111,7 +126,7 @@ def certificate_page(
 <header>
 <div><p class="kind">{escape(title)}</p><h1>{escape(known.id)}</h1>{called}</div>
 <div class="coefficient">{escape(texts["coefficient"])}<b>{escape(own.fraction)}</b>
-{escape(own.decimal())} &#183; {escape(own.percent)} %</div>
+{escape(shown.language.decimal(own.decimal()))} &#183; {escape(shown.language.percent(own.percent))}</div>
 </header>
 <dl>
 {facts_of(known, told, shown)}</dl>
@@ -130,37 +145,66 @@ def certificate_page(
 
 def notes_of(known: Known, told: dict[str, str], shown: Shown) -> list[str]:
     """What stands at the end: each mark that the page has is explained."""
-    ancestors = [shown.names[told[letters]] for line in LINES for letters in line if told[letters] != "0"]
+    drawn = [letters for line in LINES for letters in line]
+    ancestors = [shown.names[told[letters]] for letters in drawn if told[letters] != "0"]
     marks = {known.exit_mark(), known.sex_mark(), *(one.birth_mark() for one in [known, *ancestors])}
-    kinds = [kind for kind in ("inferred", "invented") if f" ({kind})" in marks]
+    written = [letters for letters in drawn if shown.written(calf_of(letters, told), role_of(letters))]
+    if any(told[letters] != "0" for letters in written):
+        marks.add(INFERRED)
+    if any(told[letters] == "0" for letters in written):
+        marks.add(" (in sheet)")
+    kinds = [kind for kind in ("inferred", "in sheet", "invented") if f" ({kind})" in marks]
     return [shown.texts["note"], *(shown.texts[f"{kind} note"] for kind in kinds)]
+
+
+def calf_of(letters: str, told: dict[str, str]) -> str:
+    """The number of the animal of which an ancestor is a parent; `0` where that is unknown."""
+    return told.get(letters[:-1], told["animal"])
+
+
+def role_of(letters: str) -> str:
+    return "sire" if letters[-1] == "S" else "dam"
 
 
 def facts_of(known: Known, told: dict[str, str], shown: Shown) -> str:
     """The animal's record. The owner has no name where the sheet gave none."""
     texts = shown.texts
-    left = "" if told["left"] == "-" else marked(told["left"], known.exit_mark(), texts)
+    left = texts["unknown day"] if known.left_unknown_day() else texts["not left"]
+    if told["left"] != "-":
+        left = shown.day(told["left"], known.exit_mark())
+    since = shown.day(told["since"]) if owner_day_known(shown.book, known) else texts["no owner"]
     pairs = [
         ("number", told["animal"]),
-        ("sex", marked(texts[told["sex"]], known.sex_mark(), texts)),
-        ("born", marked(told["born"], known.birth_mark(), texts)),
-        ("left", left or texts["not left"]),
+        ("sex", shown.language.marked(texts[told["sex"]], known.sex_mark())),
+        ("born", shown.day(told["born"], known.birth_mark())),
+        ("left", left),
         ("owner", shown.book.owner_of(int(told["herd"])) or texts["no owner"]),
-        ("since", marked(told["since"], known.birth_mark() if told["since"] == told["born"] else "", texts)),
+        ("since", since),
     ]
     return "".join(f"<dt>{escape(texts[what])}</dt><dd>{escape(value)}</dd>\n" for what, value in pairs)
 
 
-def ancestor_cell(letters: str, number: str, shown: Shown) -> str:
-    role = "sire" if letters[-1] == "S" else "dam"
+def owner_day_known(book: Book, known: Known) -> bool:
+    """Is the day known since which the owner has it? A sheet gives the owner of today: only a change of owners has a day."""
+    transfers = book.records[known.number].transfers
+    return bool(transfers) and transfers[-1].giver != str(NO_OWNER)
+
+
+def ancestor_cell(letters: str, told: dict[str, str], shown: Shown) -> str:
+    number, calf = told[letters], calf_of(letters, told)
+    role = role_of(letters)
     kind = f"{['one', 'two', 'three'][len(letters) - 1]} {role}"
     span = {1: 4, 2: 2, 3: 1}[len(letters)]
     relation = f"<small>{escape(shown.texts[letters])}</small>" if letters in RELATIONS else ""
+    written = shown.written(calf, role)
     if number == "0":
-        box = f'<div class="box unknown">{relation} {escape(shown.texts[f"unknown {role}"])}</div>'
+        in_sheet = f" ({shown.texts['in sheet'].format(written)})" if written else ""
+        box = f'<div class="box unknown">{relation} {escape(shown.texts[f"unknown {role}"] + in_sheet)}</div>'
     else:
         known, coefficient = shown.names[number], shown.coefficients[number]
         name = f'<span class="name">{escape(known.name)}</span>' if known.name else ""
-        mark = f' <span class="inbred">{escape(percent_of(coefficient))}</span>' if coefficient.is_inbred else ""
-        box = f'<div class="box">{relation}<b>{escape(known.id)}</b>{name}{escape(shown.born(known))}{mark}</div>'
+        percent = shown.language.percent_of(coefficient)
+        mark = f' <span class="inbred">{escape(percent)}</span>' if coefficient.is_inbred else ""
+        by_name = escape(shown.language.marked("", INFERRED)) if written else ""
+        box = f'<div class="box">{relation}<b>{escape(known.id)}{by_name}</b>{name}{escape(shown.born(known))}{mark}</div>'
     return f'<td class="{kind}" rowspan="{span}">{box}</td>'

@@ -44,6 +44,12 @@ SEXES = {
     "Muttertier, Mutterschaf, Zibbe, Zibbenlamm, Ziege, Geiß, Geiss, Mutterziege, Jungziege, Stute, Jungstute, Zuchtstute, Stutfohlen, "
     "Sau, femelle, vache, génisse, brebis, antenaise, agnelle, agneau femelle, chèvre, chevrette, jument, pouliche, truie, féminin, fém",
 }
+# what cells for an exit say of animals that haven't left, and of those that have
+STAYS = "lebt, lebend, lebendig, vorhanden, im Bestand, Bestand, aktiv, alive, living, lives, active, present, in herd, vivant, vivante, en vie, " \
+    "actif, active, présent, présente"
+EXITS = "ja, yes, oui, x, verkauft, verk, Verkauf, geschlachtet, Schlachtung, geschl, gestorben, verstorben, verendet, tot, Tod, abgegangen, Abgang, " \
+    "ausgeschieden, exportiert, gekeult, euthanasiert, notgetötet, gerissen, weg, sold, sale, slaughtered, slaughter, dead, died, death, culled, exported, gone, " \
+    "left, lost, vendu, vendue, vente, abattu, abattue, abattage, mort, morte, décédé, décédée, réformé, réformée, réforme, sorti, sortie, exporté, exportée"
 YES = "1, x, yes, y, true, et, embryo, ja, j, wahr, oui, o, vrai"
 NO = "0, -, no, n, false, nein, falsch, non, faux"
 
@@ -70,6 +76,8 @@ def usual_titles(field: str) -> list[str]:
 KNOWN_TITLES = {field: usual_titles(field) for field in TITLES}
 KNOWN_SEXES = {plain(word): sex for sex, words in SEXES.items() for word in listed(words)}
 KNOWN_YES = {word.casefold() for word in listed(YES)}
+KNOWN_STAYS = {plain(word) for word in listed(STAYS)}
+KNOWN_EXITS = {plain(word) for word in listed(EXITS)}
 KNOWN_NO = {word.casefold() for word in listed(NO)}
 
 

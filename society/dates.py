@@ -34,10 +34,11 @@ class MonthFirst(Unreadable):
 
 
 class Span(NamedTuple):
-    """The days that a cell leaves open: one day, or those of a month or of a year."""
+    """The days that a cell leaves open: one day, or those of a month or of a year. `wrong` is a day that there isn't."""
 
     first: datetime.date
     last: datetime.date
+    wrong: str = ""
 
     @property
     def is_day(self) -> bool:
@@ -45,9 +46,9 @@ class Span(NamedTuple):
 
     def words(self) -> str:
         """The month or the year."""
-        if self.first.year == self.last.year and self.first.month == self.last.month:
-            return f"the month {self.first:%Y-%m}"
-        return f"the year {self.first.year}"
+        is_month = (self.first.year, self.first.month) == (self.last.year, self.last.month)
+        span = f"the month {self.first:%Y-%m}" if is_month else f"the year {self.first.year}"
+        return f"{span}, since there is no day {self.wrong}" if self.wrong else span
 
 
 ANY_DAY = Span(FIRST_DAY, LAST_DAY)
@@ -66,12 +67,37 @@ def read_span(text: str) -> Span:
     raise Unreadable(f"'{text}' is no day: write it as 2001-03-01 or 01.03.2001, or 03.2001 or 2001 alone")
 
 
+def is_span(text: str) -> bool:
+    """Is it written as a day, a month or a year?"""
+    return any(form.fullmatch(text) for form in FORMS)
+
+
+def span_within(text: str) -> Span | None:
+    """The only day, month or year within a text, if there is one."""
+    for form in FORMS:
+        # a year alone ends the text: other numbers may be prices
+        behind = r"(?=[).]*$)" if form is FORMS[-1] else r"(?!\d|[./-]\d)"
+        found = list(re.finditer(r"(?<![\d./-])" + form.pattern + behind, text))
+        if len(found) == 1:
+            try:
+                return span_of(found[0].groupdict())
+            except MonthFirst:
+                raise
+            except Unreadable:
+                return None
+        if found:
+            return None
+    return None
+
+
 def span_of(parts: dict[str, str | None]) -> Span:
     year, month, day = (int(parts.get(name) or 0) for name in ("year", "month", "day"))
     text = "-".join(parts[name] or "" for name in ("year", "month", "day") if parts.get(name))
     if not FIRST_YEAR <= year <= LAST_YEAR:
         raise Unreadable(f"the year {year} isn't one of {FIRST_YEAR} to {LAST_YEAR}")
-    if not parts.get("month"):
+    whole = ".".join(parts[name] or "" for name in ("day", "month", "year") if parts.get(name))
+    # zeros stand for a month or a day that isn't known
+    if not parts.get("month") or (month == 0 and day == 0):
         return Span(datetime.date(year, 1, 1), datetime.date(year, 12, 31))
     if parts.get("slash") and month > 12 and 1 <= day <= 12:
         raise MonthFirst(f"'{parts['day']}/{parts['month']}/{parts['year']}' has the month first")
@@ -81,5 +107,5 @@ def span_of(parts: dict[str, str | None]) -> Span:
     if not parts.get("day"):
         return Span(datetime.date(year, month, 1), datetime.date(year, month, last))
     if not 1 <= day <= last:
-        raise Unreadable(f"there is no day {text}")
+        return Span(datetime.date(year, month, 1), datetime.date(year, month, last), whole)
     return Span(datetime.date(year, month, day), datetime.date(year, month, day))

@@ -55,6 +55,6 @@ def leave_out_parent(taking: Taking, animal: Animal, refusal: int) -> None:
     if refusal not in (5, 6):
         why += f"; {animal.id} was born {animal.born_marked()}"
     if refusal == 9:
-        why += "; a calf from a stored embryo needs 1 in the column embryo"
+        why += "; offspring from a stored embryo needs 1 in the column embryo"
     taking.report.leave_out(PARENT, animal.line, animal.id, f"its {role} {of_parent}", why)
     setattr(animal, role, "")

@@ -4,7 +4,7 @@ from __future__ import annotations
 import datetime
 
 from society.animals import Animal
-from society.book import INVENTED, NO_OWNER, Known
+from society.book import INVENTED, NO_DAY, NO_OWNER, Known
 from society.commands import Command, Record, birth, leave, transfer
 from society.program import REFUSALS, Herdbook
 from society.report import CHANGED, NEW, Mistake
@@ -107,7 +107,7 @@ class Filing:
             ("sire", self.taking.id_of(record.sire), animal.sire),
             ("dam", self.taking.id_of(record.dam), animal.dam),
             ("owner", self.book.owner_of(record.herd), animal.owner),
-            ("exit", str(record.left or ""), str(animal.left or "")),
+            ("exit", str(record.left or NO_DAY * known.left_unknown_day()), str(animal.left or animal.left_inferred[: len(NO_DAY)])),
             ("stored embryo", "yes" if record.embryo else "", "yes" if animal.embryo else ""),
         ]
         if known.birth == animal.birth_inferred == INVENTED:

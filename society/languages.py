@@ -1,5 +1,7 @@
-"""The words of a certificate in English, German and French. Days, numbers and ids are the same in all of them."""
+"""The words of pages and pictures in English, German and French. Numbers and ids are the same in all of them."""
 from __future__ import annotations
+
+from society.listing import Coefficient
 
 LANGUAGES = ("en", "de", "fr")
 
@@ -13,6 +15,8 @@ TEXTS = {
     "born": ("Born", "Geboren", "Naissance"),
     "left": ("Left", "Abgang", "Sortie"),
     "not left": ("has not left", "kein Abgang", "pas de sortie"),
+    "unknown day": ("has left, day unknown", "abgegangen, Tag unbekannt", "sortie, jour inconnu"),
+    "in sheet": ("in the sheet: {}", "in der Tabelle: {}", "dans le tableau : {}"),
     "owner": ("Owner", "Besitzer", "Propriétaire"),
     "no owner": ("not known", "nicht bekannt", "non connu"),
     "since": ("Owner since", "Besitzer seit", "Propriétaire depuis"),
@@ -29,15 +33,54 @@ TEXTS = {
     "society": ("For the society", "Für den Zuchtverband", "Pour l'association"),
     "inferred": ("inferred", "erschlossen", "déduit"),
     "invented": ("invented", "erfunden", "inventé"),
+    "pedigree of": ("Pedigree of {}", "Abstammung von {}", "Ascendance de {}"),
+    "born on": ("born {}", "geboren {}", "naissance {}"),
+    "drawn times": ("drawn {} times", "{}-mal gezeichnet", "dessiné {} fois"),
+    "ancestors": ("{} known ancestors", "{} bekannte Ahnen", "{} ancêtres connus"),
+    "hidden": (
+        "; {} more lie further back and aren't drawn",
+        "; {} weitere liegen weiter zurück und sind nicht gezeichnet",
+        " ; {} autres, plus loin, ne sont pas dessinés",
+    ),
+    "tree key": (
+        "inbred, with its coefficient; males have corners, females are round",
+        "ingezüchtet, mit dem Koeffizienten; männliche haben Ecken, weibliche sind rund",
+        "consanguin, avec son coefficient ; les mâles ont des coins, les femelles sont rondes",
+    ),
+    "trend": (
+        "Mean coefficient of inbreeding by birth year",
+        "Mittlerer Inzuchtkoeffizient nach Geburtsjahr",
+        "Coefficient de consanguinité moyen par année de naissance",
+    ),
+    "mean": ("mean coefficient, in percent (left)", "mittlerer Koeffizient, in Prozent (links)", "coefficient moyen, en pour cent (à gauche)"),
+    "born there": ("animals born (right)", "geborene Tiere (rechts)", "animaux nés (à droite)"),
+    "mean of": ("{} in the mean of {}", "{} im Mittel von {}", "{} en moyenne de {}"),
+    "animals": ("{} animals", "{} Tiere", "{} animaux"),
+    "by year": ("{} animals by birth year", "{} Tiere nach Geburtsjahr", "{} animaux par année de naissance"),
+    "no year": (
+        "; {} more have no known birth year and aren't drawn",
+        "; {} weitere haben kein bekanntes Geburtsjahr und sind nicht gezeichnet",
+        " ; {} autres, sans année de naissance connue, ne sont pas dessinés",
+    ),
+    "trend note": (
+        "An unknown parent counts as unrelated.",
+        "Unbekannte Eltern gelten als nicht verwandt.",
+        "Un parent inconnu compte comme non apparenté.",
+    ),
     "note": (
         "An unknown parent counts as unrelated to all animals. Coefficients are Wright's, computed exactly.",
         "Unbekannte Eltern gelten als mit keinem Tier verwandt. Koeffizienten nach Wright, exakt berechnet.",
         "Un parent inconnu n'est compté comme apparenté à aucun animal. Coefficients de Wright, calculés exactement.",
     ),
     "inferred note": (
-        "(inferred): not known; inferred from the year, the parents or the calves when the sheet was taken.",
-        "(erschlossen): nicht bekannt; aus dem Jahr, den Eltern oder den Nachkommen erschlossen.",
-        "(déduit) : non connu ; déduit de l'année, des parents ou des descendants.",
+        "(inferred): not known for certain; inferred from the year, the parents, the offspring or a name when the sheet was taken.",
+        "(erschlossen): nicht sicher bekannt; aus dem Jahr, den Eltern, den Nachkommen oder einem Namen erschlossen.",
+        "(déduit) : non connu avec certitude ; déduit de l'année, des parents, des descendants ou d'un nom.",
+    ),
+    "in sheet note": (
+        "(in the sheet: ..): this animal can't be the parent, and was left out.",
+        "(in der Tabelle: ..): dieses Tier kann nicht Vater oder Mutter sein und wurde weggelassen.",
+        "(dans le tableau : ..) : cet animal ne peut pas être le parent, et n'a pas été repris.",
     ),
     "invented note": (
         "(invented): the pedigree has neither birth days nor sexes; these were invented.",
@@ -47,11 +90,33 @@ TEXTS = {
 }
 
 
-def texts_of(language: str) -> dict[str, str]:
-    at = LANGUAGES.index(language)
-    return {what: texts[at] for what, texts in TEXTS.items()}
+class Language:
+    """How a language writes texts, days, decimals and percentages."""
 
+    def __init__(self, language: str) -> None:
+        at = LANGUAGES.index(language)
+        self.name = language
+        self.texts = {what: texts[at] for what, texts in TEXTS.items()}
 
-def marked(day_or_sex: str, mark: str, texts: dict[str, str]) -> str:
-    """A day or a sex with the mark behind it, if it has one."""
-    return day_or_sex + mark.replace("inferred", texts["inferred"]).replace("invented", texts["invented"])
+    def day(self, day: object) -> str:
+        """A day, which is given as `2001-03-01`."""
+        year, month, day_of_month = str(day).split("-")
+        return {"en": str(day), "de": f"{day_of_month}.{month}.{year}", "fr": f"{day_of_month}/{month}/{year}"}[self.name]
+
+    def decimal(self, number: str) -> str:
+        return number if self.name == "en" else number.replace(".", ",")
+
+    def count(self, number: int) -> str:
+        """A whole number, in groups of three digits."""
+        return f"{number:,}".replace(",", {"en": ",", "de": ".", "fr": "\u202f"}[self.name])
+
+    def percent(self, number: str) -> str:
+        """With a blank that ends no line before the sign, but in English."""
+        return self.decimal(number) + {"en": "%", "de": "\u00a0%", "fr": "\u202f%"}[self.name]
+
+    def percent_of(self, coefficient: Coefficient) -> str:
+        return f"F\u00a0{self.percent(coefficient.percent)}"
+
+    def marked(self, text: str, mark: str) -> str:
+        """A text, as a day or a sex, with the mark behind it, if it has one."""
+        return text + mark.replace("inferred", self.texts["inferred"]).replace("invented", self.texts["invented"])

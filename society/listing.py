@@ -72,23 +72,28 @@ def list_all(book: Book, program: Herdbook) -> list[list[str]]:
 
 
 class Advice(NamedTuple):
-    """The coefficient of a calf by each sire, the least first, and why others have none."""
+    """The coefficient that offspring of each sire would have, the least first, why others have none, and how many males
+    were passed over since they left or have no row."""
 
     rows: list[list[str]]
     refused: list[str]
     left: int
+    without_row: list[str]
 
 
 def advise(book: Book, program: Herdbook, dam: Known, sires: list[Known], also_left: bool) -> Advice:
-    """Advice on given sires, or else on all living males, or on those that left too."""
-    left = 0
+    """Advice on given sires, or else on all living males that have a row, or on those that left too."""
+    left, without_row = 0, []
     if not sires:
         males = [known for known in book.known.values() if known.number[6] == "M"]
-        sires = [known for known in males if also_left or not book.records[known.number].left]
+        without_row = sorted(known.id for known in males if known.row != "yes")
+        males = [known for known in males if known.row == "yes"]
+        sires = [known for known in males if also_left or not book.has_left(known)]
         left = len(males) - len(sires)
         if not sires:
-            hint = ": --left asks for those that left too" if males else ""
-            raise Mistake(f"the book has no {'living ' if males else ''}male{hint}")
+            what = "living male with a row" if males else "male with a row" if without_row else "male"
+            hints = ["--left asks for those that left too"] * bool(left) + ["name those without a row"] * bool(without_row)
+            raise Mistake(f"the book has no {what}{': ' * bool(hints)}{', and '.join(hints)}")
     numbers = list(dict.fromkeys(known.number for known in sires))
     names = book.by_number()
     book_text = book.path.read_bytes()
@@ -107,4 +112,4 @@ def advise(book: Book, program: Herdbook, dam: Known, sires: list[Known], also_l
         raise Mistake(f"{dam.id}: {MATING_FAULTS[of_dam[0]]} (fault {of_dam[0]}): name a female as the dam")
     found.sort(key=lambda pair: (pair[1].value, names[pair[0]].id))
     told = [f"{id}: refused: {MATING_FAULTS[fault]} (fault {fault})" for id, fault in refused]
-    return Advice(rows_of(book, found), told, left)
+    return Advice(rows_of(book, found), told, left, without_row)

@@ -25,8 +25,13 @@ The status is 0 where it is done, and 1 after a mistake; nothing is written then
 
 class Parser(argparse.ArgumentParser):
     def error(self, message: str) -> NoReturn:
-        hint = "put an id or a name with blanks between quotation marks; " if message.startswith("unrecognized") else ""
-        raise Mistake(f"{message}: {hint}`{self.prog} --help` shows what can be written")
+        told, hint = message, ""
+        words = message.removeprefix("unrecognized arguments: ").split()
+        if message.startswith("unrecognized") and words[0].startswith("-"):
+            told = f"there is no option {words[0]} here"
+        elif message.startswith("unrecognized"):
+            hint = "put an id or a name with blanks between quotation marks; "
+        raise Mistake(f"{told}: {hint}`{self.prog} --help` shows what can be written")
 
 
 def joined(words: list[str]) -> list[str]:
@@ -105,14 +110,14 @@ def parser() -> Parser:
     )
     take.add_argument("--day", type=day, default=datetime.date.today(), help="the day on which owners changed [today]")
     take.add_argument("--strict", action="store_true", help="take nothing where anything would be left out")
-
+    take.add_argument("--semicolons", action="store_true", help="write report.csv with semicolons, as some spreadsheets want it")
     take.add_argument(
         "--drop-gone", action="store_true",
         help="drop animals of the book that have no row any more and aren't ancestors of any that has one",
     )
 
     listing = word("list", "write all animals with their coefficients, in age order")
-    mating = word("mating", "write the coefficient that a calf would have by each sire, the least first")
+    mating = word("mating", "write the coefficient that offspring of each sire would have, the least first")
     mating.add_argument("--dam", required=True, metavar="ID", help="the dam, by id, name or number")
     mating.add_argument("sires", nargs="*", metavar="SIRE", help="sires, by id, name or number [all living males]")
     mating.add_argument("--all", action="store_true", help="all living males, as where no sire is named")
@@ -123,13 +128,13 @@ def parser() -> Parser:
 
     certificate = word("certificate", "write an animal's certificate, a page of HTML for the printer")
     certificate.add_argument("--title", default="", help="what stands above the animal [Certificate of pedigree, in the language]")
-    certificate.add_argument("--language", choices=LANGUAGES, default="en", help="the page's language [en]")
     tree = word("pedigree", "draw an animal with its known ancestors, inbred ones marked")
     tree.add_argument("--generations", type=generations, default=4, metavar="N", help="how many, 1 to 10 [4]")
     for one in certificate, tree:
         one.add_argument("id", metavar="ID", help="the animal, by id, name or number")
     trend = word("trend", "draw the mean coefficient by birth year, with how many animals each year has")
     for one in certificate, tree, trend:
+        one.add_argument("--language", choices=LANGUAGES, default="en", help="the language, en, de or fr [en]")
         one.add_argument("--out", type=file, metavar="FILE", help="write to this file [one in the book's folder]")
 
     inverse = word("inverse", "write the summed inverse of the numerator relationship matrix")

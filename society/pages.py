@@ -4,7 +4,7 @@ from __future__ import annotations
 import html
 
 from society.book import Book, Known
-from society.listing import Coefficient
+from society.languages import Language
 
 FONT = "'Helvetica Neue', Arial, 'Liberation Sans', 'DejaVu Sans', sans-serif"
 INK, GREY, LINE, PAPER = "#1d2733", "#66717e", "#98a2ad", "#ffffff"
@@ -41,13 +41,9 @@ def shortened(text: str, most: int) -> str:
     return text if len(text) <= most else text[: most - 1] + "…"
 
 
-def year_of(book: Book, known: Known) -> str:
+def year_of(book: Book, known: Known, language: Language) -> str:
     """The birth year, with a mark where the day was inferred."""
-    return f"{book.records[known.number].born.year}{known.birth_mark()}"
-
-
-def percent_of(coefficient: Coefficient) -> str:
-    return f"F {coefficient.percent} %"
+    return language.marked(str(book.records[known.number].born.year), known.birth_mark())
 
 
 def file_name(kind: str, id: str, suffix: str) -> str:

@@ -28,14 +28,14 @@ REFUSALS = {
     13: "the giver isn't its owner",
     14: "the day is before its birth, or before its owner got it",
     15: "giver and taker are the same owner",
-    16: "it has a calf born after the day",
+    16: "it has offspring born after the day",
 }
 MATING_FAULTS = {
     1: "the sire isn't in the book",
     2: "the dam isn't in the book",
     3: "the sire isn't male",
     4: "the dam isn't female",
-    5: "a calf would have a path of parents longer than 60 steps",
+    5: "offspring would have a path of parents longer than 60 steps",
 }
 
 

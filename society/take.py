@@ -6,8 +6,8 @@ import pathlib
 from dataclasses import dataclass, field
 
 from society.animals import Rows
-from society.book import REPORT, Book
-from society.columns import find_columns, known_titles, read_given, read_sexes, unknown_words
+from society.book import OPTIONS, REPORT, Book
+from society.columns import find_columns, known_titles, plain, read_given, read_sexes, unknown_words
 from society.faults import leave_out_faulty_parents
 from society.filing import Filing
 from society.pedigree import invent_days, invent_sexes
@@ -31,19 +31,24 @@ class Wishes:
     day: datetime.date = field(default_factory=datetime.date.today)
     strict: bool = False
     drop_gone: bool = False
+    semicolons: bool = False
 
 
 def take_sheet(path: pathlib.Path, wishes: Wishes) -> None:
-    given = read_given(wishes.columns)
-    sheet = read_sheet(path, lambda titles: known_titles(titles) + sum(title in given.values() for title in titles))
-    columns = find_columns(sheet.line, sheet.titles, given)
-    report = Report()
-    animals = Rows(sheet, columns, unknown_words(wishes.unknown), read_sexes(wishes.sexes), report).animals()
-    if not animals:
-        raise Mistake(f"{path} has no row that can be taken", *(entry.sentence() for entry in report.entries[:9]))
     program = Herdbook()
     book = Book(wishes.book)
     book.load(program)
+    words = remember(book, wishes)
+    given = read_given(words["columns"])
+    sheet = read_sheet(path, lambda titles: known_titles(titles) + sum(title in given.values() for title in titles))
+    titles, now = {"", *map(plain, sheet.titles)}, read_given(wishes.columns)
+    given = {field: title for field, title in given.items() if field in now or plain(title) in titles}
+    columns = find_columns(sheet.line, sheet.titles, given)
+    report = Report()
+    rows = Rows(sheet, columns, unknown_words(words["unknown"]), read_sexes(words["sexes"]), report)
+    animals = rows.animals()
+    if not animals:
+        raise Mistake(f"{path} has no row that can be taken", *(entry.sentence() for entry in report.entries[:9]))
     taking = Taking(book, animals, set(columns), report)
     taking.complete(wishes.drop_gone)
     taking.find_sexes()
@@ -53,8 +58,27 @@ def take_sheet(path: pathlib.Path, wishes: Wishes) -> None:
     about = [
         f"{path}: {len(sheet.rows)} rows below the titles in line {sheet.line}, {sheet.how}",
         f"columns: {', '.join(used)}" + (f"; not read: {', '.join(unread)}" if unread else ""),
+        *again(words, wishes, book),
+        *rows.summaries(),
     ]
     finish(taking, program, wishes, about, 0)
+
+
+def remember(book: Book, wishes: Wishes) -> dict[str, list[str]]:
+    """The words of the three options that say how cells are read: those that the book remembers, and then those that are
+    given now, which stay in the book."""
+    now = {"columns": wishes.columns, "unknown": wishes.unknown, "sexes": wishes.sexes}
+    before = {option: [word for one, word in book.options if one == option] for option in now}
+    both = {option: [word for word in before[option] if word not in now[option]] + now[option] for option in now}
+    book.options = [(option, word) for option, words in both.items() for word in words]
+    return both
+
+
+def again(words: dict[str, list[str]], wishes: Wishes, book: Book) -> list[str]:
+    """Which options are used that weren't given, in a sentence."""
+    now = {"columns": wishes.columns, "unknown": wishes.unknown, "sexes": wishes.sexes}
+    used = [f"--{option} {word}" for option, those in words.items() for word in those if word not in now[option]]
+    return [f"as at the last time: {', '.join(used)} ({book.folder / OPTIONS} has these)"] if used else []
 
 
 def take_pedigree(path: pathlib.Path, wishes: Wishes) -> None:
@@ -88,10 +112,11 @@ def finish(taking: Taking, program: Herdbook, wishes: Wishes, about: list[str], 
     commands, is_anew = filing.filed(program)
     filing.tell_changes()
     new = sum(1 for animal in taking.animals.values() if animal.line and animal.id not in book.known)
+    book.written = taking.written_parents()
     book.commands, book.known, book.dropped = commands, taking.known_animals(), taking.dropped_animals()
-    book.save(report.in_order())
+    book.save(report.in_order(), wishes.semicolons)
     print("\n".join(about))
-    show(report)
+    show(report, book.folder / REPORT)
     if before and is_anew:
         print(f"{book.path} is written anew, since something in it was corrected or dropped")
     counts = report.counts()
@@ -106,11 +131,11 @@ def finish(taking: Taking, program: Herdbook, wishes: Wishes, about: list[str], 
     )
 
 
-def show(report: Report) -> None:
-    """The entries, but for new animals, which are as the sheet has them."""
+def show(report: Report, path: pathlib.Path) -> None:
+    """The first entries of each kind, but for new animals, which are as the sheet has them."""
     for what in ORDER:
         entries = [entry for entry in report.in_order() if entry.what == what and what != NEW]
         for entry in entries[:MOST_SHOWN]:
             print(entry.sentence())
         if len(entries) > MOST_SHOWN:
-            print(f"and {len(entries) - MOST_SHOWN} more {what}")
+            print(f"and {len(entries) - MOST_SHOWN} more {what}: {path} has all {len(entries)}")

@@ -6,10 +6,10 @@ from dataclasses import replace
 from society.absent import Names, add_gone, animals_of_book
 from society.animals import ROLES, Animal
 from society.births import Days, cut_cycles
-from society.book import Book, Known
+from society.book import INVENTED, Book, Known
 from society.commands import Command, Record, parents
 from society.dates import ANY_DAY, Span
-from society.report import INFERRED, Mistake, Report
+from society.report import INFERRED, ROW, Mistake, Report
 
 MOST_ANIMALS = 60_000
 
@@ -20,6 +20,10 @@ class Taking:
     def __init__(self, book: Book, animals: dict[str, Animal], given: set[str], report: Report) -> None:
         self.book, self.animals, self.given, self.report = book, animals, given, report
         self.names = book.by_number()
+        # whether a parent is a sire or a dam, by its first offspring
+        self.roles: dict[str, str] = {}
+        # the parents as the sheet writes them, by an animal's id and `sire` or `dam`
+        self.texts: dict[tuple[str, str], str] = {}
 
     def record(self, id: str) -> Record | None:
         known = self.book.known.get(id)
@@ -31,9 +35,13 @@ class Taking:
         """Adds the animals of the book that have no row, and the parents that have none."""
         for animal in self.animals.values():
             self.keep(animal)
+        self.texts = {
+            (animal.id, role): parent for animal in self.animals.values() for role, parent in animal.parents() if role in self.given
+        }
         gone = animals_of_book(self.book, self.animals)
         Names(self.animals | gone, self.report).find_parents(self.animals, self.book)
         add_gone(self.animals, gone, self.book, drop_gone, self.report)
+        self.leave_out_unread_sexes()
         Names(self.animals, self.report).add_parents()
         if len(self.animals) > MOST_ANIMALS:
             many = f"the sheet and the book have {len(self.animals):,} animals together"
@@ -50,8 +58,9 @@ class Taking:
             animal.sire = self.id_of(record.sire)
         if "dam" not in self.given:
             animal.dam = self.id_of(record.dam)
-        if "exit" not in self.given or "exit" in animal.unread:
+        if "exit" not in self.given or ("exit" in animal.unread and record.left):
             animal.left, animal.left_inferred = record.left, known.exit
+            self.tell_kept(animal, "exit", f"exit on {record.left}")
         if "embryo" not in self.given or "embryo" in animal.unread:
             animal.embryo = record.embryo
         owner = self.book.owner_of(record.herd)
@@ -68,22 +77,30 @@ class Taking:
     def tell_kept(self, animal: Animal, field: str, what: str) -> None:
         if field in self.given:
             word = f"{field} {what}" if field == "owner" else what
-            self.report.tell(INFERRED, animal.line, animal.id, f"{word}, as in the book, since its cell gives none")
+            why = "can't be read" if field in animal.unread else "gives none"
+            self.report.tell(INFERRED, animal.line, animal.id, f"{word}, as in the book, since its cell {why}")
 
     def id_of(self, number: str) -> str:
         return self.names[number].id if number else ""
 
+    def leave_out_unread_sexes(self) -> None:
+        """The row of an animal whose sex can't be read is left out, where neither the book nor any offspring says it."""
+        for animal in self.animals.values():
+            for role, parent in animal.parents():
+                self.roles.setdefault(parent, role)
+        for id, animal in list(self.animals.items()):
+            if "sex" in animal.unread and not self.roles.get(id) and not self.book.known.get(id):
+                why = "its sex can't be read, and no animal has it as a parent"
+                self.report.leave_out(ROW, animal.line, id, "the row", why)
+                del self.animals[id]
+
     def find_sexes(self) -> None:
         """An animal without a sex has that of the first parent that it is, or else that of the book; else it is taken for
         a female."""
-        roles: dict[str, str] = {}
-        for animal in self.animals.values():
-            for role, parent in animal.parents():
-                roles.setdefault(parent, role)
         for id, animal in self.animals.items():
             if animal.sex:
                 continue
-            role, known = roles.get(id), self.book.known.get(id)
+            role, known = self.roles.get(id), self.book.known.get(id)
             if role:
                 animal.sex, animal.sex_inferred = ROLES[role], f"since it is a {role}"
             elif known:
@@ -92,7 +109,8 @@ class Taking:
                 animal.sex, animal.sex_inferred = "F", "since nothing else is known"
             if animal.line:
                 word = {"M": "male", "F": "female"}[animal.sex]
-                self.report.tell(INFERRED, animal.line, id, f"sex {word}, {animal.sex_inferred}")
+                more = ", and its cell can't be read" if "sex" in animal.unread else ""
+                self.report.tell(INFERRED, animal.line, id, f"sex {word}, {animal.sex_inferred}{more}")
 
     def find_days(self) -> None:
         cut_cycles(self.animals, self.report)
@@ -118,12 +136,29 @@ class Taking:
         before = self.book.dropped | self.book.known
         return {id: replace(known, row="dropped") for id, known in before.items() if id not in self.animals}
 
+    def written_parents(self) -> dict[tuple[str, str], str]:
+        """The texts of parents that were left out, or are written by their names; those of the book where the sheet doesn't
+        give the parent."""
+        found = {}
+        for (id, role), text in self.book.written.items():
+            animal, record = self.animals.get(id), self.record(id)
+            if animal and record and not (animal.line and role in self.given):
+                if getattr(animal, role) == self.id_of(getattr(record, role)):
+                    found[id, role] = text
+        for (id, role), text in self.texts.items():
+            animal = self.animals.get(id)
+            # a pedigree's parents may be swapped
+            is_swapped = animal and animal.birth_inferred == INVENTED and text in (animal.sire, animal.dam)
+            if animal and getattr(animal, role) != text and not is_swapped:
+                found[id, role] = text
+        return found
+
     def known_animals(self) -> dict[str, Known]:
         """What `ids.csv` has of each animal afterwards."""
         kept = {}
         for id, animal in self.animals.items():
             before = self.book.known.get(id)
-            row = "yes" if animal.line or (before and before.row == "yes") else "no"
+            row = "yes" if animal.line else "gone" if before and before.had_row() else "no"
             inferred = animal.birth_inferred, animal.left_inferred, animal.sex_inferred
             kept[id] = Known(animal.number, id, animal.name, row, *inferred)
         return kept

@@ -5,6 +5,7 @@ import collections
 from dataclasses import dataclass, field
 
 from society.book import Book, Known
+from society.languages import Language
 from society.listing import Coefficient
 from society.pages import (
     DAM,
@@ -15,7 +16,6 @@ from society.pages import (
     LINE,
     SIRE,
     escape,
-    percent_of,
     shortened,
     svg,
     text_at,
@@ -73,7 +73,7 @@ def all_ancestors(book: Book, number: str) -> set[str]:
     return found
 
 
-def tree_picture(book: Book, known: Known, coefficients: dict[str, Coefficient], generations: int) -> str:
+def tree_picture(book: Book, known: Known, coefficients: dict[str, Coefficient], generations: int, language: Language) -> str:
     names = book.by_number()
     root, rows = grow(book, known.number, 0, generations, 0.0)
     nodes = nodes_of(root)
@@ -82,9 +82,9 @@ def tree_picture(book: Book, known: Known, coefficients: dict[str, Coefficient],
     width = max(width, 620)
     height = HEAD + rows * ROW + FOOT
     parts = [link(node, parent) for node in nodes for parent in node.parents]
-    parts += [box(book, node, names[node.number], coefficients[node.number], times[node.number]) for node in nodes]
+    parts += [box(book, node, names[node.number], coefficients[node.number], times[node.number], language) for node in nodes]
     hidden = len(all_ancestors(book, known.number) - set(times))
-    return picture(parts, known, width, height, len(times) - 1, hidden)
+    return picture(parts, known, width, height, len(times) - 1, hidden, language.texts)
 
 
 def corner(node: Node) -> tuple[float, float]:
@@ -101,15 +101,16 @@ def link(node: Node, parent: Node) -> str:
     )
 
 
-def box(book: Book, node: Node, known: Known, coefficient: Coefficient, times: int) -> str:
+def box(book: Book, node: Node, known: Known, coefficient: Coefficient, times: int, language: Language) -> str:
     x, y = corner(node)
     inbred = coefficient.is_inbred
     fill, edge = (INBRED, INBRED_INK) if inbred else ({"M": SIRE, "F": DAM}[known.number[6]], LINE)
     # a male has corners, a female is round
     round_by = 3 if known.number[6] == "M" else 16
-    facts = [year_of(book, known)] + ([f"drawn {times} times"] if times > 1 else [])
-    day = f"{book.records[known.number].born}{known.birth_mark()}"
-    tip = f"{known.id} {known.name}".strip() + f", {known.number}, born {day}, F {coefficient.fraction}"
+    texts = language.texts
+    facts = [year_of(book, known, language)] + ([texts["drawn times"].format(times)] if times > 1 else [])
+    day = language.marked(language.day(book.records[known.number].born), known.birth_mark())
+    tip = f"{known.id} {known.name}".strip() + f", {known.number}, {texts['born on'].format(day)}, F {coefficient.fraction}"
     # a coefficient stands at the end of the second line
     told = [shortened(known.name, 14 if inbred else 24)] * bool(known.name or inbred) + [", ".join(facts)]
     id_size = max(10.0, min(15.0, 15 * 20 / len(known.id)))
@@ -121,19 +122,19 @@ def box(book: Book, node: Node, known: Known, coefficient: Coefficient, times: i
     ]
     lines += [text_at(x + 12, y + 37 + 16 * at, what, GREY, 13) for at, what in enumerate(told)]
     if inbred:
-        lines.append(text_at(x + BOX_WIDTH - 10, y + 37, percent_of(coefficient), INBRED_INK, 13.5, "end", "bold"))
+        lines.append(text_at(x + BOX_WIDTH - 10, y + 37, language.percent_of(coefficient), INBRED_INK, 13.5, "end", "bold"))
     return "".join(lines) + "</g>"
 
 
-def picture(parts: list[str], known: Known, width: float, height: float, drawn: int, hidden: int) -> str:
-    title = f"Pedigree of {known.id}" + (f", {known.name}" if known.name else "")
-    note = f"{drawn} known ancestors" + (f"; {hidden} more lie further back and aren't drawn" if hidden else "")
+def picture(parts: list[str], known: Known, width: float, height: float, drawn: int, hidden: int, texts: dict[str, str]) -> str:
+    title = texts["pedigree of"].format(known.id) + (f", {known.name}" if known.name else "")
+    note = texts["ancestors"].format(drawn) + (texts["hidden"].format(hidden) if hidden else "")
     y = height - 34
     head = [
         text_at(MARGIN, 36, shortened(title, int(width / 11)), INK, 20, weight="bold"),
         f'<rect x="{MARGIN}" y="{y - 11:.1f}" width="20" height="14" rx="3" fill="{INBRED}" stroke="{INBRED_INK}" '
         'stroke-width="2"/>',
-        text_at(MARGIN + 28, y, "inbred, with its coefficient; males have corners, females are round", GREY, 13),
+        text_at(MARGIN + 28, y, texts["tree key"], GREY, 13),
         text_at(MARGIN, y + 20, note + ".", GREY, 13),
     ]
     return svg(round(width), round(height), head + parts)

@@ -7,6 +7,7 @@ from fractions import Fraction
 from typing import NamedTuple
 
 from society.book import Book, Known
+from society.languages import Language
 from society.listing import Coefficient
 from society.pages import GREY, INBRED_INK, INK, PAPER, escape, svg, text_at
 from society.report import Mistake
@@ -47,7 +48,7 @@ def scale_for(value: float, least: float, steps: tuple[float, ...]) -> float:
     return 4 * next(part * unit for part in steps if part * unit >= step * 0.999999)
 
 
-def trend_picture(book: Book, coefficients: dict[str, Coefficient]) -> str:
+def trend_picture(book: Book, coefficients: dict[str, Coefficient], language: Language) -> str:
     years, without = years_of(book, coefficients)
     if not years:
         raise Mistake("no animal of the book has a known birth year, so there is no trend to draw: take a sheet with birth days")
@@ -57,15 +58,16 @@ def trend_picture(book: Book, coefficients: dict[str, Coefficient]) -> str:
     most_count = scale_for(max(year.count for year in years), 4, (1, 2, 3, 4, 5, 6, 8, 10))
     x = lambda year: LEFT + (year - first + 0.5) * step
     y = lambda part: HEIGHT - BOTTOM - part * (HEIGHT - TOP - BOTTOM)
-    parts = axes(most_percent, most_count, y)
+    parts = axes(most_percent, most_count, y, language)
     for year in years:
-        parts.append(bar(year, x(year.year), y(year.count / most_count), y(0), step))
+        parts.append(bar(year, x(year.year), y(year.count / most_count), y(0), step, language))
     parts += year_names(first, last, x, step)
-    parts += curve(years, {year.year: (x(year.year), y(float(year.mean) * 100 / most_percent)) for year in years})
-    return picture(parts, sum(year.count for year in years), without)
+    at = {year.year: (x(year.year), y(float(year.mean) * 100 / most_percent)) for year in years}
+    parts += curve(years, at, language)
+    return picture(parts, sum(year.count for year in years), without, language)
 
 
-def curve(years: list[Year], at: dict[int, tuple[float, float]]) -> list[str]:
+def curve(years: list[Year], at: dict[int, tuple[float, float]], language: Language) -> list[str]:
     """The means, with a line between two years of which one follows the other."""
     lines, dots = [], []
     for one in years:
@@ -73,17 +75,18 @@ def curve(years: list[Year], at: dict[int, tuple[float, float]]) -> list[str]:
         if x1 != x2:
             ends = f'x1="{x1:.1f}" y1="{y1:.1f}" x2="{x2:.1f}" y2="{y2:.1f}"'
             lines.append(f'<line {ends} stroke="{INBRED_INK}" stroke-width="2.5"/>')
-        tip = f"{one.year}: {float(one.mean) * 100:.2f} % in the mean of {one.count}"
+        mean = language.percent(f"{float(one.mean) * 100:.2f}")
+        tip = f"{one.year}: {language.texts['mean of'].format(mean, one.count)}"
         dots.append(dot(x1, y1, f"<title>{escape(tip)}</title>"))
     return lines + dots
 
 
-def axes(most_percent: float, most_count: float, y) -> list[str]:
+def axes(most_percent: float, most_count: float, y, language: Language) -> list[str]:
     parts = []
     for at in range(5):
         height = y(at / 4)
         parts.append(f'<line x1="{LEFT}" y1="{height:.1f}" x2="{WIDTH - RIGHT}" y2="{height:.1f}" stroke="#e3e7eb"/>')
-        parts.append(text_at(LEFT - 10, height + 5, f"{most_percent * at / 4:.4g} %", INBRED_INK, 15, "end"))
+        parts.append(text_at(LEFT - 10, height + 5, language.percent(f"{most_percent * at / 4:.4g}"), INBRED_INK, 15, "end"))
         parts.append(text_at(WIDTH - RIGHT + 10, height + 5, f"{most_count * at / 4:.6g}", GREY, 15))
     return parts
 
@@ -92,9 +95,9 @@ def dot(x: float, y: float, within: str) -> str:
     return f'<circle cx="{x:.1f}" cy="{y:.1f}" r="4" fill="{PAPER}" stroke="{INBRED_INK}" stroke-width="2.5">{within}</circle>'
 
 
-def bar(year: Year, x: float, top: float, bottom: float, step: float) -> str:
+def bar(year: Year, x: float, top: float, bottom: float, step: float, language: Language) -> str:
     width = max(1.0, step * 0.7)
-    tip = f"{year.year}: {year.count} animals"
+    tip = f"{year.year}: {language.texts['animals'].format(year.count)}"
     return (
         f'<rect x="{x - width / 2:.1f}" y="{top:.1f}" width="{width:.1f}" height="{bottom - top:.1f}" fill="{BARS}">'
         f"<title>{escape(tip)}</title></rect>"
@@ -108,15 +111,17 @@ def year_names(first: int, last: int, x, step: float) -> list[str]:
     return [text_at(x(year), HEIGHT - BOTTOM + 24, str(year), INK, 15, "middle") for year in shown]
 
 
-def picture(parts: list[str], count: int, without: int) -> str:
-    more = f"; {without:,} more have no known birth year and aren't drawn" if without else ""
-    note = f"{count:,} animals by birth year{more}"
+def picture(parts: list[str], count: int, without: int, language: Language) -> str:
+    texts = language.texts
+    more = texts["no year"].format(language.count(without)) if without else ""
+    note = texts["by year"].format(language.count(count)) + more
     head = [
-        text_at(LEFT, 34, "Mean coefficient of inbreeding by birth year", INK, 21, weight="bold"),
+        text_at(LEFT, 34, texts["trend"], INK, 21, weight="bold"),
         dot(LEFT + 6, 57, ""),
-        text_at(LEFT + 18, 62, "mean coefficient, in percent (left)", INBRED_INK, 15),
-        f'<rect x="{LEFT + 300}" y="50" width="14" height="14" fill="{BARS}"/>',
-        text_at(LEFT + 322, 62, "animals born (right)", GREY, 15),
-        text_at(LEFT, HEIGHT - 26, note + ". An unknown parent counts as unrelated.", GREY, 14),
+        text_at(LEFT + 18, 62, texts["mean"], INBRED_INK, 15),
+        f'<rect x="{LEFT + 340}" y="50" width="14" height="14" fill="{BARS}"/>',
+        text_at(LEFT + 362, 62, texts["born there"], GREY, 15),
+        text_at(LEFT, HEIGHT - 34, f"{note}.", GREY, 14),
+        text_at(LEFT, HEIGHT - 14, texts["trend note"], GREY, 14),
     ]
     return svg(WIDTH, HEIGHT, head + parts)

@@ -6,6 +6,7 @@ import sys
 
 from society.book import Book, open_book, write_file
 from society.certificate import certificate_page
+from society.languages import Language
 from society.listing import advise, coefficients, list_all, list_text
 from society.matrix import write_inverse
 from society.options import joined, parser
@@ -16,6 +17,9 @@ from society.take import Wishes, take_pedigree, take_sheet
 from society.tree import tree_picture
 from society.trend import trend_picture
 
+# so many ids are shown where there may be many
+SHOWN = 9
+
 
 def take(asked: argparse.Namespace) -> None:
     if (asked.sheet is None) == (asked.pedigree is None):
@@ -24,12 +28,24 @@ def take(asked: argparse.Namespace) -> None:
         raise Mistake("--columns and --sexes are for a sheet: a pedigree has an id, a sire and a dam in each line")
     wishes = Wishes(
         asked.book, asked.columns, asked.unknown, asked.sexes, asked.breed or "", asked.country or "", asked.day,
-        asked.strict, asked.drop_gone,
+        asked.strict, asked.drop_gone, asked.semicolons,
     )  # fmt: skip
     if asked.sheet:
         take_sheet(asked.sheet, wishes)
     else:
         take_pedigree(asked.pedigree, wishes)
+
+
+def tell(sentence: str) -> None:
+    """What isn't part of an output, behind it."""
+    sys.stdout.flush()
+    print(f"society: {sentence}", file=sys.stderr)
+
+
+def some(ids: list[str]) -> str:
+    """How many there are, and the first of them."""
+    more = f" and {len(ids) - SHOWN} more" if len(ids) > SHOWN else ""
+    return f"{len(ids)} ({', '.join(ids[:SHOWN])}{more})"
 
 
 def give(asked: argparse.Namespace, rows: list[list[str]]) -> None:
@@ -49,9 +65,18 @@ def mating(asked: argparse.Namespace, book: Book, program: Herdbook) -> None:
     advice = advise(book, program, dam, sires, asked.left)
     give(asked, advice.rows)
     for sentence in advice.refused:
-        print(f"society: {sentence}", file=sys.stderr)
+        tell(sentence)
     if advice.left:
-        print(f"society: {advice.left} males that left aren't listed: --left lists them too", file=sys.stderr)
+        tell(f"males that left: {advice.left} aren't listed: --left lists them too")
+    if advice.without_row:
+        tell(f"males without a row in the sheet: {some(advice.without_row)} aren't listed: name one, if it lives")
+
+
+def list_them(asked: argparse.Namespace, book: Book, program: Herdbook) -> None:
+    give(asked, list_all(book, program))
+    without_row = sorted(known.id for known in book.without_row())
+    if without_row:
+        tell(f"animals without a row in the sheet: {some(without_row)}: added as parents, or gone")
 
 
 def draw(asked: argparse.Namespace, book: Book, program: Herdbook) -> None:
@@ -61,9 +86,10 @@ def draw(asked: argparse.Namespace, book: Book, program: Herdbook) -> None:
         text = certificate_page(book, program, known, found, asked.language, asked.title)
         name = file_name("certificate", known.id, ".html")
     elif asked.word == "pedigree":
-        text, name = tree_picture(book, known, found, asked.generations), file_name("pedigree", known.id, ".svg")
+        text = tree_picture(book, known, found, asked.generations, Language(asked.language))
+        name = file_name("pedigree", known.id, ".svg")
     else:
-        text, name = trend_picture(book, found), "trend.svg"
+        text, name = trend_picture(book, found, Language(asked.language)), "trend.svg"
     path = asked.out or asked.book / name
     write_file(path, text.encode())
     print(f"{path} is written: open it in a browser, and print it there")
@@ -76,7 +102,7 @@ def do(asked: argparse.Namespace) -> None:
     program = Herdbook()
     book = open_book(asked.book, program)
     if asked.word == "list":
-        give(asked, list_all(book, program))
+        list_them(asked, book, program)
     elif asked.word == "mating":
         mating(asked, book, program)
     elif asked.word == "inverse":
@@ -84,6 +110,8 @@ def do(asked: argparse.Namespace) -> None:
         print(f"{asked.matrix_market}: {rows} rows, {elements} elements of the lower triangle; {ids} has the ids of the rows")
     else:
         draw(asked, book, program)
+    for note in book.notes:
+        tell(note)
 
 
 def main(words: list[str]) -> int:

@@ -19,6 +19,7 @@ from front_desk.desk import PROGRAM
 from front_desk.drawn import PageChecks
 from front_desk.first import FirstChecks
 from front_desk.forms import FormChecks
+from front_desk.goats import GoatChecks
 from front_desk.inferring import InferringChecks
 from front_desk.leaving import LeavingChecks
 from front_desk.mistaken import MistakeChecks
@@ -26,7 +27,9 @@ from front_desk.pedigrees import PedigreeChecks
 from front_desk.triples import TripleChecks
 
 
-class AllChecks(FirstChecks, FormChecks, InferringChecks, LeavingChecks, MistakeChecks, PageChecks, PedigreeChecks, TripleChecks):
+class AllChecks(
+    FirstChecks, FormChecks, GoatChecks, InferringChecks, LeavingChecks, MistakeChecks, PageChecks, PedigreeChecks, TripleChecks
+):
     """The groups of all modules."""
 
 
@@ -34,6 +37,7 @@ GROUPS = """
     three_commands ten_more_rows forms numbers_of_others words_for_sexes inferred_days days_that_come sexes named_parents
     faulty_parents faulty_rows corrections dropped mistakes limits pictures escaped languages textbook inverse_of_many
     odd_pedigrees lost_links relationships odd_cells unknown_words long_paths help
+    goats remembered many_lines
 """.split()
 
 

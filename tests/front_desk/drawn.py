@@ -20,7 +20,7 @@ class PageChecks(Checks):
         for id in born.keys() - {her.undated, her.imported}:
             years.setdefault(born[id][:4], []).append(values[id])
         for year, those in years.items():
-            self.count(f"{year}: {float(sum(those) / len(those)) * 100:.2f} % in the mean of {len(those)}" in tips, f"trend: {year}")
+            self.count(f"{year}: {float(sum(those) / len(those)) * 100:.2f}% in the mean of {len(those)}" in tips, f"trend: {year}")
             self.count(f"{year}: {len(those)} animals" in tips, f"trend: {year}")
         self.count("2 more have no known birth year" in "".join(picture.itertext()), "trend: the note")
         youngest = max((row["Ohrmarke"] for row in her.rows), key=lambda id: (born[id], id))
@@ -35,7 +35,7 @@ class PageChecks(Checks):
             tips = [title.text.split(",")[0] for title in picture.iter("{http://www.w3.org/2000/svg}title")]
             self.count(sorted(tip.split(" ")[0] for tip in tips) == sorted(id.split(" ")[0] for id in drawn), f"pedigree: {tips}")
             words = "".join(picture.itertext())
-            self.count(words.count("F ") >= sum(values[id] > 0 for id in drawn), "pedigree: inbred ones are marked")
+            self.count(words.count("F\u00a0") == sum(values[id] > 0 for id in drawn) and words.count("F\u00a0") >= sum(values[id] > 0 for id in drawn), "pedigree: inbred ones are marked")
         self.count(f"{len(set(drawn)) - 1} known ancestors" in words, "pedigree: the note")
 
     def escaped(self) -> None:
@@ -57,16 +57,21 @@ class PageChecks(Checks):
         calf = next(row["Ohrmarke"] for row in her.rows if row["Mutter"] == her.undated)
         pages = {}
         for language, words in [
-            ("en", ["Certificate of pedigree", "Coefficient of inbreeding", "Sire's dam", "Owner since", "(inferred)", "(inferred): not known", "An unknown parent counts"]),
-            ("de", ["Abstammungsnachweis", "Inzuchtkoeffizient", "Vatersmutter", "Besitzer seit", "(erschlossen)", "(erschlossen): nicht bekannt", "Unbekannte Eltern gelten"]),
-            ("fr", ["Certificat généalogique", "Coefficient de consanguinité", "Mère du père", "Propriétaire depuis", "(déduit)", "(déduit) : non connu", "Un parent inconnu n'est"]),
+            ("en", ["Certificate of pedigree", "Coefficient of inbreeding", "Sire's dam", "Owner since", "(inferred)", "(inferred): not known for certain", "An unknown parent counts"]),
+            ("de", ["Abstammungsnachweis", "Inzuchtkoeffizient", "Vatersmutter", "Besitzer seit", "(erschlossen)", "(erschlossen): nicht sicher bekannt", "Unbekannte Eltern gelten"]),
+            ("fr", ["Certificat généalogique", "Coefficient de consanguinité", "Mère du père", "Propriétaire depuis", "(déduit)", "(déduit) : non connu avec", "Un parent inconnu n'est"]),
         ]:  # fmt: skip
             desk.good("certificate", calf, "--language", language, "--out", "page.html")
             page = desk.page("page.html")
             text = " ".join(page.itertext())
             self.count(page.get("lang") == language and all(word in text for word in words), f"{language}: {text[-1500:]}")
             body = next(part for part in page if part.tag.endswith("body"))
-            numbers = re.findall(r"[A-Z]{6}[MF]\d{12}|[A-Z]+-\d\d/\d+|\d{4}-\d\d-\d\d|\d+/\d+|\d+\.\d+", " ".join(body.itertext()))
+            text = " ".join(body.itertext())
+            self.written(language, text)
+            # days and decimals as English writes them
+            text = re.sub(r"\b(\d\d)[./](\d\d)[./](\d{4})\b", r"\3-\2-\1", text)
+            text = re.sub(r"(\d),(\d+)", r"\1.\2", text)
+            numbers = re.findall(r"[A-Z]{6}[MF]\d{12}|[A-Z]+-\d\d/\d+|\d{4}-\d\d-\d\d|\d+/\d+|\d+\.\d+", text)
             pages[language] = numbers, [word for word in re.findall(r"[^\W\d_]{3,}", " ".join(body.itertext()))]
         self.count(pages["en"][0] == pages["de"][0] == pages["fr"][0] and len(pages["en"][0]) > 20, f"numbers: {pages}")
         english = {"Sire", "Dam", "Born", "Left", "Owner", "unknown", "inferred", "male", "female", "Number", "Pedigree", "society", "the"}
@@ -78,7 +83,14 @@ class PageChecks(Checks):
         desk.good("take", "--pedigree", desk.write("one.txt", "x 0 0\n"), "--book", "one")
         desk.good("certificate", "x", "--book", "one", "--out", "x.html", "--language", "de")
         text = "".join(desk.page("x.html").itertext())
-        self.count(text.count(" (erfunden)") == 3 and "(erfunden): die Abstammung hat weder" in text, f"invented: {text}")
+        self.count(text.count(" (erfunden)") == 2 and "(erfunden): die Abstammung hat weder" in text, f"invented: {text}")
+
+    def written(self, language: str, text: str) -> None:
+        """Days, decimals and percentages are written as in the language."""
+        forms = {"en": (r"\d{4}-\d\d-\d\d", r"\d\.\d+%"), "de": (r"\d\d\.\d\d\.\d{4}", r"\d,\d+\u00a0%"), "fr": (r"\d\d/\d\d/\d{4}", r"\d,\d+\u202f%")}
+        for one, (day, percent) in forms.items():
+            has = re.search(day, text) and re.search(percent, text)
+            self.count(bool(has) == (one == language), f"{language}: days and percentages as in {one}: {text}")
 
     def help(self) -> None:
         desk = Desk(self, "help")

@@ -27,6 +27,8 @@ class FirstChecks(Checks):
         self.her_advice(her, desk)
 
     def her_list(self, her: Secretary, desk: Desk) -> None:
+        told = desk.good("list").err
+        self.count(told == f"society: animals without a row in the sheet: 1 ({her.imported}): added as parents, or gone\n", f"list: {told!r}")
         rows = desk.listed("list")
         self.count(list(rows[0]) == ["id", "name", "number", "birth", "coefficient", "decimal", "percent"], f"list: {rows[0]}")
         wanted = her.coefficients()
@@ -65,7 +67,7 @@ class FirstChecks(Checks):
             unknown = [box for box in page.iter() if box.get("class") == "box unknown"]
             self.count(len(boxes) + len(unknown) == 14, f"certificate of {id}: {len(unknown)} unknown")
             inferred = {her.undated, her.imported} & {id, *ancestors}
-            self.count(words.count(" (inferred)") >= len(inferred) and ("(inferred): not known; inferred from" in words) == bool(inferred), f"certificate of {id}: the mark")
+            self.count(words.count(" (inferred)") >= len(inferred) and ("(inferred): not known for certain; inferred from" in words) == bool(inferred), f"certificate of {id}: the mark")
         self.count("<Zürich>" not in (desk.room / "book/certificate-IMP-7--Zürich-.html").read_text(), "an id is escaped")
         desk.good("certificate", her.rows[0]["Name"], "--out", "page.html")
         self.count(her.rows[0]["Ohrmarke"] in (desk.room / "page.html").read_text(), "a certificate by name")
@@ -75,16 +77,19 @@ class FirstChecks(Checks):
         numbers = desk.numbers()
         dam = next(row["Ohrmarke"] for row in sorted(her.rows, key=lambda row: row["Ohrmarke"][3:]) if row["Ohrmarke"].startswith("DE-16") and row["Geschlecht"] != "m")
         males = {row["Ohrmarke"] for row in her.rows if row["Geschlecht"] == "m"}
-        living = {row["Ohrmarke"] for row in her.rows if row["Geschlecht"] == "m" and not row["Abgang"]} | {her.imported}
+        living = {row["Ohrmarke"] for row in her.rows if row["Geschlecht"] == "m" and not row["Abgang"]}
         entry = reference.filed(text)[0].relationships()
-        for words, wanted in ([], living), (["--all"], living), (["--left"], males | {her.imported}):
+        for words, wanted in ([], living), (["--all"], living), (["--left"], males):
             rows = desk.listed("mating", "--dam", dam, *words)
             self.count({row["id"] for row in rows} == wanted, f"mating {words}: {len(rows)} rows")
             keys = [(fractions.Fraction(row["coefficient"]), row["id"]) for row in rows]
             self.count(keys == sorted(keys) and keys[-1][0] > 0, f"mating {words}: the order")
             self.count(all(value == entry(numbers[id], numbers[dam]) / 2 for value, id in keys), f"mating {words}: coefficients")
         told = desk.good("mating", "--dam", dam).err
-        self.count(told == f"society: {len(males - living)} males that left aren't listed: --left lists them too\n", f"mating: {told!r}")
+        left = f"society: males that left: {len(males - living)} aren't listed: --left lists them too\n"
+        added = f"society: males without a row in the sheet: 1 ({her.imported}) aren't listed: name one, if it lives\n"
+        self.count(told == left + added, f"mating: {told!r}")
+        self.count([row["id"] for row in desk.listed("mating", "--dam", dam, her.imported)] == [her.imported], "an added sire may be named")
         gone = min(males - living)
         done = desk.good("mating", "--dam", dam, gone, her.cow, "Löwe 2")
         self.count(len(done.out.splitlines()) == 3 and done.err == f"society: {her.cow}: refused: the sire isn't male (fault 3)\n", f"mating: {done}")

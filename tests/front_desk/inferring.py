@@ -41,7 +41,7 @@ class InferringChecks(Checks):
         self.count(wanted.items() <= born.items(), f"inferred days: {born}")
         self.count(" 12 inferred, 0 left out" in done.last, done.last)
         marks = {row["id"]: row["birth"] for row in desk.table("book/ids.csv") if row["birth"]}
-        self.count(marks.keys() == wanted.keys() and marks["year"] == "from the year 2001" and marks["calves"] == "from its calves", f"marks: {marks}")
+        self.count(marks.keys() == wanted.keys() and marks["year"] == "from the year 2001" and marks["calves"] == "from its offspring", f"marks: {marks}")
         listed = {row["id"]: row["birth"] for row in desk.listed("list")}
         self.count(all(listed[id] == born[id] + (" (inferred)" if id in wanted else "") for id in born), f"{listed}")
 

@@ -29,7 +29,7 @@ class LeavingChecks(Checks):
             "line 4: self: its sire self is left out: self would be its own ancestor (self > self)",
             "line 5: young: its dam late (line 6, born 2005-01-01) is left out: it isn't at least a day older (refusal 8); young was born 2004-01-01",
             "line 7: after: its dam b (line 3, left 2003-01-01) is left out: it left on a day before the birth (refusal 9); "
-            "after was born 2004-02-01; a calf from a stored embryo needs 1 in the column embryo",
+            "after was born 2004-02-01; offspring from a stored embryo needs 1 in the column embryo",
             "line 9: both: its sire b (line 3) is left out: it isn't male (refusal 5)",
             "line 9: both: its dam a (line 2) is left out: it isn't female (refusal 6)",
             "line 12: z: its sire y is left out: z would be its own ancestor (z > y > x > z)",
@@ -68,20 +68,23 @@ class LeavingChecks(Checks):
         )
         self.told(
             done,
-            "line 3: a: the row is left out: line 2 has this id too",
+            "line 3: a: the row is left out: line 2 has this id too (name 'Berta', there 'Anna'; birth '2002-01-01', there '2001-01-01')",
             "line 4: the row is left out: it has no id",
             "line 5: unknown: the row is left out: 'unknown' is a word for an unknown animal: give it another id",
-            "line 6: e: its birth day is left out: there is no day 2002-02-31",
+            "line 6: e: inferred: birth day 2002-02-15, from the month 2002-02, since there is no day 31.02.2002",
             "line 7: f: its birth day is left out: '01.02.98' has two digits of the year: write all four",
             "line 8: g: its sex is left out: 'cat' isn't known: write M or F, or name it as --sexes cat=m or cat=f",
-            "line 8: g: its exit is left out: 'sold' is no day: write it as 2001-03-01 or 01.03.2001, or 03.2001 or 2001 alone",
+            "line 8: g: its exit is left out: 'sold' is no day: write it as 2001-03-01 or 01.03.2001, or 03.2001 or 2001 alone: "
+            "it counts as gone, on a day that isn't known",
+            "line 8: g: the row is left out: its sex can't be read, and no animal has it as a parent",
+            "1 of 10 cells for sex can't be read, the first in line 8: 'cat': write M or F, or say which sex each word is, as --sexes cat=m or cat=f",
             "line 9: h: the row is left out: it has 9 cells, and there are 8 titles: is there a separator too many?",
             "line 10: i: its cell for a stored embryo is left out: 'maybe' isn't known: write 1 or nothing",
             "line 15: n: its birth day is left out: '37800' is a number: give the column the format of a date, and save the sheet again",
             "line 11: j: its birth day is left out: the year 2300 isn't one of 1900 to 2199",
             "line 10: A: added: the sire of i has no row: added without parents (is a meant?)",
         )
-        self.count(" 11 left out (4 rows, 7 cells), 1 added" in done.last, done.last)
+        self.count(" 11 left out (5 rows, 6 cells), 1 added" in done.last, done.last)
 
     def corrections(self) -> None:
         """An exit that changes or is withdrawn, and a parent added later as a row of its own."""

@@ -25,7 +25,7 @@ class MistakeChecks(Checks):
             ("id,born,sire,dam\na,03/25/2001,,\n", "line 2: a: birth day: '03/25/2001' has the month first"),
             ("id,born,sire,dam\na,x,,\nb,y,,\nc,z,,\nd,2001,,\n", "3 of 4 cells for birth can't be read, the first in line 2: 'x', 'y', 'z': write days as 2001-03-01"),
             ("id,born,sire,dam\na,2001,,\nb,2003,\"2,76E+14\",\n", "line 3: '2,76E+14' is a long number that the spreadsheet has cut: give the columns of ids the format text"),
-            ("id,sex,born,sire,dam,exit\na,F,2001,,,sold\nb,F,2001,,,sold\nc,F,2001,,,sold\n", "3 of 3 cells for exit can't be read, the first in line 2: 'sold' (3 times): write days"),
+            ("id,sex,born,sire,dam,exit\na,F,2001,,,Hof\nb,F,2001,,,Hof\nc,F,2001,,,Hof\n", "3 of 3 cells for exit can't be read, the first in line 2: 'Hof' (3 times): write days"),
             (good + "b,F,2001-01-01,,,2000-01-01\n", "line 3: b: exit on 2000-01-01 is refused: the day is before its birth, or before its owner got it (refusal 14)"),
         ]
         for text, told in sheets:
@@ -54,6 +54,7 @@ class MistakeChecks(Checks):
             (["mating", "--dam", "a"], "the book has no male"),
             (["mating", "--dam", "a", "a", "--all"], "not both"),
             (["certificate", "DE", "01", "2345"], "unrecognized arguments: 01 2345: put an id or a name with blanks between quotation marks"),
+            (["list", "--language", "de"], "there is no option --language here: `society --help` shows"),
             (["list", "--out", "book"], "'book' is a folder: name a file"),
             (["inverse", "--matrix-market", "."], "'.' is a folder: name a file"),
             (["pedigree", "a", "--generations", "11"], "'11' isn't 1 to 10"),
