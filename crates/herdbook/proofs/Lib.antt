@@ -1,3 +1,4 @@
+mod ClerksFacts
 mod CommandFacts
 mod DealFacts
 mod ProgramFacts

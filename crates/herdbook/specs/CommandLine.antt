@@ -1,8 +1,9 @@
 -- The command line, as far as `clap` reads words by it.
 use Rattle.std.specs.Prelude.{◌≡◌, ℕ, true, false, [], ◌∷◌, codes, Some, pos}
 use Rattle.clap.specs.Lexer.{usize_max}
-use Rattle.clap.specs.Words.{App, Rule, Text, app_of, new_app, new_rule, with_rule, with_subcommand}
+use Rattle.clap.specs.Words.{App, Rule, Text, app_of, new_app, new_rule, rule_of, with_rule, with_subcommand}
 use Rattle.clap.specs.declared.builder.action.ArgAction.TheVariants.{Append}
+use Rattle.clap.specs.declared.builder.arg.Arg.{Arg}
 use Rattle.clap.specs.declared.builder.command.Command.{Command}
 use Rattle.clap.specs.declared.builder.command.Command.TheViews.{out-Command}
 use Rattle.clap.specs.declared.builder.value_parser.ValueParser.TheVariants.{Signed}
@@ -14,6 +15,11 @@ use Rattle.herdbook.specs.declared.program.TheConstants.{LIMITS}
 pub record IsCommandOf (app : App) (command : Command) : Type 0 where
   pub line : app_of command ≡ app
   pub globals : (out-Command command).has_globals ≡ false
+
+-- an argument that is read by this rule, and isn't global
+pub record IsArgumentOf (rule : Rule) (argument : Arg) : Type 0 where
+  pub rule_is : rule_of argument ≡ rule
+  pub local : argument.global ≡ false
 
 -- an option of a number from `least` to `most`, which is `default` where it isn't given
 abbrev pub number_option : Text → ℕ → ℕ → Text → Rule
@@ -30,13 +36,13 @@ workers_rule = number_option (codes "workers") 1 MOST_WORKERS (codes "1")
 abbrev pub block_rule : Rule
 block_rule = number_option (codes "block") 1 LIMITS.animals (codes "256")
 
-abbrev pub inbreeding_line : App
+unfoldable pub inbreeding_line : App
 inbreeding_line = with_rule (with_rule (new_app (codes "inbreeding")) workers_rule) block_rule
 
 abbrev pub number_rule : Rule
 number_rule = record (new_rule (codes "NUMBER")) { required = true }
 
-abbrev pub certificate_line : App
+unfoldable pub certificate_line : App
 certificate_line = with_rule (new_app (codes "certificate")) number_rule
 
 abbrev pub dam_rule : Rule
@@ -53,7 +59,7 @@ sires_rule = record (new_rule (codes "SIRE")) {
   required = true;
 }
 
-abbrev pub mating_line : App
+unfoldable pub mating_line : App
 mating_line = with_rule (with_rule (new_app (codes "mating")) dam_rule) sires_rule
 
 abbrev pub desks_rule : Rule
@@ -62,7 +68,13 @@ desks_rule = number_option (codes "desks") 1 MOST_DESKS (codes "2")
 abbrev pub base_rule : Rule
 base_rule = number_option (codes "base") 0 LIMITS.steps (codes "0")
 
-abbrev pub clerks_line : App
+abbrev pub file_line : App
+file_line = new_app (codes "file")
+
+abbrev pub inverse_line : App
+inverse_line = new_app (codes "inverse")
+
+unfoldable pub clerks_line : App
 clerks_line = with_rule (with_rule (new_app (codes "clerks")) desks_rule) base_rule
 
 -- the program, which has a version, and of whose subcommands one must be named
@@ -74,10 +86,12 @@ program = record (new_app (codes "herdbook")) {
   };
 }
 
-abbrev pub runs_line : App
-runs_line =
-    with_subcommand (with_subcommand (with_subcommand (with_subcommand (with_subcommand program
-    (new_app (codes "file")).top) inbreeding_line.top) certificate_line.top) mating_line.top) (new_app (codes "inverse")).top
+-- a line with a subcommand more
+abbrev pub line_with : App → App → App
+line_with line part = with_subcommand line part.top
 
-abbrev pub command_line : App
-command_line = with_subcommand runs_line clerks_line.top
+unfoldable pub runs_line : App
+runs_line = line_with (line_with (line_with (line_with (line_with program file_line) inbreeding_line) certificate_line) mating_line) inverse_line
+
+unfoldable pub command_line : App
+command_line = line_with runs_line clerks_line

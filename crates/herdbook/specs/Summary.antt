@@ -1,11 +1,15 @@
 -- What clerks have done, and how it is told.
-use Rattle.std.specs.Prelude.{◌≡◌, ℕ, List, [], ◌∷◌, ◌++◌, codes, decimal, drop, length, map, sum_by, slice_get, take, Some}
+use Rattle.std.specs.Prelude.{◌≡◌, ℕ, List, [], ◌∷◌, ◌++◌, codes, decimal, drop, length, map, sum_by, slice_get, take, Option, Some}
 use Rattle.std.specs.List.{range_with_len}
 use Rattle.herd_register.specs.Run.{IsLegal, commands_of, run_book}
+use Rattle.herd_register.specs.Register.{Register, register_book}
 use Rattle.herd_register.specs.declared.command.Command.{Command}
 use Rattle.herd_register.specs.declared.limits.Limits.{Limits}
 use Rattle.herd_register.specs.declared.step.Step.{Step}
 use Rattle.herd_office.specs.Histories.{of_desk}
+use Rattle.herd_report.specs.writing.Output.{AppendsFront}
+use Rattle.herd_report.specs.declared.writing.report_fault.ReportFault.{ReportFault}
+use Rattle.herd_report.specs.declared.writing.report_fault.ReportFault.TheVariants.{Memory, Write}
 use Rattle.herdbook.specs.Deal.{commands_at, dealt}
 use Rattle.herdbook.specs.declared.summary.DeskCount.{DeskCount}
 use Rattle.herdbook.specs.declared.summary.Summary.{Summary}
@@ -25,6 +29,18 @@ summary_text summary =
     desk_lines summary.desks.items
     ++ codes "steps " ++ decimal summary.steps ++ codes "\nanimals " ++ decimal summary.animals
     ++ codes "\nseen " ++ decimal summary.seen ++ codes "\n"
+
+-- how the writing of a summary's text may end early: where memory is refused, nothing is written
+abbrev pub EndsTelling : Option (List ℕ) → Option (List ℕ) → List ℕ → ReportFault → Type 0
+EndsTelling old new text Memory = new ≡ old
+EndsTelling old new text Write = AppendsFront old new text
+
+-- a summary has these counts of desks, and the steps and animals of a register, whose steps were all seen
+pub record CountsOf (register : Register) (desks : List DeskCount) (summary : Summary) : Type 0 where
+  pub desks_are : summary.desks.items ≡ desks
+  pub steps_are : summary.steps ≡ length register.journal
+  pub animals_are : summary.animals ≡ length (register_book register)
+  pub all_seen : summary.seen ≡ summary.steps
 
 -- a summary of the closed office of so many desks for these commands, of which so many first ones fell to desk 1: a
 -- legal journal is as long as they are, and each desk's steps in it are of the commands that fell to it, in their

@@ -1,10 +1,10 @@
 //! The words of the command line.
 
 ghost use Rattle.std.specs.Prelude.{◌≡◌, [], IfErr, IfOk, codes, false, map, string_bytes};
-ghost use Rattle.clap.specs.Words.{app_of, fault_of, found_of, new_app, one_of, rows_of, rule_of, subcommand_of, subcommand_rows_of};
+ghost use Rattle.clap.specs.Words.{App, Rule, app_of, fault_of, found_of, new_app, one_of, rows_of, subcommand_of, subcommand_rows_of, with_rule};
 ghost use Rattle.herd_animal.specs.AnimalNumber.{IsAnimalNumber};
 ghost use Rattle.herd_animal.specs.NumberFault.{IsNumberFault};
-ghost use Rattle.herdbook.specs.CommandLine.{IsCommandOf, certificate_line, clerks_line, command_line, inbreeding_line, mating_line, number_option, runs_line};
+ghost use Rattle.herdbook.specs.CommandLine.{IsArgumentOf, IsCommandOf, certificate_line, clerks_line, command_line, dam_rule, file_line, inbreeding_line, inverse_line, line_with, mating_line, number_option, program, runs_line, sires_rule};
 ghost use Rattle.herdbook.specs.Request.{IsTask, IsTaskFor};
 ghost use Rattle.herdbook.specs.Words.{IsAsked, IsAskedOfClerks, IsAskedOfInbreeding, IsFirstFault, IsNumberOr, IsRefused, IsUnread, IsWrongNumber, text_of, texts_of};
 
@@ -201,25 +201,46 @@ fn number_argument(given: &ArgMatches<'_>, id: &str) -> Result<AnimalNumber, Num
 fn command<'a>(alloc: Global) -> Result<Command<'a>, AllocError>
     ensures { IfOk result (λ command. app_of command ≡ command_line) }
 {
-    runs(alloc)?.subcommand(clerks(alloc)?)
+    with_subcommand(runs(alloc), clerks(alloc))
 }
 
 // The program with the subcommands of one thread that files.
 fn runs<'a>(alloc: Global) -> Result<Command<'a>, AllocError>
-    ensures { IfOk result (λ command. app_of command ≡ runs_line) }
+    ensures { IfOk result (IsCommandOf runs_line) }
 {
-    let file = named(
-        alloc,
-        "file",
-        "Files the commands and writes one reply for each",
-        help::FILE,
-    );
-    let inverse = named(
-        alloc,
-        "inverse",
-        "Writes what each animal adds to the inverse relationship matrix",
-        help::INVERSE,
-    );
+    let replies = with_subcommand(Ok(bare_program(alloc)), Ok(file(alloc)));
+    let lists = with_subcommand(replies, inbreeding(alloc));
+    let certificates = with_subcommand(lists, certificate(alloc));
+    let advice = with_subcommand(certificates, mating(alloc));
+    with_subcommand(advice, Ok(inverse(alloc)))
+}
+
+// A command with one subcommand more. Memory that was refused for either is refused.
+fn with_subcommand<'a>(
+    command: Result<Command<'a>, AllocError>,
+    subcommand: Result<Command<'a>, AllocError>,
+) -> Result<Command<'a>, AllocError>
+    ensures { (line part : App) → IfOk command.entry (IsCommandOf line) → IfOk subcommand.entry (IsCommandOf part)
+        → IfOk result (IsCommandOf (line_with line part)) }
+{
+    command?.subcommand(subcommand?)
+}
+
+// A command with one argument more. Memory that was refused for the command is refused.
+fn with_argument<'a>(
+    command: Result<Command<'a>, AllocError>,
+    argument: Arg<'a>,
+) -> Result<Command<'a>, AllocError>
+    ensures { (line : App) (rule : Rule) → IfOk command.entry (IsCommandOf line) → IsArgumentOf rule argument.entry
+        → IfOk result (IsCommandOf (with_rule line rule)) }
+{
+    command?.arg(argument)
+}
+
+// The program with no subcommand yet.
+fn bare_program<'a>(alloc: Global) -> Command<'a>
+    ensures { IsCommandOf program result }
+{
     named(
         alloc,
         "herdbook",
@@ -228,11 +249,28 @@ fn runs<'a>(alloc: Global) -> Result<Command<'a>, AllocError>
     )
     .version(help::VERSION)
     .subcommand_required(true)
-    .subcommand(file)?
-    .subcommand(inbreeding(alloc)?)?
-    .subcommand(certificate(alloc)?)?
-    .subcommand(mating(alloc)?)?
-    .subcommand(inverse)
+}
+
+fn file<'a>(alloc: Global) -> Command<'a>
+    ensures { IsCommandOf file_line result }
+{
+    named(
+        alloc,
+        "file",
+        "Files the commands and writes one reply for each",
+        help::FILE,
+    )
+}
+
+fn inverse<'a>(alloc: Global) -> Command<'a>
+    ensures { IsCommandOf inverse_line result }
+{
+    named(
+        alloc,
+        "inverse",
+        "Writes what each animal adds to the inverse relationship matrix",
+        help::INVERSE,
+    )
 }
 
 // A command with no arguments yet: its name, what it does in a line, and the end of its help.
@@ -252,8 +290,7 @@ fn number_option<'a>(
     most: u32,
     default: &'a str,
 ) -> Arg<'a>
-    ensures rule { rule_of result ≡ number_option name.entry.now least most default.entry.now }
-    ensures global { result.global ≡ false }
+    ensures { IsArgumentOf (number_option name.entry.now least most default.entry.now) result }
 {
     Arg::new(alloc, name)
         .long(name)
@@ -271,14 +308,13 @@ fn inbreeding<'a>(alloc: Global) -> Result<Command<'a>, AllocError>
     let block = number_option(alloc, "block", "N", 1, LIMITS.animals, "256").help(
         "Animals in a thread's block, 1 to 60,000",
     );
-    named(
+    let bare = named(
         alloc,
         "inbreeding",
         "Writes the inbreeding coefficient of each animal, in age order",
         help::INBREEDING,
-    )
-    .arg(workers)?
-    .arg(block)
+    );
+    with_argument(with_argument(Ok(bare), workers), block)
 }
 
 fn certificate<'a>(alloc: Global) -> Result<Command<'a>, AllocError>
@@ -287,36 +323,48 @@ fn certificate<'a>(alloc: Global) -> Result<Command<'a>, AllocError>
     let number = Arg::new(alloc, "NUMBER")
         .required(true)
         .help("The animal's number");
-    named(
+    let bare = named(
         alloc,
         "certificate",
         "Writes an animal's certificate with its ancestors",
         help::CERTIFICATE,
-    )
-    .arg(number)
+    );
+    with_argument(Ok(bare), number)
 }
 
 fn mating<'a>(alloc: Global) -> Result<Command<'a>, AllocError>
     ensures { IfOk result (IsCommandOf mating_line) }
 {
-    let dam = Arg::new(alloc, "dam")
-        .long("dam")
-        .value_name("NUMBER")
-        .required(true)
-        .help("The dam's number");
-    let sires = Arg::new(alloc, "SIRE")
-        .required(true)
-        .action(ArgAction::Append)
-        .num_args(1..)
-        .help("The numbers of the sires");
-    named(
+    let bare = named(
         alloc,
         "mating",
         "Writes the coefficient that a calf would have by each sire",
         help::MATING,
+    );
+    with_argument(
+        with_argument(Ok(bare), dam_option(alloc)),
+        sires_argument(alloc),
     )
-    .arg(dam)?
-    .arg(sires)
+}
+
+fn dam_option<'a>(alloc: Global) -> Arg<'a>
+    ensures { IsArgumentOf dam_rule result }
+{
+    Arg::new(alloc, "dam")
+        .long("dam")
+        .value_name("NUMBER")
+        .required(true)
+        .help("The dam's number")
+}
+
+fn sires_argument<'a>(alloc: Global) -> Arg<'a>
+    ensures { IsArgumentOf sires_rule result }
+{
+    Arg::new(alloc, "SIRE")
+        .required(true)
+        .action(ArgAction::Append)
+        .num_args(1..)
+        .help("The numbers of the sires")
 }
 
 fn clerks<'a>(alloc: Global) -> Result<Command<'a>, AllocError>
@@ -328,12 +376,11 @@ fn clerks<'a>(alloc: Global) -> Result<Command<'a>, AllocError>
     let base = number_option(alloc, "base", "M", 0, LIMITS.steps, "0").help(
         "Commands that desk 1 files first, to 1,000,000",
     );
-    named(
+    let bare = named(
         alloc,
         "clerks",
         "Files the commands at several desks, each on a thread",
         help::CLERKS,
-    )
-    .arg(desks)?
-    .arg(base)
+    );
+    with_argument(with_argument(Ok(bare), desks), base)
 }

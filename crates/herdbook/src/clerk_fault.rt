@@ -21,12 +21,11 @@ pub enum ClerkFault {
     NoPlace,
 }
 
-impl ClerkFault {
-    /// As the fault of a task.
-    pub fn told(self) -> TaskFault
-        ensures { result ≡ told_of self }
-    {
-        match self {
+impl From<ClerkFault> for TaskFault {
+    ghost from_gives = { λ fault told. told ≡ told_of fault };
+
+    fn from(fault: ClerkFault) -> TaskFault {
+        match fault {
             ClerkFault::NoThread => TaskFault::Run(RunFault::NoThread),
             ClerkFault::Memory => TaskFault::Run(RunFault::Memory),
             ClerkFault::NoPlace => TaskFault::NoPlace,

@@ -13,7 +13,7 @@
 //! | how it ends, and what is told on standard error | `Ending`, `FaultText` | `ending`, `task_fault`, `fault_text` | |
 //! | clerks, their threads, one's turn | `Clerks`, `Deal` | `desks`, `crew`, `clerk` | `DealFacts`, `SummaryFacts` |
 //! | the desk of each command | `Deal` | `deal` | `DealFacts` |
-//! | how clerks end early | `Clerks` | `clerk_fault` | |
+//! | how clerks end early | `Clerks` | `clerk_fault` | `ClerksFacts` |
 //! | what each desk answered, as text | `Summary` | `summary` | `SummaryFacts` |
 #![tactic(auto)]
 

@@ -2,7 +2,7 @@
 ghost use Rattle.std.specs.Prelude.{◌≡◌};
 ghost use Rattle.herdbook.specs.declared.task_fault.TaskFault.TheVariants.{Run};
 
-use herd_report::RunFault;
+use herd_report::{ReportFault, RunFault};
 
 /// Why a task ended early.
 #[derive(Clone, Copy, Debug, PartialEq, Eq, Drop)]
@@ -19,5 +19,15 @@ impl From<RunFault> for TaskFault {
 
     fn from(fault: RunFault) -> TaskFault {
         TaskFault::Run(fault)
+    }
+}
+
+impl From<ReportFault> for TaskFault {
+    ghost use Rattle.herd_report.specs.RunFault.{run_fault_of};
+
+    ghost from_gives = { λ fault told. told ≡ Run (run_fault_of fault) };
+
+    fn from(fault: ReportFault) -> TaskFault {
+        TaskFault::Run(RunFault::from(fault))
     }
 }

@@ -1,12 +1,14 @@
 -- Each argument is added with its rule.
-use Rattle.std.proofs.Common.{rules, codes}
-use Rattle.std.proofs.lemmas.Result.{IfOk-weaker}
+use Rattle.std.proofs.Common.{codes}
 use Rattle.clap.specs.Words.{new_app, with_rule}
-use Rattle.herdbook.specs.CommandLine.{desks_rule, base_rule}
-use Rattle.herdbook.proofs.CommandFacts.{with_arg}
+use Rattle.herdbook.specs.CommandLine.{base_rule, clerks_line, desks_rule}
+use Rattle.herdbook.proofs.CommandFacts.{helped}
 use Rattle.herdbook.proofs.arguments.clerks.Goals as goal
 
 pub returns : goal.returns
+unfolding clerks_line
 returns c =
-    let first = with_arg _ _ _ (new_app (codes "clerks")) desks_rule c.named.ensures (search rules) (search rules) c.in_ok-arg.ensures in
-    IfOk-weaker c.arg-2.result _ _ (λ command added. with_arg _ _ _ (with_rule (new_app (codes "clerks")) desks_rule) base_rule first (search rules) (search rules) added) c.arg-2.ensures
+    let bare = new_app (codes "clerks") in
+    let desks = helped _ c.help-desks.result desks_rule _ c.number_option.ensures c.help-desks.ensures in
+    let base = helped _ c.help-base.result base_rule _ c.number_option-2.ensures c.help-base.ensures in
+    c.with_argument-2.ensures (with_rule bare desks_rule) base_rule (c.with_argument.ensures bare desks_rule c.named-bare.ensures desks) base

@@ -1,12 +1,14 @@
 -- Each argument is added with its rule.
-use Rattle.std.proofs.Common.{rules, codes}
-use Rattle.std.proofs.lemmas.Result.{IfOk-weaker}
+use Rattle.std.proofs.Common.{codes}
 use Rattle.clap.specs.Words.{new_app, with_rule}
-use Rattle.herdbook.specs.CommandLine.{workers_rule, block_rule}
-use Rattle.herdbook.proofs.CommandFacts.{with_arg}
+use Rattle.herdbook.specs.CommandLine.{block_rule, inbreeding_line, workers_rule}
+use Rattle.herdbook.proofs.CommandFacts.{helped}
 use Rattle.herdbook.proofs.arguments.inbreeding.Goals as goal
 
 pub returns : goal.returns
+unfolding inbreeding_line
 returns c =
-    let first = with_arg _ _ _ (new_app (codes "inbreeding")) workers_rule c.named.ensures (search rules) (search rules) c.in_ok-arg.ensures in
-    IfOk-weaker c.arg-2.result _ _ (λ command added. with_arg _ _ _ (with_rule (new_app (codes "inbreeding")) workers_rule) block_rule first (search rules) (search rules) added) c.arg-2.ensures
+    let bare = new_app (codes "inbreeding") in
+    let workers = helped _ c.help-workers.result workers_rule _ c.number_option.ensures c.help-workers.ensures in
+    let block = helped _ c.help-block.result block_rule _ c.number_option-2.ensures c.help-block.ensures in
+    c.with_argument-2.ensures (with_rule bare workers_rule) block_rule (c.with_argument.ensures bare workers_rule c.named-bare.ensures workers) block

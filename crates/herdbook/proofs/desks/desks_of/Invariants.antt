@@ -2,7 +2,7 @@
 use Rattle.std.proofs.Common.{◌≡◌, ◌++◌, map}
 use Rattle.std.specs.Vec.Iter.{into_iter_items}
 use Rattle.herdbook.specs.Summary.{count_of}
-use Rattle.herdbook.proofs.desks.handed_in.Given as goal
+use Rattle.herdbook.proofs.desks.desks_of.Given as goal
 
 abbrev pub invariant-loop-clerk : goal.invariant-loop-clerk
 invariant-loop-clerk g l = record {

@@ -1,0 +1,59 @@
+-- How clerks end early, and that the text that they write tells of a file's commands.
+use Rattle.std.proofs.Common.{◌≡◌, ℕ, List, Option, None, Result, Ok, Err, length, refl, subst, sym}
+use Rattle.std.specs.Prelude.{IfErr, OnErr}
+use Rattle.herd_register.specs.declared.command.Command.{Command}
+use Rattle.herd_register.specs.declared.limits.Limits.{Limits}
+use Rattle.herd_report.specs.RunFault.{run_fault_of}
+use Rattle.herd_report.specs.reading.CommandFile.{CommandFile, IsRead}
+use Rattle.herd_report.specs.writing.Output.{AppendsFront}
+use Rattle.herd_report.specs.declared.writing.report_fault.ReportFault.{ReportFault}
+use Rattle.herd_report.specs.declared.writing.report_fault.ReportFault.TheVariants as report
+use Rattle.herdbook.specs.Clerks.{CanEndClerks, EndsClerks, IsTold, office_limits, told_of}
+use Rattle.herdbook.specs.Summary.{EndsTelling, IsSummaryOf, TellsOf, summary_text}
+use Rattle.herdbook.specs.declared.clerk_fault.ClerkFault.{ClerkFault}
+use Rattle.herdbook.specs.declared.clerk_fault.ClerkFault.TheVariants as clerk
+use Rattle.herdbook.specs.declared.summary.Summary.{Summary}
+use Rattle.herdbook.specs.declared.task_fault.TaskFault.TheVariants.{Run}
+
+-- before the summary is there nothing is written
+pub ends-unwritten : (limits : Limits) (desks base : ℕ) (file : CommandFile) (old : Option (List ℕ)) (fault : ClerkFault)
+    → file.fault ≡ None → EndsClerks limits desks base file old old (told_of fault)
+ends-unwritten limits desks base file old clerk.NoThread faultless = (faultless, refl)
+ends-unwritten limits desks base file old clerk.Memory faultless = (faultless, refl)
+ends-unwritten limits desks base file old clerk.NoPlace faultless = (faultless, refl)
+
+pub can-end-unwritten : (fault : ClerkFault) → CanEndClerks (told_of fault)
+can-end-unwritten clerk.NoThread = tt
+can-end-unwritten clerk.Memory = tt
+can-end-unwritten clerk.NoPlace = tt
+
+-- the text of a summary of the file's commands passes a test
+pub told-text : (limits : Limits) (desks base : ℕ) (file : CommandFile) (commands : List Command) (summary : Summary) (Passes : List ℕ → Type 0)
+    → IsSummaryOf (office_limits limits.animals (length commands)) desks base commands summary → Passes (summary_text summary)
+    → IsRead limits.steps file commands None → IsTold limits desks base file Passes
+told-text limits desks base file commands summary Passes counts passes read = record {
+  text = summary_text summary;
+  faultless = read.1;
+  tells =
+      subst (λ (l : List Command). TellsOf (office_limits limits.animals (length l)) desks base l (summary_text summary)) read.0
+      (record { summary = summary; counts = counts; text_is = refl });
+  passes = passes;
+}
+
+-- the writing of that text ends early
+pub ends-telling : (limits : Limits) (desks base : ℕ) (file : CommandFile) (commands : List Command) (summary : Summary) (old new : Option (List ℕ)) (fault : ReportFault)
+    → IsSummaryOf (office_limits limits.animals (length commands)) desks base commands summary → EndsTelling old new (summary_text summary) fault
+    → IsRead limits.steps file commands None → EndsClerks limits desks base file old new (Run (run_fault_of fault))
+ends-telling limits desks base file commands summary old new report.Memory counts ends read = (read.1, ends)
+ends-telling limits desks base file commands summary old new report.Write counts ends read =
+    told-text limits desks base file commands summary (AppendsFront old new) counts ends read
+
+pub can-end-telling : (fault : ReportFault) → CanEndClerks (Run (run_fault_of fault))
+can-end-telling report.Memory = tt
+can-end-telling report.Write = tt
+
+-- `write_all` ends early by a failed write alone
+pub ends-write_all : {T : Type 0} (result : Result T ReportFault) (old new : Option (List ℕ)) (text : List ℕ)
+    → OnErr result (AppendsFront old new text) → IfErr result (λ fault. fault ≡ report.Write) → IfErr result (EndsTelling old new text)
+ends-write_all (Ok done) old new text front write = tt
+ends-write_all (Err fault) old new text front write = subst (EndsTelling old new text) (sym write) front
