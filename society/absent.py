@@ -56,6 +56,9 @@ def ancestors(animals: dict[str, Animal], gone: dict[str, Animal]) -> set[str]:
                 new.append(gone[parent])
     return found
 
+# ids with less letters and digits are often alike
+SHORT = 5
+
 
 class Names:
     """Finds parents by their names, and tells which animals may be meant by a text that is no id."""
@@ -107,7 +110,9 @@ class Names:
                     more = f" and of {calves[parent] - 1} more" if calves[parent] > 1 else ""
                     why = f"the {role} of {animal.id}{more} has no row: added without parents{self.hint(animal, parent)}"
                     self.report.tell(ADDED, animal.line, parent, why)
-                    self.animals[parent] = Animal(parent, named_in=animal.line)
+                    self.animals[parent] = Animal(parent)
+                one = self.animals[parent]
+                one.named_in = one.named_in or (0 if one.line else animal.line)
 
     def advise_unknown(self) -> None:
         """A parent without a row that is a sire and a dam of many may be a word for an unknown one."""
@@ -128,7 +133,9 @@ class Names:
         return f" (is {alike} meant?)" if alike != calf.id else ""
 
     def swapped(self, text: str) -> str:
-        """The animal that is meant where two letters or digits beside each other are swapped."""
+        """The animal that is meant where two letters or digits beside each other are swapped, but in short ids."""
+        if len(text) < SHORT:
+            return ""
         turned = (text[:at] + text[at + 1] + text[at] + text[at + 2 :] for at in range(len(text) - 1))
         return next((self.alike[one] for one in turned if one != text and one in self.alike), "")
 

@@ -7,21 +7,18 @@ import re
 from dataclasses import dataclass, field
 
 from society.book import NO_DAY
-from society.columns import KNOWN_EXITS, KNOWN_NO, KNOWN_SEXES, KNOWN_STAYS, KNOWN_YES, plain, sex_word
+from society.columns import KNOWN_NO, KNOWN_SEXES, KNOWN_STAYS, KNOWN_YES, plain, sex_word
 from society.dates import ANY_DAY, MonthFirst, Span, Unreadable, is_span, read_span, span_within
 from society.report import CELL, INFERRED, ROW, Mistake, Report
 from society.sheet import Sheet, squeezed
+from society.unread import Unread
 
 ROLES = {"sire": "M", "dam": "F"}
 # how a spreadsheet shows a long number that it has cut
 CUT = re.compile(r"\d[.,]?\d*E\+\d+", re.IGNORECASE)
-# what to do where most cells of a column can't be read
-ADVICE = {
-    "sex": "write M or F, or say which sex each word is, as --sexes {word}=m or {word}=f",
-    "birth": "write days as 2001-03-01 or 01.03.2001, or 03.2001 or 2001 alone; or name another column, as --columns birth=TITLE",
-    "exit": "write days as 2001-03-01 or 01.03.2001; or name another column, as --columns exit=TITLE, or none, as --columns exit=",
-    "embryo": "write 1 or nothing; or name another column, as --columns embryo=TITLE, or none, as --columns embryo=",
-}
+
+# what is told of an exit without a day
+GONE = "counts as gone, on a day that isn't known"
 
 
 @dataclass(slots=True)
@@ -82,9 +79,7 @@ class Rows:
         self.sexes = KNOWN_SEXES | sexes
         self.given_sexes = sexes
         self.short = self.short_words()
-        # the texts that can't be read, with the line of each, and how many cells have a text
-        self.unread: collections.defaultdict[str, list[tuple[str, int]]] = collections.defaultdict(list)
-        self.read: collections.Counter[str] = collections.Counter()
+        self.unread = Unread()
 
     def animals(self) -> dict[str, Animal]:
         """The animals by id, in the order of the rows."""
@@ -106,7 +101,7 @@ class Rows:
                 found[id], first[id] = self.animal(line, id, cells), cells
                 continue
             self.report.leave_out(ROW, line, id, "the row", why)
-        self.mostly_unread()
+        self.unread.refuse_most()
         return found
 
     def cell(self, cells: list[str], field: str) -> str:
@@ -151,14 +146,14 @@ class Rows:
 
     def leave_out(self, animal: Animal, field: str, text: str, what: str, why: str) -> None:
         animal.unread.append(field)
-        self.unread[field].append((text, animal.line))
+        self.unread.cells[field].append((text, animal.line))
         self.report.leave_out(CELL, animal.line, animal.id, what, why)
 
     def sex(self, animal: Animal, text: str) -> str:
         word = sex_word(text)
         if text.casefold() in self.unknown and word not in self.given_sexes:
             return ""
-        self.read["sex"] += 1
+        self.unread.read["sex"] += 1
         sex, longer = self.sexes.get(word, ""), self.short.get(word, [])
         if not sex and len({sex for _, sex in longer}) == 1:
             whole, sex = longer[0]
@@ -175,6 +170,10 @@ class Rows:
         if text.casefold() in KNOWN_NO or plain(text) in KNOWN_STAYS:
             return
         left = self.span(animal, "exit", text)
+        if left and not is_span(text) and left.last < animal.birth.first:
+            # a number within a text that can't be its day
+            self.leave_out(animal, "exit", text, "its exit", f"'{text}' {GONE}, since its day would be before the birth")
+            left = None
         if left:
             animal.left = left.last
             animal.left_inferred = "" if left.is_day else left.words()
@@ -190,7 +189,7 @@ class Rows:
     def span(self, animal: Animal, field: str, text: str) -> Span | None:
         if text.casefold() in self.unknown:
             return None
-        self.read[field] += 1
+        self.unread.read[field] += 1
         name = {"birth": "birth day", "exit": "exit"}[field]
         try:
             within = span_within(text) if field == "exit" and not is_span(text) else None
@@ -201,36 +200,12 @@ class Rows:
                 "write all days as 2001-03-01 or 01.03.2001"
             ) from None
         except Unreadable as why:
-            gone = ": it counts as gone, on a day that isn't known" if field == "exit" else ""
+            gone = f": it {GONE}" if field == "exit" else ""
             self.leave_out(animal, field, text, f"its {name}", f"{why}{gone}")
             return None
 
     def is_embryo(self, animal: Animal, text: str) -> bool:
-        self.read["embryo"] += bool(text)
+        self.unread.read["embryo"] += bool(text)
         if text and text.casefold() not in KNOWN_YES | KNOWN_NO | self.unknown:
             self.leave_out(animal, "embryo", text, "its cell for a stored embryo", f"'{text}' isn't known: write 1 or nothing")
         return text.casefold() in KNOWN_YES
-
-    def summaries(self) -> list[str]:
-        """For each column the texts that can't be read, and how many there are."""
-        return [self.summary(field, cells) for field, cells in self.unread.items()]
-
-    def summary(self, field: str, cells: list[tuple[str, int]]) -> str:
-        counts = collections.Counter(text for text, _ in cells).most_common()
-        shown = ", ".join(f"'{text}' ({count} times)" if count > 1 else f"'{text}'" for text, count in counts[:9])
-        more = f" and {len(counts) - 9} more" if len(counts) > 9 else ""
-        what = f"{len(cells)} of {self.read[field]} cells for {field} can't be read, the first in line {cells[0][1]}"
-        return f"{what}: {shown}{more}: {ADVICE[field].format(word=counts[0][0])}"
-
-    def mostly_unread(self) -> None:
-        """A column more than half of whose cells can't be read is a mistake: hardly anything of it would be taken."""
-        for field, cells in self.unread.items():
-            # words such as `sold` say something, though no day
-            cells = [(text, line) for text, line in cells if field != "exit" or not says_exit(text)]
-            if len(cells) > max(2, self.read[field] // 2):
-                raise Mistake(self.summary(field, cells))
-
-
-def says_exit(text: str) -> bool:
-    """Has it a word by which animals leave?"""
-    return any(plain(word) in KNOWN_EXITS for word in text.split())

@@ -3,7 +3,8 @@ from __future__ import annotations
 
 import pathlib
 
-from society.book import Book, write_all
+from society.book import Book
+from society.files import write_all
 from society.program import Herdbook
 
 # Elements are summed up as whole numbers of this unit, so that rounding comes last.

@@ -24,6 +24,14 @@ The status is 0 where it is done, and 1 after a mistake; nothing is written then
 
 
 class Parser(argparse.ArgumentParser):
+    def read(self, words: list[str]) -> argparse.Namespace:
+        """The options of a word; what it doesn't know is told with its own help."""
+        asked, unknown = self.parse_known_args(words)
+        if unknown:
+            self.prog = f"{self.prog} {asked.word}"
+            self.error(f"unrecognized arguments: {' '.join(unknown)}")
+        return asked
+
     def error(self, message: str) -> NoReturn:
         told, hint = message, ""
         words = message.removeprefix("unrecognized arguments: ").split()

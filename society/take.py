@@ -59,7 +59,7 @@ def take_sheet(path: pathlib.Path, wishes: Wishes) -> None:
         f"{path}: {len(sheet.rows)} rows below the titles in line {sheet.line}, {sheet.how}",
         f"columns: {', '.join(used)}" + (f"; not read: {', '.join(unread)}" if unread else ""),
         *again(words, wishes, book),
-        *rows.summaries(),
+        *rows.unread.summaries(),
     ]
     finish(taking, program, wishes, about, 0)
 

@@ -4,8 +4,9 @@ from __future__ import annotations
 import argparse
 import sys
 
-from society.book import Book, open_book, write_file
+from society.book import Book, open_book
 from society.certificate import certificate_page
+from society.files import write_file
 from society.languages import Language
 from society.listing import advise, coefficients, list_all, list_text
 from society.matrix import write_inverse
@@ -118,7 +119,7 @@ def main(words: list[str]) -> int:
     for stream in sys.stdout, sys.stderr:
         stream.reconfigure(encoding="utf-8", errors="backslashreplace")
     try:
-        do(parser().parse_args(joined(words)))
+        do(parser().read(joined(words)))
         sys.stdout.flush()
         return 0
     except Mistake as mistake:

@@ -48,6 +48,10 @@ class GoatChecks(Checks):
         passed = "society: males without a row in the sheet: 1 (CH 120.1150.8) aren't listed: name one, if it lives\n"
         self.count(done.err == "society: males that left: 2 aren't listed: --left lists them too\n" + passed, f"{done}")
         self.count(len(desk.listed("mating", "--dam", "Clara", "CH 120.1150.8")) == 1, "an added sire may be named")
+        before = desk.commands()
+        again = desk.take(GOATS)
+        self.told(again, "CH 120.1150.8: inferred: birth day 2016-05-09, from its offspring (line 6 names it)")
+        self.count(desk.commands() == before and " 0 new, 0 changed" in again.last, f"{again}")
         self.certificates(desk)
         self.corrected(desk)
 
@@ -90,6 +94,28 @@ class GoatChecks(Checks):
         self.count([line.split(",")[0] for line in done.out.splitlines()] == ["id", "CH 120.1160.2"] and "3 (CH 120.1150.1, CH 120.1150.8, CH 120.1158.9)" in done.err, f"{done}")
         # the mark of a parent by name stays while the sheet says no other
         self.count("CH 120.1158.9 (inferred) Leo" in self.text(desk, "Mia"), "a mark stays")
+
+    def exits_in_words(self) -> None:
+        """What a cell says of an exit: a day within a text, a word alone, or that the animal lives."""
+        desk = Desk(self, "exits in words")
+        cells = [
+            ("geschlachtet 12.11.2022", "2022-11-12"), ("12.11.2022 (verkauft)", "2022-11-12"), ("died 2021-02-03.", "2021-02-03"), ("sold 2020", "2020-12-31"),
+            ("verk. 11.2021 an Meier", "2021-11-30"), ("vendu le 03/04/2021", "2021-04-03"), ("verkauft 31.02.2020", "2020-02-29"), ("2021-02-03 10:00", "2021-02-03"),
+            ("sold 3.4.2020, died 5.6.2021", "gone"), ("tot", "gone"), ("sold for 2020 EUR", "gone"), ("12.11.22", "gone"), ("about 1950", "gone"), ("ja", "gone"),
+            ("nein", ""), ("-", ""), ("im Bestand", ""), ("alive", ""), ("vivante", ""), ("", ""),
+        ]  # fmt: skip
+        done = desk.take("id;sex;born;sire;dam;exit\n" + "".join(f"a{at};M;2001-01-01;;;{cell}\n" for at, (cell, _) in enumerate(cells)))
+        left = {line.split(",")[1]: line.split(",")[2] for line in desk.commands() if line.startswith("exit")}
+        unknown = {row["id"] for row in desk.table("book/ids.csv") if row["exit"].startswith("day unknown")}
+        for at, (cell, wanted) in enumerate(cells):
+            id = f"a{at}"
+            found = left.get(desk.numbers()[id], "gone" if id in unknown else "")
+            self.count(found == wanted, f"exit {cell!r}: {found!r}; wanted {wanted!r}")
+            self.count((f": {id}: " in done.out) == bool(wanted and cell[:4] != "2021"), f"exit {cell!r} is told: {done}")
+        # what a sheet without the column says changes nothing
+        before = desk.files()["book/ids.csv"]
+        desk.take("id;sex;born;sire;dam\n" + "".join(f"a{at};M;2001-01-01;;\n" for at in range(len(cells))))
+        self.count(desk.files()["book/ids.csv"] == before, "exits stay")
 
     def remembered(self) -> None:
         """Columns, words for sexes and words for unknown parents are those of the last time."""
