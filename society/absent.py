@@ -129,8 +129,8 @@ class Names:
         ids = [one.id for one in self.others(calf, text)]
         if len(ids) > 1:
             return f" ({len(ids)} animals have this name, {', '.join(ids[:5])}: write the id of the one that is meant)"
-        alike = ids[0] if ids else self.alike.get(folded(text.removesuffix(".0")) or text) or self.swapped(folded(text)) or calf.id
-        return f" (is {alike} meant?)" if alike != calf.id else ""
+        alike = ids[0] if ids else self.alike.get(folded(text.removesuffix(".0")) or text) or self.swapped(folded(text))
+        return f" (is {alike} meant?)" if alike and alike != calf.id else ""
 
     def swapped(self, text: str) -> str:
         """The animal that is meant where two letters or digits beside each other are swapped, but in short ids."""

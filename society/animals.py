@@ -11,7 +11,7 @@ from society.columns import KNOWN_NO, KNOWN_SEXES, KNOWN_STAYS, KNOWN_YES, plain
 from society.dates import ANY_DAY, MonthFirst, Span, Unreadable, is_span, read_span, span_within
 from society.report import CELL, INFERRED, ROW, Mistake, Report
 from society.sheet import Sheet, squeezed
-from society.unread import Unread
+from society.unread import Unread, says_exit
 
 ROLES = {"sire": "M", "dam": "F"}
 # how a spreadsheet shows a long number that it has cut
@@ -79,6 +79,8 @@ class Rows:
         self.sexes = KNOWN_SEXES | sexes
         self.given_sexes = sexes
         self.short = self.short_words()
+        # how often a short word is taken for a longer one of its column
+        self.abbreviated: collections.Counter[tuple[str, str]] = collections.Counter()
         self.unread = Unread()
 
     def animals(self) -> dict[str, Animal]:
@@ -144,6 +146,12 @@ class Rows:
                 found.setdefault(known[:length], []).append((word, sex))
         return found
 
+    def abbreviations(self) -> list[str]:
+        """Which words for sexes are taken for longer ones."""
+        counts = sorted(self.abbreviated.items())
+        taken = [f"'{text}'{f' ({count} times)' if count > 1 else ''} for '{whole}'" for (text, whole), count in counts]
+        return [f"words for sexes are taken for longer ones of the same column: {', '.join(taken)}"] if taken else []
+
     def leave_out(self, animal: Animal, field: str, text: str, what: str, why: str) -> None:
         animal.unread.append(field)
         self.unread.cells[field].append((text, animal.line))
@@ -157,9 +165,7 @@ class Rows:
         sex, longer = self.sexes.get(word, ""), self.short.get(word, [])
         if not sex and len({sex for _, sex in longer}) == 1:
             whole, sex = longer[0]
-            animal.sex_inferred = f"since '{text}' is taken for '{whole}', which stands in the column too"
-            name = {"M": "male", "F": "female"}[sex]
-            self.report.tell(INFERRED, animal.line, animal.id, f"sex {name}, {animal.sex_inferred}")
+            self.abbreviated[text, whole] += 1
         if not sex:
             why = f"'{text}' isn't known: write M or F, or name it as --sexes {text}=m or {text}=f"
             self.leave_out(animal, "sex", text, "its sex", why)
@@ -200,8 +206,8 @@ class Rows:
                 "write all days as 2001-03-01 or 01.03.2001"
             ) from None
         except Unreadable as why:
-            gone = f": it {GONE}" if field == "exit" else ""
-            self.leave_out(animal, field, text, f"its {name}", f"{why}{gone}")
+            told = f"'{text}' has no day" if field == "exit" and says_exit(text) else str(why)
+            self.leave_out(animal, field, text, f"its {name}", f"{told}: it {GONE}" if field == "exit" else told)
             return None
 
     def is_embryo(self, animal: Animal, text: str) -> bool:

@@ -45,11 +45,16 @@ SEXES = {
     "Sau, femelle, vache, génisse, brebis, antenaise, agnelle, agneau femelle, chèvre, chevrette, jument, pouliche, truie, féminin, fém",
 }
 # what cells for an exit say of animals that haven't left, and of those that have
-STAYS = "lebt, lebend, lebendig, vorhanden, im Bestand, Bestand, aktiv, alive, living, lives, active, present, in herd, vivant, vivante, en vie, " \
-    "actif, active, présent, présente"
-EXITS = "ja, yes, oui, x, verkauft, verk, Verkauf, geschlachtet, Schlachtung, geschl, gestorben, verstorben, verendet, tot, Tod, abgegangen, Abgang, " \
-    "ausgeschieden, exportiert, gekeult, euthanasiert, notgetötet, gerissen, weg, sold, sale, slaughtered, slaughter, dead, died, death, culled, exported, gone, " \
-    "left, lost, vendu, vendue, vente, abattu, abattue, abattage, mort, morte, décédé, décédée, réformé, réformée, réforme, sorti, sortie, exporté, exportée"
+STAYS = (
+    "lebt, lebend, lebendig, vorhanden, im Bestand, Bestand, aktiv, alive, living, lives, active, present, in herd, "
+    "vivant, vivante, en vie, actif, présent, présente"
+)
+EXITS = (
+    "ja, yes, oui, x, verkauft, verk, Verkauf, geschlachtet, Schlachtung, geschl, gestorben, verstorben, verendet, tot, "
+    "Tod, abgegangen, Abgang, ausgeschieden, exportiert, gekeult, euthanasiert, notgetötet, gerissen, weg, sold, sale, "
+    "slaughtered, slaughter, dead, died, death, culled, exported, gone, left, lost, vendu, vendue, vente, abattu, abattue, "
+    "abattage, mort, morte, décédé, décédée, réformé, réformée, réforme, sorti, sortie, exporté, exportée"
+)
 YES = "1, x, yes, y, true, et, embryo, ja, j, wahr, oui, o, vrai"
 NO = "0, -, no, n, false, nein, falsch, non, faux"
 

@@ -107,13 +107,17 @@ class Filing:
             ("sire", self.taking.id_of(record.sire), animal.sire),
             ("dam", self.taking.id_of(record.dam), animal.dam),
             ("owner", self.book.owner_of(record.herd), animal.owner),
-            ("exit", str(record.left or NO_DAY * known.left_unknown_day()), str(animal.left or animal.left_inferred[: len(NO_DAY)])),
+            ("exit", exit_words(record.left, known.exit), exit_words(animal.left, animal.left_inferred)),
             ("stored embryo", "yes" if record.embryo else "", "yes" if animal.embryo else ""),
         ]
         if known.birth == animal.birth_inferred == INVENTED:
             # invented days are invented anew each time
             del pairs[1]
         return [f"{what}: {after or 'none'}, before {before or 'none'}" for what, before, after in pairs if before != after]
+
+
+def exit_words(left: datetime.date | None, inferred: str) -> str:
+    return str(left) if left else NO_DAY if inferred.startswith(NO_DAY) else ""
 
 
 def is_corrected(animal: Animal, record: Record) -> bool:

@@ -52,7 +52,11 @@ TEXTS = {
         "Mittlerer Inzuchtkoeffizient nach Geburtsjahr",
         "Coefficient de consanguinité moyen par année de naissance",
     ),
-    "mean": ("mean coefficient, in percent (left)", "mittlerer Koeffizient, in Prozent (links)", "coefficient moyen, en pour cent (à gauche)"),
+    "mean": (
+        "mean coefficient, in percent (left)",
+        "mittlerer Koeffizient, in Prozent (links)",
+        "coefficient moyen, en pour cent (à gauche)",
+    ),
     "born there": ("animals born (right)", "geborene Tiere (rechts)", "animaux nés (à droite)"),
     "mean of": ("{} in the mean of {}", "{} im Mittel von {}", "{} en moyenne de {}"),
     "animals": ("{} animals", "{} Tiere", "{} animaux"),

@@ -1,6 +1,7 @@
 """The word `take`: from a sheet, or a geneticist's pedigree, to a book in its folder."""
 from __future__ import annotations
 
+import collections
 import datetime
 import pathlib
 from dataclasses import dataclass, field
@@ -59,6 +60,7 @@ def take_sheet(path: pathlib.Path, wishes: Wishes) -> None:
         f"{path}: {len(sheet.rows)} rows below the titles in line {sheet.line}, {sheet.how}",
         f"columns: {', '.join(used)}" + (f"; not read: {', '.join(unread)}" if unread else ""),
         *again(words, wishes, book),
+        *rows.abbreviations(),
         *rows.unread.summaries(),
     ]
     finish(taking, program, wishes, about, 0)
@@ -132,10 +134,17 @@ def finish(taking: Taking, program: Herdbook, wishes: Wishes, about: list[str], 
 
 
 def show(report: Report, path: pathlib.Path) -> None:
-    """The first entries of each kind, but for new animals, which are as the sheet has them."""
+    """The first entries of each kind, and of what is left out the first rows, cells and parents; but no new animals, which
+    are as the sheet has them."""
     for what in ORDER:
-        entries = [entry for entry in report.in_order() if entry.what == what and what != NEW]
-        for entry in entries[:MOST_SHOWN]:
-            print(entry.sentence())
-        if len(entries) > MOST_SHOWN:
-            print(f"and {len(entries) - MOST_SHOWN} more {what}: {path} has all {len(entries)}")
+        shown: collections.Counter[str] = collections.Counter()
+        for entry in report.in_order():
+            if entry.what != what or what == NEW:
+                continue
+            shown[entry.part] += 1
+            if shown[entry.part] <= MOST_SHOWN:
+                print(entry.sentence())
+        for part, count in shown.items():
+            if count > MOST_SHOWN:
+                parts = f" ({part}s)" if part else ""
+                print(f"and {count - MOST_SHOWN} more {what}{parts}: {path} has all {count}")

@@ -35,9 +35,8 @@ class Taking:
         """Adds the animals of the book that have no row, and the parents that have none."""
         for animal in self.animals.values():
             self.keep(animal)
-        self.texts = {
-            (animal.id, role): parent for animal in self.animals.values() for role, parent in animal.parents() if role in self.given
-        }
+        for animal in self.animals.values():
+            self.texts |= {(animal.id, role): parent for role, parent in animal.parents() if role in self.given}
         gone = animals_of_book(self.book, self.animals)
         Names(self.animals | gone, self.report).find_parents(self.animals, self.book)
         add_gone(self.animals, gone, self.book, drop_gone, self.report)

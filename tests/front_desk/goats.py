@@ -28,12 +28,10 @@ class GoatChecks(Checks):
         done = desk.take(GOATS)
         self.told(
             done,
-            "line 4: CH 120.1158.7: inferred: sex female, since 'Z' is taken for 'Ziege', which stands in the column too",
-            "line 6: CH 120.1160.1: inferred: sex male, since 'B.' is taken for 'Bock', which stands in the column too",
+            "words for sexes are taken for longer ones of the same column: 'B' for 'Bock', 'B.' for 'Bock', 'Z' for 'Ziege'",
             "line 4: CH 120.1158.7: inferred: birth day 2017-02-15, from the month 2017-02, since there is no day 31.02.2017",
             "line 5: CH 120.1158.9: inferred: exit on 2022-11-12, from 'geschlachtet 12.11.2022'",
-            "line 6: CH 120.1160.1: its exit is left out: 'verkauft' is no day: write it as 2001-03-01 or 01.03.2001, or 03.2001 or 2001 alone: "
-            "it counts as gone, on a day that isn't known",
+            "line 6: CH 120.1160.1: its exit is left out: 'verkauft' has no day: it counts as gone, on a day that isn't known",
             "line 6: CH 120.1157.8: added: the dam of CH 120.1160.1 has no row: added without parents (is CH 120.1158.7 meant?)",
             "CH 120.1150.8: inferred: birth day 2016-05-09, from its offspring (line 6 names it)",
             "1 of 9 cells for sex can't be read, the first in line 10: 'Q': write M or F, or say which sex each word is, as --sexes Q=m or Q=f",
@@ -63,7 +61,7 @@ class GoatChecks(Checks):
             ("fr", "Sortie sortie, jour inconnu", "Propriétaire depuis non connu"),
         ]:  # fmt: skip
             text = self.text(desk, "Kuno", "--language", language)
-            self.count(left in text and since in text, f"{language}: {text}")
+            self.count("(" not in text.split(left)[0] and left in text and since in text, f"{language}: {text}")
         text = self.text(desk, "Mia", "--language", "de")
         wanted = "kein Abgang", "Vatersvater CH 120.1158.9 (erschlossen) Leo", "Mutter unbekannt (in der Tabelle: CH 120.1158.9)", "und wurde weggelassen."
         self.count(all(one in text for one in wanted), f"{text}")
@@ -85,7 +83,7 @@ class GoatChecks(Checks):
         self.count("CH 120.1150.8" not in done.out and len(done.out.splitlines()) == 5 and "1 (CH 120.1150.8)" in done.err, f"{done}")
         self.count("2 (CH 120.1150.8, CH 120.1157.8): added as parents, or gone" in desk.good("list").err, "the list tells who has no row")
         done = desk.take(sheet.replace("verkauft am 3.4.2020", "lebt").replace("Luna;Z;31.02.2017", "Luna;Q;31.02.2017"))
-        self.told(done, "line 6: CH 120.1160.1: changed: exit: none, before 2020-04-03", "line 4: CH 120.1158.7: inferred: sex female, since it is a dam, and its cell can't be read")
+        self.told(done, "line 6: CH 120.1160.1: changed: exit: none, before 2020-04-03", "line 4: CH 120.1158.7: inferred: female, as in the book, since its cell can't be read")
         self.count(self.text(desk, "Kuno").count("has not left") == 1, "an exit that is withdrawn")
         # a row that is gone is no sire either
         rows = [row for row in sheet.splitlines(keepends=True) if ";Leo;B;" not in row and ";Max;Bock;01" not in row]
@@ -133,11 +131,11 @@ class GoatChecks(Checks):
     def many_lines(self) -> None:
         """Of more than 25 lines of a kind the rest stands in the report, which a German spreadsheet opens."""
         desk = Desk(self, "many")
-        rows = "".join(f"{at};F;2001-01-01;;;sold {at}\n" for at in range(40))
+        rows = "".join(f"{at};F;2001-01-01;;;sold {at}\n" for at in range(40)) + "mate;F;2001-01-01;dam;;\ndam;F;1999-01-01;;;\n"
         done = desk.take("id;sex;born;sire;dam;exit\n" + rows, "--semicolons")
-        self.told(done, "and 15 more left out: book/report.csv has all 40")
+        self.told(done, "and 14 more left out (cells): book/report.csv has all 39", "line 42: mate: its sire dam (line 43) is left out: it isn't male (refusal 5)")
         text = (desk.room / "book/report.csv").read_bytes()
-        self.count(text.startswith(b"\xef\xbb\xbfline;id;what;why\n2;0;left out;") and text.count(b";left out;") == 40, f"{text[:300]!r}")
+        self.count(text.startswith(b"\xef\xbb\xbfline;id;what;why\n2;0;left out;") and text.count(b";left out;") == 41, f"{text[:300]!r}")
         shown = "id;name;sex;born;sire;dam\n1;Max;M;2001-01-01;;\n2;Max;M;2001-01-01;;\n3;;F;2005-01-01;Max;\n"
         desk.take(shown, "--book", "names")
         done = desk.good("certificate", "Max", "--book", "names")

@@ -74,8 +74,7 @@ class LeavingChecks(Checks):
             "line 6: e: inferred: birth day 2002-02-15, from the month 2002-02, since there is no day 31.02.2002",
             "line 7: f: its birth day is left out: '01.02.98' has two digits of the year: write all four",
             "line 8: g: its sex is left out: 'cat' isn't known: write M or F, or name it as --sexes cat=m or cat=f",
-            "line 8: g: its exit is left out: 'sold' is no day: write it as 2001-03-01 or 01.03.2001, or 03.2001 or 2001 alone: "
-            "it counts as gone, on a day that isn't known",
+            "line 8: g: its exit is left out: 'sold' has no day: it counts as gone, on a day that isn't known",
             "line 8: g: the row is left out: its sex can't be read, and no animal has it as a parent",
             "1 of 10 cells for sex can't be read, the first in line 8: 'cat': write M or F, or say which sex each word is, as --sexes cat=m or cat=f",
             "line 9: h: the row is left out: it has 9 cells, and there are 8 titles: is there a separator too many?",
