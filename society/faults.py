@@ -52,6 +52,8 @@ def leave_out_parent(taking: Taking, animal: Animal, refusal: int) -> None:
         facts.append(f"left {parent.left}{' (inferred)' if parent.left_inferred else ''}")
     of_parent = f"{parent.id} ({', '.join(facts)})" if facts else parent.id
     why = f"{WHY[refusal]} (refusal {refusal})"
+    if refusal in (5, 6) and parent.sex_inferred:
+        why += f"; its sex is inferred: {'male' if parent.sex == 'M' else 'female'}, {parent.sex_inferred}"
     if refusal not in (5, 6):
         why += f"; {animal.id} was born {animal.born_marked()}"
     if refusal == 9:

@@ -71,6 +71,10 @@ class InferringChecks(Checks):
         self.told(done, "line 6: e: its dam c (line 4) is left out: it isn't female (refusal 6)")
         self.told(done, "line 4: c: changed: number: HOLGBRM000000000003, before HOLGBRF000000000003", "line 6: e: changed: dam: none, before c")
 
+        both = Desk(self, "both")
+        done = both.take("id,born,sire,dam\na,2001,,\nb,2003,a,\nc,2004,,a\n")
+        self.told(done, "line 4: c: its dam a (line 2) is left out: it isn't female (refusal 6); its sex is inferred: male, since it is a sire")
+
     def named_parents(self) -> None:
         """A parent that is no id, but one animal's name, is that animal where it can be it; it is told with the line."""
         desk = Desk(self, "names")
