@@ -1,7 +1,7 @@
 -- What a book keeps of an animal when it is born.
 use Rattle.std.specs.Prelude.{ℕ, false, List, Option, Some, None}
 use Rattle.herd_animal.specs.Day.{day_number}
-use Rattle.herd_pedigree.specs.declared.rules.animal.Animal.{Animal}
+use Rattle.herd_frozen.specs.declared.rules.animal.Animal.{Animal}
 use Rattle.herd_fixtures.specs.declared.birth.Birth.{Birth}
 use Rattle.herd_fixtures.specs.declared.name.Name.{Name}
 use Rattle.herd_fixtures.specs.Name.{number_named}

@@ -7,7 +7,7 @@ ghost use Rattle.herd_fixtures.specs.Birth.{entry, named, newborn};
 use crate::herd::herd_of;
 use crate::name::Name;
 use herd_animal::{AnimalNumber, Day, DayFault};
-use herd_pedigree::Animal;
+use herd_frozen::Animal;
 
 /// The text of a day, `dddd-dd-dd`.
 pub type DayText = [u8; 10];

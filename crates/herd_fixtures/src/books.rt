@@ -1,15 +1,16 @@
 //! Books of births.
 
 ghost use Rattle.std.specs.Prelude.{◌≡◌, [], ◌++◌, ◌∷◌, map, IfOk, OnErr, OnOk};
-ghost use Rattle.herd_pedigree.specs.freezing.Frozen.{IsFrozenFrom};
+ghost use Rattle.herd_frozen.specs.freezing.Frozen.{IsFrozenFrom};
 ghost use Rattle.herd_pedigree.specs.Pedigree.{changed_to};
-ghost use Rattle.herd_pedigree.specs.declared.TheConstants.{DEPTH_LIMIT, MOST_ANIMALS};
+ghost use Rattle.herd_frozen.specs.declared.TheConstants.{DEPTH_LIMIT, MOST_ANIMALS};
 ghost use Rattle.herd_fixtures.specs.Birth.{entry};
 
 use crate::birth::{Birth, DayText, Pair, UNKNOWN};
 use crate::name::Name::{Bull, Cow};
 use herd_animal::DayFault;
-use herd_pedigree::{Frozen, MOST_ANIMALS, ParentFault, Pedigree};
+use herd_frozen::{Frozen, MOST_ANIMALS, ParentFault};
+use herd_pedigree::Pedigree;
 use std::alloc::{AllocError, Allocator};
 use thiserror::Error;
 

@@ -2,7 +2,7 @@
 
 ghost use Rattle.std.specs.Prelude.{◌≡◌, slice_get};
 
-use herd_pedigree::{Frozen, Row};
+use herd_frozen::{Frozen, Row};
 use std::alloc::Allocator;
 
 /// The row at a rank, where there is one.

@@ -1,7 +1,7 @@
 -- Coefficients of inbreeding of a frozen book's animals, in unit 2^-2l, by ranks.
 use Rattle.std.specs.Prelude.{◌≡◌, ℕ, ◌+◌, ◌*◌, ◌/◌, ◌^◌, ◌<◌, List, length, slice_index, Option, None, Some}
-use Rattle.herd_pedigree.specs.declared.freezing.frozen.Row.{Row}
-use Rattle.herd_pedigree.specs.freezing.Frozen.{depth_at}
+use Rattle.herd_frozen.specs.declared.freezing.frozen.Row.{Row}
+use Rattle.herd_frozen.specs.freezing.Frozen.{depth_at}
 use Rattle.herd_kinship.specs.Ancestry.{IsAncestor}
 use Rattle.herd_kinship.specs.Table.{coefficient, entry}
 use Rattle.herd_kinship.specs.FrozenAncestry.{ancestry_of, number_of_row}

@@ -1,7 +1,7 @@
 -- What an animal contributes to the inverse of the numerator relationship matrix (Henderson 1976). l is the limit of
 -- depths.
 use Rattle.std.specs.Prelude.{◌≡◌, ℕ, ◌*◌, ◌-◌, ◌^◌, ◌++◌, max, min, length, map, replicate, take, List, [], ◌∷◌, Option, None, Some, ℤ, pos, ◌*ℤ◌, int_lt, unsigned_abs}
-use Rattle.herd_pedigree.specs.declared.freezing.frozen.Row.{Row}
+use Rattle.herd_frozen.specs.declared.freezing.frozen.Row.{Row}
 use Rattle.herd_kinship.specs.declared.contribution.Contributions.{Contributions}
 use Rattle.herd_kinship.specs.declared.contribution.Contribution.{Contribution}
 use Rattle.herd_kinship.specs.declared.fractions.Fraction.{Fraction}

@@ -4,9 +4,9 @@ use Rattle.std.specs.Ordering.{is_lt}
 use Rattle.std.specs.Map.{keys_of}
 use Rattle.std.specs.Option.{option_map_or}
 use Rattle.std.specs.Str.{bytes_eq}
-use Rattle.herd_pedigree.specs.declared.freezing.frozen.Row.{Row}
-use Rattle.herd_pedigree.specs.rules.Book.{Book, record_of, sire_of, dam_of}
-use Rattle.herd_pedigree.specs.freezing.Frozen.{age_cmp, book_of, numbers_of}
+use Rattle.herd_frozen.specs.declared.freezing.frozen.Row.{Row}
+use Rattle.herd_frozen.specs.rules.Book.{Book, record_of, sire_of, dam_of}
+use Rattle.herd_frozen.specs.freezing.Frozen.{age_cmp, book_of, numbers_of}
 use Rattle.herd_kinship.specs.Ancestry.{Ancestry}
 
 -- both are in the book, and the first is before the second in age order

@@ -1,8 +1,8 @@
 -- The laws of the numerator relationship matrix A, for two animals of a frozen book; l is the limit of depths.
 use Rattle.std.specs.Prelude.{ℕ, ◌+◌, ◌*◌, ◌^◌, ◌≡◌, ◌<◌, ◌≤◌, if◌then◌else◌, List, Some, pos}
-use Rattle.herd_pedigree.specs.declared.freezing.frozen.Row.{Row}
-use Rattle.herd_pedigree.specs.rules.Book.{IsDepthOf}
-use Rattle.herd_pedigree.specs.freezing.Frozen.{book_of}
+use Rattle.herd_frozen.specs.declared.freezing.frozen.Row.{Row}
+use Rattle.herd_frozen.specs.rules.Book.{IsDepthOf}
+use Rattle.herd_frozen.specs.freezing.Frozen.{book_of}
 use Rattle.herd_kinship.specs.Table.{entry, coefficient, mendelian}
 use Rattle.herd_kinship.specs.Shares.{shared}
 use Rattle.herd_kinship.specs.InverseRows.{row_product}

@@ -1,12 +1,12 @@
 -- Mating advice: why it can't be given for two animals of a book. l is the limit of depths.
 use Rattle.std.specs.Prelude.{◌≡◌, ℕ, ◌<◌, Bool, ◌||◌, not, List, [], ◌∷◌, length, Option, None}
 use Rattle.herd_animal.specs.Sex.{is_male}
-use Rattle.herd_pedigree.specs.rules.Book.{Book, is_there, parentage_of}
-use Rattle.herd_pedigree.specs.declared.TheConstants.{MOST_ANIMALS}
-use Rattle.herd_pedigree.specs.declared.freezing.frozen.Row.{Row}
-use Rattle.herd_pedigree.specs.freezing.Frozen.{IsFrozen, book_of, depth_at}
-use Rattle.herd_pedigree.specs.rules.Paths.{has_path}
-use Rattle.herd_pedigree.specs.rules.ParentFault.{first_that_holds}
+use Rattle.herd_frozen.specs.rules.Book.{Book, is_there, parentage_of}
+use Rattle.herd_frozen.specs.declared.TheConstants.{MOST_ANIMALS}
+use Rattle.herd_frozen.specs.declared.freezing.frozen.Row.{Row}
+use Rattle.herd_frozen.specs.freezing.Frozen.{IsFrozen, book_of, depth_at}
+use Rattle.herd_frozen.specs.rules.Paths.{has_path}
+use Rattle.herd_frozen.specs.rules.ParentFault.{first_that_holds}
 use Rattle.herd_kinship.specs.Columns.{AreRelationships}
 use Rattle.herd_kinship.specs.FrozenAncestry.{number_of_row}
 use Rattle.herd_kinship.specs.declared.mating_advice.MatingFault.{MatingFault}

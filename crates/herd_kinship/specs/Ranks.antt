@@ -2,9 +2,9 @@
 use Rattle.std.specs.Prelude.{◌≡◌, ℕ, ◌⊎◌, List, length, nat_eq, nat_lt, slice_get, Option, None, Some}
 use Rattle.std.specs.List.{range_with_len}
 use Rattle.std.specs.Option.{option_and_then}
-use Rattle.herd_pedigree.specs.declared.freezing.frozen.Parents.{Parents}
-use Rattle.herd_pedigree.specs.declared.freezing.frozen.Row.{Row}
-use Rattle.herd_pedigree.specs.freezing.Frozen.{parents_of}
+use Rattle.herd_frozen.specs.declared.freezing.frozen.Parents.{Parents}
+use Rattle.herd_frozen.specs.declared.freezing.frozen.Row.{Row}
+use Rattle.herd_frozen.specs.freezing.Frozen.{parents_of}
 use Rattle.herd_kinship.specs.Ancestry.{Ancestry}
 
 -- the ranks of the sire and of the dam of the animal at a rank

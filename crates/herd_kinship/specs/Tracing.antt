@@ -2,9 +2,9 @@
 -- by their ranks; the share kept for an ancestor p of x is in unit 2^-(g x - g p), where g is the depth.
 use Rattle.std.specs.Prelude.{◌≡◌, ℕ, ◌+◌, ◌*◌, ◌-◌, ◌^◌, ◌<◌, ◌≤◌, List, length, slice_index, slice_set, sum_by, Option, None, Some}
 use Rattle.std.specs.List.{range_with_len}
-use Rattle.herd_pedigree.specs.declared.freezing.frozen.Row.{Row}
-use Rattle.herd_pedigree.specs.declared.TheConstants.{MOST_ANIMALS}
-use Rattle.herd_pedigree.specs.freezing.Frozen.{IsFrozen, depth_at}
+use Rattle.herd_frozen.specs.declared.freezing.frozen.Row.{Row}
+use Rattle.herd_frozen.specs.declared.TheConstants.{MOST_ANIMALS}
+use Rattle.herd_frozen.specs.freezing.Frozen.{IsFrozen, depth_at}
 use Rattle.herd_kinship.specs.Shares.{share}
 use Rattle.herd_kinship.specs.Pending.{mark, Marks}
 use Rattle.herd_kinship.specs.Ranks.{ranked}

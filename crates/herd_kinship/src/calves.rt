@@ -9,7 +9,7 @@ use crate::calf_coefficients::CalfCoefficient;
 use crate::columns::{mark_parent, with_parent};
 use crate::pending::Pending;
 use crate::tracing::parents_at;
-use herd_pedigree::{Frozen, PackedIndex, Parents};
+use herd_frozen::{Frozen, PackedIndex, Parents};
 use std::alloc::{AllocError, Allocator};
 
 /// The calves of each sire of a frozen book, those of which the dam is known too.

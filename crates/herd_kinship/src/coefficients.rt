@@ -1,5 +1,5 @@
 ghost use Rattle.std.specs.Prelude.{◌≡◌, ◌==◌, ℕ, ◌+◌, ◌*◌, ◌^◌, ◌<◌, All, length, slice_index, IfOk, IsOk};
-ghost use Rattle.herd_pedigree.specs.declared.TheConstants.{DEPTH_LIMIT};
+ghost use Rattle.herd_frozen.specs.declared.TheConstants.{DEPTH_LIMIT};
 ghost use Rattle.herd_kinship.specs.CalfLinks.{AreCalvesOf, IsCalf};
 ghost use Rattle.herd_kinship.specs.Coefficients.{AreCoefficients, IsBefore, KnowsReached};
 ghost use Rattle.herd_kinship.specs.Mates.{IsReady};
@@ -7,7 +7,7 @@ ghost use Rattle.herd_kinship.specs.Mates.{IsReady};
 use crate::calf_coefficients::{CalfCoefficient, write_calves};
 use crate::calves::{Calves, has_calves};
 use crate::mates::Mates;
-use herd_pedigree::Frozen;
+use herd_frozen::Frozen;
 use std::alloc::{AllocError, Allocator};
 use std::marker::Model;
 
@@ -19,7 +19,7 @@ pub struct Coefficients<A: Allocator> {
 
 impl<A: Allocator> Model for Coefficients<A> {
     ghost use Rattle.std.specs.Prelude.{List, ℕ, ◌*◌, ◌^◌, ◌<◌, All};
-    ghost use Rattle.herd_pedigree.specs.declared.TheConstants.{DEPTH_LIMIT};
+    ghost use Rattle.herd_frozen.specs.declared.TheConstants.{DEPTH_LIMIT};
 
     ghost Value = { List ℕ };
 

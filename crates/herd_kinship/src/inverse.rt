@@ -1,6 +1,6 @@
 ghost use Rattle.std.specs.Prelude.{◌≡◌, ◌*◌, ◌-◌, ◌^◌, ◌<◌, All, length, max, min, false, true, Some, None};
 ghost use Rattle.std.specs.Int.{IsGcd};
-ghost use Rattle.herd_pedigree.specs.declared.TheConstants.{DEPTH_LIMIT};
+ghost use Rattle.herd_frozen.specs.declared.TheConstants.{DEPTH_LIMIT};
 ghost use Rattle.herd_kinship.specs.Coefficients.{AreCoefficients};
 ghost use Rattle.herd_kinship.specs.Contributions.{contributions_of, filled, Lists, weighted};
 ghost use Rattle.herd_kinship.specs.Fraction.{halved};
@@ -12,7 +12,7 @@ use crate::coefficients::Coefficients;
 use crate::contribution::{Contribution, Contributions};
 use crate::fractions::{Fraction, lowest};
 use crate::tracing::mendelian;
-use herd_pedigree::Frozen;
+use herd_frozen::Frozen;
 use std::alloc::Allocator;
 
 /// The values that an animal contributes, by its Mendelian sampling variance.

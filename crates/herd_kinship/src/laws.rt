@@ -2,12 +2,12 @@
 //! calls do nothing: who calls one has its `ensures` as a fact.
 
 ghost use Rattle.std.specs.Prelude.{◌<◌, length};
-ghost use Rattle.herd_pedigree.specs.declared.TheConstants.{DEPTH_LIMIT};
+ghost use Rattle.herd_frozen.specs.declared.TheConstants.{DEPTH_LIMIT};
 ghost use Rattle.herd_kinship.specs.Columns.{IsColumn};
 ghost use Rattle.herd_kinship.specs.FrozenAncestry.{number_of_row};
 ghost use Rattle.herd_kinship.specs.Laws.{KeepsHalves, IsBounded, IsDecomposed, IsDiagonalised};
 
-use herd_pedigree::Frozen;
+use herd_frozen::Frozen;
 use std::alloc::Allocator;
 
 /// Nothing is lost in halves: from unit 2^-k on, where k is the sum of the two depths, half the unit doubles the entry.

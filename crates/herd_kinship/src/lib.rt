@@ -51,7 +51,7 @@ pub use calves::Calves;
 pub use coefficients::{Coefficients, coefficients_plain};
 pub use contribution::{Contribution, Contributions};
 pub use fractions::Fraction;
-use herd_pedigree::DEPTH_LIMIT;
+use herd_frozen::DEPTH_LIMIT;
 pub use inverse::contributions;
 pub use mates::Mates;
 pub use mating_advice::{MatingFault, mating, mating_by};

@@ -1,5 +1,5 @@
 ghost use Rattle.std.specs.Prelude.{◌≡◌, ℕ, ◌<◌, length, slice_index, IfOk, Some};
-ghost use Rattle.herd_pedigree.specs.declared.TheConstants.{DEPTH_LIMIT};
+ghost use Rattle.herd_frozen.specs.declared.TheConstants.{DEPTH_LIMIT};
 ghost use Rattle.herd_kinship.specs.CalfCoefficients.{GoesOnWith};
 ghost use Rattle.herd_kinship.specs.CalfLinks.{AreCalvesOf};
 ghost use Rattle.herd_kinship.specs.Coefficients.{KnowsAncestors, coefficient_at};
@@ -12,7 +12,7 @@ use crate::calves::Calves;
 use crate::columns::{collect, relate};
 use crate::pending::Pending;
 use crate::tracing::Tracing;
-use herd_pedigree::Frozen;
+use herd_frozen::Frozen;
 use std::alloc::{AllocError, Allocator};
 
 /// The mates of a sire and all their ancestors, and its relationships with them: scratch that is kept from one sire to

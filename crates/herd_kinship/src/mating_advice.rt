@@ -1,7 +1,7 @@
 ghost use Rattle.std.specs.Prelude.{◌≡◌, ◌+◌, ◌*◌, ◌-◌, ◌^◌, ◌<◌, ◌≤◌, length, slice_index, IfOk, IfErr, IfSome, Some, None};
 ghost use Rattle.herd_animal.specs.Sex.{is_male as is_male_number};
-ghost use Rattle.herd_pedigree.specs.declared.TheConstants.{DEPTH_LIMIT};
-ghost use Rattle.herd_pedigree.specs.freezing.Frozen.{book_of};
+ghost use Rattle.herd_frozen.specs.declared.TheConstants.{DEPTH_LIMIT};
+ghost use Rattle.herd_frozen.specs.freezing.Frozen.{book_of};
 ghost use Rattle.herd_kinship.specs.Coefficients.{AreCoefficients};
 ghost use Rattle.herd_kinship.specs.FrozenAncestry.{ancestry_of, number_of_row};
 ghost use Rattle.herd_kinship.specs.Mating.{ArePair, AreRelationshipsOf, mating_fault, number_of_mating_fault};
@@ -10,7 +10,7 @@ ghost use Rattle.herd_kinship.specs.Table.{entry};
 use crate::coefficients::Coefficients;
 use crate::relationships::Relationships;
 use herd_animal::{AnimalNumber, Sex};
-use herd_pedigree::{DEPTH_LIMIT, Frozen};
+use herd_frozen::{DEPTH_LIMIT, Frozen};
 use std::alloc::{AllocError, Allocator};
 use thiserror::Error;
 

@@ -1,7 +1,7 @@
 ghost use Rattle.std.specs.Prelude.{◌≡◌, ℕ, ◌<◌, [], false, length, slice_index, IfOk, MatchResult, Some};
-ghost use Rattle.herd_pedigree.specs.rules.Book.{is_there};
-ghost use Rattle.herd_pedigree.specs.freezing.Frozen.{book_of};
-ghost use Rattle.herd_pedigree.specs.declared.TheConstants.{DEPTH_LIMIT};
+ghost use Rattle.herd_frozen.specs.rules.Book.{is_there};
+ghost use Rattle.herd_frozen.specs.freezing.Frozen.{book_of};
+ghost use Rattle.herd_frozen.specs.declared.TheConstants.{DEPTH_LIMIT};
 ghost use Rattle.herd_kinship.specs.Coefficients.{AreCoefficients};
 ghost use Rattle.herd_kinship.specs.Columns.{related, inherited, AreRelationships};
 ghost use Rattle.herd_kinship.specs.Mating.{AreRelationshipsOf};
@@ -11,7 +11,7 @@ use crate::coefficients::Coefficients;
 use crate::columns::{with_parent, write_parts};
 use crate::tracing::{Tracing, parents_at};
 use herd_animal::AnimalNumber;
-use herd_pedigree::Frozen;
+use herd_frozen::Frozen;
 use std::alloc::{AllocError, Allocator};
 use std::marker::Model;
 

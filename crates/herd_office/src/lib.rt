@@ -42,8 +42,7 @@
 //! - `close`, and a drop of parts, of an office or of what wasn't closed, wait for inspectors that are reading, and
 //!   free both copies. For the drop the office keeps a handle of its own.
 //! - `open` takes no handle. Where it fails it drops the parts, and waits by the handle that they keep: for nobody,
-//!   since
-//!   no inspector was handed out.
+//!   since no inspector was handed out.
 //!
 //! # Names
 //!

@@ -9,26 +9,26 @@ use Rattle.std.proofs.lemmas.Option.{slice_get_within, same_Some}
 use Rattle.std.proofs.lemmas.List.{get_or-set_same, get_or-set_other, length-set}
 use Rattle.std.proofs.lemmas.List.Folds.{list_any_none}
 use Rattle.indexmap.specs.IndexMap.{set_value_at}
-use Rattle.herd_pedigree.specs.declared.rules.animal.Animal.{Animal}
-use Rattle.herd_pedigree.specs.declared.rules.parent_fault.ParentFault.{ParentFault}
-use Rattle.herd_pedigree.specs.declared.rules.parent_fault.ParentFault.TheVariants.{TooDeep}
-use Rattle.herd_pedigree.specs.rules.Paths.{Parentage, has_path}
-use Rattle.herd_pedigree.specs.rules.Book.{Book, record_of, parentage_of, changed, with_parents}
-use Rattle.herd_pedigree.specs.rules.ParentFault.{parent_fault, fault_by_records, is_too_deep}
-use Rattle.herd_pedigree.specs.rules.Depths.{IsParent, AreDepths, depth_from}
-use Rattle.herd_pedigree.specs.store.Places.{parent_at, parentage_at, IsIndexIn, AreParents}
+use Rattle.herd_frozen.specs.declared.rules.animal.Animal.{Animal}
+use Rattle.herd_frozen.specs.declared.rules.parent_fault.ParentFault.{ParentFault}
+use Rattle.herd_frozen.specs.declared.rules.parent_fault.ParentFault.TheVariants.{TooDeep}
+use Rattle.herd_frozen.specs.rules.Paths.{Parentage, has_path}
+use Rattle.herd_frozen.specs.rules.Book.{Book, record_of, parentage_of, changed, with_parents}
+use Rattle.herd_frozen.specs.rules.ParentFault.{parent_fault, fault_by_records, is_too_deep}
+use Rattle.herd_frozen.specs.rules.Depths.{IsParent, AreDepths, depth_from}
+use Rattle.herd_frozen.specs.places.Places.{parent_at, parentage_at, IsIndexIn, AreParents}
 use Rattle.herd_pedigree.specs.store.Kept.{IsKept}
 use Rattle.herd_pedigree.specs.store.Carry.{IsSettled}
-use Rattle.herd_pedigree.proofs.lemmas.rules.PathFacts.{Path, path-from_test, test-from_path, path-at_most, path-there, below_from, depths-fall, depths-path, depths-shallow}
-use Rattle.herd_pedigree.proofs.lemmas.rules.BookFacts.{entry_from_key, lookup_at, length-keys, there}
-use Rattle.herd_pedigree.proofs.lemmas.rules.FaultFacts.{fault-split}
+use Rattle.herd_frozen.proofs.lemmas.rules.PathFacts.{Path, path-from_test, test-from_path, path-at_most, path-there, below_from, depths-fall, depths-path, depths-shallow}
+use Rattle.herd_frozen.proofs.lemmas.rules.BookFacts.{entry_from_key, lookup_at, length-keys, there}
+use Rattle.herd_frozen.proofs.lemmas.rules.FaultFacts.{fault-split}
 use Rattle.herd_pedigree.proofs.lemmas.store.PlaceFacts.{path_by_place, path_by_number, place_from_there, number_from_there, number_from_place}
 use Rattle.herd_pedigree.proofs.lemmas.store.DepthFacts.{IsLeafSet, depths-leaf, from-most}
 use Rattle.herd_pedigree.proofs.lemmas.store.ProgenyFacts.{parent-within}
 use Rattle.herd_pedigree.proofs.lemmas.store.CarryFacts.{settled-but}
 use Rattle.herd_pedigree.proofs.lemmas.store.CorrectionFacts.{parent_in}
 use Rattle.herd_pedigree.proofs.KeptFacts.{too_deep-birth}
-use Rattle.herd_pedigree.proofs.lemmas.rules.WrittenFacts.{written-changed, too_deep-written}
+use Rattle.herd_frozen.proofs.lemmas.rules.WrittenFacts.{written-changed, too_deep-written}
 use Rattle.herd_pedigree.proofs.lemmas.store.SetFacts.{keys-set, set-changed, AreParents-set}
 
 -- a named parent's place is within the book

@@ -5,21 +5,21 @@ use Rattle.std.proofs.lemmas.Bool.{cases_lt, lt-ltb}
 use Rattle.std.proofs.lemmas.Option.{same_Some, slice_get_within}
 use Rattle.std.proofs.lemmas.List.{get_or-take, get_or-set_same, length-set, length-take-le, set-set, set-get_or}
 use Rattle.indexmap.specs.IndexMap.{set_value_at}
-use Rattle.herd_pedigree.specs.declared.rules.animal.Animal.{Animal}
+use Rattle.herd_frozen.specs.declared.rules.animal.Animal.{Animal}
 use Rattle.herd_pedigree.specs.declared.store.undo.Undo.TheVariants.{Nothing, Birth, Record}
-use Rattle.herd_pedigree.specs.rules.Paths.{Parentage, has_path}
-use Rattle.herd_pedigree.specs.rules.Book.{Book, changed, with_parents}
+use Rattle.herd_frozen.specs.rules.Paths.{Parentage, has_path}
+use Rattle.herd_frozen.specs.rules.Book.{Book, changed, with_parents}
 use Rattle.herd_pedigree.specs.Pedigree.{IsCorrection}
-use Rattle.herd_pedigree.specs.rules.Depths.{IsParent, AreDepths}
-use Rattle.herd_pedigree.specs.store.Places.{parent_at, parentage_at, IsIndexIn}
+use Rattle.herd_frozen.specs.rules.Depths.{IsParent, AreDepths}
+use Rattle.herd_frozen.specs.places.Places.{parent_at, parentage_at, IsIndexIn}
 use Rattle.herd_pedigree.specs.store.Carry.{IsSettled}
 use Rattle.herd_pedigree.specs.store.Kept.{IsKept}
 use Rattle.herd_pedigree.specs.store.Records.{NamesItsOwn}
 use Rattle.herd_pedigree.specs.store.Undo.{IsHeld, without_last, undone_writes}
-use Rattle.herd_pedigree.proofs.lemmas.rules.PathFacts.{depths-fall}
-use Rattle.herd_pedigree.proofs.lemmas.rules.BookFacts.{there as there_at}
-use Rattle.herd_pedigree.proofs.lemmas.rules.FaultFacts.{HasNoFault, no_fault}
-use Rattle.herd_pedigree.proofs.lemmas.rules.LawfulChanges.{lawful-parents}
+use Rattle.herd_frozen.proofs.lemmas.rules.PathFacts.{depths-fall}
+use Rattle.herd_frozen.proofs.lemmas.rules.BookFacts.{there as there_at}
+use Rattle.herd_frozen.proofs.lemmas.rules.FaultFacts.{HasNoFault, no_fault}
+use Rattle.herd_pedigree.proofs.lemmas.LawfulChanges.{lawful-parents}
 use Rattle.herd_pedigree.proofs.lemmas.store.SetFacts.{keys-set, set-changed, set-back, set_there, length-set-at}
 use Rattle.herd_pedigree.proofs.lemmas.store.CarryFacts.{settled-depths, settled-deep}
 use Rattle.herd_pedigree.proofs.lemmas.store.ProgenyFacts.{parent-within}

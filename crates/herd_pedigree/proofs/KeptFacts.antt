@@ -7,24 +7,24 @@ use Rattle.std.proofs.lemmas.Bool.{cases_lt, lt-ltb, ltb-true, le-ltb, or_left}
 use Rattle.std.proofs.lemmas.List.{length_push, get_or_push, get_or_append_left}
 use Rattle.std.proofs.lemmas.List.Folds.{list_any_none}
 use Rattle.std.proofs.lemmas.Option.{slice_get_within, same_Some}
-use Rattle.herd_pedigree.specs.declared.rules.animal.Animal.{Animal}
-use Rattle.herd_pedigree.specs.rules.Paths.{has_path}
-use Rattle.herd_pedigree.specs.rules.Book.{Book, record_of, parentage_of, IsDepthOf}
-use Rattle.herd_pedigree.specs.rules.ParentFault.{is_too_deep}
+use Rattle.herd_frozen.specs.declared.rules.animal.Animal.{Animal}
+use Rattle.herd_frozen.specs.rules.Paths.{has_path}
+use Rattle.herd_frozen.specs.rules.Book.{Book, record_of, parentage_of, IsDepthOf}
+use Rattle.herd_frozen.specs.rules.ParentFault.{is_too_deep}
 use Rattle.herd_pedigree.specs.Pedigree.{IsBirth}
-use Rattle.herd_pedigree.specs.rules.Depths.{AreDepths, depth_from}
-use Rattle.herd_pedigree.specs.store.Places.{parent_at, parentage_at, IsIndexIn, AreParents}
+use Rattle.herd_frozen.specs.rules.Depths.{AreDepths, depth_from}
+use Rattle.herd_frozen.specs.places.Places.{parent_at, parentage_at, IsIndexIn, AreParents}
 use Rattle.herd_pedigree.specs.store.Kept.{IsKept}
 use Rattle.herd_pedigree.specs.declared.store.undo.Undo.TheVariants.{Birth, Nothing}
 use Rattle.herd_pedigree.specs.store.Undo.{IsHeld}
-use Rattle.herd_pedigree.proofs.lemmas.rules.PathFacts.{Path, depths-path, test-from_path}
-use Rattle.herd_pedigree.proofs.lemmas.rules.BookFacts.{push_cases, push_keeps, push_last, keys-push, length-keys, distinct-push, key_from_entry}
+use Rattle.herd_frozen.proofs.lemmas.rules.PathFacts.{Path, depths-path, test-from_path}
+use Rattle.herd_frozen.proofs.lemmas.rules.BookFacts.{push_cases, push_keeps, push_last, keys-push, length-keys, distinct-push, key_from_entry}
 use Rattle.herd_pedigree.proofs.lemmas.store.PlaceFacts.{no_longer_path, path_by_number, there_by_place, depth_by_number}
 use Rattle.herd_pedigree.proofs.lemmas.store.DepthFacts.{depths-push, new_depth-most}
-use Rattle.herd_pedigree.proofs.lemmas.rules.FaultFacts.{HasNoFault, no_fault}
-use Rattle.herd_pedigree.proofs.lemmas.rules.LawfulChanges.{lawful-birth, lawful-empty}
+use Rattle.herd_frozen.proofs.lemmas.rules.FaultFacts.{HasNoFault, no_fault}
+use Rattle.herd_pedigree.proofs.lemmas.LawfulChanges.{lawful-birth, lawful-empty}
 use Rattle.herd_pedigree.proofs.lemmas.store.UndoFacts.{without_last-push}
-use Rattle.herd_pedigree.proofs.lemmas.rules.WrittenFacts.{written-push, too_deep-written}
+use Rattle.herd_frozen.proofs.lemmas.rules.WrittenFacts.{written-push, too_deep-written}
 
 IsIndexIn-push : (numbers : List (List ℕ)) (number : List ℕ) (o : Option ℕ) (n : Option (List ℕ)) → IsIndexIn numbers o n → IsIndexIn (numbers ++ number ∷ []) o n
 IsIndexIn-push numbers number None None h = h

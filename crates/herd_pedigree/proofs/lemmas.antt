@@ -1,3 +1,2 @@
-pub mod freezing
-pub mod rules
+pub mod LawfulChanges
 pub mod store

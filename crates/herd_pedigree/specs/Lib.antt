@@ -1,4 +1,2 @@
-pub mod freezing
-pub mod rules
 pub mod store
 pub mod Pedigree

@@ -1,8 +1,8 @@
 -- A pedigree as contracts see it, and what a change of one record asks for.
 use Rattle.std.specs.Prelude.{◌≡◌, ℕ, ◌<◌, ◌≤ℤ◌, IsFalse, ℤ, List, length, Option, Some, None}
-use Rattle.herd_pedigree.specs.declared.rules.animal.Animal.{Animal}
-use Rattle.herd_pedigree.specs.rules.Book.{Book, record_of, has_calved_after}
-use Rattle.herd_pedigree.specs.rules.ParentFault.{parent_fault}
+use Rattle.herd_frozen.specs.declared.rules.animal.Animal.{Animal}
+use Rattle.herd_frozen.specs.rules.Book.{Book, record_of, has_calved_after}
+use Rattle.herd_frozen.specs.rules.ParentFault.{parent_fault}
 
 -- the book, and the book before the last change that can be taken back
 pub record Pedigree : Type 0 where

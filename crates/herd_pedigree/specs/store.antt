@@ -1,7 +1,4 @@
 -- What is kept of a book, by place.
-pub mod Places
-pub mod PackedIndex
-pub mod Links
 pub mod Kept
 pub mod Undo
 pub mod Progeny

@@ -1,15 +1,13 @@
 //! Parents that are named, with what the book has of them, and the faults that this shows.
 ghost use Rattle.std.specs.Prelude.{◌≡◌, ◌<◌, ◌≤◌, false, length, IfErr, IfOk, IfSome, None, Some};
 ghost use Rattle.std.specs.Map.{keys_of};
-ghost use Rattle.herd_pedigree.specs.rules.ParentFault.{fault_by_records, first_that_holds, has_sex, is_found_gone, is_found_not_older, is_missing, is_named, record_faults, record_named};
-ghost use Rattle.herd_pedigree.specs.store.Places.{IsIndexIn};
-ghost use Rattle.herd_pedigree.specs.declared.TheConstants.{MOST_ANIMALS};
+ghost use Rattle.herd_frozen.specs.rules.ParentFault.{fault_by_records, first_that_holds, has_sex, is_found_gone, is_found_not_older, is_missing, is_named, record_faults, record_named};
+ghost use Rattle.herd_frozen.specs.places.Places.{IsIndexIn};
+ghost use Rattle.herd_frozen.specs.declared.TheConstants.{MOST_ANIMALS};
 
-use crate::rules::animal::Animal;
-use crate::rules::parent_fault::ParentFault;
-use crate::store::links::Link;
 use crate::store::records::Records;
 use herd_animal::{AnimalNumber, Day, Sex};
+use herd_frozen::{Animal, Link, ParentFault};
 use std::alloc::Allocator;
 
 // A parent that is named, or none, with its place and its record where the book has it.

@@ -1,26 +1,22 @@
 ghost use Rattle.std.specs.Prelude.{◌≡◌, ◌==◌, ◌<◌, ◌≤◌, [], ◌++◌, ◌∷◌, ℕ, List, length, Option, None, Some, IfNone, IfOk, IfSome, OnOk, OnErr, IsSome, is_some, slice_get};
 ghost use Rattle.std.specs.Map.{keys_of, values_of};
 ghost use Rattle.indexmap.specs.IndexMap.{set_value_at};
-ghost use Rattle.herd_pedigree.specs.rules.Book.{IsDepthOf, changed, has_calved_after, record_of, with_left, with_owner, with_parents};
-ghost use Rattle.herd_pedigree.specs.freezing.Frozen.{IsFrozenFrom};
-ghost use Rattle.herd_pedigree.specs.rules.Lawful.{IsLawful};
-ghost use Rattle.herd_pedigree.specs.rules.ParentFault.{fault_by_records, is_too_deep, parent_fault};
-ghost use Rattle.herd_pedigree.specs.store.Places.{IsIndexIn};
+ghost use Rattle.herd_frozen.specs.rules.Book.{IsDepthOf, changed, has_calved_after, record_of, with_left, with_owner, with_parents};
+ghost use Rattle.herd_frozen.specs.freezing.Frozen.{IsFrozenFrom};
+ghost use Rattle.herd_frozen.specs.rules.Lawful.{IsLawful};
+ghost use Rattle.herd_frozen.specs.rules.ParentFault.{fault_by_records, is_too_deep, parent_fault};
+ghost use Rattle.herd_frozen.specs.places.Places.{IsIndexIn};
 ghost use Rattle.herd_pedigree.specs.Pedigree.{IsBirth, IsCorrection, IsExit, IsNewborn, IsPresentOn, changed_to};
-ghost use Rattle.herd_pedigree.specs.declared.TheConstants.{DEPTH_LIMIT, MOST_ANIMALS};
+ghost use Rattle.herd_frozen.specs.declared.TheConstants.{DEPTH_LIMIT, MOST_ANIMALS};
 
-use crate::DEPTH_LIMIT;
-use crate::freezing::freeze::frozen_from;
-use crate::freezing::frozen::Frozen;
 use crate::named::sound_parents;
-use crate::rules::animal::Animal;
-use crate::rules::parent_fault::ParentFault;
 use crate::store::correction::Correction;
 use crate::store::depth::{depth_with, undo_writes};
 use crate::store::progeny::Progeny;
 use crate::store::records::Records;
 use crate::store::undo::Undo;
 use herd_animal::{AnimalNumber, Day, Herd};
+use herd_frozen::{Animal, DEPTH_LIMIT, Frozen, ParentFault, frozen_from};
 use std::alloc::{AllocError, Allocator};
 use std::marker::Model;
 
@@ -40,7 +36,7 @@ pub struct Pedigree<A: Allocator> {
 impl<A: Allocator> Model for Pedigree<A> {
     ghost use Rattle.herd_pedigree.specs.Pedigree.{Pedigree};
     ghost use Rattle.herd_pedigree.specs.store.Undo.{IsHeld, undone_book};
-    ghost use Rattle.herd_pedigree.specs.declared.TheConstants.{DEPTH_LIMIT, MOST_ANIMALS};
+    ghost use Rattle.herd_frozen.specs.declared.TheConstants.{DEPTH_LIMIT, MOST_ANIMALS};
 
     ghost Value = { Pedigree };
 

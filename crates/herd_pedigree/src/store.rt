@@ -2,8 +2,7 @@
 
 pub(crate) mod correction;
 pub(crate) mod depth;
-pub(crate) mod links;
-pub(crate) mod packed_index;
 pub(crate) mod progeny;
 pub(crate) mod records;
+pub(crate) mod registered;
 pub(crate) mod undo;

@@ -5,12 +5,12 @@ use Rattle.std.proofs.lemmas.Bool.{le-ltb, lt-ltb}
 use Rattle.std.proofs.lemmas.List.{length-drop, length-take}
 use Rattle.std.proofs.lemmas.List.FromFn.{length-range_with_len}
 use Rattle.std.proofs.lemmas.List.Sums.{count_by-le-length, sum_by-le, sum_by_push}
-use Rattle.herd_pedigree.specs.declared.TheConstants.{DEPTH_LIMIT, MOST_ANIMALS}
-use Rattle.herd_pedigree.specs.declared.freezing.frozen.Row.{Row}
-use Rattle.herd_pedigree.specs.freezing.Frozen.{IsFrozen, level_of}
+use Rattle.herd_frozen.specs.declared.TheConstants.{DEPTH_LIMIT, MOST_ANIMALS}
+use Rattle.herd_frozen.specs.declared.freezing.frozen.Row.{Row}
+use Rattle.herd_frozen.specs.freezing.Frozen.{IsFrozen, level_of}
 use Rattle.herd_kinship.specs.CalfLinks.{calf_count}
-use Rattle.herd_kinship.proofs.CalfCounts.{calf_count-few, count-more, range-more}
-use Rattle.herd_kinship.proofs.FrozenFacts.{length-book_of}
+use Rattle.herd_kinship.proofs.lemmas.sires.CalfCounts.{calf_count-few, count-more, range-more}
+use Rattle.herd_kinship.proofs.lemmas.books.FrozenFacts.{length-book_of}
 use Rattle.herd_pool.specs.Levels.{block_of}
 use Rattle.herd_pool.specs.Sires.{busy_among, calves_among, calves_of}
 use Rattle.herd_pool.proofs.LevelFacts.{length-level_of}

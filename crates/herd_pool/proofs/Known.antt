@@ -1,9 +1,9 @@
 -- What is known of an animal once all animals of less depth have their coefficients.
 use Rattle.std.proofs.Common.{◌≡◌, ℕ, ◌-◌, ◌*◌, ◌^◌, ◌<◌, List, length, min, arith}
-use Rattle.herd_pedigree.specs.declared.freezing.frozen.Row.{Row}
-use Rattle.herd_pedigree.specs.freezing.Frozen.{IsFrozen}
+use Rattle.herd_frozen.specs.declared.freezing.frozen.Row.{Row}
+use Rattle.herd_frozen.specs.freezing.Frozen.{IsFrozen}
 use Rattle.herd_kinship.specs.Coefficients.{KnowsAncestors, coefficient_at, own_relationship}
-use Rattle.herd_kinship.proofs.KnownFacts.{frozen-inbred_value, known-from_levels}
+use Rattle.herd_kinship.proofs.lemmas.tracing.KnownFacts.{frozen-inbred_value, known-from_levels}
 use Rattle.herd_pool.specs.Levels.{KnowsBelow}
 use Rattle.herd_pool.proofs.LevelFacts.{IsRankOf}
 

@@ -4,17 +4,17 @@ use Rattle.std.specs.Int.{div_ceil}
 use Rattle.std.specs.List.{All}
 use Rattle.std.proofs.lemmas.Bool.{cases_lt}
 use Rattle.std.proofs.lemmas.List.Elements.{All-more, All-weaker}
-use Rattle.herd_pedigree.specs.declared.freezing.frozen.Row.{Row}
-use Rattle.herd_pedigree.specs.freezing.Frozen.{depth_at, level_of}
+use Rattle.herd_frozen.specs.declared.freezing.frozen.Row.{Row}
+use Rattle.herd_frozen.specs.freezing.Frozen.{depth_at, level_of}
 use Rattle.herd_kinship.specs.CalfCoefficients.{GoesOnWith}
 use Rattle.herd_kinship.specs.CalfLinks.{IsCalf}
 use Rattle.herd_kinship.specs.Coefficients.{IsLessDeep, coefficient_at}
 use Rattle.herd_kinship.specs.declared.calf_coefficients.CalfCoefficient.{CalfCoefficient}
 use Rattle.herd_kinship.specs.declared.calves.Calves.{Calves}
-use Rattle.herd_kinship.proofs.BySires.{less_deep-next, reached-more}
-use Rattle.herd_kinship.proofs.CalfFacts.{calf-within}
-use Rattle.herd_kinship.proofs.CalfListFacts.{calves-more, calves-none, calves-values, calves-within, calves-written}
-use Rattle.herd_kinship.proofs.FrozenFacts.{frozen-ranked}
+use Rattle.herd_kinship.proofs.lemmas.sires.BySires.{less_deep-next, reached-more}
+use Rattle.herd_kinship.proofs.lemmas.sires.CalfFacts.{calf-within}
+use Rattle.herd_kinship.proofs.lemmas.sires.CalfListFacts.{calves-more, calves-none, calves-values, calves-within, calves-written}
+use Rattle.herd_kinship.proofs.lemmas.books.FrozenFacts.{frozen-ranked}
 use Rattle.herd_pool.specs.Blocks.{once_below, times}
 use Rattle.herd_pool.specs.Levels.{Keeps, block_of}
 use Rattle.herd_pool.specs.Sires.{AreCalvesAmong, AreWritten, HasCalvesOf, HaveValues, IsAmong, KnowsCalvesBelow}

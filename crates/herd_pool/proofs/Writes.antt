@@ -8,11 +8,11 @@ use Rattle.std.proofs.lemmas.Grind.{div_ceil_times}
 use Rattle.std.proofs.lemmas.List.{get_or-drop, get_or-map, get_or-set_other, get_or-set_same, get_or-take, get_or_default, length-drop, length-take}
 use Rattle.std.proofs.lemmas.List.Elements.{All-from_get_or, All-more, All-weaker}
 use Rattle.std.proofs.lemmas.Nat.{div-add-mod', div_below}
-use Rattle.herd_pedigree.specs.declared.freezing.frozen.Row.{Row}
-use Rattle.herd_pedigree.specs.freezing.Frozen.{IsFrozen, depth_at, level_of}
+use Rattle.herd_frozen.specs.declared.freezing.frozen.Row.{Row}
+use Rattle.herd_frozen.specs.freezing.Frozen.{IsFrozen, depth_at, level_of}
 use Rattle.herd_kinship.specs.Coefficients.{AreCoefficients, coefficient_at}
-use Rattle.herd_kinship.proofs.FrozenDepths.{depth-at_most}
-use Rattle.herd_kinship.proofs.KnownFacts.{frozen-coefficient_bound}
+use Rattle.herd_kinship.proofs.lemmas.books.FrozenDepths.{depth-at_most}
+use Rattle.herd_kinship.proofs.lemmas.tracing.KnownFacts.{frozen-coefficient_bound}
 use Rattle.herd_pool.specs.Blocks.{once_below, times}
 use Rattle.herd_pool.specs.Levels.{HasAt, Keeps, KnowsBelow, block_of}
 use Rattle.herd_pool.specs.Sires.{IsAmong}

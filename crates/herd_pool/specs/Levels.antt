@@ -1,7 +1,7 @@
 -- The levels of a frozen book, their blocks, and what is traced of each. l is the limit of depths.
 use Rattle.std.specs.Prelude.{◌≡◌, ℕ, ◌*◌, ◌<◌, ◌⊎◌, List, length, map, take, drop, slice_index}
-use Rattle.herd_pedigree.specs.declared.freezing.frozen.Row.{Row}
-use Rattle.herd_pedigree.specs.freezing.Frozen.{IsFrozen, depth_at, level_of}
+use Rattle.herd_frozen.specs.declared.freezing.frozen.Row.{Row}
+use Rattle.herd_frozen.specs.freezing.Frozen.{IsFrozen, depth_at, level_of}
 use Rattle.herd_kinship.specs.Coefficients.{coefficient_at}
 
 -- the ranks of a block of this length

@@ -1,9 +1,9 @@
 //! What a caller may do where a block begins, and in place of tracing an animal.
 ghost use Rattle.std.specs.Prelude.{◌≡◌, ◌*◌, ◌<◌, length, IfOk, Some};
-ghost use Rattle.herd_pedigree.specs.declared.TheConstants.{DEPTH_LIMIT};
+ghost use Rattle.herd_frozen.specs.declared.TheConstants.{DEPTH_LIMIT};
 ghost use Rattle.herd_kinship.specs.Coefficients.{KnowsAncestors, own_relationship};
 
-use herd_pedigree::Frozen;
+use herd_frozen::Frozen;
 use std::alloc::{AllocError, Allocator};
 
 /// A caller's part in the pool.

@@ -1,7 +1,7 @@
 //! The blocks of a level, written into the list of all numerators.
 ghost use Rattle.std.specs.Prelude.{◌≡◌, ℕ, ◌<◌, All, length, map};
-ghost use Rattle.herd_pedigree.specs.freezing.Frozen.{level_of};
-ghost use Rattle.herd_pedigree.specs.declared.TheConstants.{DEPTH_LIMIT};
+ghost use Rattle.herd_frozen.specs.freezing.Frozen.{level_of};
+ghost use Rattle.herd_frozen.specs.declared.TheConstants.{DEPTH_LIMIT};
 ghost use Rattle.herd_kinship.specs.Coefficients.{coefficient_at};
 ghost use Rattle.herd_pool.specs.Levels.{AreTraced, block_of, HasAt, Keeps};
 ghost use Rattle.herd_pool.specs.Sires.{AreWritten, HaveValues};

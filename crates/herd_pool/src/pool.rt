@@ -1,5 +1,5 @@
 ghost use Rattle.std.specs.Prelude.{◌≡◌, ◌+◌, ◌<◌, ◌≤◌, All, length, IfOk, IfErr, OnOk};
-ghost use Rattle.herd_pedigree.specs.declared.TheConstants.{DEPTH_LIMIT, MOST_ANIMALS};
+ghost use Rattle.herd_frozen.specs.declared.TheConstants.{DEPTH_LIMIT, MOST_ANIMALS};
 ghost use Rattle.herd_kinship.specs.Coefficients.{AreCoefficients};
 ghost use Rattle.herd_kinship.specs.Mates.{IsReady};
 ghost use Rattle.herd_pool.specs.Levels.{KnowsBelow};
@@ -14,8 +14,8 @@ use crate::merge::{write_calves_of, write_traced};
 use crate::pool_fault::PoolFault;
 use crate::sires::SireLevel;
 use crate::traced::TracedLevel;
+use herd_frozen::{DEPTH_LIMIT, Frozen};
 use herd_kinship::{Calves, Coefficients, Mates};
-use herd_pedigree::{DEPTH_LIMIT, Frozen};
 use std::alloc::Allocator;
 use std::sync::Wait;
 use std::thread::Threads;

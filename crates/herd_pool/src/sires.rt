@@ -1,8 +1,8 @@
 //! A level whose sires are gone through: each has its relationships with its mates, half of which their calves have for
 //! coefficient.
 ghost use Rattle.std.specs.Prelude.{◌≡◌, ◌<◌};
-ghost use Rattle.herd_pedigree.specs.declared.TheConstants.{DEPTH_LIMIT, MOST_ANIMALS};
-ghost use Rattle.herd_pedigree.specs.freezing.Frozen.{IsFrozen};
+ghost use Rattle.herd_frozen.specs.declared.TheConstants.{DEPTH_LIMIT, MOST_ANIMALS};
+ghost use Rattle.herd_frozen.specs.freezing.Frozen.{IsFrozen};
 ghost use Rattle.herd_kinship.specs.CalfLinks.{AreCalvesOf};
 ghost use Rattle.herd_pool.specs.Sires.{calves_of, crew_of};
 
@@ -59,7 +59,7 @@ impl<'a, F: Allocator, A: Allocator> SireLevel<'a, F, A> {
 
 impl<'a, F: Allocator + Sync, A: Allocator + Copy + Send + Sync> Work<A> for SireLevel<'a, F, A> {
     ghost use Rattle.std.specs.Prelude.{length};
-    ghost use Rattle.herd_pedigree.specs.declared.TheConstants.{DEPTH_LIMIT, MOST_ANIMALS};
+    ghost use Rattle.herd_frozen.specs.declared.TheConstants.{DEPTH_LIMIT, MOST_ANIMALS};
     ghost use Rattle.herd_kinship.specs.Mates.{IsReady};
     ghost use Rattle.herd_pool.specs.Sires.{HasCalvesOf, KnowsCalvesBelow};
 

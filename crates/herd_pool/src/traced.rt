@@ -17,7 +17,7 @@ pub struct TracedLevel<'a, F: Allocator, G> {
 
 impl<'a, F: Allocator + Sync, G: Gate, A: Allocator + Copy + Send + Sync> Work<A>
     for TracedLevel<'a, F, G> {
-    ghost use Rattle.herd_pedigree.specs.declared.TheConstants.{DEPTH_LIMIT, MOST_ANIMALS};
+    ghost use Rattle.herd_frozen.specs.declared.TheConstants.{DEPTH_LIMIT, MOST_ANIMALS};
     ghost use Rattle.herd_pool.specs.Levels.{AreTraced, KnowsBelow};
 
     /// Nothing.

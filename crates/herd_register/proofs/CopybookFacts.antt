@@ -2,7 +2,7 @@
 use Rattle.std.proofs.Common.{◌≡◌, ℕ, ◌<◌, List, [], ◌∷◌, ◌++◌, length, Option, Some, None, refl, sym, ap, ◌∙◌, arith}
 use Rattle.std.proofs.lemmas.Bool.{lt-ltb}
 use Rattle.std.proofs.lemmas.List.{length-append}
-use Rattle.herd_pedigree.specs.rules.Book.{Book}
+use Rattle.herd_frozen.specs.rules.Book.{Book}
 use Rattle.herd_register.specs.declared.command.Command.{Command}
 use Rattle.herd_register.specs.declared.command.Command.TheVariants.{Birth, Parents, Transfer, Exit}
 use Rattle.herd_register.specs.declared.limits.Limits.{Limits}

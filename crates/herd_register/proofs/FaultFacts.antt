@@ -4,11 +4,11 @@ use Rattle.std.specs.Prelude.{map, if◌then◌else◌, is_some, not, nat_lt, in
 use Rattle.std.specs.Option.{option_map}
 use Rattle.std.proofs.lemmas.Bool.{false≢true, true≢false, ltb-true, not-false}
 use lib.Signed.{lt_z_no}
-use Rattle.herd_pedigree.specs.rules.Book.{Book, record_of, is_there}
-use Rattle.herd_pedigree.specs.rules.ParentFault.{first_that_holds, parent_fault, parent_faults}
+use Rattle.herd_frozen.specs.rules.Book.{Book, record_of, is_there}
+use Rattle.herd_frozen.specs.rules.ParentFault.{first_that_holds, parent_fault, parent_faults}
 use Rattle.herd_pedigree.specs.Pedigree.{IsBirth, IsCorrection, IsPresentOn, IsExit}
-use Rattle.herd_pedigree.specs.declared.rules.animal.Animal.{Animal}
-use Rattle.herd_pedigree.specs.declared.TheConstants.{DEPTH_LIMIT, MOST_ANIMALS}
+use Rattle.herd_frozen.specs.declared.rules.animal.Animal.{Animal}
+use Rattle.herd_frozen.specs.declared.TheConstants.{DEPTH_LIMIT, MOST_ANIMALS}
 use Rattle.herd_register.specs.declared.command.Command.{Command}
 use Rattle.herd_register.specs.declared.command.Command.TheVariants.{Birth, Parents, Transfer, Exit}
 use Rattle.herd_register.specs.declared.limits.Limits.{Limits}

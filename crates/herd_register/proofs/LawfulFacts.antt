@@ -1,9 +1,9 @@
 -- The book of commands is lawful: each command that nothing refuses leaves it so.
 use Rattle.std.proofs.Common.{◌≡◌, ◌≤◌, List, [], ◌∷◌, Option, Some, None, refl}
-use Rattle.herd_pedigree.specs.rules.Book.{Book}
-use Rattle.herd_pedigree.specs.rules.Lawful.{IsLawful}
-use Rattle.herd_pedigree.specs.declared.TheConstants.{DEPTH_LIMIT, MOST_ANIMALS}
-use Rattle.herd_pedigree.proofs.lemmas.rules.LawfulChanges.{lawful-birth, lawful-empty, lawful-exit, lawful-owner, lawful-parents}
+use Rattle.herd_frozen.specs.rules.Book.{Book}
+use Rattle.herd_frozen.specs.rules.Lawful.{IsLawful}
+use Rattle.herd_frozen.specs.declared.TheConstants.{DEPTH_LIMIT, MOST_ANIMALS}
+use Rattle.herd_pedigree.proofs.lemmas.LawfulChanges.{lawful-birth, lawful-empty, lawful-exit, lawful-owner, lawful-parents}
 use Rattle.herd_register.specs.declared.command.Command.{Command}
 use Rattle.herd_register.specs.declared.command.Command.TheVariants.{Birth, Parents, Transfer, Exit}
 use Rattle.herd_register.specs.declared.limits.Limits.{Limits}

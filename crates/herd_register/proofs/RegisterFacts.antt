@@ -1,7 +1,7 @@
 -- What a register keeps, once a step is filed or withdrawn.
 use Rattle.std.proofs.Common.{◌≡◌, ◌<◌, ◌≤◌, true, false, List, [], ◌∷◌, ◌++◌, length, Some, refl, sym, ap, ◌∙◌, subst, arith}
 use Rattle.std.proofs.lemmas.List.{length-append}
-use Rattle.herd_pedigree.specs.rules.Book.{Book}
+use Rattle.herd_frozen.specs.rules.Book.{Book}
 use Rattle.herd_pedigree.specs.Pedigree.{Pedigree}
 use Rattle.herd_register.specs.declared.reply.Reply.{Reply}
 use Rattle.herd_register.specs.declared.reply.Reply.TheVariants.{Accepted, Refused}

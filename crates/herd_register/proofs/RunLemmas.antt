@@ -1,8 +1,8 @@
 -- Runs of one command more, and of legal steps.
 use Rattle.std.proofs.Common.{◌≡◌, ◌≤◌, List, [], ◌∷◌, ◌++◌, length, Option, None, Some, refl, sym, ap, ◌∙◌, arith}
 use Rattle.std.proofs.lemmas.List.{length-append, map-append}
-use Rattle.herd_pedigree.specs.rules.Book.{Book, with_left, with_owner, with_parents}
-use Rattle.herd_pedigree.proofs.lemmas.rules.BookFacts.{length-changed}
+use Rattle.herd_frozen.specs.rules.Book.{Book, with_left, with_owner, with_parents}
+use Rattle.herd_frozen.proofs.lemmas.rules.BookFacts.{length-changed}
 use Rattle.herd_register.specs.declared.command.Command.{Command}
 use Rattle.herd_register.specs.declared.command.Command.TheVariants.{Birth, Parents, Transfer, Exit}
 use Rattle.herd_register.specs.declared.limits.Limits.{Limits}

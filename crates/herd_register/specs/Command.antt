@@ -1,7 +1,7 @@
 -- What a command asks of the pedigree that it changes.
-use Rattle.herd_pedigree.specs.rules.Book.{Book}
+use Rattle.herd_frozen.specs.rules.Book.{Book}
 use Rattle.herd_pedigree.specs.Pedigree.{IsBirth, IsCorrection, IsPresentOn, IsExit}
-use Rattle.herd_pedigree.specs.declared.TheConstants.{DEPTH_LIMIT, MOST_ANIMALS}
+use Rattle.herd_frozen.specs.declared.TheConstants.{DEPTH_LIMIT, MOST_ANIMALS}
 use Rattle.herd_register.specs.declared.command.Command.{Command}
 use Rattle.herd_register.specs.declared.command.Command.TheVariants.{Birth, Parents, Transfer, Exit}
 use Rattle.herd_register.specs.Run.{newborn}

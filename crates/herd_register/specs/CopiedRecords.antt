@@ -1,8 +1,8 @@
 -- The records of a book, with room for a fixed number of them.
 use Rattle.std.specs.Prelude.{◌≡◌, ℕ, ◌+◌, ◌≤◌, Bool, List, length, nat_lt, ◌||◌, if◌then◌else◌}
 use Rattle.std.specs.Map.{keys_of}
-use Rattle.herd_pedigree.specs.declared.rules.animal.Animal.{Animal}
-use Rattle.herd_pedigree.specs.rules.Book.{Book, is_there}
+use Rattle.herd_frozen.specs.declared.rules.animal.Animal.{Animal}
+use Rattle.herd_frozen.specs.rules.Book.{Book, is_there}
 use Rattle.herd_register.specs.Run.{with_record}
 
 -- the records, and how many there may be

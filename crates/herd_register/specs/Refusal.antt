@@ -1,7 +1,7 @@
 -- The numbers of refusals, and the refusals that faults of parents are.
 use Rattle.std.specs.Prelude.{ℕ}
-use Rattle.herd_pedigree.specs.declared.rules.parent_fault.ParentFault.{ParentFault}
-use Rattle.herd_pedigree.specs.declared.rules.parent_fault.ParentFault.TheVariants as parent
+use Rattle.herd_frozen.specs.declared.rules.parent_fault.ParentFault.{ParentFault}
+use Rattle.herd_frozen.specs.declared.rules.parent_fault.ParentFault.TheVariants as parent
 use Rattle.herd_register.specs.declared.reply.Refusal.{Refusal}
 use Rattle.herd_register.specs.declared.reply.Refusal.TheVariants.{AlreadyThere, BookFull, SireMissing, DamMissing, SireNotMale, DamNotFemale, SireNotOlder, DamNotOlder, DamGone, TooDeep, NotRegistered, Gone, NotOwner, DayTooEarly, SameHerd, CalvedLater}
 

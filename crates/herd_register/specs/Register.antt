@@ -1,8 +1,8 @@
 -- A register as contracts see it, and what its calls make of it.
 use Rattle.std.specs.Prelude.{◌≡◌, ℕ, ◌-◌, ◌==◌, ◌≤◌, ◌<◌, Bool, true, false, IsTrue, List, [], ◌∷◌, ◌++◌, length, take, slice_get, if◌then◌else◌, Option, Some, None}
-use Rattle.herd_pedigree.specs.rules.Book.{Book}
+use Rattle.herd_frozen.specs.rules.Book.{Book}
 use Rattle.herd_pedigree.specs.Pedigree.{Pedigree}
-use Rattle.herd_pedigree.specs.declared.TheConstants.{MOST_ANIMALS}
+use Rattle.herd_frozen.specs.declared.TheConstants.{MOST_ANIMALS}
 use Rattle.herd_register.specs.declared.limits.Limits.{Limits}
 use Rattle.herd_register.specs.declared.limits.TheConstants.{MOST_STEPS}
 use Rattle.herd_register.specs.declared.reply.Reply.TheVariants.{Accepted}

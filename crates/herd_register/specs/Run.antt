@@ -1,10 +1,10 @@
 -- What a register of one thread does: the refusal of a command, its step, and the run of commands one after the other.
 use Rattle.std.specs.Prelude.{◌≡◌, ℕ, Bool, true, false, List, [], ◌∷◌, ◌++◌, map, length, not, nat_lt, nat_eq, int_lt, is_some, if◌then◌else◌, Option, None, ℤ}
 use Rattle.std.specs.Option.{option_map_or}
-use Rattle.herd_pedigree.specs.rules.Book.{Book, record_of, is_there, changed, with_parents, with_owner, with_left, has_calved_after}
-use Rattle.herd_pedigree.specs.rules.ParentFault.{first_that_holds, parent_faults}
-use Rattle.herd_pedigree.specs.declared.rules.animal.Animal.{Animal}
-use Rattle.herd_pedigree.specs.declared.TheConstants.{DEPTH_LIMIT}
+use Rattle.herd_frozen.specs.rules.Book.{Book, record_of, is_there, changed, with_parents, with_owner, with_left, has_calved_after}
+use Rattle.herd_frozen.specs.rules.ParentFault.{first_that_holds, parent_faults}
+use Rattle.herd_frozen.specs.declared.rules.animal.Animal.{Animal}
+use Rattle.herd_frozen.specs.declared.TheConstants.{DEPTH_LIMIT}
 use Rattle.herd_register.specs.declared.command.Command.{Command}
 use Rattle.herd_register.specs.declared.command.Command.TheVariants.{Birth, Parents, Transfer, Exit}
 use Rattle.herd_register.specs.declared.reply.Refusal.{Refusal}

@@ -1,10 +1,10 @@
 //! The records of a book, in a fixed room.
 ghost use Rattle.std.specs.Prelude.{◌≡◌, [], IfOk};
-ghost use Rattle.herd_pedigree.specs.rules.Book.{changed, with_left, with_owner, with_parents};
+ghost use Rattle.herd_frozen.specs.rules.Book.{changed, with_left, with_owner, with_parents};
 ghost use Rattle.herd_register.specs.CopiedRecords.{records_of, with_record_in};
 
 use herd_animal::{AnimalNumber, Day, Herd};
-use herd_pedigree::Animal;
+use herd_frozen::Animal;
 use indexmap::IndexSet;
 use std::alloc::{AllocError, Allocator};
 use std::hash::{BuildHasherDefault, FoldHasher};

@@ -1,7 +1,7 @@
 ghost use Rattle.std.specs.Prelude.{◌≡◌, ◌≤◌, [], IfOk, length};
-ghost use Rattle.herd_pedigree.specs.freezing.Frozen.{IsFrozenFrom};
-ghost use Rattle.herd_pedigree.specs.rules.Lawful.{IsLawful};
-ghost use Rattle.herd_pedigree.specs.declared.TheConstants.{DEPTH_LIMIT, MOST_ANIMALS};
+ghost use Rattle.herd_frozen.specs.freezing.Frozen.{IsFrozenFrom};
+ghost use Rattle.herd_frozen.specs.rules.Lawful.{IsLawful};
+ghost use Rattle.herd_frozen.specs.declared.TheConstants.{DEPTH_LIMIT, MOST_ANIMALS};
 ghost use Rattle.herd_register.specs.Copybook.{copybook_of, set_in, taken_over};
 ghost use Rattle.herd_register.specs.CopiedRecords.{records_of};
 ghost use Rattle.herd_register.specs.Register.{AreLimits};
@@ -13,7 +13,7 @@ use crate::limits::Limits;
 use crate::reply::Reply;
 use crate::step::Step;
 use herd_animal::AnimalNumber;
-use herd_pedigree::{Animal, Frozen, freeze_list};
+use herd_frozen::{Animal, Frozen, freeze_list};
 use std::alloc::{AllocError, Allocator};
 use std::marker::Model;
 

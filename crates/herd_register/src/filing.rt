@@ -1,16 +1,17 @@
 //! What a command asks of the pedigree, and what it changes in it.
 ghost use Rattle.std.specs.Prelude.{◌≡◌, ◌≤◌, IfNone, IfOk, IsSome, OnOk, OnErr};
-ghost use Rattle.herd_pedigree.specs.rules.Book.{changed, with_left, with_owner, with_parents};
-ghost use Rattle.herd_pedigree.specs.rules.ParentFault.{first_that_holds};
+ghost use Rattle.herd_frozen.specs.rules.Book.{changed, with_left, with_owner, with_parents};
+ghost use Rattle.herd_frozen.specs.rules.ParentFault.{first_that_holds};
 ghost use Rattle.herd_pedigree.specs.Pedigree.{changed_to};
-ghost use Rattle.herd_pedigree.specs.declared.TheConstants.{MOST_ANIMALS};
+ghost use Rattle.herd_frozen.specs.declared.TheConstants.{MOST_ANIMALS};
 ghost use Rattle.herd_register.specs.Run.{answer, birth_refusals, correction_refusals, exit_refusals, next, transfer_refusals, with_record};
 
 use crate::command::Command;
 use crate::limits::Limits;
 use crate::reply::{Refusal, Reply};
 use herd_animal::{AnimalNumber, Day, Herd};
-use herd_pedigree::{Animal, Pedigree};
+use herd_frozen::Animal;
+use herd_pedigree::Pedigree;
 use std::alloc::{AllocError, Allocator};
 
 impl Command {

@@ -1,7 +1,7 @@
 ghost use Rattle.std.specs.Prelude.{◌≡◌};
 ghost use Rattle.herd_register.specs.Refusal.{refusal_number, refusal_of};
 
-use herd_pedigree::ParentFault;
+use herd_frozen::ParentFault;
 use thiserror::Error;
 
 /// Why a command was refused. The first that holds, in the order of the command's kind, is told.

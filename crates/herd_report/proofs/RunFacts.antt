@@ -3,11 +3,11 @@ use Rattle.std.proofs.Common.{◌≡◌, ◌≢◌, ◌↔◌, inl, inr, ℕ, su
 use Rattle.std.proofs.lemmas.List.Sorted.{IsPermutation-sym}
 use Rattle.std.specs.Prelude.{Bool, is_some}
 use Rattle.std.specs.Io.KnownBytes.{Appends}
-use Rattle.herd_pedigree.specs.rules.Book.{Book, is_there}
-use Rattle.herd_pedigree.specs.freezing.Frozen.{IsFrozenFrom, book_of}
-use Rattle.herd_pedigree.specs.declared.TheConstants.{DEPTH_LIMIT, MOST_ANIMALS}
-use Rattle.herd_pedigree.specs.declared.freezing.frozen.Row.{Row}
-use Rattle.herd_pedigree.proofs.lemmas.rules.PermutedFacts.{record_of-permuted}
+use Rattle.herd_frozen.specs.rules.Book.{Book, is_there}
+use Rattle.herd_frozen.specs.freezing.Frozen.{IsFrozenFrom, book_of}
+use Rattle.herd_frozen.specs.declared.TheConstants.{DEPTH_LIMIT, MOST_ANIMALS}
+use Rattle.herd_frozen.specs.declared.freezing.frozen.Row.{Row}
+use Rattle.herd_frozen.proofs.lemmas.rules.PermutedFacts.{record_of-permuted}
 use Rattle.herd_register.specs.Register.{Register, with_step}
 use Rattle.herd_register.specs.Register.{register_book}
 use Rattle.herd_register.specs.Run.{answer, next, step_of, book_after, commands_of, run_book}

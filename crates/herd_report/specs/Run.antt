@@ -1,10 +1,10 @@
 -- What a run writes for a command file, and how it may end.
 use Rattle.std.specs.Prelude.{◌≡◌, ◌≢◌, ◌⊎◌, ◌<◌, ◌≤◌, ℕ, List, [], ◌∷◌, ⊤, Option, Some, None, true, false, length}
 use Rattle.std.specs.Io.KnownBytes.{Appends}
-use Rattle.herd_pedigree.specs.rules.Book.{Book, is_there}
-use Rattle.herd_pedigree.specs.freezing.Frozen.{IsFrozenFrom, book_of}
-use Rattle.herd_pedigree.specs.declared.TheConstants.{DEPTH_LIMIT, MOST_ANIMALS}
-use Rattle.herd_pedigree.specs.declared.freezing.frozen.Row.{Row}
+use Rattle.herd_frozen.specs.rules.Book.{Book, is_there}
+use Rattle.herd_frozen.specs.freezing.Frozen.{IsFrozenFrom, book_of}
+use Rattle.herd_frozen.specs.declared.TheConstants.{DEPTH_LIMIT, MOST_ANIMALS}
+use Rattle.herd_frozen.specs.declared.freezing.frozen.Row.{Row}
 use Rattle.herd_register.specs.Register.{Register}
 use Rattle.herd_register.specs.Run.{answer, next, run_book, step_of}
 use Rattle.herd_register.specs.declared.command.Command.{Command}

@@ -9,7 +9,7 @@ use crate::arguments::{Request, Task, read_words};
 use crate::desks::clerks;
 use crate::ending::Ending;
 use crate::task_fault::TaskFault;
-use herd_pedigree::MOST_ANIMALS;
+use herd_frozen::MOST_ANIMALS;
 use herd_register::{Limits, MOST_STEPS};
 use herd_report::run;
 use std::alloc::Global;

@@ -6,7 +6,7 @@
 #![tactic(auto)]
 
 ghost use Rattle.std.specs.Prelude.{◌≡◌, ◌+◌, ◌*◌, ◌^◌, ◌<◌, false, length, OnErr, OnOk};
-ghost use Rattle.herd_pedigree.specs.declared.TheConstants.{DEPTH_LIMIT};
+ghost use Rattle.herd_frozen.specs.declared.TheConstants.{DEPTH_LIMIT};
 ghost use Rattle.herd_kinship.specs.Coefficients.{AreCoefficients};
 ghost use Rattle.herd_kinship.specs.Fraction.{halved};
 ghost use Rattle.herd_kinship.specs.FrozenAncestry.{ancestry_of, number_of_row};
@@ -14,8 +14,8 @@ ghost use Rattle.herd_kinship.specs.Table.{coefficient};
 
 use anyhow::Result;
 use herd_animal::{AnimalNumber, Day, Herd};
+use herd_frozen::{Frozen, MOST_ANIMALS};
 use herd_kinship::{Coefficients, Fraction, coefficients_plain, fraction, mating};
-use herd_pedigree::{Frozen, MOST_ANIMALS};
 use herd_register::{Command, Limits, MOST_STEPS, Register, Reply};
 use std::alloc::Global;
 use std::io;

@@ -14,9 +14,9 @@ ghost use Rattle.herd_office.specs.Parts.{AreNamed};
 
 use anyhow::{Context, Result, bail};
 use herd_animal::Herd;
+use herd_frozen::{Frozen, MOST_ANIMALS};
 use herd_kinship::{coefficients_plain, fraction};
 use herd_office::{Desk, FreezeFault, Inspector, Office, OfficeName, OfficeParts};
-use herd_pedigree::{Frozen, MOST_ANIMALS};
 use herd_register::{Command, FileFault, Limits, MOST_STEPS};
 use std::alloc::{AllocError, Global};
 use std::marker::Brand;
@@ -139,8 +139,7 @@ fn work_side_by_side<N: OfficeName + Send + Sync, R: Threads + Wait + Sync>(
 }
 
 // Files births one after the other, and gives the desk back, which has counted each call that was answered. `file`
-// waits
-// for the lock, files the command, and shows its step to the inspectors. Any thread may call it.
+// waits for the lock, files the command, and shows its step to the inspectors. Any thread may call it.
 fn file_births<N: OfficeName, R: Wait>(
     rt: &R,
     office: &Office<N, &R>,

@@ -4,7 +4,7 @@ use anyhow::Result;
 use herd_animal::{Day, Herd};
 use herd_fixtures::Name::Bull;
 use herd_fixtures::herd_of;
-use herd_pedigree::MOST_ANIMALS;
+use herd_frozen::MOST_ANIMALS;
 use herd_register::Command;
 
 /// Bulls without parents, all of one day and of one herd.

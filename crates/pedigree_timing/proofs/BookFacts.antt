@@ -9,10 +9,10 @@ use Rattle.herd_fixtures.specs.Birth.{entry}
 use Rattle.herd_fixtures.specs.Name.{number_named}
 use Rattle.herd_fixtures.specs.declared.birth.Birth.{Birth}
 use Rattle.herd_fixtures.specs.declared.name.Name.TheVariants.{Bull}
-use Rattle.herd_pedigree.specs.declared.rules.animal.Animal.{Animal}
-use Rattle.herd_pedigree.specs.rules.Book.{Book, changed, with_parents}
-use Rattle.herd_pedigree.specs.freezing.Frozen.{IsFrozenFrom, book_of}
-use Rattle.herd_pedigree.specs.declared.freezing.frozen.Row.{Row}
+use Rattle.herd_frozen.specs.declared.rules.animal.Animal.{Animal}
+use Rattle.herd_frozen.specs.rules.Book.{Book, changed, with_parents}
+use Rattle.herd_frozen.specs.freezing.Frozen.{IsFrozenFrom, book_of}
+use Rattle.herd_frozen.specs.declared.freezing.frozen.Row.{Row}
 use Rattle.pedigree_timing.specs.declared.filling.TheConstants.{LINE}
 use Rattle.pedigree_timing.specs.Books.{first_of, lines_in, corrected}
 

@@ -5,7 +5,7 @@ use Rattle.herd_fixtures.specs.Birth.{entry}
 use Rattle.herd_fixtures.specs.Name.{number_named}
 use Rattle.herd_fixtures.specs.declared.birth.Birth.{Birth}
 use Rattle.herd_fixtures.specs.declared.name.Name.TheVariants.{Bull, Cow}
-use Rattle.herd_pedigree.specs.rules.Book.{Book, changed, with_parents}
+use Rattle.herd_frozen.specs.rules.Book.{Book, changed, with_parents}
 use Rattle.pedigree_timing.specs.declared.filling.TheConstants.{LINE, PAIRS}
 use Rattle.pedigree_timing.specs.Animals.{birth_in, calf_birth}
 

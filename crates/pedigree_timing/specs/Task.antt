@@ -1,7 +1,7 @@
 -- What the words of the command line ask for, the program's own name first.
 use Rattle.std.specs.Prelude.{◌≡◌, ℕ, ◌<◌, ◌^◌, max, List, slice_get, codes, Some}
 use Rattle.std.specs.Str.Parse.{IsNumeral, digits_value, without_leading_plus}
-use Rattle.herd_pedigree.specs.rules.Book.{Book}
+use Rattle.herd_frozen.specs.rules.Book.{Book}
 use Rattle.pedigree_timing.specs.Books.{first_of, paired_birth, lined_birth, corrected}
 use Rattle.pedigree_timing.specs.declared.task.Task.{Task}
 use Rattle.pedigree_timing.specs.declared.task.Task.TheVariants.{Births, Freeze, Corrections}

@@ -2,7 +2,7 @@
 
 ghost use Rattle.std.specs.Prelude.{◌≡◌, length, max, None, IfOk, OnOk, OnErr};
 ghost use Rattle.std.specs.Map.{keys_of};
-ghost use Rattle.herd_pedigree.specs.rules.Book.{changed, with_parents};
+ghost use Rattle.herd_frozen.specs.rules.Book.{changed, with_parents};
 ghost use Rattle.pedigree_timing.specs.Books.{corrected, first_of, lined_birth, paired_birth};
 
 use crate::animals::{born_in, calf};

@@ -1,10 +1,10 @@
 //! Coefficients that two workers compute.
-ghost use Rattle.herd_pedigree.specs.declared.TheConstants.{DEPTH_LIMIT};
+ghost use Rattle.herd_frozen.specs.declared.TheConstants.{DEPTH_LIMIT};
 ghost use Rattle.herd_kinship.specs.Coefficients.{AreCoefficients};
 
 use herd_fixtures::generations;
+use herd_frozen::Frozen;
 use herd_kinship::{Coefficients, fraction};
-use herd_pedigree::Frozen;
 use herd_pool::{NoGate, PoolFault, coefficients};
 use std::alloc::Global;
 use std::io;

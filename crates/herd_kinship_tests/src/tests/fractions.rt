@@ -1,7 +1,7 @@
 //! Coefficients as fractions and as percentages.
 
 ghost use Rattle.std.specs.Prelude.{◌*◌, ◌^◌, ◌<◌, false};
-ghost use Rattle.herd_pedigree.specs.declared.TheConstants.{DEPTH_LIMIT};
+ghost use Rattle.herd_frozen.specs.declared.TheConstants.{DEPTH_LIMIT};
 
 use herd_kinship::{Fraction, fraction, hundredths};
 use std::process::Abort;

@@ -3,8 +3,8 @@
 use herd_animal::AnimalNumber;
 use herd_fixtures::Name::{Bull, Cow};
 use herd_fixtures::{frozen_of, full_sibs, generations};
+use herd_frozen::Frozen;
 use herd_kinship::*;
-use herd_pedigree::Frozen;
 use std::alloc::Global;
 use std::process::Abort;
 use std::test::Fail;

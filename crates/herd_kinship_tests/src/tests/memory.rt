@@ -1,12 +1,12 @@
 //! Growths that are refused.
 
-ghost use Rattle.herd_pedigree.specs.declared.TheConstants.{DEPTH_LIMIT};
+ghost use Rattle.herd_frozen.specs.declared.TheConstants.{DEPTH_LIMIT};
 ghost use Rattle.herd_kinship.specs.Coefficients.{AreCoefficients};
 
 use herd_fixtures::Name::{Bull, Cow};
 use herd_fixtures::{frozen_of, full_sibs};
+use herd_frozen::Frozen;
 use herd_kinship::*;
-use herd_pedigree::Frozen;
 use linked_list_allocator::LocalHeap;
 use std::alloc::Global;
 use std::test::Fail;

@@ -2,8 +2,8 @@
 
 use super::books::{father_and_daughter, half_cousins, half_sibs, with_one_parent};
 use herd_fixtures::{Birth, frozen_of, full_sibs, generations};
+use herd_frozen::Frozen;
 use herd_kinship::*;
-use herd_pedigree::Frozen;
 use std::alloc::Global;
 use std::process::Abort;
 use std::test::Fail;

@@ -6,8 +6,9 @@ use herd_fixtures::Name::{Bull, Cow};
 use herd_fixtures::{
     Birth, BirthFault, DayText, Name, Pair, UNKNOWN, file_birth, frozen_of, full_sibs,
 };
+use herd_frozen::Frozen;
 use herd_kinship::*;
-use herd_pedigree::{Frozen, Pedigree};
+use herd_pedigree::Pedigree;
 use std::alloc::Global;
 use std::process::Abort;
 use std::test::Fail;

@@ -1,7 +1,7 @@
 -- Depths carried on after a change of parents.
 use Rattle.std.specs.Prelude.{◌≡◌, ◌⊎◌, ℕ, ◌+◌, List, ◌++◌, min, Contains, IsTrue, All}
-use Rattle.herd_pedigree.specs.rules.Paths.{Parentage, has_path}
-use Rattle.herd_pedigree.specs.rules.Depths.{IsParent, depth_from}
+use Rattle.herd_frozen.specs.rules.Paths.{Parentage, has_path}
+use Rattle.herd_frozen.specs.rules.Depths.{IsParent, depth_from}
 
 -- each animal that isn't pending has the depth that its parents' depths give, cut off above the limit
 abbrev pub IsSettled : {A : Type 0} → ℕ → Parentage A → (A → ℕ) → List A → Type 0

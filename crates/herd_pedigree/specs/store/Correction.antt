@@ -1,9 +1,9 @@
 -- The parents by place, with those of one animal exchanged.
 use Rattle.std.specs.Prelude.{◌≡◌, ℕ, ◌<◌, length, slice_set}
 use Rattle.herd_pedigree.specs.declared.store.correction.Correction.{Correction}
-use Rattle.herd_pedigree.specs.rules.Paths.{Parentage}
-use Rattle.herd_pedigree.specs.rules.Depths.{IsParent}
-use Rattle.herd_pedigree.specs.store.Places.{parentage_at}
+use Rattle.herd_frozen.specs.rules.Paths.{Parentage}
+use Rattle.herd_frozen.specs.rules.Depths.{IsParent}
+use Rattle.herd_frozen.specs.places.Places.{parentage_at}
 
 -- the places that there are, and the known parents of each
 abbrev pub corrected : {A : Type 0} → Correction A → Parentage ℕ

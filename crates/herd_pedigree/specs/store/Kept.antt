@@ -1,9 +1,9 @@
 -- What a pedigree keeps beside its book.
 use Rattle.std.specs.Prelude.{◌≡◌, ℕ, List, length, slice_index, Option}
-use Rattle.herd_pedigree.specs.rules.Book.{Book}
-use Rattle.herd_pedigree.specs.rules.Lawful.{IsLawful}
-use Rattle.herd_pedigree.specs.store.Places.{AreParents, parentage_at}
-use Rattle.herd_pedigree.specs.rules.Depths.{AreDepths}
+use Rattle.herd_frozen.specs.rules.Book.{Book}
+use Rattle.herd_frozen.specs.rules.Lawful.{IsLawful}
+use Rattle.herd_frozen.specs.places.Places.{AreParents, parentage_at}
+use Rattle.herd_frozen.specs.rules.Depths.{AreDepths}
 
 -- the book is lawful, and the parents and the depths by place are its own
 pub record IsKept (l most : ℕ) (book : Book) (sires dams : List (Option ℕ)) (depths : List ℕ) : Type 0 where

@@ -1,20 +1,15 @@
 -- The records of a book by place, each with the places of its parents.
 use Rattle.std.specs.Prelude.{◌≡◌, ℕ, ◌<◌, List, map, length, slice_get, IfSome, Option, Some}
 use Rattle.std.specs.Map.{keys_of}
-use Rattle.std.specs.Option.{option_and_then}
-use Rattle.herd_pedigree.specs.declared.rules.animal.Animal.{Animal}
+use Rattle.herd_frozen.specs.declared.rules.animal.Animal.{Animal}
 use Rattle.herd_pedigree.specs.declared.store.records.StoredRecord.{StoredRecord}
-use Rattle.herd_pedigree.specs.rules.Book.{Book}
-use Rattle.herd_pedigree.specs.store.Places.{IsIndexIn}
+use Rattle.herd_frozen.specs.rules.Book.{Book}
+use Rattle.herd_frozen.specs.places.Places.{IsIndexIn, number_at}
 
 -- a book, and for how many more animals there is room
 pub record Records : Type 0 where
   pub book : Book
   pub room : ℕ
-
--- the number that stands at a place
-abbrev pub number_at : List (List ℕ) → Option ℕ → Option (List ℕ)
-number_at numbers place = option_and_then (slice_get numbers) place
 
 -- the record of an entry, with the numbers of the parents for their places
 abbrev pub named : List (List ℕ) → StoredRecord → Animal

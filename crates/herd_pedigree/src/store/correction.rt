@@ -1,14 +1,14 @@
 //! The parents by place, with those of one animal exchanged, and the depths that follow.
 ghost use Rattle.std.specs.Prelude.{◌≡◌, ℕ, suc, ◌+◌, ◌<◌, ◌≤◌, ◌==◌, ◌++◌, ◌∷◌, [], List, All, IsTrue, IsFalse, ◌↔◌, IfNone, IfOk, IfSome, OnOk, OnErr, Some, filter, length, min, not, slice_index};
 ghost use Rattle.herd_pedigree.specs.store.Carry.{AddsCalves, HavePaths, IsSettled};
-ghost use Rattle.herd_pedigree.specs.rules.Depths.{IsParent, depth_from};
-ghost use Rattle.herd_pedigree.specs.rules.Paths.{has_path};
+ghost use Rattle.herd_frozen.specs.rules.Depths.{IsParent, depth_from};
+ghost use Rattle.herd_frozen.specs.rules.Paths.{has_path};
 ghost use Rattle.herd_pedigree.specs.store.Undo.{undone_writes};
-ghost use Rattle.herd_pedigree.specs.declared.TheConstants.{DEPTH_LIMIT};
+ghost use Rattle.herd_frozen.specs.declared.TheConstants.{DEPTH_LIMIT};
 
-use crate::DEPTH_LIMIT;
 use crate::store::depth::{depth_with, undo_writes};
 use crate::store::progeny::{Calves, Progeny};
+use herd_frozen::DEPTH_LIMIT;
 use std::alloc::{AllocError, Allocator};
 
 /// The parents of all animals by place, as they would be if one had these.

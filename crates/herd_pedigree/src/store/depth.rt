@@ -1,6 +1,6 @@
 //! The depth of an animal by the depths of its parents.
 ghost use Rattle.std.specs.Prelude.{◌≡◌, ◌<◌, ◌≤◌, [], All, IfSome, length, slice_index};
-ghost use Rattle.herd_pedigree.specs.rules.Depths.{depth_above, depth_from};
+ghost use Rattle.herd_frozen.specs.rules.Depths.{depth_above, depth_from};
 ghost use Rattle.herd_pedigree.specs.store.Undo.{undone_writes};
 
 use std::alloc::Allocator;

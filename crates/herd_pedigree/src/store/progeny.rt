@@ -2,10 +2,10 @@
 ghost use Rattle.std.specs.Prelude.{◌≡◌, ◌+◌, ◌^◌, ◌-◌, ◌<◌, ◌↔◌, ℕ, [], ◌++◌, ◌∷◌, Some, None, Contains, length, slice_set, IsFalse, IsTrue, OnOk};
 ghost use Rattle.std.specs.Iterator.{YieldsFirst, item_count};
 ghost use Rattle.herd_pedigree.specs.store.Calves.{AreChained, Show, family_at, first_of, next_of, parent_of, parents_of, previous_of, put};
-ghost use Rattle.herd_pedigree.specs.store.Places.{parent_at};
+ghost use Rattle.herd_frozen.specs.places.Places.{parent_at};
 ghost use Rattle.herd_pedigree.specs.store.Undo.{without_last};
 
-use crate::store::packed_index::PackedIndex;
+use herd_frozen::PackedIndex;
 use std::alloc::{AllocError, Allocator};
 use std::marker::Model;
 

@@ -1,4 +1,4 @@
-use crate::rules::animal::Animal;
+use herd_frozen::Animal;
 
 /// What the last change wrote over.
 #[derive(Clone, Copy, Debug, PartialEq, Eq)]

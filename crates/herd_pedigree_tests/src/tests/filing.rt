@@ -1,7 +1,8 @@
 //! Changes of a pedigree that are checked first, as a register does. What isn't allowed is no change of a test.
 
 use herd_animal::{AnimalNumber, Day, Herd};
-use herd_pedigree::{Animal, MOST_ANIMALS, ParentFault, Pedigree};
+use herd_frozen::{Animal, MOST_ANIMALS, ParentFault};
+use herd_pedigree::Pedigree;
 use std::alloc::{AllocError, Allocator};
 use std::process::Abort;
 

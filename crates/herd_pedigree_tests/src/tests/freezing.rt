@@ -1,13 +1,14 @@
 //! Books that are frozen: their rows, and the ranks of numbers.
 ghost use Rattle.std.specs.Prelude.{◌≡◌, [], ◌∷◌, length, map, IfOk, OnOk};
 ghost use Rattle.herd_fixtures.specs.Birth.{entry};
-ghost use Rattle.herd_pedigree.specs.rules.Lawful.{IsLawful};
-ghost use Rattle.herd_pedigree.specs.declared.TheConstants.{DEPTH_LIMIT, MOST_ANIMALS};
+ghost use Rattle.herd_frozen.specs.rules.Lawful.{IsLawful};
+ghost use Rattle.herd_frozen.specs.declared.TheConstants.{DEPTH_LIMIT, MOST_ANIMALS};
 
 use herd_animal::{AnimalNumber, DayFault};
 use herd_fixtures::Name::{Bull, Cow};
 use herd_fixtures::{Birth, BirthFault, Pair, UNKNOWN, pedigree_of, row_at};
-use herd_pedigree::{Animal, Frozen, Parents, Pedigree, Row, freeze_list};
+use herd_frozen::{Animal, Frozen, Parents, Row, freeze_list};
+use herd_pedigree::Pedigree;
 use linked_list_allocator::LocalHeap;
 use std::alloc::{Allocator, Global};
 use std::process::Abort;

@@ -3,7 +3,7 @@
 use super::changes::{Change, expect_faults, pedigree_of};
 use herd_fixtures::Name::{Bull, Cow};
 use herd_fixtures::{Pair, UNKNOWN};
-use herd_pedigree::ParentFault;
+use herd_frozen::ParentFault;
 use std::test::Fail;
 
 // A bull, and a daughter and a son of his; the daughter leaves.

@@ -3,7 +3,8 @@
 use super::days::day;
 use herd_fixtures::Name;
 use herd_fixtures::Name::{Bull, Cow};
-use herd_pedigree::{Animal, Pedigree};
+use herd_frozen::Animal;
+use herd_pedigree::Pedigree;
 use std::alloc::Allocator;
 use std::process::Abort;
 

@@ -1,7 +1,8 @@
 //! Books whose parents are drawn.
 use herd_fixtures::Name::{Bull, Cow};
 use herd_fixtures::{Birth, BirthFault, Pair, UNKNOWN, file_birth, pair_of};
-use herd_pedigree::{Frozen, Pedigree};
+use herd_frozen::Frozen;
+use herd_pedigree::Pedigree;
 use std::alloc::Global;
 
 /// Generations of as many bulls as cows, and how many of each become parents.

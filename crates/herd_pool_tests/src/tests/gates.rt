@@ -1,5 +1,5 @@
 //! Gates that hold a thread until another has come, gates that count, and gates that refuse memory.
-use herd_pedigree::Frozen;
+use herd_frozen::Frozen;
 use herd_pool::Gate;
 use std::alloc::{AllocError, Allocator, Global};
 use std::sync::atomic::{AtomicBool, AtomicU64, Ordering};

@@ -7,7 +7,7 @@ use super::texts::Text;
 use herd_animal::{AnimalNumber, Day};
 use herd_fixtures::Name::{Bull, Cow};
 use herd_fixtures::{Birth, Pair, UNKNOWN, heap_of, herd_of};
-use herd_pedigree::{Animal, Frozen, Row};
+use herd_frozen::{Animal, Frozen, Row};
 use herd_register::{Copybook, Limits, Refusal, Register, Reply, Step};
 use linked_list_allocator::LocalHeap;
 use std::alloc::{AllocError, Allocator, Global};

@@ -2,7 +2,7 @@
 
 use super::copies::{freezes_to, full_register, rows};
 use herd_fixtures::{heap_of, spare_of};
-use herd_pedigree::Row;
+use herd_frozen::Row;
 use herd_register::{Copybook, Register, Step};
 use linked_list_allocator::LocalHeap;
 use std::alloc::{AllocError, Allocator, Global};

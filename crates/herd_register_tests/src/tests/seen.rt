@@ -2,7 +2,7 @@
 
 use herd_fixtures::Name;
 use herd_fixtures::Name::{Bull, Cow};
-use herd_pedigree::Animal;
+use herd_frozen::Animal;
 use herd_register::Register;
 use std::alloc::Allocator;
 use std::process::Abort;

@@ -1,8 +1,8 @@
 -- Ancestors, by the paths of parents that lead to them.
 use Rattle.std.specs.Prelude.{ℕ, zero, suc, List, [], ◌∷◌, ◌++◌, map, Option, Some}
 use Rattle.std.specs.Option.{option_and_then}
-use Rattle.herd_pedigree.specs.declared.freezing.frozen.Row.{Row}
-use Rattle.herd_pedigree.specs.rules.Book.{Book, sire_of, dam_of}
+use Rattle.herd_frozen.specs.declared.freezing.frozen.Row.{Row}
+use Rattle.herd_frozen.specs.rules.Book.{Book, sire_of, dam_of}
 use Rattle.herd_report.specs.declared.writing.ancestors.Parent.{Parent}
 use Rattle.herd_report.specs.declared.writing.ancestors.Parent.TheVariants.{Sire, Dam}
 

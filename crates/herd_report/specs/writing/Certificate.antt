@@ -6,11 +6,11 @@ use Rattle.herd_animal.specs.declared.number.Sex.{Sex}
 use Rattle.herd_animal.specs.declared.number.Sex.TheVariants.{Male, Female}
 use Rattle.herd_animal.specs.Day.{day_text}
 use Rattle.herd_animal.specs.Sex.{sex_of}
-use Rattle.herd_pedigree.specs.declared.rules.animal.Animal.{Animal}
-use Rattle.herd_pedigree.specs.declared.TheConstants.{DEPTH_LIMIT}
-use Rattle.herd_pedigree.specs.declared.freezing.frozen.Row.{Row}
-use Rattle.herd_pedigree.specs.rules.Book.{Book, record_of}
-use Rattle.herd_pedigree.specs.freezing.Frozen.{book_of}
+use Rattle.herd_frozen.specs.declared.rules.animal.Animal.{Animal}
+use Rattle.herd_frozen.specs.declared.TheConstants.{DEPTH_LIMIT}
+use Rattle.herd_frozen.specs.declared.freezing.frozen.Row.{Row}
+use Rattle.herd_frozen.specs.rules.Book.{Book, record_of}
+use Rattle.herd_frozen.specs.freezing.Frozen.{book_of}
 use Rattle.herd_kinship.specs.FrozenAncestry.{ancestry_of}
 use Rattle.herd_kinship.specs.Table.{coefficient}
 use Rattle.herd_report.specs.declared.writing.ancestors.Parent.{Parent}

@@ -1,7 +1,7 @@
 -- Fractions and percentages as text.
 use Rattle.std.specs.Prelude.{ℕ, ◌*◌, ◌/◌, ◌%◌, ◌^◌, ◌==◌, false, List, [], ◌++◌, if◌then◌else◌, codes, decimal}
 use Rattle.herd_animal.specs.Day.{two_digits_of}
-use Rattle.herd_pedigree.specs.declared.TheConstants.{DEPTH_LIMIT}
+use Rattle.herd_frozen.specs.declared.TheConstants.{DEPTH_LIMIT}
 use Rattle.herd_kinship.specs.declared.fractions.Fraction.{Fraction}
 use Rattle.herd_kinship.specs.Fraction.{halved, hundredths_of}
 

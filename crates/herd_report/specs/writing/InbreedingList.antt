@@ -1,7 +1,7 @@
 -- The list of coefficients of inbreeding as text.
 use Rattle.std.specs.Prelude.{ℕ, List}
 use Rattle.std.specs.List.{flat_map}
-use Rattle.herd_pedigree.specs.declared.freezing.frozen.Row.{Row}
+use Rattle.herd_frozen.specs.declared.freezing.frozen.Row.{Row}
 use Rattle.herd_report.specs.writing.CoefficientText.{coefficient_line}
 
 -- the lines of the animals of a frozen book in age order, with the numerator of each

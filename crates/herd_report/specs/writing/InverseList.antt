@@ -1,8 +1,8 @@
 -- The contributions to the inverse of A, the numerator relationship matrix, as text.
 use Rattle.std.specs.Prelude.{ℕ, ◌<◌, List, ◌++◌, length, codes}
 use Rattle.std.specs.List.{flat_map, range_with_len}
-use Rattle.herd_pedigree.specs.declared.TheConstants.{DEPTH_LIMIT}
-use Rattle.herd_pedigree.specs.declared.freezing.frozen.Row.{Row}
+use Rattle.herd_frozen.specs.declared.TheConstants.{DEPTH_LIMIT}
+use Rattle.herd_frozen.specs.declared.freezing.frozen.Row.{Row}
 use Rattle.herd_kinship.specs.declared.contribution.Contribution.{Contribution}
 use Rattle.herd_kinship.specs.Contributions.{contributions_of}
 use Rattle.herd_kinship.specs.FrozenAncestry.{number_of_row}

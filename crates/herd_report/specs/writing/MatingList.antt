@@ -2,8 +2,8 @@
 use Rattle.std.specs.Prelude.{ℕ, ◌*◌, ◌-◌, List, ◌++◌, Some}
 use Rattle.std.specs.List.{flat_map}
 use Rattle.std.specs.Option.{option_map_or}
-use Rattle.herd_pedigree.specs.declared.TheConstants.{DEPTH_LIMIT}
-use Rattle.herd_pedigree.specs.rules.Book.{Book}
+use Rattle.herd_frozen.specs.declared.TheConstants.{DEPTH_LIMIT}
+use Rattle.herd_frozen.specs.rules.Book.{Book}
 use Rattle.herd_kinship.specs.declared.mating_advice.MatingFault.{MatingFault}
 use Rattle.herd_kinship.specs.FrozenAncestry.{book_ancestry}
 use Rattle.herd_kinship.specs.Mating.{mating_fault, number_of_mating_fault}

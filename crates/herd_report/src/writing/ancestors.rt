@@ -1,14 +1,14 @@
 ghost use Rattle.std.specs.Prelude.{◌≡◌, ◌<◌, ◌++◌, length, map, OnOk};
 ghost use Rattle.std.specs.List.{flat_map};
-ghost use Rattle.herd_pedigree.specs.freezing.Frozen.{IsFrozen, book_of};
-ghost use Rattle.herd_pedigree.specs.declared.TheConstants.{DEPTH_LIMIT, MOST_ANIMALS};
+ghost use Rattle.herd_frozen.specs.freezing.Frozen.{IsFrozen, book_of};
+ghost use Rattle.herd_frozen.specs.declared.TheConstants.{DEPTH_LIMIT, MOST_ANIMALS};
 ghost use Rattle.herd_kinship.specs.FrozenAncestry.{number_of_row};
 ghost use Rattle.herd_report.specs.writing.Ancestors.{ancestor_of, letter_of, parent_rank};
 ghost use Rattle.herd_report.specs.writing.Certificate.{ancestor_line, ancestors_text};
 
 use crate::writing::output::Output;
 use herd_animal::AnimalNumber;
-use herd_pedigree::{Frozen, Row};
+use herd_frozen::{Frozen, Row};
 use std::alloc::{AllocError, Allocator};
 
 /// One of an animal's two parents.

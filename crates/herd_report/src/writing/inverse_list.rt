@@ -1,8 +1,8 @@
 ghost use Rattle.std.specs.Prelude.{◌≡◌, ◌<◌, ◌++◌, All, codes, length, IfSome, OnErr, OnOk};
 ghost use Rattle.std.specs.Io.KnownBytes.{Appends};
 ghost use Rattle.std.specs.List.{flat_map};
-ghost use Rattle.herd_pedigree.specs.declared.TheConstants.{DEPTH_LIMIT, MOST_ANIMALS};
-ghost use Rattle.herd_pedigree.specs.freezing.Frozen.{IsFrozen};
+ghost use Rattle.herd_frozen.specs.declared.TheConstants.{DEPTH_LIMIT, MOST_ANIMALS};
+ghost use Rattle.herd_frozen.specs.freezing.Frozen.{IsFrozen};
 ghost use Rattle.herd_kinship.specs.Coefficients.{AreCoefficients};
 ghost use Rattle.herd_kinship.specs.FrozenAncestry.{number_of_row};
 ghost use Rattle.herd_report.specs.writing.CoefficientText.{fraction_text};
@@ -13,8 +13,8 @@ use crate::writing::coefficient_text::push_fraction;
 use crate::writing::output::Output;
 use crate::writing::report_fault::ReportFault;
 use herd_animal::AnimalNumber;
+use herd_frozen::Frozen;
 use herd_kinship::{Coefficients, Contribution, Fraction, contributions};
-use herd_pedigree::Frozen;
 use std::alloc::{AllocError, Allocator};
 use std::io::Write;
 

@@ -1,7 +1,7 @@
 ghost use Rattle.std.specs.Prelude.{◌≡◌, ◌++◌, OnErr, OnOk};
 ghost use Rattle.std.specs.Io.KnownBytes.{Appends};
-ghost use Rattle.herd_pedigree.specs.declared.TheConstants.{DEPTH_LIMIT};
-ghost use Rattle.herd_pedigree.specs.freezing.Frozen.{book_of};
+ghost use Rattle.herd_frozen.specs.declared.TheConstants.{DEPTH_LIMIT};
+ghost use Rattle.herd_frozen.specs.freezing.Frozen.{book_of};
 ghost use Rattle.herd_kinship.specs.Coefficients.{AreCoefficients};
 ghost use Rattle.herd_kinship.specs.Mating.{AreRelationshipsOf};
 ghost use Rattle.herd_report.specs.writing.MatingList.{mating_line, mating_text, refused_line};
@@ -12,8 +12,8 @@ use crate::writing::output::Output;
 use crate::writing::refused_text::push_refused_line_end;
 use crate::writing::report_fault::ReportFault;
 use herd_animal::AnimalNumber;
+use herd_frozen::Frozen;
 use herd_kinship::{Coefficients, MatingFault, Relationships, mating_by};
-use herd_pedigree::Frozen;
 use std::alloc::{AllocError, Allocator};
 use std::io::Write;
 

@@ -4,7 +4,7 @@ ghost use Rattle.herd_pool.specs.declared.limits.TheConstants.{MOST_WORKERS};
 
 use herd_animal::AnimalNumber;
 use herd_fixtures::Name;
-use herd_pedigree::MOST_ANIMALS;
+use herd_frozen::MOST_ANIMALS;
 use herd_register::{Limits, MOST_STEPS, Register};
 use herd_report::{Order, RunFault, read_commands};
 use std::alloc::{AllocError, Global};

@@ -1,10 +1,11 @@
+-- `inbreeding_at`: its clauses `number` and `value`.
 use Rattle.std.specs.Prelude.{false}
 use Rattle.std.proofs.Common.{◌∙◌, ◌*◌, ◌^◌, ap, sym}
-use Rattle.herd_pedigree.specs.declared.TheConstants.{DEPTH_LIMIT}
+use Rattle.herd_frozen.specs.declared.TheConstants.{DEPTH_LIMIT}
 use Rattle.herd_kinship.specs.Fraction.{halved}
 use Rattle.herd_kinship.specs.FrozenAncestry.{ancestry_of}
 use Rattle.herd_kinship.specs.Table.{coefficient}
-use Rattle.herd_kinship.proofs.FrozenFacts.{number_of_row-is}
+use Rattle.herd_kinship.proofs.lemmas.books.FrozenFacts.{number_of_row-is}
 use Rattle.library_example.proofs.inbreeding_at.Goals as goal
 
 pub returns-clause-number : goal.returns-clause-number

@@ -1,3 +1,4 @@
+-- `freeze_beside`: its loop.
 use Rattle.herd_office.proofs.Fronts.{prefix_self, prefix_trans}
 use Rattle.office_example.proofs.freeze_beside.Goals as goal
 

@@ -1,8 +1,9 @@
+-- `write_calves`: its loop and its result.
 use Rattle.std.proofs.Common.{◌≡◌, ℕ, ◌<◌, length, get_or, arith, ◌∙◌, subst}
 use Rattle.std.proofs.lemmas.List.{length-set, take_all}
 use Rattle.herd_kinship.specs.CalfCoefficients.{HasWritten}
 use Rattle.herd_kinship.specs.declared.calf_coefficients.CalfCoefficient.{CalfCoefficient}
-use Rattle.herd_kinship.proofs.CalfListFacts.{written-next}
+use Rattle.herd_kinship.proofs.lemmas.sires.CalfListFacts.{written-next}
 use Rattle.herd_kinship.proofs.calf_coefficients.write_calves.Goals as goal
 
 pub loop-calf-preserved : goal.loop-calf-preserved

@@ -1,7 +1,8 @@
+-- `has_calves`: its loop and its clauses `no` and `yes`.
 use Rattle.std.proofs.Common.{◌≡◌, ℕ, ◌<◌, ◌≤◌, ◌⊎◌, ⊎_elim, false, is_some, IfNone, IfSome, true, Option, None, Some, arith, subst}
 use Rattle.std.proofs.lemmas.Bool.{cases_lt}
 use Rattle.herd_kinship.specs.CalfLinks.{IsCalf}
-use Rattle.herd_kinship.proofs.CalfFacts.{calf-pair, calf-within, no-calf}
+use Rattle.herd_kinship.proofs.lemmas.sires.CalfFacts.{calf-pair, calf-within, no-calf}
 use Rattle.herd_kinship.proofs.calves.has_calves.Goals as goal
 
 -- what holds where there is no sire

@@ -1,9 +1,10 @@
+-- `coefficients_plain`: what `write_all` and `from_list` require and its result.
 use Rattle.std.proofs.Common.{◌≡◌, ℕ, ◌++◌, List, length, take, drop, replicate, arith, sym, subst}
 use Rattle.std.proofs.lemmas.List.{get_or-replicate, length-replicate}
-use Rattle.herd_pedigree.specs.declared.TheConstants.{DEPTH_LIMIT, MOST_ANIMALS}
+use Rattle.herd_frozen.specs.declared.TheConstants.{DEPTH_LIMIT, MOST_ANIMALS}
 use Rattle.herd_kinship.specs.Coefficients.{AreCoefficients, IsBefore, KnowsReached}
-use Rattle.herd_kinship.proofs.BySires.{coefficients-below_one, reached-all, reached-start}
-use Rattle.herd_kinship.proofs.RelationshipFacts.{written}
+use Rattle.herd_kinship.proofs.lemmas.sires.BySires.{coefficients-below_one, reached-all, reached-start}
+use Rattle.herd_kinship.proofs.lemmas.sires.RelationshipFacts.{written}
 use Rattle.herd_kinship.proofs.coefficients.coefficients_plain.Given.{Over}
 use Rattle.herd_kinship.proofs.coefficients.coefficients_plain.Goals.{In_ok-write_all}
 use Rattle.herd_kinship.proofs.coefficients.coefficients_plain.Goals as goal

@@ -1,7 +1,8 @@
+-- `write_all`: its clauses `no_calves` and `known`.
 use Rattle.std.proofs.Common.{length}
-use Rattle.herd_pedigree.specs.declared.TheConstants.{DEPTH_LIMIT}
+use Rattle.herd_frozen.specs.declared.TheConstants.{DEPTH_LIMIT}
 use Rattle.herd_kinship.specs.Coefficients.{IsBefore}
-use Rattle.herd_kinship.proofs.BySires.{reached-nobody}
+use Rattle.herd_kinship.proofs.lemmas.sires.BySires.{reached-nobody}
 use Rattle.herd_kinship.proofs.coefficients.write_all.Goals as goal
 
 pub returns-then-has_calves-clause-no_calves : goal.returns-then-has_calves-clause-no_calves

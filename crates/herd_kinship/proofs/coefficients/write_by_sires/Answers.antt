@@ -1,5 +1,6 @@
+-- `write_by_sires`: its loop and its result.
 use Rattle.std.proofs.Common.{◌≡◌, length, arith, subst}
-use Rattle.herd_pedigree.specs.declared.TheConstants.{DEPTH_LIMIT}
+use Rattle.herd_frozen.specs.declared.TheConstants.{DEPTH_LIMIT}
 use Rattle.herd_kinship.specs.Coefficients.{IsBefore, KnowsReached}
 use Rattle.herd_kinship.proofs.coefficients.write_by_sires.Goals as goal
 

@@ -1,9 +1,10 @@
+-- `write_calves_of`: what `append_calves` and `write_calves` require and its clause `known`.
 use Rattle.std.proofs.Common.{◌≡◌, ℕ, ◌+◌, List, arith, subst}
-use Rattle.herd_pedigree.specs.declared.TheConstants.{DEPTH_LIMIT, MOST_ANIMALS}
+use Rattle.herd_frozen.specs.declared.TheConstants.{DEPTH_LIMIT, MOST_ANIMALS}
 use Rattle.herd_kinship.specs.CalfCoefficients.{AreCalvesWith, HasWritten}
 use Rattle.herd_kinship.specs.Coefficients.{IsBefore, coefficient_at}
-use Rattle.herd_kinship.proofs.BySires.{before-next, reached-ancestors, reached-more}
-use Rattle.herd_kinship.proofs.CalfListFacts.{calves-alone, calves-values, calves-within, calves-written}
+use Rattle.herd_kinship.proofs.lemmas.sires.BySires.{before-next, reached-ancestors, reached-more}
+use Rattle.herd_kinship.proofs.lemmas.sires.CalfListFacts.{calves-alone, calves-values, calves-within, calves-written}
 use Rattle.herd_kinship.proofs.coefficients.write_calves_of.Given.{Over}
 use Rattle.herd_kinship.proofs.coefficients.write_calves_of.Goals.{In_ok-append_calves}
 use Rattle.herd_kinship.proofs.coefficients.write_calves_of.Goals as goal

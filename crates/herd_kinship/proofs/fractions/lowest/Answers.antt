@@ -1,4 +1,5 @@
-use Rattle.herd_kinship.proofs.FractionFacts.{halved-lowest}
+-- `lowest`: its clause `lowest`.
+use Rattle.herd_kinship.proofs.lemmas.numbers.FractionFacts.{halved-lowest}
 use Rattle.herd_kinship.proofs.fractions.lowest.Goals as goal
 
 pub returns-clause-lowest : goal.returns-clause-lowest

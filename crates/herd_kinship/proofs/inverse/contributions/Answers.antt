@@ -1,8 +1,9 @@
+-- `contributions`: its result.
 use Rattle.std.proofs.Common.{◌≡◌, ℕ, Option, Some, None, lit<}
-use Rattle.herd_pedigree.specs.declared.TheConstants.{DEPTH_LIMIT, MOST_ANIMALS}
+use Rattle.herd_frozen.specs.declared.TheConstants.{DEPTH_LIMIT, MOST_ANIMALS}
 use Rattle.herd_kinship.specs.declared.contribution.Contributions.{Contributions}
 use Rattle.herd_kinship.specs.Contributions.{Lists, weighted}
-use Rattle.herd_kinship.proofs.ContributionFacts.{AreListed, listed-are}
+use Rattle.herd_kinship.proofs.lemmas.advice.ContributionFacts.{AreListed, listed-are}
 use Rattle.herd_kinship.proofs.inverse.contributions.Given.{Over}
 use Rattle.herd_kinship.proofs.inverse.contributions.Goals.{After-of-weights}
 use Rattle.herd_kinship.proofs.inverse.contributions.Goals as goal

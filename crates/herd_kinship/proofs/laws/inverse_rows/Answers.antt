@@ -1,5 +1,6 @@
-use Rattle.herd_pedigree.specs.declared.TheConstants.{DEPTH_LIMIT, MOST_ANIMALS}
-use Rattle.herd_kinship.proofs.LawFacts.{frozen-inverse_rows}
+-- `inverse_rows`: its result.
+use Rattle.herd_frozen.specs.declared.TheConstants.{DEPTH_LIMIT, MOST_ANIMALS}
+use Rattle.herd_kinship.proofs.lemmas.books.LawFacts.{frozen-inverse_rows}
 use Rattle.herd_kinship.proofs.laws.inverse_rows.Goals as goal
 
 pub returns : goal.returns

@@ -1,5 +1,6 @@
-use Rattle.herd_pedigree.specs.declared.TheConstants.{DEPTH_LIMIT, MOST_ANIMALS}
-use Rattle.herd_kinship.proofs.LawFacts.{frozen-unit}
+-- `unit`: its result.
+use Rattle.herd_frozen.specs.declared.TheConstants.{DEPTH_LIMIT, MOST_ANIMALS}
+use Rattle.herd_kinship.proofs.lemmas.books.LawFacts.{frozen-unit}
 use Rattle.herd_kinship.proofs.laws.unit.Goals as goal
 
 pub returns : goal.returns

@@ -1,9 +1,10 @@
+-- `mating_by`: what `with` requires and its clauses `value`, `below_one` and `allowed`.
 use Rattle.std.proofs.Common.{◌≡◌, ◌<◌, ◌*◌, ◌-◌, Some, length, lit<, arith}
-use Rattle.herd_pedigree.specs.declared.TheConstants.{DEPTH_LIMIT}
+use Rattle.herd_frozen.specs.declared.TheConstants.{DEPTH_LIMIT}
 use Rattle.herd_kinship.specs.Columns.{AreRelationships}
 use Rattle.herd_kinship.specs.FrozenAncestry.{ancestry_of}
-use Rattle.herd_kinship.proofs.RelationshipFacts.{mating-by}
-use Rattle.herd_kinship.proofs.Table.{entry-bound}
+use Rattle.herd_kinship.proofs.lemmas.sires.RelationshipFacts.{mating-by}
+use Rattle.herd_kinship.proofs.lemmas.ancestry.Table.{entry-bound}
 use Rattle.herd_kinship.proofs.mating_advice.mating_by.Goals as goal
 
 pub with-requires : goal.with-requires

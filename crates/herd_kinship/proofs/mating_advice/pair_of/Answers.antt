@@ -1,11 +1,12 @@
+-- `pair_of`: its clauses `fault` and `pair`.
 use Rattle.std.proofs.Common.{◌≡◌, ◌<◌, ◌≤◌, ◌||◌, ⊎_elim, max, true, arith}
 use Rattle.std.proofs.lemmas.Bool.{cases_lt, or_from, or_left, or_right}
-use Rattle.herd_pedigree.specs.declared.TheConstants.{DEPTH_LIMIT}
-use Rattle.herd_pedigree.specs.rules.Book.{is_there}
-use Rattle.herd_pedigree.specs.freezing.Frozen.{book_of, depth_at}
+use Rattle.herd_frozen.specs.declared.TheConstants.{DEPTH_LIMIT}
+use Rattle.herd_frozen.specs.rules.Book.{is_there}
+use Rattle.herd_frozen.specs.freezing.Frozen.{book_of, depth_at}
 use Rattle.herd_kinship.specs.Mating.{is_deepest}
-use Rattle.herd_kinship.proofs.FrozenDepths.{depth_at-row}
-use Rattle.herd_kinship.proofs.MatingFacts.{sire-missing, dam-missing, sire-not_male, dam-not_female, too-deep, no-fault, rank-there, rank-within, rank-number, deepest-true, deepest-false}
+use Rattle.herd_kinship.proofs.lemmas.books.FrozenDepths.{depth_at-row}
+use Rattle.herd_kinship.proofs.lemmas.advice.MatingFacts.{sire-missing, dam-missing, sire-not_male, dam-not_female, too-deep, no-fault, rank-there, rank-within, rank-number, deepest-true, deepest-false}
 use Rattle.herd_kinship.proofs.mating_advice.pair_of.Given.{Over}
 use Rattle.herd_kinship.proofs.mating_advice.pair_of.Goals.{In-Some-rank, After-max-deeper}
 use Rattle.herd_kinship.proofs.mating_advice.pair_of.Goals as goal

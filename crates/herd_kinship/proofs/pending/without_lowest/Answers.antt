@@ -1,4 +1,5 @@
-use Rattle.herd_kinship.proofs.PendingFacts.{lowest-cleared}
+-- `without_lowest`: its result.
+use Rattle.herd_kinship.proofs.lemmas.numbers.PendingFacts.{lowest-cleared}
 use Rattle.herd_kinship.proofs.pending.without_lowest.Goals as goal
 
 pub returns : goal.returns

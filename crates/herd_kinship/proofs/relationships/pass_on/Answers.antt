@@ -1,8 +1,9 @@
+-- `pass_on`: what `with_parent` requires, that nothing overflows, and its loop.
 use Rattle.std.proofs.Common.{◌≡◌, ℕ, ◌+◌, ◌/◌, get_or, Some, arith}
-use Rattle.herd_pedigree.specs.declared.TheConstants.{DEPTH_LIMIT, MOST_ANIMALS}
+use Rattle.herd_frozen.specs.declared.TheConstants.{DEPTH_LIMIT, MOST_ANIMALS}
 use Rattle.herd_kinship.specs.Columns.{related}
-use Rattle.herd_kinship.proofs.ParentsFacts.{parents-within}
-use Rattle.herd_kinship.proofs.PassedOn.{IsPassing, related-next, related-passing}
+use Rattle.herd_kinship.proofs.lemmas.books.ParentsFacts.{parents-within}
+use Rattle.herd_kinship.proofs.lemmas.sires.PassedOn.{IsPassing, related-next, related-passing}
 use Rattle.herd_kinship.proofs.relationships.pass_on.Given.{Over}
 use Rattle.herd_kinship.proofs.relationships.pass_on.Goals.{After-parents_at-parents}
 use Rattle.herd_kinship.proofs.relationships.pass_on.Goals as goal

@@ -1,5 +1,5 @@
-use Rattle.herd_pedigree.specs.declared.TheConstants.{DEPTH_LIMIT}
-use Rattle.herd_kinship.proofs.PassedOn.{AreRelated}
+use Rattle.herd_frozen.specs.declared.TheConstants.{DEPTH_LIMIT}
+use Rattle.herd_kinship.proofs.lemmas.sires.PassedOn.{AreRelated}
 use Rattle.herd_kinship.proofs.relationships.pass_on.Given as goal
 
 -- the relationships with the ranks so far are made

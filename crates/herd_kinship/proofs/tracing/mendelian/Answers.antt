@@ -1,7 +1,8 @@
+-- `mendelian`: what `variance_by` requires and its clauses `value`, `positive` and `at_most_one`.
 use Rattle.std.proofs.Common.{◌∙◌}
-use Rattle.herd_pedigree.specs.declared.TheConstants.{DEPTH_LIMIT, MOST_ANIMALS}
-use Rattle.herd_kinship.proofs.KnownFacts.{parents-known}
-use Rattle.herd_kinship.proofs.LawFacts.{frozen-bound}
+use Rattle.herd_frozen.specs.declared.TheConstants.{DEPTH_LIMIT, MOST_ANIMALS}
+use Rattle.herd_kinship.proofs.lemmas.tracing.KnownFacts.{parents-known}
+use Rattle.herd_kinship.proofs.lemmas.books.LawFacts.{frozen-bound}
 use Rattle.herd_kinship.proofs.tracing.mendelian.Goals as goal
 
 pub variance_by-requires-clause-sire : goal.variance_by-requires-clause-sire

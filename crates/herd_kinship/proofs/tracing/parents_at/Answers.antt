@@ -2,9 +2,9 @@
 use Rattle.std.proofs.Common.{◌≡◌, ◌∙◌, ⊎_elim, ℕ, List, Some, arith, ap, map, slice_get, sym}
 use Rattle.std.specs.Option.{option_map}
 use Rattle.std.proofs.lemmas.Option.{slice_get_cases, slice_get-map}
-use Rattle.herd_pedigree.specs.declared.freezing.frozen.Parents.{Parents}
-use Rattle.herd_pedigree.specs.declared.freezing.frozen.Row.{Row}
-use Rattle.herd_pedigree.specs.freezing.Frozen.{parents_of}
+use Rattle.herd_frozen.specs.declared.freezing.frozen.Parents.{Parents}
+use Rattle.herd_frozen.specs.declared.freezing.frozen.Row.{Row}
+use Rattle.herd_frozen.specs.freezing.Frozen.{parents_of}
 use Rattle.herd_kinship.specs.Ranks.{AreParentsAt}
 use Rattle.herd_kinship.proofs.tracing.parents_at.Goals as goal
 

@@ -1,3 +1,4 @@
+-- `quarter`: a step.
 use Rattle.herd_kinship.proofs.tracing.quarter.Goals as goal
 
 pub bounds-known-rank : goal.bounds-known-rank

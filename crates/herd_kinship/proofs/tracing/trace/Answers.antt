@@ -1,6 +1,7 @@
+-- `trace`: its clauses `value` and `unknown`.
 use Rattle.std.proofs.Common.{sym, ◌∙◌}
-use Rattle.herd_pedigree.specs.declared.TheConstants.{DEPTH_LIMIT, MOST_ANIMALS}
-use Rattle.herd_kinship.proofs.KnownFacts.{entry-row_unknown, row-known}
+use Rattle.herd_frozen.specs.declared.TheConstants.{DEPTH_LIMIT, MOST_ANIMALS}
+use Rattle.herd_kinship.proofs.lemmas.tracing.KnownFacts.{entry-row_unknown, row-known}
 use Rattle.herd_kinship.proofs.tracing.trace.Goals as goal
 
 pub returns-else-has_both_parents-clause-value : goal.returns-else-has_both_parents-clause-value

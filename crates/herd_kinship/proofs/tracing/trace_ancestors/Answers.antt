@@ -1,10 +1,11 @@
+-- `trace_ancestors`: what `variance` and `sum` require, its loop, that nothing overflows, and its result.
 use Rattle.std.proofs.Common.{◌≡◌, ℕ, lit<, arith, ◌∙◌}
-use Rattle.herd_pedigree.specs.declared.TheConstants.{DEPTH_LIMIT, MOST_ANIMALS}
+use Rattle.herd_frozen.specs.declared.TheConstants.{DEPTH_LIMIT, MOST_ANIMALS}
 use Rattle.herd_kinship.specs.FrozenAncestry.{ancestry_of, number_of_row}
 use Rattle.herd_kinship.specs.Table.{mendelian}
-use Rattle.herd_kinship.proofs.KnownFacts.{AreKnownParents, parents-known_next}
-use Rattle.herd_kinship.proofs.ParentsFacts.{parents-depth, parents-shallow}
-use Rattle.herd_kinship.proofs.TermSums.{IsAdded, added, summed-start, summed-end}
+use Rattle.herd_kinship.proofs.lemmas.tracing.KnownFacts.{AreKnownParents, parents-known_next}
+use Rattle.herd_kinship.proofs.lemmas.books.ParentsFacts.{parents-depth, parents-shallow}
+use Rattle.herd_kinship.proofs.lemmas.tracing.TermSums.{IsAdded, added, summed-start, summed-end}
 use Rattle.herd_kinship.proofs.tracing.trace_ancestors.Given.{Over}
 use Rattle.herd_kinship.proofs.tracing.trace_ancestors.Goals.{After-variance_by-variance, In-Some}
 use Rattle.herd_kinship.proofs.tracing.trace_ancestors.Goals as goal

@@ -1,7 +1,7 @@
 use Rattle.std.proofs.Common.{◌≡◌}
-use Rattle.herd_pedigree.specs.declared.TheConstants.{DEPTH_LIMIT}
+use Rattle.herd_frozen.specs.declared.TheConstants.{DEPTH_LIMIT}
 use Rattle.herd_kinship.specs.Tracing.{IsUnderWay}
-use Rattle.herd_kinship.proofs.TermSums.{IsSummed}
+use Rattle.herd_kinship.proofs.lemmas.tracing.TermSums.{IsSummed}
 use Rattle.herd_kinship.proofs.tracing.trace_ancestors.Given as goal
 
 -- the terms of all that are met are added up

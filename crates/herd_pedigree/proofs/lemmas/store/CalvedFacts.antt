@@ -7,10 +7,10 @@ use Rattle.std.specs.Option.{option_map_or}
 use Rattle.std.proofs.lemmas.Bool.{cases_Bool, false_from_ne_true, and_parts, or_left}
 use Rattle.std.proofs.lemmas.Option.{same_Some, slice_get-get_or}
 use Rattle.std.proofs.lemmas.List.Folds.{list_any_none}
-use Rattle.herd_pedigree.specs.declared.rules.animal.Animal.{Animal}
-use Rattle.herd_pedigree.specs.rules.Book.{Book, record_of, has_calved_after, is_calf_after}
-use Rattle.herd_pedigree.specs.store.Places.{parent_at, IsIndexIn, AreParents}
-use Rattle.herd_pedigree.proofs.lemmas.rules.BookFacts.{same_bytes, bytes_itself, stands_once, entry_from_key, value_at}
+use Rattle.herd_frozen.specs.declared.rules.animal.Animal.{Animal}
+use Rattle.herd_frozen.specs.rules.Book.{Book, record_of, has_calved_after, is_calf_after}
+use Rattle.herd_frozen.specs.places.Places.{parent_at, IsIndexIn, AreParents}
+use Rattle.herd_frozen.proofs.lemmas.rules.BookFacts.{same_bytes, bytes_itself, stands_once, entry_from_key, value_at}
 
 -- the calf counts: it is from no stored embryo, and born after the day
 abbrev pub counts : ℤ → Animal → Bool

@@ -3,11 +3,11 @@ use Rattle.std.proofs.Common.{ℕ, zero, suc, ◌+◌, ◌<◌, ◌≤◌, ◌�
 use Rattle.std.proofs.lemmas.List.{get_or-set_same, get_or-set_other}
 use Rattle.std.proofs.lemmas.List.Elements.{Contains-get_or, All-cons, All-nil, All-weaker, All-append, All-head, Contains-append_left, Contains-append_right, Contains-append_cases}
 use Rattle.std.proofs.lemmas.Bool.{cases_eq, false_from_ne_true, ltb-true}
-use Rattle.herd_pedigree.specs.rules.Paths.{Parentage, has_path}
-use Rattle.herd_pedigree.specs.rules.Depths.{IsParent, AreDepths, depth_above, depth_from}
+use Rattle.herd_frozen.specs.rules.Paths.{Parentage, has_path}
+use Rattle.herd_frozen.specs.rules.Depths.{IsParent, AreDepths, depth_above, depth_from}
 use Rattle.herd_pedigree.specs.store.Carry.{IsSettled, HavePaths, AddsCalves}
-use Rattle.herd_pedigree.specs.store.Places.{parentage_at}
-use Rattle.herd_pedigree.proofs.lemmas.rules.PathFacts.{Path, path-from_test, test-from_path, path-there, depths-shallow}
+use Rattle.herd_frozen.specs.places.Places.{parentage_at}
+use Rattle.herd_frozen.proofs.lemmas.rules.PathFacts.{Path, path-from_test, test-from_path, path-there, depths-shallow}
 
 -- the animal is the parent, or a write there leaves what the parent gives
 named_or_same : (depths : List ℕ) (place d : ℕ) (o : Option ℕ) → (o ≡ Some place) ⊎ (depth_above (slice_index (slice_set depths place d)) o ≡ depth_above (slice_index depths) o)

@@ -2,9 +2,9 @@
 use Rattle.std.proofs.Common.{ℕ, ◌+◌, ◌<◌, ◌≤◌, ◌≡◌, ◌⊎◌, ⊎_elim, inl, inr, arith, refl, sym, ap, ◌∙◌, subst, IsTrue, List, [], ◌∷◌, ◌++◌, Option, Some, None, length, max, slice_index, IfSome}
 use Rattle.std.proofs.lemmas.Bool.{cases_lt, lt-ltb, ltb-true}
 use Rattle.std.proofs.lemmas.List.{get_or_append_left, get_or_push, length_push}
-use Rattle.herd_pedigree.specs.rules.Paths.{Parentage}
-use Rattle.herd_pedigree.specs.rules.Depths.{IsParent, AreDepths, depth_above, depth_from}
-use Rattle.herd_pedigree.specs.store.Places.{parent_at, parentage_at}
+use Rattle.herd_frozen.specs.rules.Paths.{Parentage}
+use Rattle.herd_frozen.specs.rules.Depths.{IsParent, AreDepths, depth_above, depth_from}
+use Rattle.herd_frozen.specs.places.Places.{parent_at, parentage_at}
 
 pub above-same : {A : Type 0} (g h : A → ℕ) (o : Option A) → ((p : A) → o ≡ Some p → h p ≡ g p) → depth_above h o ≡ depth_above g o
 above-same g h None same = refl

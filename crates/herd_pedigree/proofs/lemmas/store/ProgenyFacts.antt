@@ -4,7 +4,7 @@ use Rattle.std.proofs.lemmas.Bool.{cases_eq, cases_lt, eq-eqb, ne_eqb}
 use Rattle.std.proofs.lemmas.Option.{same_Some, slice_get_within, slice_get-get_or, get_or_from_slice_get}
 use Rattle.std.proofs.lemmas.List.{ext_get_or, get_or-set_same, get_or-set_other, get_or_append_left, get_or_push, get_or_past, get_or-take, get_or-map, length-set, length_push, length-take-le, length-map}
 use Rattle.herd_pedigree.specs.declared.store.progeny.Family.{Family}
-use Rattle.herd_pedigree.specs.store.Places.{parent_at}
+use Rattle.herd_frozen.specs.places.Places.{parent_at}
 use Rattle.herd_pedigree.specs.store.Calves.{AreChained, Show, alone, chain, family_at, first_of, next_of, parent_of, parents_of, previous_of, put}
 
 -- who has a parent is there

@@ -1,5 +1,5 @@
 -- Entries with the places of parents, and the book of them.
-use Rattle.std.proofs.Common.{ℕ, zero, suc, ◌+◌, ◌<◌, ◌≤◌, ◌≡◌, ⊎_elim, arith, refl, sym, ap, ◌∙◌, subst, Bool, true, false, List, [], ◌∷◌, ◌++◌, is_some, Option, Some, None, IfSome, IsSome, length, slice_get, option_to_list}
+use Rattle.std.proofs.Common.{ℕ, zero, suc, ◌+◌, ◌<◌, ◌≡◌, ⊎_elim, arith, refl, sym, ap, ◌∙◌, subst, Bool, true, false, List, [], ◌∷◌, ◌++◌, is_some, Option, Some, None, IfSome, IsSome, length, slice_get, option_to_list}
 use Rattle.std.specs.List.{IsDistinct}
 use Rattle.std.specs.Map.{keys_of, values_of, lookup}
 use Rattle.std.specs.Option.{option_map}
@@ -8,13 +8,14 @@ use Rattle.std.proofs.lemmas.Bool.{cases_Bool, false≢true}
 use Rattle.std.proofs.lemmas.List.{append-nil, length_push, map_push}
 use Rattle.std.proofs.lemmas.Option.{same_Some, slice_get_within}
 use Rattle.indexmap.specs.IndexMap.{set_value_at}
-use Rattle.herd_pedigree.specs.declared.rules.animal.Animal.{Animal}
+use Rattle.herd_frozen.specs.declared.rules.animal.Animal.{Animal}
 use Rattle.herd_pedigree.specs.declared.store.records.StoredRecord.{StoredRecord}
-use Rattle.herd_pedigree.specs.store.Links.{IsLinkAt}
-use Rattle.herd_pedigree.specs.store.Places.{IsIndexIn}
-use Rattle.herd_pedigree.specs.store.Records.{AreClosed, NamesItsOwn, StandAmong, stored_book, book_with, named, number_at}
+use Rattle.herd_frozen.specs.places.Links.{IsLinkAt}
+use Rattle.herd_frozen.specs.places.Places.{IsIndexIn, number_at}
+use Rattle.herd_pedigree.specs.store.Records.{AreClosed, NamesItsOwn, StandAmong, stored_book, book_with, named}
 use Rattle.herd_pedigree.specs.store.Undo.{without_last}
-use Rattle.herd_pedigree.proofs.lemmas.rules.BookFacts.{is_some_with, keys-push, length-keys, none_if, push_cases, push_keeps, stands_once, there}
+use Rattle.herd_frozen.proofs.lemmas.rules.BookFacts.{is_some_with, keys-push, length-keys, none_if, push_cases, push_keeps, stands_once, there}
+use Rattle.herd_frozen.proofs.lemmas.places.NumberFacts.{further, number_at-place, number_at-push}
 use Rattle.herd_pedigree.proofs.lemmas.store.SetFacts.{keys-set, length-set-at, set_value-cases}
 use Rattle.herd_pedigree.proofs.lemmas.store.UndoFacts.{without_last-push}
 
@@ -49,13 +50,8 @@ module _ (numbers : List (List ℕ)) where
   set-book_with (first ∷ es) zero e = refl
   set-book_with (first ∷ es) (suc i) e = ap (λ book. (first.0, named numbers first.1) ∷ book) (set-book_with es i e)
 
-  -- one number more changes none of those before it
-  pub number_at-push : (x : List ℕ) (o : Option ℕ) → IfSome o (λ p. p < length numbers) → number_at (numbers ++ x ∷ []) o ≡ number_at numbers o
-  number_at-push x None h = refl
-  number_at-push x (Some p) h = let n = there numbers p h in push_keeps numbers x n.0 p n.1 ∙ sym n.1
-
   pub named-push : (x : List ℕ) (e : StoredRecord) → IfSome e.sire (λ p. p < length numbers) → IfSome e.dam (λ p. p < length numbers) → named (numbers ++ x ∷ []) e ≡ named numbers e
-  named-push x e s d = λ i. record (named numbers e) { sire = number_at-push x e.sire s i; dam = number_at-push x e.dam d i }
+  named-push x e s d = λ i. record (named numbers e) { sire = number_at-push numbers x e.sire s i; dam = number_at-push numbers x e.dam d i }
 
   pub book_with-push : (x : List ℕ) (es : List (List ℕ × StoredRecord)) → StandAmong (length numbers) es → book_with (numbers ++ x ∷ []) es ≡ book_with numbers es
   book_with-push x [] h = refl
@@ -64,23 +60,6 @@ module _ (numbers : List (List ℕ)) where
       let same : named (numbers ++ x ∷ []) e.1 ≡ named numbers e.1 = named-push x e.1 first.0 first.1 in
       let rest : book_with (numbers ++ x ∷ []) es ≡ book_with numbers es = book_with-push x es (λ place entry at. h (suc place) entry at) in
       λ i. (e.0, same i) ∷ rest i
-
-  -- the number at a place that is a parent's
-  pub number_at-place : (o : Option ℕ) (n : Option (List ℕ)) → IsIndexIn numbers o n → number_at numbers o ≡ n
-  number_at-place None None h = refl
-  number_at-place None (Some x) h = absurd h
-  number_at-place (Some p) None h = absurd h
-  number_at-place (Some p) (Some x) h = h
-
-  pub place-within : (o : Option ℕ) (n : Option (List ℕ)) → IsIndexIn numbers o n → IfSome o (λ p. p < length numbers)
-  place-within None n h = tt
-  place-within (Some p) None h = absurd h
-  place-within (Some p) (Some x) h = slice_get_within numbers p x h
-
--- a place among some is among more
-pub further : {m n : ℕ} (o : Option ℕ) → m ≤ n → IfSome o (λ p. p < m) → IfSome o (λ p. p < n)
-further None more h = tt
-further (Some p) more h = omega (arith, more, h)
 
 pub key_at : {X : Type 0} (es : List (List ℕ × X)) (i : ℕ) → slice_get (keys_of es) i ≡ option_map (λ e. e.0) (slice_get es i)
 key_at [] i = refl

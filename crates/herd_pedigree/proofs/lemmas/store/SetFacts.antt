@@ -7,15 +7,15 @@ use Rattle.std.proofs.lemmas.Option.{same_Some, slice_get_within}
 use Rattle.std.proofs.lemmas.List.{get_or-set_same, get_or-set_other, length-set, set-get_or}
 use Rattle.std.proofs.lemmas.List.Elements.{All-nil}
 use Rattle.indexmap.specs.IndexMap.{set_value_at}
-use Rattle.herd_pedigree.specs.declared.rules.animal.Animal.{Animal}
+use Rattle.herd_frozen.specs.declared.rules.animal.Animal.{Animal}
 use Rattle.herd_pedigree.specs.declared.store.undo.Undo.TheVariants.{Record}
-use Rattle.herd_pedigree.specs.rules.Book.{Book, changed}
-use Rattle.herd_pedigree.specs.rules.Lawful.{IsLawful}
+use Rattle.herd_frozen.specs.rules.Book.{Book, changed}
+use Rattle.herd_frozen.specs.rules.Lawful.{IsLawful}
 use Rattle.herd_pedigree.specs.Pedigree.{Pedigree, changed_to}
-use Rattle.herd_pedigree.specs.store.Places.{parent_at, IsIndexIn, AreParents}
+use Rattle.herd_frozen.specs.places.Places.{parent_at, IsIndexIn, AreParents}
 use Rattle.herd_pedigree.specs.store.Kept.{IsKept}
 use Rattle.herd_pedigree.specs.store.Undo.{IsHeld}
-use Rattle.herd_pedigree.proofs.lemmas.rules.BookFacts.{bytes_itself, bytes_turned, apart_at, entry_found}
+use Rattle.herd_frozen.proofs.lemmas.rules.BookFacts.{bytes_itself, bytes_turned, apart_at, entry_found}
 
 pub keys-set : {X : Type 0} (es : List (List ℕ × X)) (i : ℕ) (b : X) → keys_of (set_value_at es i b) ≡ keys_of es
 keys-set [] i b = refl

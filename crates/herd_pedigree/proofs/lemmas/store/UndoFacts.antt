@@ -3,8 +3,8 @@ use Rattle.std.proofs.Common.{ℕ, ◌-◌, ◌≤◌, ◌≡◌, ◌≢◌, ⊎
 use Rattle.std.proofs.lemmas.Bool.{cases_eq}
 use Rattle.std.proofs.lemmas.List.{get_or-set_other, length_push, take_at}
 use Rattle.std.proofs.lemmas.List.Elements.{All-rest}
-use Rattle.herd_pedigree.specs.declared.rules.animal.Animal.{Animal}
-use Rattle.herd_pedigree.specs.rules.Book.{Book}
+use Rattle.herd_frozen.specs.declared.rules.animal.Animal.{Animal}
+use Rattle.herd_frozen.specs.rules.Book.{Book}
 use Rattle.herd_pedigree.specs.Pedigree.{Pedigree, changed_to}
 use Rattle.indexmap.specs.IndexMap.{set_value_at}
 use Rattle.herd_pedigree.specs.declared.store.undo.Undo.{Undo}

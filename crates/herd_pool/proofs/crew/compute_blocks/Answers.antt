@@ -1,3 +1,4 @@
+-- `compute_blocks`: its clause `blocks`.
 use Rattle.std.proofs.Common.{ap, ◌∙◌}
 use Rattle.herd_pool.specs.Blocks.{once_below}
 use Rattle.herd_pool.specs.declared.queue.PassView.{PassView}

@@ -1,3 +1,4 @@
+-- `join_all`: what `absorb` requires and its loop.
 use Rattle.std.proofs.Common.{rules, arith, suc, List, get_or, ◌≡◌, ◌++◌, [], ◌∷◌, ◌-◌, ap, subst, ◌∙◌, sym}
 use Rattle.std.specs.Vec.Iter.{into_iter_len}
 use Rattle.std.proofs.lemmas.List.Elements.{All-append, All-push, All-same}

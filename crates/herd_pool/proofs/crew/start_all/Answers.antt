@@ -1,3 +1,4 @@
+-- `start_all`: what `pass` requires.
 use Rattle.herd_pool.proofs.Passes.{forks}
 use Rattle.herd_pool.proofs.crew.start_all.Goals as goal
 

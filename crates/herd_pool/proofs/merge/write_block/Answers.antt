@@ -1,3 +1,4 @@
+-- `write_block`: its loop and its result.
 use Rattle.std.proofs.Common.{rules, arith, ap, length}
 use Rattle.std.proofs.lemmas.List.{length-map, length_push}
 use Rattle.std.proofs.lemmas.Slice.Zip.{zip_turn, zip_end}

@@ -1,3 +1,4 @@
+-- `write_calves_of`: its loop and its result.
 use Rattle.std.proofs.Common.{List, Vec, arith, subst, sym}
 use Rattle.std.specs.List.{All}
 use Rattle.std.proofs.lemmas.List.{take_all}

@@ -1,7 +1,8 @@
+-- `write_traced`: what `write_block` requires, its loop, and its clause `written`.
 use Rattle.std.proofs.Common.{arith, subst}
 use Rattle.std.proofs.lemmas.List.{take_all}
-use Rattle.herd_pedigree.specs.freezing.Frozen.{level_of}
-use Rattle.herd_pedigree.specs.declared.TheConstants.{DEPTH_LIMIT}
+use Rattle.herd_frozen.specs.freezing.Frozen.{level_of}
+use Rattle.herd_frozen.specs.declared.TheConstants.{DEPTH_LIMIT}
 use Rattle.herd_kinship.specs.Coefficients.{coefficient_at}
 use Rattle.herd_pool.proofs.LevelFacts.{block_of-ranks}
 use Rattle.herd_pool.proofs.Writes.{HasBlocks, block_written}

@@ -1,5 +1,5 @@
-use Rattle.herd_pedigree.specs.freezing.Frozen.{level_of}
-use Rattle.herd_pedigree.specs.declared.TheConstants.{DEPTH_LIMIT}
+use Rattle.herd_frozen.specs.freezing.Frozen.{level_of}
+use Rattle.herd_frozen.specs.declared.TheConstants.{DEPTH_LIMIT}
 use Rattle.herd_kinship.specs.Coefficients.{coefficient_at}
 use Rattle.herd_pool.proofs.Writes.{HasWritten}
 use Rattle.herd_pool.proofs.merge.write_traced.Given as goal

@@ -1,6 +1,7 @@
+-- `add_calves`: what `write_calves_of` requires and its clause `known`.
 use Rattle.std.proofs.Common.{◌<◌, List, Vec, length, arith, ◌∙◌, ap, subst, sym}
 use Rattle.std.specs.List.{All}
-use Rattle.herd_pedigree.specs.declared.TheConstants.{DEPTH_LIMIT, MOST_ANIMALS}
+use Rattle.herd_frozen.specs.declared.TheConstants.{DEPTH_LIMIT, MOST_ANIMALS}
 use Rattle.herd_kinship.specs.Coefficients.{coefficient_at}
 use Rattle.herd_kinship.specs.declared.calf_coefficients.CalfCoefficient.{CalfCoefficient}
 use Rattle.herd_pool.specs.Blocks.{once_below}

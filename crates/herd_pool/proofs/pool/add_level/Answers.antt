@@ -1,6 +1,7 @@
+-- `add_level`: its clause `known`.
 use Rattle.std.proofs.Common.{arith, ◌∙◌, ap, subst}
-use Rattle.herd_pedigree.specs.freezing.Frozen.{level_of}
-use Rattle.herd_pedigree.specs.declared.TheConstants.{DEPTH_LIMIT, MOST_ANIMALS}
+use Rattle.herd_frozen.specs.freezing.Frozen.{level_of}
+use Rattle.herd_frozen.specs.declared.TheConstants.{DEPTH_LIMIT, MOST_ANIMALS}
 use Rattle.herd_kinship.specs.Coefficients.{coefficient_at}
 use Rattle.herd_pool.specs.Blocks.{once_below}
 use Rattle.herd_pool.proofs.Writes.{HasBlocks, level_known}

@@ -1,5 +1,6 @@
+-- `coefficients`: what `from_list` requires and its clause `list`.
 use Rattle.std.proofs.Common.{subst, sym}
-use Rattle.herd_pedigree.specs.declared.TheConstants.{DEPTH_LIMIT, MOST_ANIMALS}
+use Rattle.herd_frozen.specs.declared.TheConstants.{DEPTH_LIMIT, MOST_ANIMALS}
 use Rattle.herd_kinship.specs.Coefficients.{AreCoefficients}
 use Rattle.herd_pool.proofs.Writes.{all_known, known_below_one}
 use Rattle.herd_pool.proofs.pool.coefficients.Goals as goal

@@ -1,4 +1,4 @@
-use Rattle.herd_pedigree.specs.declared.TheConstants.{DEPTH_LIMIT, MOST_ANIMALS}
+use Rattle.herd_frozen.specs.declared.TheConstants.{DEPTH_LIMIT, MOST_ANIMALS}
 use Rattle.herd_pool.specs.Levels.{KnowsBelow}
 use Rattle.herd_pool.proofs.pool.coefficients.Given as goal
 

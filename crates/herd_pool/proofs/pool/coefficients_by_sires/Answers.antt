@@ -1,12 +1,13 @@
+-- `coefficients_by_sires`: what `from_list` requires, its loop, and its clause `list`.
 use Rattle.std.proofs.Common.{◌≡◌, ℕ, ◌+◌, List, length, replicate, arith, subst, sym}
 use Rattle.std.specs.List.{All}
 use Rattle.std.proofs.lemmas.List.{get_or-replicate, length-replicate}
 use Rattle.std.proofs.lemmas.List.Elements.{All-nil}
-use Rattle.herd_pedigree.specs.declared.TheConstants.{DEPTH_LIMIT, MOST_ANIMALS}
+use Rattle.herd_frozen.specs.declared.TheConstants.{DEPTH_LIMIT, MOST_ANIMALS}
 use Rattle.herd_kinship.specs.Coefficients.{AreCoefficients, IsLessDeep}
 use Rattle.herd_kinship.specs.Mates.{IsReady}
-use Rattle.herd_kinship.proofs.BySires.{coefficients-below_one, less_deep-all, reached-start}
-use Rattle.herd_kinship.proofs.RelationshipFacts.{written}
+use Rattle.herd_kinship.proofs.lemmas.sires.BySires.{coefficients-below_one, less_deep-all, reached-start}
+use Rattle.herd_kinship.proofs.lemmas.sires.RelationshipFacts.{written}
 use Rattle.herd_pool.specs.Sires.{KnowsCalvesBelow}
 use Rattle.herd_pool.proofs.pool.coefficients_by_sires.Goals as goal
 

@@ -1,6 +1,6 @@
 use Rattle.std.proofs.Common.{length}
 use Rattle.std.specs.List.{All}
-use Rattle.herd_pedigree.specs.declared.TheConstants.{DEPTH_LIMIT, MOST_ANIMALS}
+use Rattle.herd_frozen.specs.declared.TheConstants.{DEPTH_LIMIT, MOST_ANIMALS}
 use Rattle.herd_kinship.specs.Mates.{IsReady}
 use Rattle.herd_pool.specs.Sires.{KnowsCalvesBelow}
 use Rattle.herd_pool.proofs.pool.coefficients_by_sires.Given as goal

@@ -1,3 +1,4 @@
+-- `filled`: what `push_as` requires.
 use Rattle.std.proofs.Common.{sym, ap}
 use Rattle.herd_pool.proofs.Passes.{pushes}
 use Rattle.herd_pool.proofs.queue.filled.Goals as goal

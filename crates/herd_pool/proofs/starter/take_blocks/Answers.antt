@@ -1,3 +1,4 @@
+-- `take_blocks`: what `pop_as` requires, its loop, and its clause `each_once`.
 use Rattle.std.proofs.Common.{rules, inl, ◌≡◌, ◌++◌, [], ◌∷◌}
 use Rattle.std.proofs.lemmas.List.Elements.{All-push, All-same}
 use Rattle.herd_pool.specs.declared.work.ComputedBlock.{ComputedBlock}

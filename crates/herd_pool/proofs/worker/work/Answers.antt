@@ -1,3 +1,4 @@
+-- `work`: what `steal_as` requires and its loop.
 use Rattle.std.proofs.Common.{rules, arith, inr, ap, ◌≡◌, ◌++◌, [], ◌∷◌}
 use Rattle.std.proofs.lemmas.List.Elements.{All-push, All-same}
 use Rattle.herd_pool.specs.declared.work.ComputedBlock.{ComputedBlock}

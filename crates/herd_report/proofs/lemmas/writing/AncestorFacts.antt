@@ -2,10 +2,10 @@
 use Rattle.std.proofs.Common.{◌≡◌, ◌∙◌, ℕ, ◌<◌, List, [], ◌∷◌, length, slice_get, Option, Some, None, ap, sym, refl}
 use Rattle.std.proofs.lemmas.Option.{slice_get_within, get_or_from_slice_get}
 use Rattle.std.specs.Option.{option_and_then}
-use Rattle.herd_pedigree.specs.declared.freezing.frozen.Row.{Row}
-use Rattle.herd_pedigree.specs.freezing.Frozen.{IsFrozen, IsRankOf, book_of, numbers_of}
+use Rattle.herd_frozen.specs.declared.freezing.frozen.Row.{Row}
+use Rattle.herd_frozen.specs.freezing.Frozen.{IsFrozen, IsRankOf, book_of, numbers_of}
 use Rattle.herd_kinship.specs.FrozenAncestry.{number_of_row}
-use Rattle.herd_kinship.proofs.FrozenFacts.{length-numbers_of, number_of_row-is, record_at-row}
+use Rattle.herd_kinship.proofs.lemmas.books.FrozenFacts.{length-numbers_of, number_of_row-is, record_at-row}
 use Rattle.herd_report.specs.declared.writing.ancestors.Parent.{Parent}
 use Rattle.herd_report.specs.declared.writing.ancestors.Parent.TheVariants.{Sire, Dam}
 use Rattle.herd_report.specs.writing.Ancestors.{ancestor_of, parent_of, parent_rank}

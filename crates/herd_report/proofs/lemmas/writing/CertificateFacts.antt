@@ -5,15 +5,15 @@ use Rattle.std.specs.Map.{keys_of}
 use Rattle.std.specs.Option.{is_some, option_map_or}
 use Rattle.std.proofs.lemmas.List.Elements.{Contains-get_or}
 use Rattle.std.proofs.lemmas.Option.{get_or_from_slice_get, slice_get_within}
-use Rattle.herd_pedigree.specs.declared.rules.animal.Animal.{Animal}
-use Rattle.herd_pedigree.specs.declared.freezing.frozen.Row.{Row}
-use Rattle.herd_pedigree.specs.rules.Book.{Book, is_there, record_of}
-use Rattle.herd_pedigree.specs.freezing.Frozen.{IsFrozen, book_of, numbers_of}
+use Rattle.herd_frozen.specs.declared.rules.animal.Animal.{Animal}
+use Rattle.herd_frozen.specs.declared.freezing.frozen.Row.{Row}
+use Rattle.herd_frozen.specs.rules.Book.{Book, is_there, record_of}
+use Rattle.herd_frozen.specs.freezing.Frozen.{IsFrozen, book_of, numbers_of}
 use Rattle.herd_kinship.specs.Coefficients.{AreCoefficients}
 use Rattle.herd_kinship.specs.FrozenAncestry.{ancestry_of, number_of_row}
 use Rattle.herd_kinship.specs.Table.{coefficient}
-use Rattle.herd_kinship.proofs.BookFacts.{record_there}
-use Rattle.herd_kinship.proofs.FrozenFacts.{length-numbers_of, number_of_row-is, numbers_are_keys, record_at-row}
+use Rattle.herd_kinship.proofs.lemmas.books.BookFacts.{record_there}
+use Rattle.herd_kinship.proofs.lemmas.books.FrozenFacts.{length-numbers_of, number_of_row-is, numbers_are_keys, record_at-row}
 use Rattle.herd_report.specs.writing.Certificate.{ancestors_text, animal_text, certificate_text, labelled_line}
 
 -- the lines on the animal of the row there, and then those of its ancestors, are the certificate

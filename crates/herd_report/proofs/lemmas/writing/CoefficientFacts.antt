@@ -2,11 +2,11 @@
 use Rattle.std.proofs.Common.{◌≡◌, ◌∙◌, ℕ, ◌<◌, List, ◌++◌, length, slice_index, slice_get, Some, ap, arith}
 use Rattle.std.specs.Prelude.{codes}
 use Rattle.std.proofs.lemmas.Option.{slice_get_within}
-use Rattle.herd_pedigree.specs.declared.freezing.frozen.Row.{Row}
+use Rattle.herd_frozen.specs.declared.freezing.frozen.Row.{Row}
 use Rattle.herd_kinship.specs.Coefficients.{AreCoefficients}
 use Rattle.herd_kinship.specs.FrozenAncestry.{ancestry_of}
 use Rattle.herd_kinship.specs.Table.{coefficient}
-use Rattle.herd_kinship.proofs.FrozenFacts.{number_of_row-is}
+use Rattle.herd_kinship.proofs.lemmas.books.FrozenFacts.{number_of_row-is}
 use Rattle.herd_report.proofs.lemmas.writing.OutputFacts.{some_after}
 use Rattle.herd_report.specs.writing.CoefficientText.{coefficient_line, coefficient_text}
 

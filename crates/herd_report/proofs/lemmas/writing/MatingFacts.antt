@@ -1,8 +1,8 @@
 -- The lines of mating advice.
 use Rattle.std.proofs.Common.{ℕ, ◌*◌, ◌-◌, ◌<◌, List, ◌++◌, length, Option, Some, None, arith}
 use Rattle.std.specs.Option.{option_map_or}
-use Rattle.herd_pedigree.specs.declared.TheConstants.{DEPTH_LIMIT}
-use Rattle.herd_pedigree.specs.rules.Book.{Book}
+use Rattle.herd_frozen.specs.declared.TheConstants.{DEPTH_LIMIT}
+use Rattle.herd_frozen.specs.rules.Book.{Book}
 use Rattle.herd_kinship.specs.declared.mating_advice.MatingFault.{MatingFault}
 use Rattle.herd_kinship.specs.FrozenAncestry.{book_ancestry}
 use Rattle.herd_kinship.specs.Mating.{mating_fault, number_of_mating_fault}

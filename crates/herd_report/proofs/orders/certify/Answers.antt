@@ -1,7 +1,7 @@
 -- Where there are no coefficients, nothing is written, and the animal is in the book.
 use Rattle.std.proofs.lemmas.Result.{err_from_is_err_and}
-use Rattle.herd_pedigree.specs.freezing.Frozen.{book_of}
-use Rattle.herd_pedigree.specs.declared.TheConstants.{DEPTH_LIMIT}
+use Rattle.herd_frozen.specs.freezing.Frozen.{book_of}
+use Rattle.herd_frozen.specs.declared.TheConstants.{DEPTH_LIMIT}
 use Rattle.herd_kinship.specs.FrozenAncestry.{ancestry_of}
 use Rattle.herd_kinship.specs.Table.{coefficient}
 use Rattle.herd_report.proofs.lemmas.writing.CertificateFacts.{not_absent, number_at_rank, some_certificate_text}

@@ -1,8 +1,8 @@
 -- The book of the register is that of the file.
 use Rattle.std.proofs.Common.{subst}
 use Rattle.std.proofs.lemmas.Option.{IfSome_then}
-use Rattle.herd_pedigree.specs.freezing.Frozen.{IsFrozenFrom}
-use Rattle.herd_pedigree.specs.declared.TheConstants.{DEPTH_LIMIT, MOST_ANIMALS}
+use Rattle.herd_frozen.specs.freezing.Frozen.{IsFrozenFrom}
+use Rattle.herd_frozen.specs.declared.TheConstants.{DEPTH_LIMIT, MOST_ANIMALS}
 use Rattle.herd_register.specs.Register.{register_book}
 use Rattle.herd_report.specs.reading.CommandFile.{commands}
 use Rattle.herd_report.proofs.RunFacts.{frozen_file}

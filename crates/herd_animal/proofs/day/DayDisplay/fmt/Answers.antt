@@ -1,3 +1,4 @@
+-- `DayDisplay::fmt`: what `unreachable` requires.
 use Rattle.herd_animal.proofs.AsciiFacts.{day-utf8}
 use Rattle.herd_animal.proofs.day.DayDisplay.fmt.Goals as goal
 

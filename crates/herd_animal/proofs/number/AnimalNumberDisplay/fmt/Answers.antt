@@ -1,3 +1,4 @@
+-- `AnimalNumberDisplay::fmt`: what `unreachable` requires.
 use Rattle.std.proofs.Common.{sym, subst, ℕ, List}
 use Rattle.std.specs.Str.{IsUtf8}
 use Rattle.herd_animal.proofs.AsciiFacts.{number-utf8}

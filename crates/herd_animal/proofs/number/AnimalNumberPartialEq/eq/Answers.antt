@@ -1,3 +1,4 @@
+-- `AnimalNumberPartialEq::eq`: its result.
 use Rattle.std.proofs.Common.{◌≡◌, ℕ, List, get_or, nat_eq, ap, ◌∙◌, subst}
 use Rattle.std.specs.Cmp.{unsigned_Decides}
 use Rattle.std.specs.Cmp.Lexicographic.{pointwise}

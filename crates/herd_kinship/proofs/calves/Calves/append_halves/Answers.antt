@@ -1,11 +1,12 @@
+-- `Calves::append_halves`: what `parents_at`, `numerator` and `link` require, its loop, and its result.
 use Rattle.std.proofs.Common.{◌≡◌, ℕ, ◌/◌, ◌<◌, length, arith, sym, ◌∙◌, ap, subst}
-use Rattle.herd_pedigree.specs.declared.TheConstants.{DEPTH_LIMIT, MOST_ANIMALS}
+use Rattle.herd_frozen.specs.declared.TheConstants.{DEPTH_LIMIT, MOST_ANIMALS}
 use Rattle.herd_kinship.specs.CalfLinks.{IsLink}
 use Rattle.herd_kinship.specs.Columns.{at_parent}
 use Rattle.herd_kinship.specs.Ranks.{dam_rank}
-use Rattle.herd_kinship.proofs.CalfFacts.{calf-within, dam-older, left_from, left-smaller}
-use Rattle.herd_kinship.proofs.CalfListFacts.{growing-end, growing-next, growing-start, IsGrowing}
-use Rattle.herd_kinship.proofs.ParentsFacts.{parents-dam}
+use Rattle.herd_kinship.proofs.lemmas.sires.CalfFacts.{calf-within, dam-older, left_from, left-smaller}
+use Rattle.herd_kinship.proofs.lemmas.sires.CalfListFacts.{growing-end, growing-next, growing-start, IsGrowing}
+use Rattle.herd_kinship.proofs.lemmas.books.ParentsFacts.{parents-dam}
 use Rattle.herd_kinship.proofs.calves.Calves.append_halves.Given.{Over}
 use Rattle.herd_kinship.proofs.calves.Calves.append_halves.Goals.{After-older-link, In-Some}
 use Rattle.herd_kinship.proofs.calves.Calves.append_halves.Goals as goal

@@ -1,8 +1,8 @@
 use Rattle.std.proofs.Common.{◌/◌}
 use Rattle.herd_kinship.specs.Columns.{at_parent}
 use Rattle.herd_kinship.specs.Ranks.{dam_rank}
-use Rattle.herd_kinship.proofs.CalfFacts.{left_from}
-use Rattle.herd_kinship.proofs.CalfListFacts.{IsGrowing}
+use Rattle.herd_kinship.proofs.lemmas.sires.CalfFacts.{left_from}
+use Rattle.herd_kinship.proofs.lemmas.sires.CalfListFacts.{IsGrowing}
 use Rattle.herd_kinship.proofs.calves.Calves.append_halves.Given as goal
 
 -- the calves so far are appended

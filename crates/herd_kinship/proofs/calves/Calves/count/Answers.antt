@@ -1,7 +1,8 @@
+-- `Calves::count`: what `link` requires, its loop, that nothing overflows, and its result.
 use Rattle.std.proofs.Common.{◌<◌, arith, sym, subst}
-use Rattle.herd_kinship.proofs.CalfCounts.{counted-end, counted-few, counted-next, counted-start, IsCounted}
-use Rattle.herd_kinship.proofs.CalfFacts.{calf-within, left_from, left-smaller}
-use Rattle.herd_kinship.proofs.FrozenFacts.{length-book_of}
+use Rattle.herd_kinship.proofs.lemmas.sires.CalfCounts.{counted-end, counted-few, counted-next, counted-start, IsCounted}
+use Rattle.herd_kinship.proofs.lemmas.sires.CalfFacts.{calf-within, left_from, left-smaller}
+use Rattle.herd_kinship.proofs.lemmas.books.FrozenFacts.{length-book_of}
 use Rattle.herd_kinship.proofs.calves.Calves.count.Goals as goal
 
 pub loop-link-init : goal.loop-link-init

@@ -1,5 +1,5 @@
-use Rattle.herd_kinship.proofs.CalfCounts.{IsCounted}
-use Rattle.herd_kinship.proofs.CalfFacts.{left_from}
+use Rattle.herd_kinship.proofs.lemmas.sires.CalfCounts.{IsCounted}
+use Rattle.herd_kinship.proofs.lemmas.sires.CalfFacts.{left_from}
 use Rattle.herd_kinship.proofs.calves.Calves.count.Given as goal
 
 -- so many calves are passed by

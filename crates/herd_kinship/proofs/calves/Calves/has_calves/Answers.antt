@@ -1,5 +1,6 @@
+-- `Calves::has_calves`: its clause `no`.
 use Rattle.std.proofs.Common.{◌≡◌, false, is_some}
-use Rattle.herd_kinship.proofs.CalfFacts.{link-none}
+use Rattle.herd_kinship.proofs.lemmas.sires.CalfFacts.{link-none}
 use Rattle.herd_kinship.proofs.calves.Calves.has_calves.Goals as goal
 
 pub returns-clause-no : goal.returns-clause-no

@@ -1,12 +1,13 @@
+-- `Calves::mark_mates`: what `parents_at`, `mark_parent` and `link` require and its loop.
 use Rattle.std.proofs.Common.{◌≡◌, ℕ, ◌-◌, ◌*◌, ◌<◌, ⊎_elim, List, length, Some, arith, sym, ◌∙◌, subst}
-use Rattle.herd_pedigree.specs.declared.TheConstants.{DEPTH_LIMIT, MOST_ANIMALS}
+use Rattle.herd_frozen.specs.declared.TheConstants.{DEPTH_LIMIT, MOST_ANIMALS}
 use Rattle.herd_kinship.specs.CalfLinks.{IsLink}
 use Rattle.herd_kinship.specs.Pending.{mark}
 use Rattle.herd_kinship.specs.Ranks.{dam_rank}
 use Rattle.herd_kinship.specs.Tracing.{GivesMark}
-use Rattle.herd_kinship.proofs.CalfFacts.{calf-within, dam-older, left_from, left-smaller, IsWalked, walked-start, walked-next}
-use Rattle.herd_kinship.proofs.Collecting.{gives-from, gives-it, gives-kept, gives-room}
-use Rattle.herd_kinship.proofs.ParentsFacts.{parents-dam}
+use Rattle.herd_kinship.proofs.lemmas.sires.CalfFacts.{calf-within, dam-older, left_from, left-smaller, IsWalked, walked-start, walked-next}
+use Rattle.herd_kinship.proofs.lemmas.sires.Collecting.{gives-from, gives-it, gives-kept, gives-room}
+use Rattle.herd_kinship.proofs.lemmas.books.ParentsFacts.{parents-dam}
 use Rattle.herd_kinship.proofs.calves.Calves.mark_mates.Given.{Over}
 use Rattle.herd_kinship.proofs.calves.Calves.mark_mates.Goals.{After-older-link, In-Some}
 use Rattle.herd_kinship.proofs.calves.Calves.mark_mates.Goals as goal

@@ -1,7 +1,7 @@
 use Rattle.std.proofs.Common.{◌≡◌, ℕ, ◌*◌, ◌-◌, ◌<◌, ◌≤◌, length, Some}
 use Rattle.herd_kinship.specs.Pending.{mark}
 use Rattle.herd_kinship.specs.Ranks.{dam_rank}
-use Rattle.herd_kinship.proofs.CalfFacts.{left_from, IsWalked}
+use Rattle.herd_kinship.proofs.lemmas.sires.CalfFacts.{left_from, IsWalked}
 use Rattle.herd_kinship.proofs.calves.Calves.mark_mates.Given as goal
 
 -- the dams of the calves so far are marked

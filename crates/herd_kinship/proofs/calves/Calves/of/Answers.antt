@@ -1,11 +1,12 @@
+-- `Calves::of`: what `index` and `index_mut` require, its loop, and its result.
 use Rattle.std.proofs.Common.{◌≡◌, ℕ, ◌<◌, inl, List, length, Option, None, Some, arith, ◌∙◌, subst}
 use Rattle.std.proofs.lemmas.List.{get_or_read}
-use Rattle.herd_pedigree.specs.declared.TheConstants.{DEPTH_LIMIT, MOST_ANIMALS}
+use Rattle.herd_frozen.specs.declared.TheConstants.{DEPTH_LIMIT, MOST_ANIMALS}
 use Rattle.herd_kinship.specs.CalfLinks.{AreLinked, IsCalf}
 use Rattle.herd_kinship.specs.Ranks.{sire_rank}
-use Rattle.herd_kinship.proofs.CalfFacts.{calf-pair, linked-calf, linked-other, no-calf}
-use Rattle.herd_kinship.proofs.FrozenFacts.{frozen-ranked}
-use Rattle.herd_kinship.proofs.ParentsFacts.{parents-sire, parents-within}
+use Rattle.herd_kinship.proofs.lemmas.sires.CalfFacts.{calf-pair, linked-calf, linked-other, no-calf}
+use Rattle.herd_kinship.proofs.lemmas.books.FrozenFacts.{frozen-ranked}
+use Rattle.herd_kinship.proofs.lemmas.books.ParentsFacts.{parents-sire, parents-within}
 use Rattle.herd_kinship.proofs.calves.Calves.of.Given.{Over}
 use Rattle.herd_kinship.proofs.calves.Calves.of.Goals.{in-Some, in_default, In-Some}
 use Rattle.herd_kinship.proofs.calves.Calves.of.Goals as goal

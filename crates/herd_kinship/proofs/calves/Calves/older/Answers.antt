@@ -1,4 +1,5 @@
-use Rattle.herd_kinship.proofs.CalfFacts.{next-link}
+-- `Calves::older`: its result.
+use Rattle.herd_kinship.proofs.lemmas.sires.CalfFacts.{next-link}
 use Rattle.herd_kinship.proofs.calves.Calves.older.Goals as goal
 
 pub returns : goal.returns

@@ -1,4 +1,5 @@
-use Rattle.herd_kinship.proofs.CalfFacts.{latest-link}
+-- `Calves::youngest`: its result.
+use Rattle.herd_kinship.proofs.lemmas.sires.CalfFacts.{latest-link}
 use Rattle.herd_kinship.proofs.calves.Calves.youngest.Goals as goal
 
 pub returns : goal.returns

@@ -1,5 +1,6 @@
+-- `Weights::of`: what `lowest` requires.
 use Rattle.std.proofs.Common.{◌*◌, ◌-◌, inl, refl}
-use Rattle.herd_pedigree.specs.declared.TheConstants.{DEPTH_LIMIT}
+use Rattle.herd_frozen.specs.declared.TheConstants.{DEPTH_LIMIT}
 use Rattle.herd_kinship.proofs.inverse.Weights.of.Goals as goal
 
 pub lowest-requires-clause-power : goal.lowest-requires-clause-power

@@ -1,15 +1,16 @@
+-- `Mates::append_calves`: its clause `calves`.
 use Rattle.std.proofs.Common.{◌≡◌, ℕ, ◌/◌, [], sym, ◌∙◌, ap, subst}
 use Rattle.std.proofs.lemmas.List.{append-nil}
 use Rattle.std.proofs.lemmas.Result.{IfOk-weaker}
-use Rattle.herd_pedigree.specs.declared.TheConstants.{DEPTH_LIMIT, MOST_ANIMALS}
+use Rattle.herd_frozen.specs.declared.TheConstants.{DEPTH_LIMIT, MOST_ANIMALS}
 use Rattle.herd_kinship.specs.CalfCoefficients.{GoesOnWith}
 use Rattle.herd_kinship.specs.CalfLinks.{IsCalf}
 use Rattle.herd_kinship.specs.Coefficients.{coefficient_at}
 use Rattle.herd_kinship.specs.Columns.{at_parent}
 use Rattle.herd_kinship.specs.Ranks.{dam_rank}
-use Rattle.herd_kinship.proofs.CalfFacts.{calf-within}
-use Rattle.herd_kinship.proofs.CalfListFacts.{calves-none, goes-on-values}
-use Rattle.herd_kinship.proofs.ColumnFacts.{coefficient-related}
+use Rattle.herd_kinship.proofs.lemmas.sires.CalfFacts.{calf-within}
+use Rattle.herd_kinship.proofs.lemmas.sires.CalfListFacts.{calves-none, goes-on-values}
+use Rattle.herd_kinship.proofs.lemmas.sires.ColumnFacts.{coefficient-related}
 use Rattle.herd_kinship.proofs.mates.Mates.append_calves.Goals as goal
 
 pub returns-in_ok-relate_to-clause-calves : goal.returns-in_ok-relate_to-clause-calves

@@ -1,10 +1,11 @@
+-- `Mates::relate_to`: its clause `related`.
 use Rattle.std.proofs.Common.{◌≡◌, ℕ, ◌-◌, ◌<◌, ◌≤◌, inr, Contains, List, length, get_or, Some, arith, ◌∙◌, ap, subst}
-use Rattle.herd_pedigree.specs.declared.TheConstants.{DEPTH_LIMIT, MOST_ANIMALS}
+use Rattle.herd_frozen.specs.declared.TheConstants.{DEPTH_LIMIT, MOST_ANIMALS}
 use Rattle.herd_kinship.specs.Columns.{related, HasAll}
-use Rattle.herd_kinship.proofs.CalfFacts.{calf-within}
-use Rattle.herd_kinship.proofs.FrozenFacts.{frozen-ranked}
-use Rattle.herd_kinship.proofs.PassedOn.{has-all}
-use Rattle.herd_kinship.proofs.RelationshipFacts.{written}
+use Rattle.herd_kinship.proofs.lemmas.sires.CalfFacts.{calf-within}
+use Rattle.herd_kinship.proofs.lemmas.books.FrozenFacts.{frozen-ranked}
+use Rattle.herd_kinship.proofs.lemmas.sires.PassedOn.{has-all}
+use Rattle.herd_kinship.proofs.lemmas.sires.RelationshipFacts.{written}
 use Rattle.herd_kinship.proofs.mates.Mates.relate_to.Goals as goal
 
 pub returns-clause-related : goal.returns-clause-related

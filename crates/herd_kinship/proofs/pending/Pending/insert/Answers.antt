@@ -1,10 +1,11 @@
+-- `Pending::insert`: its result.
 use Rattle.std.proofs.Common.{ℕ, ◌+◌, ◌*◌, ◌/◌, ◌%◌, ◌^◌, ◌≡◌, ◌<◌, length, set, arith, subst}
 use Rattle.std.specs.Int.{w64}
 use Rattle.std.proofs.lemmas.List.{get_or_read}
 use Rattle.std.proofs.lemmas.Nat.Bits.{bit_at_set_same, bit_at_set_other}
 use Rattle.std.specs.Prelude.{bit_or}
 use Rattle.herd_kinship.specs.Pending.{Marks}
-use Rattle.herd_kinship.proofs.PendingFacts.{marks-chunk}
+use Rattle.herd_kinship.proofs.lemmas.numbers.PendingFacts.{marks-chunk}
 use Rattle.herd_kinship.proofs.pending.Pending.insert.Goals as goal
 
 pub returns : goal.returns

@@ -1,6 +1,7 @@
+-- `Pending::take_nearest`: that nothing overflows and its clauses `found`, `nearest` and `taken`.
 use Rattle.std.proofs.Common.{ℕ, List, ◌+◌, ◌*◌, ◌<◌, length, set, arith, subst}
 use Rattle.std.proofs.lemmas.List.{get_or_read}
-use Rattle.herd_kinship.proofs.PendingFacts.{IsNearest, nearest-cleared}
+use Rattle.herd_kinship.proofs.lemmas.numbers.PendingFacts.{IsNearest, nearest-cleared}
 use Rattle.herd_kinship.proofs.pending.Pending.take_nearest.Given.{Over}
 use Rattle.herd_kinship.proofs.pending.Pending.take_nearest.Goals.{After-without_lowest-lowest}
 use Rattle.herd_kinship.proofs.pending.Pending.take_nearest.Goals as goal

@@ -1,7 +1,8 @@
+-- `Relationships::of`: its result.
 use Rattle.std.proofs.Common.{◌≡◌, ℕ, List, length, arith, sym, ap, subst}
-use Rattle.herd_pedigree.specs.declared.TheConstants.{DEPTH_LIMIT}
+use Rattle.herd_frozen.specs.declared.TheConstants.{DEPTH_LIMIT}
 use Rattle.herd_kinship.specs.Columns.{AreRelationships}
-use Rattle.herd_kinship.proofs.RelationshipFacts.{relationships-made, written}
+use Rattle.herd_kinship.proofs.lemmas.sires.RelationshipFacts.{relationships-made, written}
 use Rattle.herd_kinship.proofs.relationships.Relationships.of.Goals as goal
 
 pub returns : goal.returns

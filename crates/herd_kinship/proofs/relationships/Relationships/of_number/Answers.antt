@@ -1,12 +1,13 @@
+-- `Relationships::of_number`: its clauses `relationships` and `absent`.
 use Rattle.std.proofs.Common.{◌≡◌, true}
 use Rattle.std.proofs.lemmas.Result.{IfOk-weaker}
-use Rattle.herd_pedigree.specs.declared.TheConstants.{DEPTH_LIMIT}
-use Rattle.herd_pedigree.specs.rules.Book.{is_there}
-use Rattle.herd_pedigree.specs.freezing.Frozen.{book_of}
+use Rattle.herd_frozen.specs.declared.TheConstants.{DEPTH_LIMIT}
+use Rattle.herd_frozen.specs.rules.Book.{is_there}
+use Rattle.herd_frozen.specs.freezing.Frozen.{book_of}
 use Rattle.herd_kinship.specs.Columns.{AreRelationships}
 use Rattle.herd_kinship.specs.Mating.{AreRelationshipsOf}
-use Rattle.herd_kinship.proofs.MatingFacts.{rank-there}
-use Rattle.herd_kinship.proofs.RelationshipFacts.{relationships-absent, relationships-of}
+use Rattle.herd_kinship.proofs.lemmas.advice.MatingFacts.{rank-there}
+use Rattle.herd_kinship.proofs.lemmas.sires.RelationshipFacts.{relationships-absent, relationships-of}
 use Rattle.herd_kinship.proofs.relationships.Relationships.of_number.Goals as goal
 
 pub returns-in-Some-clause-relationships : goal.returns-in-Some-clause-relationships

@@ -1,7 +1,8 @@
+-- `Tracing::give`: what `parents_at` requires, that nothing overflows, and its clause `shares`.
 use Rattle.std.proofs.Common.{◌≡◌, ◌-◌, get_or, lit<, arith, refl}
 use Rattle.std.proofs.lemmas.List.{get_or_read}
-use Rattle.herd_pedigree.specs.declared.TheConstants.{DEPTH_LIMIT}
-use Rattle.herd_kinship.proofs.TracingFacts.{IsGift, gift-is}
+use Rattle.herd_frozen.specs.declared.TheConstants.{DEPTH_LIMIT}
+use Rattle.herd_kinship.proofs.lemmas.tracing.TracingFacts.{IsGift, gift-is}
 use Rattle.herd_kinship.proofs.tracing.Tracing.give.Given.{Over}
 use Rattle.herd_kinship.proofs.tracing.Tracing.give.Goals.{After-parents_at, After-index_mut}
 use Rattle.herd_kinship.proofs.tracing.Tracing.give.Goals as goal

@@ -1,9 +1,10 @@
+-- `Tracing::meet_next`: what `give` requires and its clauses `tracing`, `all`, `shares` and `next`.
 use Rattle.std.proofs.Common.{◌≡◌, ℕ, ◌-◌, length, set, arith, refl, ◌∙◌, ap, subst}
 use Rattle.std.proofs.lemmas.List.{get_or_read, length-set}
-use Rattle.herd_pedigree.specs.declared.TheConstants.{DEPTH_LIMIT}
+use Rattle.herd_frozen.specs.declared.TheConstants.{DEPTH_LIMIT}
 use Rattle.herd_kinship.specs.Tracing.{given, GivesMark}
-use Rattle.herd_kinship.proofs.TracingFacts.{length-given}
-use Rattle.herd_kinship.proofs.UnderWayFacts.{IsMet, none-left, taken-met, under_way-end}
+use Rattle.herd_kinship.proofs.lemmas.tracing.TracingFacts.{length-given}
+use Rattle.herd_kinship.proofs.lemmas.tracing.UnderWayFacts.{IsMet, none-left, taken-met, under_way-end}
 use Rattle.herd_kinship.proofs.tracing.Tracing.meet_next.Given.{Over}
 use Rattle.herd_kinship.proofs.tracing.Tracing.meet_next.Goals.{After-index-share}
 use Rattle.herd_kinship.proofs.tracing.Tracing.meet_next.Goals as goal

@@ -1,5 +1,6 @@
-use Rattle.herd_pedigree.specs.declared.TheConstants.{DEPTH_LIMIT}
-use Rattle.herd_kinship.proofs.UnderWayFacts.{under_way-start}
+-- `Tracing::start`: its clause `tracing`.
+use Rattle.herd_frozen.specs.declared.TheConstants.{DEPTH_LIMIT}
+use Rattle.herd_kinship.proofs.lemmas.tracing.UnderWayFacts.{under_way-start}
 use Rattle.herd_kinship.proofs.tracing.Tracing.start.Goals as goal
 
 pub returns-clause-tracing : goal.returns-clause-tracing

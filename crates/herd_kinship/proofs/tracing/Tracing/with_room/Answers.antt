@@ -1,6 +1,7 @@
+-- `Tracing::with_room`: its result.
 use Rattle.std.proofs.Common.{List, ℕ, sym, subst}
 use Rattle.herd_kinship.specs.Tracing.{IsIdle}
-use Rattle.herd_kinship.proofs.UnderWayFacts.{idle-start}
+use Rattle.herd_kinship.proofs.lemmas.tracing.UnderWayFacts.{idle-start}
 use Rattle.herd_kinship.proofs.tracing.Tracing.with_room.Goals as goal
 
 pub returns : goal.returns

@@ -1,8 +1,9 @@
+-- `Pedigree::add_if_sound`: what `add_unless_too_deep` requires and its clauses `fault` and `by_records`.
 use Rattle.std.proofs.Common.{refl, subst, ◌≡◌, Some, None}
 use Rattle.std.specs.Map.{keys_of}
-use Rattle.herd_pedigree.specs.rules.ParentFault.{fault_by_records, parent_fault}
-use Rattle.herd_pedigree.specs.store.Places.{IsIndexIn}
-use Rattle.herd_pedigree.specs.declared.TheConstants.{DEPTH_LIMIT}
+use Rattle.herd_frozen.specs.rules.ParentFault.{fault_by_records, parent_fault}
+use Rattle.herd_frozen.specs.places.Places.{IsIndexIn}
+use Rattle.herd_frozen.specs.declared.TheConstants.{DEPTH_LIMIT}
 use Rattle.herd_pedigree.proofs.CheckFacts.{fault-first}
 use Rattle.herd_pedigree.proofs.pedigree.Pedigree.add_if_sound.Goals as goal
 

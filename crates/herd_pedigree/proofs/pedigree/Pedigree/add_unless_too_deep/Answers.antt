@@ -2,13 +2,13 @@
 use Rattle.std.proofs.Common.{rules, sym, ap, ◌∙◌, subst, arith, ◌≡◌, ℕ, List, [], ◌∷◌, ◌++◌, Option, Some, None, true, false, slice_index}
 use Rattle.std.specs.Map.{keys_of}
 use Rattle.std.proofs.lemmas.Bool.{le-ltb, lt-ltb}
-use Rattle.herd_pedigree.specs.declared.rules.parent_fault.ParentFault.TheVariants.{TooDeep}
-use Rattle.herd_pedigree.specs.rules.Book.{Book}
-use Rattle.herd_pedigree.specs.rules.Depths.{depth_from}
-use Rattle.herd_pedigree.specs.rules.ParentFault.{fault_by_records, parent_fault}
+use Rattle.herd_frozen.specs.declared.rules.parent_fault.ParentFault.TheVariants.{TooDeep}
+use Rattle.herd_frozen.specs.rules.Book.{Book}
+use Rattle.herd_frozen.specs.rules.Depths.{depth_from}
+use Rattle.herd_frozen.specs.rules.ParentFault.{fault_by_records, parent_fault}
 use Rattle.herd_pedigree.specs.Pedigree.{IsBirth, IsNewborn}
-use Rattle.herd_pedigree.specs.store.Places.{IsIndexIn}
-use Rattle.herd_pedigree.specs.declared.TheConstants.{DEPTH_LIMIT, MOST_ANIMALS}
+use Rattle.herd_frozen.specs.places.Places.{IsIndexIn}
+use Rattle.herd_frozen.specs.declared.TheConstants.{DEPTH_LIMIT, MOST_ANIMALS}
 use Rattle.herd_pedigree.proofs.CheckFacts.{newborn-fault}
 use Rattle.herd_pedigree.proofs.KeptFacts.{IsHeld-push}
 use Rattle.herd_pedigree.proofs.lemmas.store.UndoFacts.{birth-view}

@@ -1,9 +1,10 @@
+-- `Pedigree::calved_after`: what `calf` requires, its loop, and its result.
 use Rattle.std.proofs.Common.{rules, sym, ap, ◌∙◌, subst, arith, ◌≡◌, ℕ, inl, inr, List, [], ◌∷◌, Option, Some, None, true, false, slice_get, Contains}
 use Rattle.std.specs.Map.{keys_of}
 use Rattle.std.proofs.lemmas.Option.{get_or_from_slice_get}
-use Rattle.herd_pedigree.specs.declared.rules.animal.Animal.{Animal}
-use Rattle.herd_pedigree.specs.rules.Book.{Book, record_of, has_calved_after}
-use Rattle.herd_pedigree.proofs.lemmas.rules.BookFacts.{at_position, none_if, value_at}
+use Rattle.herd_frozen.specs.declared.rules.animal.Animal.{Animal}
+use Rattle.herd_frozen.specs.rules.Book.{Book, record_of, has_calved_after}
+use Rattle.herd_frozen.proofs.lemmas.rules.BookFacts.{at_position, none_if, value_at}
 use Rattle.herd_pedigree.proofs.lemmas.store.ListFacts.{contains_cases, contains_here, contains_later, contains_none}
 use Rattle.herd_pedigree.proofs.lemmas.store.ProgenyFacts.{parent-within}
 use Rattle.herd_pedigree.proofs.lemmas.store.CalvedFacts.{counts, none_calved, calf_found, calf_missing}

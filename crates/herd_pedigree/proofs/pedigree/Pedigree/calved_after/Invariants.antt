@@ -1,7 +1,7 @@
 -- What is left are her calves, and those before don't count.
 use Rattle.std.proofs.Common.{◌≡◌, ◌⊎◌, ℕ, List, Contains, false, Some, slice_get}
-use Rattle.herd_pedigree.specs.declared.rules.animal.Animal.{Animal}
-use Rattle.herd_pedigree.specs.store.Places.{parent_at}
+use Rattle.herd_frozen.specs.declared.rules.animal.Animal.{Animal}
+use Rattle.herd_frozen.specs.places.Places.{parent_at}
 use Rattle.herd_pedigree.proofs.lemmas.store.CalvedFacts.{counts}
 use Rattle.herd_pedigree.proofs.pedigree.Pedigree.calved_after.Given as goal
 

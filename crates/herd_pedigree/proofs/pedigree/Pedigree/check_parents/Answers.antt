@@ -1,9 +1,10 @@
+-- `Pedigree::check_parents`: its clauses `fault` and `by_records`.
 use Rattle.std.proofs.Common.{refl, sym, ap, ◌∙◌, subst, ◌≡◌, Some, None, true, false}
 use Rattle.std.specs.Map.{keys_of}
-use Rattle.herd_pedigree.specs.rules.Book.{Book}
-use Rattle.herd_pedigree.specs.rules.ParentFault.{fault_by_records, is_too_deep, parent_fault}
-use Rattle.herd_pedigree.specs.store.Places.{IsIndexIn}
-use Rattle.herd_pedigree.specs.declared.TheConstants.{DEPTH_LIMIT}
+use Rattle.herd_frozen.specs.rules.Book.{Book}
+use Rattle.herd_frozen.specs.rules.ParentFault.{fault_by_records, is_too_deep, parent_fault}
+use Rattle.herd_frozen.specs.places.Places.{IsIndexIn}
+use Rattle.herd_frozen.specs.declared.TheConstants.{DEPTH_LIMIT}
 use Rattle.herd_pedigree.proofs.CheckFacts.{fault-first, fault-rest}
 use Rattle.herd_pedigree.proofs.pedigree.Pedigree.check_parents.Goals as goal
 

@@ -1,8 +1,9 @@
+-- `Pedigree::depth`: its clause `depth`.
 use Rattle.std.proofs.Common.{sym, ◌∙◌, subst, arith, ◌<◌, ◌≡◌, length, slice_index}
 use Rattle.std.proofs.lemmas.List.{get_or_default}
-use Rattle.herd_pedigree.specs.rules.Book.{IsDepthOf}
-use Rattle.herd_pedigree.specs.declared.TheConstants.{DEPTH_LIMIT, MOST_ANIMALS}
-use Rattle.herd_pedigree.proofs.lemmas.rules.BookFacts.{at_position}
+use Rattle.herd_frozen.specs.rules.Book.{IsDepthOf}
+use Rattle.herd_frozen.specs.declared.TheConstants.{DEPTH_LIMIT, MOST_ANIMALS}
+use Rattle.herd_frozen.proofs.lemmas.rules.BookFacts.{at_position}
 use Rattle.herd_pedigree.proofs.KeptFacts.{depth-kept}
 use Rattle.herd_pedigree.proofs.pedigree.Pedigree.depth.Goals as goal
 

@@ -1,15 +1,16 @@
+-- `Pedigree::is_too_deep`: what `has_no_calves` and `is_too_deep` require and its result.
 use Rattle.std.proofs.Common.{◌+◌, sym, ap, ◌∙◌, subst, arith, ◌≡◌, ◌<◌, ◌≤◌, ℕ, List, [], ◌∷◌, Option, Some, None, IfSome, Bool, false, nat_lt, IsTrue, IsFalse, length, slice_index, slice_get, slice_set}
 use Rattle.std.proofs.lemmas.Bool.{lt-ltb}
 use Rattle.std.proofs.lemmas.List.{get_or_default}
 use Rattle.std.specs.Map.{keys_of}
-use Rattle.herd_pedigree.specs.rules.Paths.{has_path}
-use Rattle.herd_pedigree.specs.rules.Book.{Book, record_of}
-use Rattle.herd_pedigree.specs.rules.ParentFault.{is_too_deep}
-use Rattle.herd_pedigree.specs.rules.Depths.{depth_from}
-use Rattle.herd_pedigree.specs.store.Places.{IsIndexIn, parentage_at}
+use Rattle.herd_frozen.specs.rules.Paths.{has_path}
+use Rattle.herd_frozen.specs.rules.Book.{Book, record_of}
+use Rattle.herd_frozen.specs.rules.ParentFault.{is_too_deep}
+use Rattle.herd_frozen.specs.rules.Depths.{depth_from}
+use Rattle.herd_frozen.specs.places.Places.{IsIndexIn, parentage_at}
 use Rattle.herd_pedigree.specs.store.Carry.{IsSettled}
-use Rattle.herd_pedigree.specs.declared.TheConstants.{DEPTH_LIMIT, MOST_ANIMALS}
-use Rattle.herd_pedigree.proofs.lemmas.rules.BookFacts.{at_position, none_if}
+use Rattle.herd_frozen.specs.declared.TheConstants.{DEPTH_LIMIT, MOST_ANIMALS}
+use Rattle.herd_frozen.proofs.lemmas.rules.BookFacts.{at_position, none_if}
 use Rattle.herd_pedigree.proofs.lemmas.store.CorrectionFacts.{IfOk-both}
 use Rattle.herd_pedigree.proofs.CheckFacts.{too_deep-absent, not_deep-lower, too_deep-leaf, too_deep-told_by, closed-within, settled-exchange}
 use Rattle.herd_pedigree.proofs.pedigree.Pedigree.is_too_deep.Goals as goal

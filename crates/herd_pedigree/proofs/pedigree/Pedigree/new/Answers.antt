@@ -1,4 +1,5 @@
-use Rattle.herd_pedigree.specs.declared.TheConstants.{DEPTH_LIMIT, MOST_ANIMALS}
+-- `Pedigree::new`: the invariant.
+use Rattle.herd_frozen.specs.declared.TheConstants.{DEPTH_LIMIT, MOST_ANIMALS}
 use Rattle.herd_pedigree.proofs.KeptFacts.{IsHeld-empty}
 use Rattle.herd_pedigree.proofs.pedigree.Pedigree.new.Goals as goal
 

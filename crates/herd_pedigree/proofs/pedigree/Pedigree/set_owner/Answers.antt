@@ -1,10 +1,11 @@
+-- `Pedigree::set_owner`: what `set_record` requires and its result.
 use Rattle.std.proofs.Common.{sym, ap, ◌∙◌, subst, ◌≡◌}
 use Rattle.indexmap.specs.IndexMap.{set_value_at}
-use Rattle.herd_pedigree.specs.rules.Book.{changed, with_owner}
-use Rattle.herd_pedigree.specs.rules.Lawful.{IsLawful}
+use Rattle.herd_frozen.specs.rules.Book.{changed, with_owner}
+use Rattle.herd_frozen.specs.rules.Lawful.{IsLawful}
 use Rattle.herd_pedigree.specs.Pedigree.{changed_to}
-use Rattle.herd_pedigree.specs.declared.TheConstants.{DEPTH_LIMIT, MOST_ANIMALS}
-use Rattle.herd_pedigree.proofs.lemmas.rules.LawfulChanges.{lawful-owner}
+use Rattle.herd_frozen.specs.declared.TheConstants.{DEPTH_LIMIT, MOST_ANIMALS}
+use Rattle.herd_pedigree.proofs.lemmas.LawfulChanges.{lawful-owner}
 use Rattle.herd_pedigree.proofs.lemmas.store.SetFacts.{set-found}
 use Rattle.herd_pedigree.proofs.pedigree.Pedigree.set_owner.Goals as goal
 

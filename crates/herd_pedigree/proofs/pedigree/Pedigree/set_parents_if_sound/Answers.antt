@@ -1,21 +1,22 @@
+-- `Pedigree::set_parents_if_sound`: what `carry_if_shallow` and `set` require, the invariant, and its clauses `fault`, `set` and `by_records`.
 use Rattle.std.proofs.Common.{◌+◌, refl, sym, ap, ◌∙◌, subst, arith, ◌≡◌, ◌<◌, ℕ, List, [], ◌∷◌, Option, Some, None, IfSome, IsFalse, IsTrue, true, false, All, length, slice_index, slice_get, slice_set}
 use Rattle.std.specs.Map.{keys_of}
 use Rattle.std.specs.Vec.{with_items}
 use Rattle.std.proofs.lemmas.List.{with_items_is}
 use Rattle.std.proofs.lemmas.Bool.{false≢true, true≢false}
 use Rattle.indexmap.specs.IndexMap.{set_value_at}
-use Rattle.herd_pedigree.specs.declared.rules.animal.Animal.{Animal}
+use Rattle.herd_frozen.specs.declared.rules.animal.Animal.{Animal}
 use Rattle.herd_pedigree.specs.declared.store.undo.Undo.TheVariants.{Record}
-use Rattle.herd_pedigree.specs.rules.Paths.{has_path}
-use Rattle.herd_pedigree.specs.rules.Book.{Book, changed, record_of, with_parents}
+use Rattle.herd_frozen.specs.rules.Paths.{has_path}
+use Rattle.herd_frozen.specs.rules.Book.{Book, changed, record_of, with_parents}
 use Rattle.herd_pedigree.specs.Pedigree.{IsCorrection, changed_to}
-use Rattle.herd_pedigree.specs.store.Places.{IsIndexIn, parentage_at}
-use Rattle.herd_pedigree.specs.rules.ParentFault.{fault_by_records, is_too_deep, parent_fault}
-use Rattle.herd_pedigree.specs.declared.rules.parent_fault.ParentFault.TheVariants.{TooDeep}
+use Rattle.herd_frozen.specs.places.Places.{IsIndexIn, parentage_at}
+use Rattle.herd_frozen.specs.rules.ParentFault.{fault_by_records, is_too_deep, parent_fault}
+use Rattle.herd_frozen.specs.declared.rules.parent_fault.ParentFault.TheVariants.{TooDeep}
 use Rattle.herd_pedigree.specs.store.Carry.{IsSettled}
 use Rattle.herd_pedigree.specs.store.Undo.{IsHeld}
-use Rattle.herd_pedigree.specs.declared.TheConstants.{DEPTH_LIMIT, MOST_ANIMALS}
-use Rattle.herd_pedigree.proofs.lemmas.rules.BookFacts.{at_position, entry_found, lookup_at}
+use Rattle.herd_frozen.specs.declared.TheConstants.{DEPTH_LIMIT, MOST_ANIMALS}
+use Rattle.herd_frozen.proofs.lemmas.rules.BookFacts.{at_position, entry_found, lookup_at}
 use Rattle.herd_pedigree.proofs.lemmas.store.SetFacts.{record-view}
 use Rattle.herd_pedigree.proofs.CheckFacts.{closed-within, fault-first, fault-rest, settled-exchange, told-there, too_deep-told_by}
 use Rattle.herd_pedigree.proofs.HeldFacts.{IsHeld-corrected}

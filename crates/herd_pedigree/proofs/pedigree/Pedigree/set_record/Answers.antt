@@ -1,14 +1,15 @@
+-- `Pedigree::set_record`: what `set` requires, the invariant, and its result.
 use Rattle.std.proofs.Common.{sym, ap, subst, ◌≡◌, ℕ, List, Option, Some, slice_get}
 use Rattle.std.specs.Map.{keys_of, values_of}
 use Rattle.indexmap.specs.IndexMap.{set_value_at}
 use Rattle.herd_pedigree.specs.declared.store.undo.Undo.TheVariants.{Record}
-use Rattle.herd_pedigree.specs.rules.Book.{Book}
-use Rattle.herd_pedigree.specs.rules.Lawful.{IsLawful}
+use Rattle.herd_frozen.specs.rules.Book.{Book}
+use Rattle.herd_frozen.specs.rules.Lawful.{IsLawful}
 use Rattle.herd_pedigree.specs.Pedigree.{changed_to}
-use Rattle.herd_pedigree.specs.store.Places.{IsIndexIn}
+use Rattle.herd_frozen.specs.places.Places.{IsIndexIn}
 use Rattle.herd_pedigree.specs.store.Undo.{IsHeld}
-use Rattle.herd_pedigree.specs.declared.TheConstants.{DEPTH_LIMIT, MOST_ANIMALS}
-use Rattle.herd_pedigree.proofs.lemmas.rules.BookFacts.{entry_from_value}
+use Rattle.herd_frozen.specs.declared.TheConstants.{DEPTH_LIMIT, MOST_ANIMALS}
+use Rattle.herd_frozen.proofs.lemmas.rules.BookFacts.{entry_from_value}
 use Rattle.herd_pedigree.proofs.lemmas.store.SetFacts.{IsHeld-same, set-view}
 use Rattle.herd_pedigree.proofs.pedigree.Pedigree.set_record.Goals as goal
 

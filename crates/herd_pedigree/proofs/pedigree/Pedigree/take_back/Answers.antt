@@ -1,9 +1,10 @@
+-- `Pedigree::take_back`: what `pop` and `set` require and the invariant.
 use Rattle.std.proofs.Common.{rules, ap, ◌∙◌, subst, ◌≡◌, ℕ, List, length}
 use Rattle.std.proofs.lemmas.List.{with_items_is}
-use Rattle.herd_pedigree.specs.rules.Book.{Book}
+use Rattle.herd_frozen.specs.rules.Book.{Book}
 use Rattle.herd_pedigree.specs.declared.store.undo.Undo.TheVariants.{Birth, Record}
 use Rattle.herd_pedigree.specs.store.Undo.{IsHeld, undone_writes, without_last}
-use Rattle.herd_pedigree.specs.declared.TheConstants.{DEPTH_LIMIT, MOST_ANIMALS}
+use Rattle.herd_frozen.specs.declared.TheConstants.{DEPTH_LIMIT, MOST_ANIMALS}
 use Rattle.herd_pedigree.proofs.HeldFacts.{IsHeld-before, childless-dam, childless-sire, names_its_own-before, undo-dam, undo-dam_is, undo-sire, undo-sire_is}
 use Rattle.herd_pedigree.proofs.lemmas.store.UndoFacts.{IsHeld-undone}
 use Rattle.herd_pedigree.proofs.pedigree.Pedigree.take_back.Goals as goal

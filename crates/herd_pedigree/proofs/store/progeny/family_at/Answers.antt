@@ -1,3 +1,4 @@
+-- `family_at`: its result.
 use Rattle.std.proofs.Common.{sym, ◌∙◌}
 use Rattle.std.proofs.lemmas.List.{get_or_default}
 use Rattle.herd_pedigree.specs.store.Calves.{alone}

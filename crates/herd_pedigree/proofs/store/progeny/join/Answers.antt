@@ -1,3 +1,4 @@
+-- `join`: what `set_previous` requires and its clauses `chained` and `parents`.
 use Rattle.std.proofs.Common.{arith, ap, sym, ◌∙◌, List}
 use Rattle.herd_pedigree.specs.declared.store.progeny.Family.{Family}
 use Rattle.herd_pedigree.proofs.lemmas.store.ProgenyFacts.{animal-within, chained-link, joined, parents-set}

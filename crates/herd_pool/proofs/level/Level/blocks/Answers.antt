@@ -1,6 +1,7 @@
+-- `Level::blocks`: that nothing overflows.
 use Rattle.std.proofs.Common.{arith, ap, length}
 use Rattle.std.proofs.Math.Nat.{div-le_self}
-use Rattle.herd_kinship.proofs.FrozenFacts.{length-book_of}
+use Rattle.herd_kinship.proofs.lemmas.books.FrozenFacts.{length-book_of}
 use Rattle.herd_pool.proofs.LevelFacts.{length-level_of}
 use Rattle.herd_pool.proofs.level.Level.blocks.Goals as goal
 

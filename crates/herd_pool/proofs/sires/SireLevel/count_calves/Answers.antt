@@ -1,3 +1,4 @@
+-- `SireLevel::count_calves`: what `calves` requires, that nothing overflows, its loop, and its result.
 use Rattle.std.proofs.Common.{◌≤◌, arith, ◌∙◌, ap, subst, sym}
 use Rattle.std.specs.List.{sum_by}
 use Rattle.std.proofs.lemmas.List.{take_all}

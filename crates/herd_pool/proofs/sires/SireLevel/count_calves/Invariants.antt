@@ -1,6 +1,6 @@
 use Rattle.std.proofs.Common.{◌≡◌, take}
 use Rattle.std.specs.List.{sum_by}
-use Rattle.herd_pedigree.specs.freezing.Frozen.{level_of}
+use Rattle.herd_frozen.specs.freezing.Frozen.{level_of}
 use Rattle.herd_kinship.specs.CalfLinks.{calf_count}
 use Rattle.herd_pool.specs.Levels.{block_of}
 use Rattle.herd_pool.proofs.sires.SireLevel.count_calves.Given as goal

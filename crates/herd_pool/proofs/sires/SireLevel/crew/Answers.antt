@@ -1,3 +1,4 @@
+-- `SireLevel::crew`: that nothing overflows and its loop.
 use Rattle.std.proofs.Common.{◌<◌, ◌≤◌, arith}
 use Rattle.herd_pool.specs.Sires.{calves_of}
 use Rattle.herd_pool.proofs.CrewFacts.{busy_among-few, busy_among-no, busy_among-yes, calves_among-few, calves_among-more}

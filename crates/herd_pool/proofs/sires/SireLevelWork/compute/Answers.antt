@@ -1,6 +1,7 @@
+-- `SireLevelWork::compute`: what `append_calves` requires and its loop.
 use Rattle.std.proofs.Common.{arith, slice_index, sym, subst}
-use Rattle.herd_pedigree.specs.declared.TheConstants.{DEPTH_LIMIT, MOST_ANIMALS}
-use Rattle.herd_kinship.proofs.BySires.{less_deep-ancestors}
+use Rattle.herd_frozen.specs.declared.TheConstants.{DEPTH_LIMIT, MOST_ANIMALS}
+use Rattle.herd_kinship.proofs.lemmas.sires.BySires.{less_deep-ancestors}
 use Rattle.herd_pool.specs.Sires.{AreCalvesAmong}
 use Rattle.herd_pool.proofs.LevelFacts.{block_of-ranks}
 use Rattle.herd_pool.proofs.SireFacts.{calves_at_first, calves_further}

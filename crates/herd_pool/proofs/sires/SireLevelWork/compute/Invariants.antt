@@ -1,6 +1,6 @@
 use Rattle.std.proofs.Common.{◌≡◌, length}
-use Rattle.herd_pedigree.specs.freezing.Frozen.{level_of}
-use Rattle.herd_pedigree.specs.declared.TheConstants.{DEPTH_LIMIT}
+use Rattle.herd_frozen.specs.freezing.Frozen.{level_of}
+use Rattle.herd_frozen.specs.declared.TheConstants.{DEPTH_LIMIT}
 use Rattle.herd_kinship.specs.Mates.{IsReady}
 use Rattle.herd_pool.specs.Levels.{block_of}
 use Rattle.herd_pool.specs.Sires.{AreCalvesAmong}

@@ -1,5 +1,6 @@
+-- `TracedLevelWork::compute`: what `trace` requires and its loop.
 use Rattle.std.proofs.Common.{◌≡◌, ◌∙◌, slice_index}
-use Rattle.herd_pedigree.specs.declared.TheConstants.{DEPTH_LIMIT, MOST_ANIMALS}
+use Rattle.herd_frozen.specs.declared.TheConstants.{DEPTH_LIMIT, MOST_ANIMALS}
 use Rattle.herd_kinship.specs.Coefficients.{coefficient_at}
 use Rattle.herd_pool.proofs.Known.{ancestors_known, inbred-entry}
 use Rattle.herd_pool.proofs.LevelFacts.{block_of-ranks, numerators_more}

@@ -1,5 +1,6 @@
+-- `CopiedRecords::put`: the invariant and its result.
 use Rattle.std.proofs.Common.{◌≡◌, ◌<◌, ◌≤◌, length, set, ap, ◌∙◌, sym, subst, arith}
-use Rattle.herd_pedigree.specs.rules.Book.{Book}
+use Rattle.herd_frozen.specs.rules.Book.{Book}
 use Rattle.herd_register.specs.CopiedRecords.{CopiedRecords, records_of, with_record_in}
 use Rattle.herd_register.proofs.RecordFacts.{AreInRoom-set, with_record_in-at, with_record_in-full, with_record_in-new}
 use Rattle.herd_register.proofs.copied_records.CopiedRecords.put.Goals as goal

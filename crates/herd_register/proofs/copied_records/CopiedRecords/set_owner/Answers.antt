@@ -1,5 +1,6 @@
+-- `CopiedRecords::set_owner`: the invariant and its result.
 use Rattle.std.proofs.Common.{◌≡◌, set, ap, sym, subst}
-use Rattle.herd_pedigree.specs.rules.Book.{Book, changed, with_owner}
+use Rattle.herd_frozen.specs.rules.Book.{Book, changed, with_owner}
 use Rattle.herd_register.specs.CopiedRecords.{CopiedRecords, records_of}
 use Rattle.herd_register.proofs.RecordFacts.{AreInRoom-set, changed-at, changed-nowhere}
 use Rattle.herd_register.proofs.copied_records.CopiedRecords.set_owner.Goals as goal

@@ -1,6 +1,7 @@
+-- `Copybook::records`: its clauses `run` and `lawful`.
 use Rattle.std.proofs.Common.{◌≡◌, ◌∙◌, sym, subst}
-use Rattle.herd_pedigree.specs.rules.Lawful.{IsLawful}
-use Rattle.herd_pedigree.specs.declared.TheConstants.{DEPTH_LIMIT, MOST_ANIMALS}
+use Rattle.herd_frozen.specs.rules.Lawful.{IsLawful}
+use Rattle.herd_frozen.specs.declared.TheConstants.{DEPTH_LIMIT, MOST_ANIMALS}
 use Rattle.herd_register.specs.Copybook.{Copybook, copybook_of}
 use Rattle.herd_register.specs.Run.{commands_of, IsLegal, run_book}
 use Rattle.herd_register.proofs.CopybookFacts.{book_of_legal}

@@ -1,3 +1,4 @@
+-- `Copybook::take_over`: the invariant.
 use Rattle.std.proofs.Common.{◌<◌, length, refl, ap, ◌∙◌, arith}
 use Rattle.herd_register.specs.Copybook.{copybook_of}
 use Rattle.herd_register.specs.CopiedRecords.{CopiedRecords}

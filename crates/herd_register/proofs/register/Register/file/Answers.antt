@@ -1,6 +1,7 @@
+-- `Register::file`: the invariant and its clauses `book` and `refused`.
 use Rattle.std.proofs.Common.{◌≡◌, ◌<◌, ◌++◌, ◌∷◌, [], true, List, Ok, length, ap, ◌∙◌, sym, subst, arith}
 use Rattle.std.proofs.lemmas.Bool.{iff_false}
-use Rattle.herd_pedigree.specs.rules.Book.{Book}
+use Rattle.herd_frozen.specs.rules.Book.{Book}
 use Rattle.herd_register.specs.declared.reply.Reply.TheVariants.{Refused}
 use Rattle.herd_register.specs.declared.step.Step.{Step}
 use Rattle.herd_register.specs.Register.{register_book, IsRegister, Register, register_of}

@@ -1,3 +1,4 @@
+-- `Register::pedigree`: its clause `few`.
 use Rattle.std.proofs.Common.{ap, arith}
 use Rattle.herd_register.specs.Register.{Register}
 use Rattle.herd_register.proofs.RegisterFacts.{few_animals}

@@ -1,3 +1,4 @@
+-- `Register::withdraw`: the invariant.
 use Rattle.std.proofs.Common.{◌≡◌, ◌++◌, ◌∷◌, [], true, refl, ap, ◌∙◌}
 use Rattle.std.specs.Option.{option_to_list}
 use Rattle.herd_register.specs.Register.{Register, register_of}

@@ -1,3 +1,4 @@
+-- `animal`: its result.
 use Rattle.herd_report.proofs.lemmas.reading.FieldFacts.{Decides-is_animal_number, result_or-by_test}
 use Rattle.herd_report.proofs.reading.field.animal.Goals as goal
 

@@ -1,3 +1,4 @@
+-- `day`: its result.
 use Rattle.herd_report.specs.reading.Field.{day_in}
 use Rattle.herd_report.proofs.lemmas.reading.FieldFacts.{Decides-is_day, result_or-by_test}
 use Rattle.herd_report.proofs.reading.field.day.Goals as goal

@@ -1,3 +1,4 @@
+-- `herd`: its result.
 use Rattle.herd_report.proofs.lemmas.reading.FieldFacts.{Decides-is_herd, result_or-by_test}
 use Rattle.herd_report.proofs.lemmas.reading.HerdFacts.{IfOk-herd_in}
 use Rattle.herd_report.proofs.reading.field.herd.Goals as goal

@@ -1,3 +1,4 @@
+-- `read_record`: its clauses `set_up`, `takes` and `failed`.
 use Rattle.herd_report.proofs.lemmas.reading.UpcomingFacts.{err_through, failed_after, ok_through, set_up_after, takes_after}
 use Rattle.herd_report.proofs.reading.records.read_record.Goals as goal
 

@@ -1,6 +1,7 @@
+-- `ancestor`: its loop and its result.
 use Rattle.std.proofs.Common.{◌∙◌, ◌+◌, ap, drop, get_or, subst, sym, Some}
 use Rattle.std.proofs.lemmas.List.{drop_more, drop_all}
-use Rattle.herd_kinship.proofs.FrozenFacts.{number_of_row-is}
+use Rattle.herd_kinship.proofs.lemmas.books.FrozenFacts.{number_of_row-is}
 use Rattle.herd_report.proofs.lemmas.writing.AncestorFacts.{LeadsFrom, leads_on, leads_nowhere}
 use Rattle.herd_report.specs.declared.writing.ancestors.Parent.TheVariants.{Sire}
 use Rattle.herd_report.proofs.writing.ancestors.ancestor.Goals as goal

@@ -1,3 +1,4 @@
+-- `push_inbreeding`: its result.
 use Rattle.std.proofs.Common.{append_assoc}
 use Rattle.std.proofs.lemmas.Result.{IfOk-equal}
 use Rattle.herd_report.specs.writing.Certificate.{labelled_line}

@@ -1,7 +1,8 @@
+-- `write_inbreeding`: its loop and its clause `err`.
 use Rattle.std.proofs.Common.{◌∙◌, ◌++◌, ap}
 use Rattle.std.proofs.lemmas.Result.{err_from_is_err_and, on_err_weaker}
-use Rattle.herd_pedigree.specs.declared.TheConstants.{DEPTH_LIMIT}
-use Rattle.herd_pedigree.specs.declared.freezing.frozen.Row.{Row}
+use Rattle.herd_frozen.specs.declared.TheConstants.{DEPTH_LIMIT}
+use Rattle.herd_frozen.specs.declared.freezing.frozen.Row.{Row}
 use Rattle.herd_kinship.specs.FrozenAncestry.{ancestry_of}
 use Rattle.herd_kinship.specs.Table.{coefficient}
 use Rattle.herd_report.proofs.lemmas.writing.CoefficientFacts.{numerator_is, some_coefficient_line}

@@ -2,7 +2,7 @@
 use Rattle.std.proofs.Common.{◌≡◌, ◌∙◌, ◌++◌, All, ap, length, subst, sym, take}
 use Rattle.std.proofs.lemmas.Result.{on_ok_weaker}
 use Rattle.std.specs.List.{flat_map}
-use Rattle.herd_pedigree.specs.declared.TheConstants.{DEPTH_LIMIT}
+use Rattle.herd_frozen.specs.declared.TheConstants.{DEPTH_LIMIT}
 use Rattle.herd_kinship.specs.Contributions.{contributions_of}
 use Rattle.herd_report.proofs.lemmas.writing.ContributionFacts.{contributions_within, length-contributions-le, take-filled-contributions}
 use Rattle.herd_report.specs.writing.InverseList.{IsWithin, contribution_line}

@@ -1,3 +1,4 @@
+-- `write_inverse`: its loop and its clauses `err` and `ok`.
 use Rattle.std.proofs.Common.{◌<◌, ◌≤◌, length, arith}
 use Rattle.std.specs.List.{range_with_len}
 use Rattle.std.proofs.lemmas.List.{drop_all}

@@ -1,6 +1,7 @@
+-- `write_mating`: its loop and its clause `err`.
 use Rattle.std.proofs.Common.{◌≡◌, Some, rules, slice_get}
 use Rattle.std.proofs.lemmas.Result.{err_from_is_err_and, on_err_weaker}
-use Rattle.herd_pedigree.specs.freezing.Frozen.{book_of}
+use Rattle.herd_frozen.specs.freezing.Frozen.{book_of}
 use Rattle.herd_report.proofs.lemmas.writing.OutputFacts.{front_nothing, front_passed, front_waiting, holds_passed}
 use Rattle.herd_report.proofs.lemmas.writing.Pieces.{holds_element, slice_get-item, some_left}
 use Rattle.herd_report.proofs.lemmas.writing.MatingFacts.{some_mating_line}

@@ -1,5 +1,5 @@
 use Rattle.std.proofs.Common.{drop}
-use Rattle.herd_pedigree.specs.freezing.Frozen.{book_of}
+use Rattle.herd_frozen.specs.freezing.Frozen.{book_of}
 use Rattle.herd_report.proofs.lemmas.writing.OutputFacts.{Holds}
 use Rattle.herd_report.specs.writing.MatingList.{mating_text}
 use Rattle.herd_report.proofs.writing.mating_list.write_mating.Given as goal

@@ -1,3 +1,4 @@
+-- `write_all`: its loop.
 use Rattle.herd_report.proofs.lemmas.writing.OutputFacts.{passes_count}
 use Rattle.herd_report.proofs.writing.output.write_all.Goals as goal
 

@@ -1,3 +1,4 @@
+-- `write_replies`: its loop and its clause `err`.
 use Rattle.std.proofs.Common.{◌+◌, drop}
 use Rattle.std.proofs.lemmas.Result.{err_from_is_err_and, on_err_weaker}
 use Rattle.herd_report.proofs.lemmas.writing.OutputFacts.{front_passed, front_waiting, holds_passed, holds_piece, some_before}

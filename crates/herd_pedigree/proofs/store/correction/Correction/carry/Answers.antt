@@ -1,9 +1,10 @@
+-- `Correction::carry`: what `settle_all` requires, its loop, and its clause `deep`.
 use Rattle.std.proofs.Common.{rules, refl, sym, ap, ◌∙◌, subst, arith, ℕ, suc, List, Option, [], ◌∷◌, ◌++◌, ◌≡◌, ◌+◌, ◌<◌, ◌==◌, All, true, length, slice_index, slice_set}
 use Rattle.std.proofs.lemmas.Bool.{lt-ltb}
 use Rattle.std.proofs.lemmas.List.{append-nil, length-set}
 use Rattle.herd_pedigree.specs.store.Correction.{corrected}
 use Rattle.herd_pedigree.specs.store.Carry.{IsSettled, HavePaths}
-use Rattle.herd_pedigree.specs.declared.TheConstants.{DEPTH_LIMIT}
+use Rattle.herd_frozen.specs.declared.TheConstants.{DEPTH_LIMIT}
 use Rattle.herd_pedigree.proofs.lemmas.store.CarryFacts.{first-path, no-paths, paths-within, some-path}
 use Rattle.herd_pedigree.proofs.store.correction.Correction.carry.Goals as goal
 

@@ -1,3 +1,4 @@
+-- `Correction::depth_at`: what `depth` requires.
 use Rattle.std.proofs.Common.{sym, subst, ◌<◌, length}
 use Rattle.std.proofs.Common.{◌∙◌, inl, inr}
 use Rattle.herd_pedigree.proofs.lemmas.store.CorrectionFacts.{if_parent}

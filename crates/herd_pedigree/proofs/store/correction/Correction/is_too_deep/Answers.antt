@@ -1,11 +1,12 @@
+-- `Correction::is_too_deep`: its result.
 use Rattle.std.proofs.Common.{All, sym, ap, ◌∙◌, subst, arith, ℕ, List, Option, [], ◌≡◌, ◌<◌, ◌≤◌, IsTrue, length, slice_index, slice_set}
 use Rattle.std.proofs.lemmas.Bool.{lt-ltb, ltb-true}
 use Rattle.std.proofs.lemmas.List.{length-set, with_items_is}
 use Rattle.herd_pedigree.specs.store.Correction.{corrected}
-use Rattle.herd_pedigree.specs.rules.Depths.{IsParent}
+use Rattle.herd_frozen.specs.rules.Depths.{IsParent}
 use Rattle.herd_pedigree.specs.store.Carry.{IsSettled}
 use Rattle.herd_pedigree.specs.store.Undo.{undone_writes}
-use Rattle.herd_pedigree.specs.declared.TheConstants.{DEPTH_LIMIT}
+use Rattle.herd_frozen.specs.declared.TheConstants.{DEPTH_LIMIT}
 use Rattle.herd_pedigree.proofs.lemmas.store.CarryFacts.{settled-deep, settled-shallow}
 use Rattle.herd_pedigree.proofs.lemmas.store.UndoFacts.{written-most}
 use Rattle.herd_pedigree.proofs.store.correction.Correction.is_too_deep.Goals as goal

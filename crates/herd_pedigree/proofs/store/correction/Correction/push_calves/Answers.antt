@@ -1,3 +1,4 @@
+-- `Correction::push_calves`: its result.
 use Rattle.std.proofs.Common.{rules, sym, ap, ◌∙◌, ◌≡◌, ◌==◌, [], ◌∷◌, ◌++◌, filter, not, true, false}
 use Rattle.herd_pedigree.proofs.lemmas.store.CorrectionFacts.{adds-others, adds-named}
 use Rattle.herd_pedigree.proofs.store.correction.Correction.push_calves.Goals as goal

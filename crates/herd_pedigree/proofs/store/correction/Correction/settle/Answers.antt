@@ -1,9 +1,10 @@
+-- `Correction::settle`: its clauses `settled`, `undone` and `paths`.
 use Rattle.std.proofs.Common.{rules, sym, ap, ◌∙◌, subst, ◌≡◌, ◌<◌, ℕ, List, [], ◌∷◌, ◌++◌, length, slice_index, slice_set}
 use Rattle.std.proofs.lemmas.Result.{on_ok_weaker}
 use Rattle.std.proofs.lemmas.List.{set-set, set-get_or}
 use Rattle.herd_pedigree.specs.store.Correction.{corrected}
 use Rattle.herd_pedigree.specs.store.Undo.{undone_writes}
-use Rattle.herd_pedigree.specs.declared.TheConstants.{DEPTH_LIMIT}
+use Rattle.herd_frozen.specs.declared.TheConstants.{DEPTH_LIMIT}
 use Rattle.herd_pedigree.proofs.lemmas.store.CarryFacts.{settled-same, settled-set, paths-calves}
 use Rattle.herd_pedigree.proofs.lemmas.store.UndoFacts.{undone-last}
 use Rattle.herd_pedigree.proofs.store.correction.Correction.settle.Goals as goal

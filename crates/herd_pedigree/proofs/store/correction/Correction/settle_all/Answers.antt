@@ -1,11 +1,12 @@
+-- `Correction::settle_all`: its loop and its clause `settled`.
 use Rattle.std.proofs.Common.{rules, subst, ℕ, List, [], ◌++◌, ◌∷◌, ◌≡◌, ◌+◌, ◌<◌, All, IsTrue, get_or, drop, slice_index}
 use Rattle.std.proofs.Common.{◌∙◌}
 use Rattle.std.proofs.lemmas.List.{drop_more, drop_all}
 use Rattle.std.proofs.lemmas.List.Elements.{All-get_or}
 use Rattle.herd_pedigree.specs.store.Correction.{corrected}
-use Rattle.herd_pedigree.specs.rules.Paths.{has_path}
+use Rattle.herd_frozen.specs.rules.Paths.{has_path}
 use Rattle.herd_pedigree.specs.store.Carry.{IsSettled}
-use Rattle.herd_pedigree.specs.declared.TheConstants.{DEPTH_LIMIT}
+use Rattle.herd_frozen.specs.declared.TheConstants.{DEPTH_LIMIT}
 use Rattle.herd_pedigree.proofs.store.correction.Correction.settle_all.Goals as goal
 
 pub loop-place-preserved : goal.loop-place-preserved

@@ -3,7 +3,7 @@ use Rattle.std.proofs.Common.{◌≡◌, ◌<◌, ℕ, suc, ◌++◌, All, lengt
 use Rattle.herd_pedigree.specs.store.Correction.{corrected}
 use Rattle.herd_pedigree.specs.store.Carry.{IsSettled, HavePaths}
 use Rattle.herd_pedigree.specs.store.Undo.{undone_writes}
-use Rattle.herd_pedigree.specs.declared.TheConstants.{DEPTH_LIMIT}
+use Rattle.herd_frozen.specs.declared.TheConstants.{DEPTH_LIMIT}
 use Rattle.herd_pedigree.proofs.store.correction.Correction.settle_all.Given as goal
 
 abbrev pub invariant-loop-place : goal.invariant-loop-place

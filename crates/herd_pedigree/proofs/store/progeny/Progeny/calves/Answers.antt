@@ -1,7 +1,8 @@
+-- `Progeny::calves`: its result.
 use Rattle.std.proofs.Common.{ap, ◌∙◌, subst, ◌≡◌, ◌↔◌, ℕ, List, Some, Contains, length}
 use Rattle.herd_pedigree.specs.declared.store.progeny.Family.{Family}
 use Rattle.herd_pedigree.specs.store.Calves.{chain, family_at, first_of}
-use Rattle.herd_pedigree.specs.store.Places.{parent_at}
+use Rattle.herd_frozen.specs.places.Places.{parent_at}
 use Rattle.herd_pedigree.specs.store.Progeny.{Progeny}
 use Rattle.herd_pedigree.proofs.lemmas.store.ProgenyFacts.{calves-shown}
 use Rattle.herd_pedigree.proofs.store.progeny.Progeny.calves.Goals as goal

@@ -1,7 +1,8 @@
+-- `Progeny::has_calves`: its clauses `some` and `none`.
 use Rattle.std.proofs.Common.{sym, ap, ◌∙◌, ◌≡◌, ℕ, List, None, is_some}
 use Rattle.herd_pedigree.specs.declared.store.progeny.Family.{Family}
 use Rattle.herd_pedigree.specs.store.Calves.{family_at, first_of}
-use Rattle.herd_pedigree.specs.store.Places.{parent_at}
+use Rattle.herd_frozen.specs.places.Places.{parent_at}
 use Rattle.herd_pedigree.proofs.lemmas.store.ProgenyFacts.{no-calves, parents-seen, none_if_not, some_if}
 use Rattle.herd_pedigree.proofs.store.progeny.Progeny.has_calves.Goals as goal
 

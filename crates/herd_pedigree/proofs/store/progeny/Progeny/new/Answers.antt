@@ -1,3 +1,4 @@
+-- `Progeny::new`: the invariant.
 use Rattle.herd_pedigree.proofs.lemmas.store.ProgenyFacts.{chained-empty}
 use Rattle.herd_pedigree.proofs.store.progeny.Progeny.new.Goals as goal
 

@@ -1,8 +1,9 @@
+-- `Progeny::pop`: the invariant and its result.
 use Rattle.std.proofs.Common.{arith, sym, ap, ◌∙◌, subst, ◌≡◌, ◌-◌, ◌<◌, ℕ, List, take, Option, Some, None, length, slice_set}
 use Rattle.std.proofs.lemmas.List.{take-map, get_or-set_same, length-map, length-set}
 use Rattle.herd_pedigree.specs.declared.store.progeny.Family.{Family}
 use Rattle.herd_pedigree.specs.store.Calves.{parent_of, parents_of}
-use Rattle.herd_pedigree.specs.store.Places.{parent_at}
+use Rattle.herd_frozen.specs.places.Places.{parent_at}
 use Rattle.herd_pedigree.proofs.lemmas.store.ProgenyFacts.{chained-pop, parents-seen, still_childless, take-set}
 use Rattle.herd_pedigree.proofs.store.progeny.Progeny.pop.Goals as goal
 

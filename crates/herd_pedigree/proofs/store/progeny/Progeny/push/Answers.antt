@@ -1,3 +1,4 @@
+-- `Progeny::push`: its result.
 use Rattle.std.proofs.Common.{sym, ap, ◌∙◌, ◌≡◌, ℕ, List, [], ◌∷◌, ◌++◌, Option, Some, None, length, slice_set}
 use Rattle.std.proofs.lemmas.List.{length-map, set_at}
 use Rattle.herd_pedigree.specs.declared.store.progeny.Family.{Family}

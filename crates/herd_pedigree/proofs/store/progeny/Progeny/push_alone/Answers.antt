@@ -1,3 +1,4 @@
+-- `Progeny::push_alone`: the invariant.
 use Rattle.std.proofs.Common.{rules, ◌≡◌, [], ◌∷◌, ◌++◌}
 use Rattle.herd_pedigree.specs.store.Calves.{alone}
 use Rattle.herd_pedigree.proofs.lemmas.store.ProgenyFacts.{chained-append}

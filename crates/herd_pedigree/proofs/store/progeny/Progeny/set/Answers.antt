@@ -1,3 +1,4 @@
+-- `Progeny::set`: its result.
 use Rattle.std.proofs.Common.{sym, ap, ◌∙◌, ℕ, List, Option, Some, None, slice_set}
 use Rattle.std.proofs.lemmas.List.{set-set}
 use Rattle.herd_pedigree.proofs.store.progeny.Progeny.set.Goals as goal

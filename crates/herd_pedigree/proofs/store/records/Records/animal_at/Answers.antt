@@ -1,3 +1,4 @@
+-- `Records::animal_at`: its result.
 use Rattle.std.proofs.Common.{◌≡◌, ◌∙◌, sym, ap, subst, ℕ, List, Some, slice_get}
 use Rattle.std.specs.Map.{keys_of, values_of}
 use Rattle.herd_pedigree.specs.store.Records.{named}

@@ -1,8 +1,9 @@
+-- `Records::get`: its result.
 use Rattle.std.proofs.Common.{rules, ◌≡◌, ◌∙◌, sym, ap, subst, ℕ, List, None, Some}
 use Rattle.std.specs.Map.{keys_of}
 use Rattle.std.specs.Option.{option_map}
 use Rattle.std.specs.Str.{bytes_eq}
-use Rattle.herd_pedigree.specs.rules.Book.{record_of}
+use Rattle.herd_frozen.specs.rules.Book.{record_of}
 use Rattle.herd_pedigree.specs.store.Records.{stored_book, named}
 use Rattle.herd_pedigree.specs.declared.store.records.StoredRecord.{StoredRecord}
 use Rattle.herd_pedigree.proofs.lemmas.store.RecordsFacts.{keys-stored_book, lookup-book_with}

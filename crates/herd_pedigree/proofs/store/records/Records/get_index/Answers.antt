@@ -1,8 +1,9 @@
+-- `Records::get_index`: its result.
 use Rattle.std.proofs.Common.{◌≡◌, ◌∙◌, sym, ap, subst, ℕ, List, Some, slice_get}
 use Rattle.std.specs.Map.{keys_of}
 use Rattle.std.specs.Option.{option_map}
 use Rattle.herd_pedigree.specs.store.Records.{stored_book, named}
-use Rattle.herd_pedigree.specs.declared.rules.animal.Animal.{Animal}
+use Rattle.herd_frozen.specs.declared.rules.animal.Animal.{Animal}
 use Rattle.herd_pedigree.specs.declared.store.records.StoredRecord.{StoredRecord}
 use Rattle.herd_pedigree.proofs.lemmas.store.RecordsFacts.{entry-book_with, keys-stored_book}
 use Rattle.herd_pedigree.proofs.store.records.Records.get_index.Goals as goal

@@ -1,7 +1,9 @@
+-- `Records::number_at`: its result.
 use Rattle.std.proofs.Common.{◌≡◌, ◌∙◌, sym, ap, subst, ℕ, List, Some, slice_get}
 use Rattle.std.specs.Map.{keys_of}
 use Rattle.std.specs.Option.{option_map}
-use Rattle.herd_pedigree.specs.store.Records.{stored_book, number_at}
+use Rattle.herd_pedigree.specs.store.Records.{stored_book}
+use Rattle.herd_frozen.specs.places.Places.{number_at}
 use Rattle.herd_pedigree.specs.declared.store.records.StoredRecord.{StoredRecord}
 use Rattle.herd_pedigree.proofs.lemmas.store.RecordsFacts.{key_at, keys-stored_book}
 use Rattle.herd_pedigree.proofs.store.records.Records.number_at.Goals as goal

@@ -1,5 +1,6 @@
+-- `Records::parents_at`: its result.
 use Rattle.std.proofs.Common.{subst, ℕ, List}
-use Rattle.herd_pedigree.specs.store.Links.{IsLinkAt}
+use Rattle.herd_frozen.specs.places.Links.{IsLinkAt}
 use Rattle.herd_pedigree.specs.declared.store.records.StoredRecord.{StoredRecord}
 use Rattle.herd_pedigree.proofs.lemmas.store.RecordsFacts.{link-kept}
 use Rattle.herd_pedigree.proofs.store.records.Records.parents_at.Goals as goal

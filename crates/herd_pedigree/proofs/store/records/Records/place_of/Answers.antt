@@ -1,7 +1,8 @@
+-- `Records::place_of`: its clauses `index`, `found` and `value`.
 use Rattle.std.proofs.Common.{◌≡◌, ◌∙◌, sym, ap, subst, ℕ, List, IfSome, is_some, position, slice_get}
 use Rattle.std.specs.Map.{keys_of, values_of, lookup}
 use Rattle.std.specs.Str.{bytes_eq}
-use Rattle.herd_pedigree.specs.rules.Book.{is_there, record_of}
+use Rattle.herd_frozen.specs.rules.Book.{is_there, record_of}
 use Rattle.herd_pedigree.specs.store.Records.{named}
 use Rattle.herd_pedigree.specs.declared.store.records.StoredRecord.{StoredRecord}
 use Rattle.herd_pedigree.proofs.lemmas.store.RecordsFacts.{is_some-map, keys-stored_book, lookup-book_with, value-found}

@@ -1,3 +1,4 @@
+-- `Records::pop`: the invariant and its result.
 use Rattle.std.proofs.Common.{◌≡◌, sym, subst, ℕ, List}
 use Rattle.std.specs.List.{IsDistinct}
 use Rattle.std.specs.Map.{keys_of}

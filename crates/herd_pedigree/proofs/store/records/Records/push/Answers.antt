@@ -1,13 +1,15 @@
+-- `Records::push`: the invariant and its result.
 use Rattle.std.proofs.Common.{rules, ◌≡◌, ◌∙◌, sym, ap, subst, ℕ, List, [], ◌∷◌, ◌++◌, None}
 use Rattle.std.specs.Map.{keys_of, lookup}
 use Rattle.std.specs.Str.{bytes_eq}
 use Rattle.indexmap.proofs.CallerLemmas.{insert_entry-new}
-use Rattle.herd_pedigree.specs.rules.Book.{record_of}
-use Rattle.herd_pedigree.specs.store.Places.{IsIndexIn}
+use Rattle.herd_frozen.specs.rules.Book.{record_of}
+use Rattle.herd_frozen.specs.places.Places.{IsIndexIn}
 use Rattle.herd_pedigree.specs.store.Records.{AreClosed, stored_book, named}
-use Rattle.herd_pedigree.specs.declared.rules.animal.Animal.{Animal}
+use Rattle.herd_frozen.specs.declared.rules.animal.Animal.{Animal}
 use Rattle.herd_pedigree.specs.declared.store.records.StoredRecord.{StoredRecord}
-use Rattle.herd_pedigree.proofs.lemmas.store.RecordsFacts.{absent-among, stored_book-push, closed-push, keys-stored_book, named-is, place-within}
+use Rattle.herd_pedigree.proofs.lemmas.store.RecordsFacts.{absent-among, stored_book-push, closed-push, keys-stored_book, named-is}
+use Rattle.herd_frozen.proofs.lemmas.places.NumberFacts.{place-within}
 use Rattle.herd_pedigree.proofs.store.records.Records.push.Goals as goal
 
 pub invariant_of-self : goal.invariant_of-self

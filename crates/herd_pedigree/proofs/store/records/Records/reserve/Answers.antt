@@ -1,3 +1,4 @@
+-- `Records::reserve`: the invariant.
 use Rattle.std.proofs.Common.{sym, subst}
 use Rattle.herd_pedigree.specs.store.Records.{AreClosed}
 use Rattle.herd_pedigree.proofs.store.records.Records.reserve.Goals as goal

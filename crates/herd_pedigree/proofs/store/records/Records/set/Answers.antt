@@ -1,12 +1,14 @@
+-- `Records::set`: the invariant and its result.
 use Rattle.std.proofs.Common.{◌≡◌, ◌<◌, ◌∙◌, sym, ap, subst, ℕ, List, IfSome}
 use Rattle.std.specs.Map.{keys_of}
 use Rattle.indexmap.specs.IndexMap.{set_value_at}
-use Rattle.herd_pedigree.specs.store.Places.{IsIndexIn}
+use Rattle.herd_frozen.specs.places.Places.{IsIndexIn}
 use Rattle.herd_pedigree.specs.store.Records.{stored_book, named}
-use Rattle.herd_pedigree.specs.declared.rules.animal.Animal.{Animal}
+use Rattle.herd_frozen.specs.declared.rules.animal.Animal.{Animal}
 use Rattle.herd_pedigree.specs.declared.store.records.StoredRecord.{StoredRecord}
-use Rattle.herd_pedigree.proofs.lemmas.rules.BookFacts.{length-keys}
-use Rattle.herd_pedigree.proofs.lemmas.store.RecordsFacts.{stored_book-set, closed-set, keys-stored_book, named-is, place-within}
+use Rattle.herd_frozen.proofs.lemmas.rules.BookFacts.{length-keys}
+use Rattle.herd_pedigree.proofs.lemmas.store.RecordsFacts.{stored_book-set, closed-set, keys-stored_book, named-is}
+use Rattle.herd_frozen.proofs.lemmas.places.NumberFacts.{place-within}
 use Rattle.herd_pedigree.proofs.store.records.Records.set.Goals as goal
 
 pub invariant_of-self : goal.invariant_of-self

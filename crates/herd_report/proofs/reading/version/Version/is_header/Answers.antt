@@ -1,3 +1,4 @@
+-- `Version::is_header`: its result.
 use Rattle.std.proofs.Common.{◌≡◌, ◌∙◌, ap, sym, length}
 use Rattle.csv.specs.Records.{fields_of}
 use Rattle.herd_report.specs.reading.Columns.{are_names, texts_of}

@@ -1,0 +1,31 @@
+-- `Frozen::level`: its result.
+use Rattle.std.proofs.Common.{refl, sym, ap, ◌∙◌, subst, ◌≡◌, ◌<◌, ◌≤◌, ℕ, List, [], Some, length, map, slice_get}
+use Rattle.std.proofs.lemmas.Bool.{ltb-true, ltb-false}
+use Rattle.std.proofs.lemmas.List.{length-map}
+use Rattle.std.proofs.lemmas.Option.{slice_get_read, slice_get-map}
+use Rattle.herd_frozen.specs.declared.freezing.frozen.Row.{Row}
+use Rattle.herd_frozen.specs.freezing.Frozen.{level_of}
+use Rattle.herd_frozen.specs.declared.TheConstants.{DEPTH_LIMIT, MOST_ANIMALS}
+use Rattle.herd_frozen.proofs.lemmas.freezing.FrozenFacts.{level-at, level-beyond}
+use Rattle.herd_frozen.proofs.freezing.frozen.Frozen.level.Goals as goal
+
+pub returns-in-Some : goal.returns-in-Some
+returns-in-Some g c =
+    let vectors = c.self.inside.levels.items in
+    let depth : ℕ = c.args.depth in
+    let level = c.in-Some.level.now in
+    let within : depth < length c.deref.result.now = ltb-true depth (length c.deref.result.now) (sym c.in-Some.ensures.lookup.0) in
+    let read : slice_get vectors depth ≡ Some level =
+    subst (λ vs. slice_get vs depth ≡ Some level) c.deref.ensures.value (slice_get_read c.deref.result.now (length c.deref.result.now) depth level refl within c.in-Some.ensures.lookup.1) in
+    let at : slice_get (map (λ v. v.items) vectors) depth ≡ Some level.items = slice_get-map (λ v. v.items) vectors depth ∙ rw read refl in
+    let is : level.items ≡ level_of depth c.self.inside.rows = level-at DEPTH_LIMIT c.self.inside.rows (map (λ v. v.items) vectors) c.self.invariant.1 depth level.items at in
+    c.as_slice.ensures.value ∙ is ∙ ap (λ (rows : List Row). level_of depth rows) c.self.view_is
+
+pub returns-in-None : goal.returns-in-None
+returns-in-None g c =
+    let vectors = c.self.inside.levels.items in
+    let depth : ℕ = c.args.depth in
+    let past : length c.deref.result.now ≤ depth = ltb-false depth (length c.deref.result.now) (sym c.in-None.ensures.lookup.0) in
+    let beyond : length (map (λ v. v.items) vectors) ≤ depth = rw length-map (subst (λ vs. length vs ≤ depth) c.deref.ensures.value past) in
+    let none : level_of depth c.self.inside.rows ≡ [] = level-beyond DEPTH_LIMIT MOST_ANIMALS c.self.inside.rows (map (λ v. v.items) vectors) c.self.invariant.0 c.self.invariant.1 depth beyond in
+    sym none ∙ ap (λ (rows : List Row). level_of depth rows) c.self.view_is

@@ -1,0 +1,3 @@
+pub mod freezing
+pub mod places
+pub mod rules

@@ -1,0 +1,121 @@
+-- Levels are filled rank by rank.
+use Rattle.std.proofs.Common.{ℕ, zero, suc, ◌+◌, ◌<◌, ◌≤◌, ◌≡◌, ◌≢◌, ⊎_elim, ◌==◌, arith, refl, sym, ap, ◌∙◌, subst, Bool, true, false, cond, List, [], ◌∷◌, ◌++◌, length, get_or, set, map, take, replicate, All}
+use Rattle.std.specs.List.{filter, range_with_len}
+use Rattle.std.proofs.lemmas.Bool.{cases_eq, eq-eqb, ne_eqb}
+use Rattle.std.proofs.lemmas.List.{append-nil, length-map, length-set, length-take-le, get_or-set_same, get_or-set_other, get_or_append_left, get_or_push, length_push, map-append, map-id, map-set, take_more, same_lists, get_or-map}
+use Rattle.std.proofs.lemmas.List.Elements.{All-head, All-tail, filter-append}
+use Rattle.std.proofs.lemmas.List.FromFn.{get_or-range_with_len, length-range_with_len, map-range_with_len_more, length-map-range_with_len, get_or-map-range_with_len}
+use Rattle.herd_frozen.specs.declared.freezing.frozen.Row.{Row}
+use Rattle.herd_frozen.specs.freezing.Frozen.{depth_at, level_of, levels_of}
+
+-- a list of empty lists
+nils : (f : ℕ → List ℕ) → ((d : ℕ) → f d ≡ []) → (a n : ℕ) → map f (range_with_len a n) ≡ replicate n []
+nils f none a zero = refl
+nils f none a (suc n) = rw (none a) (ap (λ ls. [] ∷ ls) (nils f none (a + 1) n))
+
+pub levels_of-none : (l n : ℕ) → n ≡ l + 1 → replicate n [] ≡ levels_of l []
+unfolding levels_of level_of
+levels_of-none l n e = ap (λ m. replicate m []) e ∙ sym (nils (λ d. level_of d []) (λ d. refl) 0 (l + 1))
+
+range_more : (n : ℕ) → range_with_len 0 (n + 1) ≡ range_with_len 0 n ++ n ∷ []
+range_more n =
+    let zero_more : 0 + n ≡ n = omega arith in
+    sym (map-id (range_with_len 0 (n + 1))) ∙ map-range_with_len_more (λ k. k) 0 n n zero_more ∙ ap (λ ks. ks ++ n ∷ []) (map-id (range_with_len 0 n))
+
+-- tests that agree on each element keep the same ones
+filter_same : (p q : ℕ → Bool) (xs : List ℕ) → All (λ x. p x ≡ q x) xs → filter p xs ≡ filter q xs
+filter_same p q [] same = refl
+filter_same p q (x ∷ xs) same =
+    rw (All-head (λ y. p y ≡ q y) x xs same, filter_same p q xs (All-tail (λ y. p y ≡ q y) x xs same)) refl
+
+-- the ranks at which a depth stands
+abbrev ranks_with : ℕ → List ℕ → List ℕ
+ranks_with depth depths = filter (λ rank. get_or depths rank 0 == depth) (range_with_len 0 (length depths))
+
+ranks_with-push : (depth : ℕ) (depths : List ℕ) (x : ℕ) → ranks_with depth (depths ++ x ∷ []) ≡ ranks_with depth depths ++ cond (x == depth) (length depths ∷ []) []
+ranks_with-push depth depths x =
+    let n = length depths in
+    let q : ℕ → Bool = λ rank. get_or (depths ++ x ∷ []) rank 0 == depth in
+    let p : ℕ → Bool = λ rank. get_or depths rank 0 == depth in
+    let all : All (λ rank. q rank ≡ p rank) (range_with_len 0 n) =
+    (λ k d h.
+    let within : k < n = subst (λ m. k < m) (length-range_with_len 0 n) h in
+    let zero_more : 0 + k ≡ k = omega arith in
+    let at : get_or (range_with_len 0 n) k d ≡ k = get_or-range_with_len 0 n k d within ∙ zero_more in
+    rw at (ap (λ y. y == depth) (get_or_append_left depths (x ∷ []) 0 k within))) in
+    let last : q n ≡ (x == depth) = ap (λ y. y == depth) (get_or_push depths x 0 n refl) in
+    ap (λ m. filter q (range_with_len 0 m)) (length_push depths x)
+    ∙ ap (λ ks. filter q ks) (range_more n)
+    ∙ filter-append q (range_with_len 0 n) (n ∷ [])
+    ∙ ap (λ ks. ks ++ filter q (n ∷ [])) (filter_same q p (range_with_len 0 n) all)
+    ∙ ap (λ b. ranks_with depth depths ++ cond b (n ∷ []) []) last
+
+level_of-is : (depth : ℕ) (rows : List Row) → level_of depth rows ≡ ranks_with depth (map (λ row. row.depth) rows)
+unfolding level_of
+level_of-is depth rows = ap (λ n. filter (λ rank. depth_at rows rank == depth) (range_with_len 0 n)) (sym (length-map rows (λ row. row.depth)))
+
+-- one more row adds its rank to the level of its depth
+level_of-push : (depth : ℕ) (rows : List Row) (row : Row) → level_of depth (rows ++ row ∷ []) ≡ level_of depth rows ++ cond (row.depth == depth) (length rows ∷ []) []
+level_of-push depth rows row =
+    let depths : List ℕ = map (λ (r : Row). r.depth) rows in
+    level_of-is depth (rows ++ row ∷ [])
+    ∙ ap (λ ds. ranks_with depth ds) (map-append (λ (r : Row). r.depth) rows (row ∷ []))
+    ∙ ranks_with-push depth depths row.depth
+    ∙ ap (λ n. ranks_with depth depths ++ cond (row.depth == depth) (n ∷ []) []) (length-map rows (λ (r : Row). r.depth))
+    ∙ ap (λ level. level ++ cond (row.depth == depth) (length rows ∷ []) []) (sym (level_of-is depth rows))
+
+pub length-levels_of : (l : ℕ) (rows : List Row) → length (levels_of l rows) ≡ l + 1
+unfolding levels_of
+length-levels_of l rows = length-map-range_with_len (λ depth. level_of depth rows) 0 (l + 1)
+
+get_or-levels_of : (l : ℕ) (rows : List Row) (depth : ℕ) (other : List ℕ) → depth < l + 1 → get_or (levels_of l rows) depth other ≡ level_of depth rows
+unfolding levels_of
+get_or-levels_of l rows depth other within = get_or-map-range_with_len (λ d. level_of d rows) 0 (l + 1) depth depth other within (omega arith)
+
+levels_of-push : (l : ℕ) (rows : List Row) (row : Row) → row.depth ≤ l →
+    set (levels_of l rows) row.depth (level_of row.depth rows ++ length rows ∷ []) ≡ levels_of l (rows ++ row ∷ [])
+levels_of-push l rows row shallow =
+    let old : List (List ℕ) = levels_of l rows in
+    let level : List ℕ = level_of row.depth rows ++ length rows ∷ [] in
+    let new : List (List ℕ) = levels_of l (rows ++ row ∷ []) in
+    let long : length old ≡ l + 1 = length-levels_of l rows in
+    let long_set : length (set old row.depth level) ≡ l + 1 = length-set old row.depth level ∙ long in
+    let within : row.depth < length old = omega arith in
+    same_lists (set old row.depth level) new (long_set ∙ sym (length-levels_of l (rows ++ row ∷ [])))
+    (λ depth other h.
+    let below : depth < l + 1 = subst (λ n. depth < n) long_set h in
+    let is : get_or new depth other ≡ level_of depth rows ++ cond (row.depth == depth) (length rows ∷ []) [] = get_or-levels_of l (rows ++ row ∷ []) depth other below ∙ level_of-push depth rows row in
+    ⊎_elim
+    (λ (e : depth ≡ row.depth).
+    let t : (row.depth == depth) ≡ true = eq-eqb row.depth depth (sym e) in
+    let written : get_or (set old row.depth level) depth other ≡ level = ap (λ d. get_or (set old row.depth level) d other) e ∙ get_or-set_same old row.depth level other within in
+    let there : level ≡ level_of depth rows ++ length rows ∷ [] = ap (λ d. level_of d rows ++ length rows ∷ []) (sym e) in
+    written ∙ there ∙ sym (is ∙ ap (λ b. level_of depth rows ++ cond b (length rows ∷ []) []) t))
+    (λ (other_depth : depth ≢ row.depth).
+    let t : (row.depth == depth) ≡ false = ne_eqb row.depth depth (λ e. other_depth (sym e)) in
+    let kept : get_or (set old row.depth level) depth other ≡ level_of depth rows = get_or-set_other old row.depth depth level other other_depth ∙ get_or-levels_of l rows depth other below in
+    kept ∙ sym (is ∙ ap (λ b. level_of depth rows ++ cond b (length rows ∷ []) []) t ∙ append-nil (level_of depth rows)))
+    (cases_eq depth row.depth))
+
+module _ {V : Type 0} (items : V → List ℕ) (l : ℕ) (rows : List Row) (i : ℕ) (vectors : List V) (levels : map items vectors ≡ levels_of l (take i rows))
+    (row : Row) (more : i < length rows) (read : row ≡ get_or rows i row) (shallow : row.depth ≤ l) where
+  pub level-within : row.depth < length vectors
+  level-within =
+      let long : length vectors ≡ l + 1 = sym (length-map vectors items) ∙ ap length levels ∙ length-levels_of l (take i rows) in
+      omega arith
+
+  -- the rank of one more row is written
+  pub levels-more : (v w : V) → v ≡ get_or vectors row.depth v → items w ≡ items v ++ i ∷ [] → map items (set vectors row.depth w) ≡ levels_of l (take (i + 1) rows)
+  levels-more v w here pushed =
+      let front : List Row = take i rows in
+      let long : length front ≡ i = length-take-le i rows (omega arith) in
+      let before : items v ≡ level_of row.depth front =
+      sym (get_or-map items vectors row.depth v [] level-within ∙ ap items (sym here))
+      ∙ ap (λ ls. get_or ls row.depth []) levels
+      ∙ get_or-levels_of l front row.depth [] (omega arith) in
+      let after : items w ≡ level_of row.depth front ++ length front ∷ [] = pushed ∙ (λ j. before j ++ sym long j ∷ []) in
+      map-set items vectors row.depth w
+      ∙ (λ j. set (levels j) row.depth (after j))
+      ∙ levels_of-push l front row shallow
+      ∙ ap (λ r. levels_of l (front ++ r ∷ [])) read
+      ∙ ap (λ rs. levels_of l rs) (sym (take_more rows i row more))

@@ -1,0 +1,157 @@
+-- The row of a record, once those of the older ones are made.
+use Rattle.std.proofs.Common.{ℕ, zero, suc, ◌+◌, ◌<◌, ◌≤◌, ◌≡◌, ◌⊎◌, inl, inr, ⊎_elim, arith, refl, sym, ap, ◌∙◌, subst, List, [], ◌∷◌, ◌++◌, Option, Some, None, length, slice_get, get_or, map, max, All}
+use Rattle.std.specs.Prelude.{ℤ, ◌<ℤ◌, IfSome}
+use Rattle.std.specs.Map.{keys_of}
+use Rattle.std.specs.Option.{option_and_then, option_map_or}
+use Rattle.std.proofs.lemmas.List.{get_or-map, length-map}
+use Rattle.std.proofs.lemmas.Option.{slice_get-map, slice_get_read, slice_get_within, get_or_from_slice_get, same_Some}
+use Rattle.herd_frozen.specs.declared.rules.animal.Animal.{Animal}
+use Rattle.herd_frozen.specs.declared.freezing.age_order.AgeKey.{AgeKey}
+use Rattle.herd_frozen.specs.declared.freezing.frozen.Row.{Row}
+use Rattle.herd_frozen.specs.declared.places.links.Link.{Link}
+use Rattle.herd_frozen.specs.rules.Book.{Book, IsDepthOf, parentage_of, record_of}
+use Rattle.herd_frozen.specs.rules.Lawful.{IsLawfulRecord}
+use Rattle.herd_frozen.specs.freezing.Frozen.{depth_at, numbers_of}
+use Rattle.herd_frozen.specs.freezing.Freeze.{AreRows, IsAbove, IsRanked, IsRowOf, places_of}
+use Rattle.herd_frozen.specs.places.Links.{IsLinkAt}
+use Rattle.herd_frozen.specs.places.Places.{IsIndexIn}
+use Rattle.herd_frozen.proofs.lemmas.freezing.AgeOrderFacts.{IsKeyOf, key-at, length-keys, older-before}
+use Rattle.herd_frozen.proofs.lemmas.rules.BookFacts.{key_from_entry, entry_from_key, lookup_at, there}
+use Rattle.herd_frozen.proofs.lemmas.freezing.FrozenDepthFacts.{IsDepth-from_parents, IsDepthOf-le}
+use Rattle.herd_frozen.proofs.lemmas.freezing.RankFacts.{place-at}
+
+-- a parent that is known is in the book, and born before the day
+abbrev pub IsOlder : Book → ℤ → Option (List ℕ) → Type 0
+IsOlder book birth parent = (p : List ℕ) → parent ≡ Some p → (animal : Animal) × (record_of book p ≡ Some animal) × (animal.birth <ℤ birth)
+
+-- what is known of a parent once the rows of the older animals are made
+pub record IsParentOf (book : Book) (keys : List AgeKey) (ranks : List ℕ) (rows : List Row) (place : Option ℕ) (parent : Option (List ℕ)) : Type 0 where
+  pub within : IfSome place (λ p. p < length ranks)
+  pub ranked : IsIndexIn (map (λ k. k.number) keys) (option_and_then (slice_get ranks) place) parent
+  pub earlier : IfSome (option_and_then (slice_get ranks) place) (λ rank. rank < length rows)
+  pub above : IsAbove (parentage_of book) parent (option_map_or (λ rank. depth_at rows rank + 1) (option_and_then (slice_get ranks) place) 0)
+
+module _ (l most : ℕ) (book : Book) (keys : List AgeKey) (ranks : List ℕ) (rows : List Row) (is : IsRanked l most book keys ranks) (made : AreRows book keys rows) where
+  -- the depths so far are within the limit
+  pub rows-shallow : length rows ≤ length keys → All (λ row. row.depth ≤ l) rows
+  rows-shallow few i d h =
+      let row = there rows i h in
+      let key = there keys i (omega arith) in
+      let its_row : IsRowOf book keys key.0 row.0 = made i key.0 row.0 key.1 row.1 in
+      rw (get_or_from_slice_get rows i row.0 d row.1) (IsDepthOf-le l book is.lawful.shallow row.0.number row.0.depth its_row.depth)
+
+  depth-found : (x : List ℕ) (animal : Animal) → record_of book x ≡ Some animal → (a b : ℕ) → IsAbove (parentage_of book) animal.sire a → IsAbove (parentage_of book) animal.dam b → IsDepthOf book x (max a b)
+  depth-found x animal found a b sire dam =
+      IsDepth-from_parents (parentage_of book) x a b (rw found refl) (rw found sire) (rw found dam)
+
+  module _ (key : AgeKey) (at : slice_get keys (length rows) ≡ Some key) where
+    pub parent-found : (place : Option ℕ) (parent : Option (List ℕ)) → IsIndexIn (keys_of book) place parent → IsOlder book key.birth parent → IsParentOf book keys ranks rows place parent
+    parent-found None None placed older = record { within = tt; ranked = tt; earlier = tt; above = refl }
+    parent-found None (Some p) placed older = absurd placed
+    parent-found (Some place) None placed older = absurd placed
+    parent-found (Some place) (Some p) placed older =
+        let entry = entry_from_key book place p placed in
+        let within_book : place < length book = slice_get_within book place (p, entry.0) entry.1 in
+        let long = length-keys book keys is.ordered in
+        let ranks_long = is.ranked.long in
+        let within : place < length ranks = omega arith in
+        let rank = there ranks place within in
+        let ranked : slice_get (places_of keys) rank.0 ≡ Some place = is.ranked.each place rank.0 rank.1 in
+        let early : rank.0 < length keys = subst (λ n. rank.0 < n) (length-map keys (λ k. k.place)) (slice_get_within (places_of keys) rank.0 place ranked) in
+        let parent = there keys rank.0 early in
+        let its_place : parent.0.place ≡ place = same_Some parent.0.place place (sym (place-at keys rank.0 parent.0 parent.1) ∙ ranked) in
+        let its_key : IsKeyOf book parent.0 = key-at book keys is.ordered rank.0 parent.0 parent.1 in
+        let its_entry : slice_get book place ≡ Some (parent.0.number, its_key.animal) = subst (λ q. slice_get book q ≡ Some (parent.0.number, its_key.animal)) its_place its_key.entry in
+        let its_number : parent.0.number ≡ p = same_Some parent.0.number p (sym (key_from_entry book place parent.0.number its_key.animal its_entry) ∙ placed) in
+        let found : record_of book parent.0.number ≡ Some its_key.animal = lookup_at book is.lawful.once place parent.0.number its_key.animal its_entry in
+        let known = older p refl in
+        let same : its_key.animal ≡ known.0 = same_Some its_key.animal known.0 (sym found ∙ ap (λ x. record_of book x) its_number ∙ known.1) in
+        let older_key : parent.0.birth <ℤ key.birth = subst (λ birth. birth <ℤ key.birth) (sym (its_key.birth ∙ ap (λ (a : Animal). a.birth) same)) known.2 in
+        let before : rank.0 < length rows = older-before book keys is.ordered rank.0 (length rows) parent.0 key parent.1 at older_key in
+        let row = there rows rank.0 before in
+        let its_row : IsRowOf book keys parent.0 row.0 = made rank.0 parent.0 row.0 parent.1 row.1 in
+        let depth : depth_at rows rank.0 ≡ row.0.depth = get_or-map (λ r. r.depth) rows rank.0 row.0 0 before ∙ ap (λ (r : Row). r.depth) (get_or_from_slice_get rows rank.0 row.0 row.0 row.1) in
+        let deep : IsDepthOf book p row.0.depth = subst (λ x. IsDepthOf book x row.0.depth) (its_row.number ∙ its_number) its_row.depth in
+        record {
+          within = within;
+          ranked = rw rank.1 (slice_get-map (λ (k : AgeKey). k.number) keys rank.0 ∙ rw parent.1 (ap Some its_number));
+          earlier = rw rank.1 before;
+          above = rw rank.1 (row.0.depth, deep, ap (λ n. n + 1) depth);
+        }
+
+    -- the record whose turn it is is in the book
+    pub place-within : key.place < length book
+    place-within = let its_key : IsKeyOf book key = key-at book keys is.ordered (length rows) key at in slice_get_within book key.place (key.number, its_key.animal) its_key.entry
+
+    -- what is known of it, with the places of its parents
+    pub record IsNext (animal : Animal) (link : Link) : Type 0 where
+      pub entry : slice_get book key.place ≡ Some (key.number, animal)
+      pub sire : IsParentOf book keys ranks rows link.sire animal.sire
+      pub dam : IsParentOf book keys ranks rows link.dam animal.dam
+
+    pub next : (entry : List ℕ × Animal) (link : Link) → slice_get book key.place ≡ Some entry → IsLinkAt book key.place link → IsNext entry.1 link
+    next entry link there linked =
+        let its_key : IsKeyOf book key = key-at book keys is.ordered (length rows) key at in
+        let animal : its_key.animal ≡ entry.1 = ap (λ (e : List ℕ × Animal). e.1) (same_Some (key.number, its_key.animal) entry (sym its_key.entry ∙ there)) in
+        let here : slice_get book key.place ≡ Some (key.number, entry.1) = its_key.entry ∙ ap (λ (a : Animal). Some (key.number, a)) animal in
+        let lawful : IsLawfulRecord book entry.1 = is.lawful.records key.number entry.1 (lookup_at book is.lawful.once key.place key.number entry.1 here) in
+        let born : key.birth ≡ entry.1.birth = its_key.birth ∙ ap (λ (a : Animal). a.birth) animal in
+        record {
+          entry = here;
+          sire =
+              parent-found link.sire entry.1.sire (linked.sire entry there)
+              (λ p e. let sire = lawful.sire p e in (sire.sire, sire.there, subst (λ birth. sire.sire.birth <ℤ birth) (sym born) sire.older));
+          dam =
+              parent-found link.dam entry.1.dam (linked.dam entry there)
+              (λ p e. let dam = lawful.dam p e in (dam.dam, dam.there, subst (λ birth. dam.dam.birth <ℤ birth) (sym born) dam.older));
+        }
+
+    -- its row
+    pub row-next : (animal : Animal) (link : Link) → IsNext animal link → (row : Row) → row.number ≡ key.number → row.animal ≡ animal →
+        row.sire ≡ option_and_then (slice_get ranks) link.sire → row.dam ≡ option_and_then (slice_get ranks) link.dam →
+        row.depth ≡ max (option_map_or (λ rank. depth_at rows rank + 1) row.sire 0) (option_map_or (λ rank. depth_at rows rank + 1) row.dam 0) →
+        IsRowOf book keys key row
+    row-next its link n row number animal sire dam depth =
+        let found : record_of book row.number ≡ Some row.animal = ap (λ x. record_of book x) number ∙ lookup_at book is.lawful.once key.place key.number its n.entry ∙ ap Some (sym animal) in
+        let by_sire : IsAbove (parentage_of book) row.animal.sire (option_map_or (λ rank. depth_at rows rank + 1) row.sire 0) = rw (animal, sire) n.sire.above in
+        let by_dam : IsAbove (parentage_of book) row.animal.dam (option_map_or (λ rank. depth_at rows rank + 1) row.dam 0) = rw (animal, dam) n.dam.above in
+        record {
+          number = number;
+          entry = n.entry ∙ ap Some (λ i. (sym number i, sym animal i));
+          sire = rw (animal, sire) n.sire.ranked;
+          dam = rw (animal, dam) n.dam.ranked;
+          depth = subst (λ d. IsDepthOf book row.number d) (sym depth) (depth-found row.number row.animal found _ _ by_sire by_dam);
+        }
+
+-- the key whose turn it is
+pub key-read : (keys : List AgeKey) (rows : List Row) → length rows < length keys → (key : AgeKey) → key ≡ get_or keys (length rows) key → slice_get keys (length rows) ≡ Some key
+key-read keys rows more key read = slice_get_read keys (length keys) (length rows) key refl more read
+
+push_cases : {X : Type 0} (xs : List X) (y x : X) (i : ℕ) → slice_get (xs ++ y ∷ []) i ≡ Some x → (slice_get xs i ≡ Some x) ⊎ ((i ≡ length xs) × (y ≡ x))
+push_cases [] y x zero at = inr (refl, same_Some y x at)
+push_cases [] y x (suc i) at = absurd (cc)
+push_cases (z ∷ zs) y x zero at = inl at
+push_cases (z ∷ zs) y x (suc i) at = ⊎_elim (λ h. inl h) (λ last. inr (ap (λ n. suc n) last.0, last.1)) (push_cases zs y x i at)
+
+-- one more row
+pub rows-more : (book : Book) (keys : List AgeKey) (rows : List Row) (row : Row) → AreRows book keys rows → IfSome (slice_get keys (length rows)) (λ key. IsRowOf book keys key row) → AreRows book keys (rows ++ row ∷ [])
+rows-more book keys rows row made next_made rank key other at_key at_row =
+    ⊎_elim
+    (λ (before : slice_get rows rank ≡ Some other). made rank key other at_key before)
+    (λ last.
+    let here : slice_get keys (length rows) ≡ Some key = ap (λ n. slice_get keys n) (sym last.0) ∙ at_key in
+    subst (λ r. IsRowOf book keys key r) last.1 (rw here at next_made))
+    (push_cases rows row other rank at_row)
+
+-- the rank of a parent whose row is made is where that row stands
+pub made-already : (book : Book) (keys : List AgeKey) (rows : List Row) → AreRows book keys rows → length rows ≤ length keys → (rank : Option ℕ) (parent : Option (List ℕ))
+    → IsIndexIn (map (λ k. k.number) keys) rank parent → IfSome rank (λ p. p < length rows) → IsIndexIn (numbers_of rows) rank parent
+made-already book keys rows made few None None is earlier = tt
+made-already book keys rows made few None (Some x) is earlier = absurd is
+made-already book keys rows made few (Some p) None is earlier = absurd is
+made-already book keys rows made few (Some p) (Some x) is earlier =
+    let row = there rows p earlier in
+    let key = there keys p (omega (arith, earlier, few)) in
+    let its_row : IsRowOf book keys key.0 row.0 = made p key.0 row.0 key.1 row.1 in
+    let named : key.0.number ≡ x = same_Some key.0.number x (sym (slice_get-map (λ (k : AgeKey). k.number) keys p ∙ rw key.1 refl) ∙ is) in
+    slice_get-map (λ (r : Row). r.number) rows p ∙ rw row.1 (ap Some (its_row.number ∙ named))

@@ -1,0 +1,2 @@
+-- Numbers by place.
+pub mod NumberFacts

@@ -1,0 +1,6 @@
+-- What follows from what a book may be.
+pub mod PathFacts
+pub mod BookFacts
+pub mod PermutedFacts
+pub mod FaultFacts
+pub mod WrittenFacts

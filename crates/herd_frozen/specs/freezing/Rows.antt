@@ -1,0 +1,54 @@
+-- The rows of a frozen book, kept with the ranks of the parents for their numbers.
+use Rattle.std.specs.Prelude.{◌≡◌, ℕ, ◌<◌, List, [], ◌∷◌, map, length, slice_get, Some, IfSome}
+use Rattle.herd_frozen.specs.declared.freezing.frozen.Row.{Row}
+use Rattle.herd_frozen.specs.declared.freezing.rows.PackedParents.{PackedParents}
+use Rattle.herd_frozen.specs.declared.freezing.rows.RowRecord.{RowRecord}
+use Rattle.herd_frozen.specs.places.Places.{number_at}
+
+-- what is kept of a row beside its parents
+abbrev pub record_of_row : Row → RowRecord
+record_of_row row = record { number = row.number; embryo = row.animal.embryo; birth = row.animal.birth; herd = row.animal.herd; since = row.animal.since; left = row.animal.left }
+
+-- what is kept of its parents
+abbrev pub packed_parents : Row → PackedParents
+packed_parents row = record { sire = row.sire; dam = row.dam; depth = row.depth }
+
+-- the row of which this is kept, with the numbers of all rows
+abbrev pub row_kept : List (List ℕ) → RowRecord → PackedParents → Row
+row_kept numbers kept parents = record {
+  number = kept.number;
+  animal = record {
+    birth = kept.birth;
+    sire = number_at numbers parents.sire;
+    dam = number_at numbers parents.dam;
+    embryo = kept.embryo;
+    herd = kept.herd;
+    since = kept.since;
+    left = kept.left;
+  };
+  sire = parents.sire;
+  dam = parents.dam;
+  depth = parents.depth;
+}
+
+-- the rows of which these are kept, one by one
+unfoldable pub rows_with : List (List ℕ) → List RowRecord → List PackedParents → List Row
+rows_with numbers [] parents = []
+rows_with numbers (first ∷ rest) [] = []
+rows_with numbers (first ∷ rest) (parents ∷ others) = row_kept numbers first parents ∷ rows_with numbers rest others
+
+abbrev pub numbers_kept : List RowRecord → List (List ℕ)
+numbers_kept records = map (λ kept. kept.number) records
+
+-- the rows of which all this is kept
+abbrev pub rows_kept : List RowRecord → List PackedParents → List Row
+rows_kept records parents = rows_with (numbers_kept records) records parents
+
+-- parents stand among n rows
+abbrev pub ParentsAmong : ℕ → List PackedParents → Type 0
+ParentsAmong n parents = (rank : ℕ) (its : PackedParents) → slice_get parents rank ≡ Some its → IfSome its.sire (λ p. p < n) × IfSome its.dam (λ p. p < n)
+
+-- each row has its parents, and they stand among the rows
+pub record AreKept (records : List RowRecord) (parents : List PackedParents) : Type 0 where
+  pub long : length parents ≡ length records
+  pub closed : ParentsAmong (length records) parents

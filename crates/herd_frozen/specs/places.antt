@@ -1,0 +1,4 @@
+-- Animals by place.
+pub mod Places
+pub mod PackedIndex
+pub mod Links

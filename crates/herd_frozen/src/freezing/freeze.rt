@@ -1,0 +1,121 @@
+ghost use Rattle.std.specs.Prelude.{◌≡◌, ◌+◌, ◌<◌, ◌≤◌, length, map, slice_get, All, IfOk, IfSome, IsPermutation};
+ghost use Rattle.std.specs.List.{range_with_len};
+ghost use Rattle.std.specs.Option.{option_and_then, option_map_or};
+ghost use Rattle.herd_frozen.specs.freezing.Frozen.{IsFrozenFrom, depth_at, numbers_of};
+ghost use Rattle.herd_frozen.specs.freezing.Freeze.{AreRanks, AreRows, IsAgeOrder, IsRanked, IsRowOf, places_of};
+ghost use Rattle.herd_frozen.specs.rules.Lawful.{IsLawful};
+ghost use Rattle.herd_frozen.specs.places.Places.{IsIndexIn};
+ghost use Rattle.herd_frozen.specs.declared.TheConstants.{DEPTH_LIMIT, MOST_ANIMALS};
+
+use crate::freezing::age_order::{AgeKey, by_age, ranks_of};
+use crate::freezing::frozen::{Frozen, Row};
+use crate::freezing::listed::{Listed, places_by_number};
+use crate::freezing::registered::Registered;
+use crate::freezing::rows::Rows;
+use crate::rules::animal::Animal;
+use herd_animal::AnimalNumber;
+use std::alloc::{AllocError, Allocator};
+
+/// The book of a list of records, in age order. The only error is a growth of memory that is refused.
+pub fn freeze_list<A: Allocator + Clone>(
+    alloc: A,
+    records: &[(AnimalNumber, Animal)],
+) -> Result<Frozen<A>, AllocError>
+    requires { IsLawful DEPTH_LIMIT MOST_ANIMALS records.now }
+    ensures { IfOk result (IsFrozenFrom DEPTH_LIMIT MOST_ANIMALS records.now) }
+{
+    let places = places_by_number(alloc.clone()?, records)?;
+    let listed = Listed {
+        records,
+        places: &places,
+    };
+    frozen_from(alloc, &listed)
+}
+
+/// The book of records in order of registration, frozen.
+pub fn frozen_from<A: Allocator + Clone, S: Registered>(
+    alloc: A,
+    records: &S,
+) -> Result<Frozen<A>, AllocError>
+    requires lawful { IsLawful DEPTH_LIMIT MOST_ANIMALS (S.book records.now) }
+    requires parents { S.knows_parents records.now }
+    ensures { IfOk result (IsFrozenFrom DEPTH_LIMIT MOST_ANIMALS (S.book records.now)) }
+{
+    let keys = by_age(alloc.clone()?, records)?;
+    let ranks = ranks_of(alloc.clone()?, &keys)?;
+    let rows = rows_of(alloc.clone()?, records, &keys, &ranks)?;
+    Frozen::from_rows(alloc, rows)
+}
+
+// The rank of a parent that is known.
+fn rank_of(ranks: &[u32], parent: Option<u32>) -> Option<u32>
+    requires { IfSome parent (λ place. place < length ranks.now) }
+    ensures { result ≡ option_and_then (slice_get ranks.now) parent }
+{
+    let place = parent?;
+    Some(ranks[place as usize])
+}
+
+// One more than the depth of a parent, and 0 for an unknown one.
+fn above<A: Allocator>(rows: &Rows<A>, parent: Option<u32>) -> u8
+    requires within { IfSome parent (λ rank. rank < length rows.now) }
+    requires shallow { All (λ row. row.depth ≤ DEPTH_LIMIT) rows.now }
+    ensures { result ≡ option_map_or (λ rank. depth_at rows.now rank + 1) parent 0 }
+{
+    match parent {
+        Some(rank) => rows.depth(rank) + 1,
+        None => 0,
+    }
+}
+
+// The row of the record whose turn it is, once the rows of all the older ones are made. Inlined: the numbers of its
+// parents, which are not kept, are then not looked up.
+#[inline(always)]
+fn next_row<A: Allocator, S: Registered>(
+    records: &S,
+    keys: &[AgeKey],
+    ranks: &[u32],
+    rows: &Rows<A>,
+) -> Row
+    requires ranked { IsRanked DEPTH_LIMIT MOST_ANIMALS (S.book records.now) keys.now ranks.now }
+    requires parents { S.knows_parents records.now }
+    requires rows { AreRows (S.book records.now) keys.now rows.now }
+    requires more { length rows.now < length keys.now }
+    ensures row { IfSome (slice_get keys.now (length rows.now))
+        (λ key. IsRowOf (S.book records.now) keys.now key result) }
+    ensures sire { IsIndexIn (numbers_of rows.now) result.sire result.animal.sire }
+    ensures dam { IsIndexIn (numbers_of rows.now) result.dam result.animal.dam }
+{
+    let key = keys[rows.len()];
+    let entry = records.record_at(key.place as usize);
+    let link = records.link_at(key.place as usize);
+    let sire = rank_of(ranks, link.sire);
+    let dam = rank_of(ranks, link.dam);
+    Row {
+        number: key.number,
+        animal: entry.1,
+        sire,
+        dam,
+        depth: above(rows, sire).max(above(rows, dam)),
+    }
+}
+
+// The rows of the records, in age order.
+fn rows_of<A: Allocator + Clone, S: Registered>(
+    alloc: A,
+    records: &S,
+    keys: &[AgeKey],
+    ranks: &[u32],
+) -> Result<Rows<A>, AllocError>
+    requires ranked { IsRanked DEPTH_LIMIT MOST_ANIMALS (S.book records.now) keys.now ranks.now }
+    requires parents { S.knows_parents records.now }
+    ensures long { IfOk result (λ rows. length rows ≡ length keys.now) }
+    ensures rows { IfOk result (λ rows. AreRows (S.book records.now) keys.now rows) }
+{
+    let mut rows = Rows::with_capacity(alloc, keys.len())?;
+    for _ in 0..keys.len() {
+        let row = next_row(records, keys, ranks, &rows);
+        rows.push(row)?;
+    }
+    Ok(rows)
+}

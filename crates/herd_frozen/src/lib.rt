@@ -1,0 +1,43 @@
+//! A book of records, what it may be, and the book in age order.
+//!
+//! A book is a list of records by their numbers, in the order of registration. `Frozen` is one in age order, whose rows
+//! have the ranks of the parents, for who reads the whole of it. `freeze_list` makes it of a list of records, and
+//! `frozen_from` of whatever tells its records in the order of registration (`Registered`), as `herd_pedigree`'s book.
+//!
+//!     let frozen = freeze_list(alloc, &records)?;
+//!     let row = frozen.row(0);
+//!
+//! Three folders have the same names in `src/` and `specs/`, with their lemmas in `proofs/lemmas/`.
+//!
+//! - **`rules`**: what may be. `Lawful` and `ParentFault` say it, `Paths` says what a depth is.
+//! - **`places`**: animals by their places in the order of registration.
+//! - **`freezing`**: the book in age order. `Frozen` says what that is.
+#![tactic(auto)]
+
+mod freezing;
+mod places;
+mod rules;
+
+pub use freezing::freeze::{freeze_list, frozen_from};
+pub use freezing::frozen::{Frozen, Parents, Row};
+pub use freezing::registered::Registered;
+pub use places::links::Link;
+pub use rules::animal::Animal;
+pub use rules::parent_fault::ParentFault;
+// A crate can name a frozen book in a contract only if the types of its fields are exported. `PackedIndex` also serves
+// `herd_pedigree` and `herd_kinship`.
+#[doc(hidden)]
+pub use freezing::number_index::NumberIndex;
+#[doc(hidden)]
+pub use freezing::rows::{PackedParents, RowRecord, Rows};
+#[doc(hidden)]
+pub use places::packed_index::PackedIndex;
+
+/// The number of steps that the longest path of known parents may have.
+///
+/// More than 60 can't be had: a coefficient is a whole number of halves of halves, two for each step, so of units of
+/// 2^-120, and a hundred times such a number has to fit 128 bits for its percentage.
+pub const DEPTH_LIMIT: u8 = 60;
+
+/// The number of animals that a book may have.
+pub const MOST_ANIMALS: u32 = 60_000;

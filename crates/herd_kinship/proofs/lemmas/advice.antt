@@ -1,0 +1,3 @@
+-- Mating advice, and contributions to the inverse.
+pub mod MatingFacts
+pub mod ContributionFacts

@@ -1,0 +1,83 @@
+-- Entries, shares, coefficients and Mendelian sampling variances don't depend on how the animals are named.
+use Rattle.std.proofs.Common.{map, [], ◌∷◌, lit<, All, ⊎_elim, ℕ, zero, suc, ◌+◌, ◌*◌, ◌-◌, ◌≡◌, inl, inr, List, Option, Some, None, refl, Contains, ◌∙◌, ap}
+use Rattle.std.specs.Option.{option_map}
+use Rattle.std.proofs.lemmas.List.Sorted.{Contains-permutation}
+use Rattle.std.proofs.lemmas.List.Elements.{All-contains, All-nil, All-cons, All-weaker, Contains-append_left, Contains-append_right}
+use Rattle.herd_kinship.specs.Ancestry.{Ancestry, IsParentIn}
+use Rattle.herd_kinship.specs.Table.{entry, coefficient, mendelian}
+use Rattle.herd_kinship.proofs.lemmas.ancestry.LawfulAncestry.{Path, IsShallow, IsLawful, IsRenamed}
+use Rattle.herd_kinship.proofs.lemmas.ancestry.Table.{entry-none_left, entry-none_right, entry-start, entry-step}
+use Rattle.herd_kinship.proofs.lemmas.ancestry.Depth.{IsKnown, known-sire, known-dam}
+
+-- by induction on the unit: the same case of the tabular method holds under both names
+pub entry-renamed : {A B : Type 0} (kin : Ancestry A) (g : Ancestry B) (φ : A → B) → IsLawful kin → IsRenamed kin g φ → (k : ℕ) (x y : Option A) → IsKnown kin x → IsKnown kin y →
+    entry g k (option_map φ x) (option_map φ y) ≡ entry kin k x y
+entry-renamed kin g φ w r k None y kx ky = rw (entry-none_left kin k y) (entry-none_left g k (option_map φ y))
+entry-renamed kin g φ w r k (Some x) None kx ky = rw (entry-none_right kin k (Some x)) (entry-none_right g k (Some (φ x)))
+entry-renamed kin g φ w r zero (Some x) (Some y) kx ky =
+    rw (entry-start kin x y, entry-start g (φ x) (φ y), r.same x y (kx x refl) (ky y refl)) refl
+entry-renamed kin g φ w r (suc k) (Some x) (Some y) kx ky =
+    let cx = kx x refl in
+    let cy = ky y refl in
+    let sd = entry-renamed kin g φ w r k (kin.sire x) (kin.dam x) (known-sire kin w x cx) (known-dam kin w x cx) in
+    let xs = entry-renamed kin g φ w r k (Some x) (kin.sire y) kx (known-sire kin w y cy) in
+    let xd = entry-renamed kin g φ w r k (Some x) (kin.dam y) kx (known-dam kin w y cy) in
+    let ys = entry-renamed kin g φ w r k (Some y) (kin.sire x) ky (known-sire kin w x cx) in
+    let yd = entry-renamed kin g φ w r k (Some y) (kin.dam x) ky (known-dam kin w x cx) in
+    rw (
+      entry-step kin k x y,
+      entry-step g k (φ x) (φ y),
+      r.same x y cx cy,
+      r.before x y cx cy,
+      r.sire x cx,
+      r.dam x cx,
+      r.sire y cy,
+      r.dam y cy,
+      sd,
+      xs,
+      xd,
+      ys,
+      yd,
+    ) refl
+
+pub coefficient-renamed : {A B : Type 0} (kin : Ancestry A) (g : Ancestry B) (φ : A → B) → IsLawful kin → IsRenamed kin g φ → (l : ℕ) (x : A) → Contains kin.animals x →
+    coefficient g l (φ x) ≡ coefficient kin l x
+unfolding coefficient
+coefficient-renamed kin g φ w r l x cx =
+    rw (r.sire x cx, r.dam x cx) (entry-renamed kin g φ w r (2 * l - 1) (kin.sire x) (kin.dam x) (known-sire kin w x cx) (known-dam kin w x cx))
+
+pub mendelian-renamed : {A B : Type 0} (kin : Ancestry A) (g : Ancestry B) (φ : A → B) → IsLawful kin → IsRenamed kin g φ → (l : ℕ) (x : A) → Contains kin.animals x →
+    mendelian g l (φ x) ≡ mendelian kin l x
+unfolding mendelian
+mendelian-renamed kin g φ w r l x cx =
+    rw (
+      r.sire x cx,
+      r.dam x cx,
+      entry-renamed kin g φ w r (2 * l - 2) (kin.sire x) (kin.sire x) (known-sire kin w x cx) (known-sire kin w x cx),
+      entry-renamed kin g φ w r (2 * l - 2) (kin.dam x) (kin.dam x) (known-dam kin w x cx) (known-dam kin w x cx),
+    ) refl
+
+all_mapped : {X Y : Type 0} (f : X → Y) (xs : List X) → All (λ v. Contains (map f xs) (f v)) xs
+all_mapped f [] = All-nil (λ v. Contains [] (f v))
+all_mapped f (x ∷ xs) =
+    All-cons (λ v. Contains (map f (x ∷ xs)) (f v)) x xs (Contains-append_left (f x ∷ []) (map f xs) (f x) (0, lit< tt, refl))
+    (All-weaker (λ v. Contains (map f xs) (f v)) (λ v. Contains (map f (x ∷ xs)) (f v))
+    (λ v c. Contains-append_right (f x ∷ []) (map f xs) (f v) c) xs (all_mapped f xs))
+
+Contains-map : {X Y : Type 0} (f : X → Y) (xs : List X) (x : X) → Contains xs x → Contains (map f xs) (f x)
+Contains-map f xs x c = All-contains (λ v. Contains (map f xs) (f v)) xs x (all_mapped f xs) c
+
+-- paths keep their lengths
+pub path-renamed : {A B : Type 0} (kin : Ancestry A) (g : Ancestry B) (φ : A → B) → IsLawful kin → IsRenamed kin g φ → (n : ℕ) (x : A) → Path kin n x → Path g n (φ x)
+unfolding Path
+path-renamed kin g φ w r zero x path =
+    Contains-permutation (map φ kin.animals) g.animals (φ x) r.animals (Contains-map φ kin.animals x path)
+path-renamed {A} {B} kin g φ w r (suc n) x path =
+    let p : A = path.1.0 in
+    let here = Contains-permutation (map φ kin.animals) g.animals (φ x) r.animals (Contains-map φ kin.animals x path.0) in
+    let is : IsParentIn g (φ p) (φ x) =
+    ⊎_elim (λ e. inl (r.sire x path.0 ∙ ap (option_map φ) e)) (λ e. inr (r.dam x path.0 ∙ ap (option_map φ) e)) path.1.1 in
+    (here, (φ p, is, path-renamed kin g φ w r n p path.1.2))
+
+pub shallow-renamed : {A B : Type 0} (kin : Ancestry A) (g : Ancestry B) (φ : A → B) → IsLawful kin → IsRenamed kin g φ → (l : ℕ) → IsShallow g l → IsShallow kin l
+shallow-renamed kin g φ w r l f x path = f (φ x) (path-renamed kin g φ w r (l + 1) x path)

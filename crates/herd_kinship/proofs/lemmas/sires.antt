@@ -1,0 +1,9 @@
+-- Columns of A, sire by sire.
+pub mod ColumnFacts
+pub mod PassedOn
+pub mod RelationshipFacts
+pub mod Collecting
+pub mod CalfFacts
+pub mod CalfCounts
+pub mod CalfListFacts
+pub mod BySires

@@ -1,0 +1,144 @@
+-- Lists of calves with their coefficients: how they grow, and what stands in a list of numerators once they are written.
+use Rattle.std.proofs.Common.{ℕ, ◌+◌, ◌<◌, ◌≡◌, ◌++◌, [], ◌∷◌, ◌⊎◌, inl, inr, ⊎_elim, List, length, get_or, set, take, Option, Some, None, arith, refl, sym, ◌∙◌, ap, subst}
+use Rattle.std.specs.List.{All, Any}
+use Rattle.std.proofs.lemmas.Bool.{cases_eq}
+use Rattle.std.proofs.lemmas.List.{append_assoc, append-nil, get_or-append-add, get_or-set_other, get_or-set_same, get_or_append_left, length-append}
+use Rattle.std.proofs.lemmas.List.Elements.{All-append, All-more, All-nil, All-push, All-same, All-weaker}
+use Rattle.std.proofs.lemmas.List.Quantifiers.{Any-push}
+use Rattle.herd_frozen.specs.declared.freezing.frozen.Row.{Row}
+use Rattle.herd_kinship.specs.CalfCoefficients.{AreCalvesWith, GoesOnWith, HasWritten, IsCalfWith}
+use Rattle.herd_kinship.specs.CalfLinks.{IsCalf, IsLink}
+use Rattle.herd_kinship.specs.declared.calf_coefficients.CalfCoefficient.{CalfCoefficient}
+use Rattle.herd_kinship.proofs.lemmas.sires.CalfFacts.{calf-within, IsWalked, walked-next, walked-start}
+
+any-left : {X : Type 0} (P : X → Type 0) (xs ys : List X) → Any P xs → Any P (xs ++ ys)
+any-left P xs ys (k, x, low, at, is) = (k, x, let n = length-append xs ys in omega (arith, low), get_or_append_left xs ys x k low ∙ at, is)
+
+any-right : {X : Type 0} (P : X → Type 0) (xs ys : List X) → Any P ys → Any P (xs ++ ys)
+any-right P xs ys (k, x, low, at, is) = (length xs + k, x, let n = length-append xs ys in omega (arith, low), get_or-append-add xs ys k x ∙ at, is)
+
+module _ (rows : List Row) where
+  -- other sires without calves, or fewer of them
+  pub calves-same : (P Q : ℕ → Type 0) (f : ℕ → ℕ) (calves : List CalfCoefficient) → ((s : ℕ) → P s → Q s) → ((s x : ℕ) → Q s → IsCalf rows s x → P s) →
+      AreCalvesWith rows P f calves → AreCalvesWith rows Q f calves
+  calves-same P Q f calves more less are = record {
+    each = All-weaker (IsCalfWith rows P f) (IsCalfWith rows Q f) (λ calf is. record { sire = is.sire; of_these = more is.sire is.of_these; is_calf = is.is_calf; value = is.value }) calves are.each;
+    all = λ s x is calf. are.all s x (less s x is calf) calf;
+  }
+
+  -- the calves of no sire
+  pub calves-none : (P : ℕ → Type 0) (f : ℕ → ℕ) → ((s x : ℕ) → P s → IsCalf rows s x → ⊥) → AreCalvesWith rows P f []
+  calves-none P f none = record { each = λ k d low. absurd (omega (arith, low)); all = λ s x is calf. absurd (none s x is calf) }
+
+  -- the calves of further sires
+  pub calves-more : (P N Q : ℕ → Type 0) (f : ℕ → ℕ) (old new : List CalfCoefficient) → ((s : ℕ) → P s → Q s) → ((s : ℕ) → N s → Q s) → ((s : ℕ) → Q s → P s ⊎ N s) →
+      AreCalvesWith rows P f old → GoesOnWith rows N f old new → AreCalvesWith rows Q f new
+  calves-more P N Q f old new first second either are on = record {
+    each =
+        All-same (IsCalfWith rows Q f) new (old ++ on.more) on.appended
+        (All-append (IsCalfWith rows Q f) old on.more
+        (All-weaker (IsCalfWith rows P f) (IsCalfWith rows Q f) (λ calf is. record { sire = is.sire; of_these = first is.sire is.of_these; is_calf = is.is_calf; value = is.value }) old are.each)
+        (All-weaker (IsCalfWith rows N f) (IsCalfWith rows Q f) (λ calf is. record { sire = is.sire; of_these = second is.sire is.of_these; is_calf = is.is_calf; value = is.value }) on.more on.calves.each));
+    all = λ s x is calf.
+        subst (λ xs. Any (λ c. c.rank ≡ x) xs) (sym on.appended)
+        (⊎_elim (λ (before : P s). any-left (λ c. c.rank ≡ x) old on.more (are.all s x before calf)) (λ (now : N s). any-right (λ c. c.rank ≡ x) old on.more (on.calves.all s x now calf))
+        (either s is));
+  }
+
+  -- those of an empty list that goes on
+  pub calves-alone : (N : ℕ → Type 0) (f : ℕ → ℕ) (old new : List CalfCoefficient) → old ≡ [] → GoesOnWith rows N f old new → AreCalvesWith rows N f new
+  calves-alone N f old new none on = subst (λ xs. AreCalvesWith rows N f xs) (sym (on.appended ∙ ap (λ (xs : List CalfCoefficient). xs ++ on.more) none)) on.calves
+
+  -- the same number in other words
+  pub goes-on-values : (N : ℕ → Type 0) (f g : ℕ → ℕ) (old new : List CalfCoefficient) → ((s x : ℕ) → N s → IsCalf rows s x → f x ≡ g x) → GoesOnWith rows N f old new → GoesOnWith rows N g old new
+  goes-on-values N f g old new same on = record {
+    more = on.more;
+    appended = on.appended;
+    calves = record {
+      each =
+          All-weaker (IsCalfWith rows N f) (IsCalfWith rows N g)
+          (λ calf is. record { sire = is.sire; of_these = is.of_these; is_calf = is.is_calf; value = is.value ∙ same is.sire calf.rank is.of_these is.is_calf }) on.more on.calves.each;
+      all = on.calves.all;
+    };
+  }
+
+  -- each stands at a rank of the book
+  pub calves-within : (P : ℕ → Type 0) (f : ℕ → ℕ) (calves : List CalfCoefficient) → AreCalvesWith rows P f calves → All (λ calf. calf.rank < length rows) calves
+  calves-within P f calves are = All-weaker (IsCalfWith rows P f) (λ calf. calf.rank < length rows) (λ calf is. calf-within rows is.sire calf.rank is.is_calf) calves are.each
+
+  -- each has f of its rank
+  pub calves-values : (P : ℕ → Type 0) (f : ℕ → ℕ) (calves : List CalfCoefficient) → AreCalvesWith rows P f calves → All (λ calf. calf.numerator ≡ f calf.rank) calves
+  calves-values P f calves are = All-weaker (IsCalfWith rows P f) (λ calf. calf.numerator ≡ f calf.rank) (λ calf is. is.value) calves are.each
+
+  -- once they are written, each calf of these sires has f of its rank
+  pub calves-written : (P : ℕ → Type 0) (f : ℕ → ℕ) (calves : List CalfCoefficient) (old new : List ℕ) → AreCalvesWith rows P f calves → HasWritten f calves old new →
+      (s x : ℕ) → P s → IsCalf rows s x → get_or new x 0 ≡ f x
+  calves-written P f calves old new are has s x is calf =
+      let at = are.all s x is calf in
+      subst (λ v. get_or new v 0 ≡ f v) at.4 (subst (λ (c : CalfCoefficient). get_or new c.rank 0 ≡ f c.rank) at.3 (has.written at.0 at.1 at.2))
+
+-- the list goes on with calves of s, among them those that a link to the next one has passed by
+pub record IsGrowing (rows : List Row) (s : ℕ) (f : ℕ → ℕ) (link : Option ℕ) (old new : List CalfCoefficient) : Type 0 where
+  pub more : List CalfCoefficient
+  pub appended : new ≡ old ++ more
+  pub each : All (IsCalfWith rows (λ t. t ≡ s) f) more
+  pub walked : IsWalked rows s link (λ x. Any (λ calf. calf.rank ≡ x) more)
+
+pub growing-start : (rows : List Row) (s : ℕ) (f : ℕ → ℕ) (link : Option ℕ) (old : List CalfCoefficient) → IsLink rows s (length rows) link → IsGrowing rows s f link old old
+growing-start rows s f link old is = record {
+  more = [];
+  appended = sym (append-nil old);
+  each = All-nil (IsCalfWith rows (λ t. t ≡ s) f);
+  walked = walked-start rows s link (λ x. Any (λ calf. calf.rank ≡ x) []) is;
+}
+
+-- one calf further
+pub growing-next : (rows : List Row) (s : ℕ) (f : ℕ → ℕ) (calf : CalfCoefficient) (link : Option ℕ) (old new pushed : List CalfCoefficient) → IsCalf rows s calf.rank → calf.numerator ≡ f calf.rank →
+    IsLink rows s calf.rank link → pushed ≡ new ++ calf ∷ [] → IsGrowing rows s f (Some calf.rank) old new → IsGrowing rows s f link old pushed
+growing-next rows s f calf link old new pushed is value next push was = record {
+  more = was.more ++ calf ∷ [];
+  appended = push ∙ ap (λ (xs : List CalfCoefficient). xs ++ calf ∷ []) was.appended ∙ append_assoc old was.more (calf ∷ []);
+  each = All-push (IsCalfWith rows (λ t. t ≡ s) f) was.more calf was.each (record { sire = s; of_these = refl; is_calf = is; value = value });
+  walked = walked-next rows s calf.rank link (λ x. Any (λ c. c.rank ≡ x) was.more) (λ x. Any (λ c. c.rank ≡ x) (was.more ++ calf ∷ [])) next
+      (λ x above there. any-left (λ c. c.rank ≡ x) was.more (calf ∷ []) there)
+      (Any-push (λ c. c.rank ≡ calf.rank) was.more calf refl)
+      was.walked;
+}
+
+pub growing-end : (rows : List Row) (s : ℕ) (f : ℕ → ℕ) (link : Option ℕ) (old new : List CalfCoefficient) → link ≡ None → IsGrowing rows s f link old new → GoesOnWith rows (λ t. t ≡ s) f old new
+growing-end rows s f link old new none was = record {
+  more = was.more;
+  appended = was.appended;
+  calves = record { each = was.each; all = λ t x is calf. was.walked.done x (subst (λ v. IsCalf rows v x) is calf) (λ y e. absurd (cc)) };
+}
+
+-- nothing is written yet
+pub written-start : (f : ℕ → ℕ) (old : List ℕ) → HasWritten f [] old old
+written-start f old = record { kept = λ rank. inl refl; written = All-nil (λ calf. get_or old calf.rank 0 ≡ f calf.rank) }
+
+-- a write of f at one rank
+set-kept : (f : ℕ → ℕ) (known : List ℕ) (rank value p : ℕ) → value ≡ f rank → rank < length known → (get_or (set known rank value) p 0 ≡ get_or known p 0) ⊎ (get_or (set known rank value) p 0 ≡ f p)
+set-kept f known rank value p is below =
+    ⊎_elim (λ (e : p ≡ rank). inr (ap (λ v. get_or (set known rank value) v 0) e ∙ get_or-set_same known rank value 0 below ∙ is ∙ ap f (sym e)))
+    (λ (ne : p ≡ rank → ⊥). inl (get_or-set_other known rank p value 0 ne)) (cases_eq p rank)
+
+-- one calf more is written
+pub written-next : (f : ℕ → ℕ) (calves : List CalfCoefficient) (i : ℕ) (d : CalfCoefficient) (old known : List ℕ) → i < length calves → (get_or calves i d).rank < length known →
+    All (λ c. c.numerator ≡ f c.rank) calves → HasWritten f (take i calves) old known → HasWritten f (take (i + 1) calves) old (set known (get_or calves i d).rank (get_or calves i d).numerator)
+written-next f calves i d old known low below values was =
+    let now = set known (get_or calves i d).rank (get_or calves i d).numerator in
+    let value : (get_or calves i d).numerator ≡ f (get_or calves i d).rank = values i d low in
+    let step : (p : ℕ) → (get_or now p 0 ≡ get_or known p 0) ⊎ (get_or now p 0 ≡ f p) = λ p. set-kept f known (get_or calves i d).rank (get_or calves i d).numerator p value below in
+    record {
+      kept = λ p.
+          ⊎_elim
+          (λ (same : get_or now p 0 ≡ get_or known p 0).
+          ⊎_elim (λ (s : get_or known p 0 ≡ get_or old p 0). inl (same ∙ s)) (λ (t : get_or known p 0 ≡ f p). inr (same ∙ t)) (was.kept p))
+          (λ (there : get_or now p 0 ≡ f p). inr there)
+          (step p);
+      written =
+          All-more (λ c. get_or now c.rank 0 ≡ f c.rank) calves i d low
+          (All-weaker (λ c. get_or known c.rank 0 ≡ f c.rank) (λ c. get_or now c.rank 0 ≡ f c.rank)
+          (λ c stood. ⊎_elim (λ (same : get_or now c.rank 0 ≡ get_or known c.rank 0). same ∙ stood) (λ (there : get_or now c.rank 0 ≡ f c.rank). there) (step c.rank)) (take i calves) was.written)
+          (get_or-set_same known (get_or calves i d).rank (get_or calves i d).numerator 0 below ∙ value);
+    }

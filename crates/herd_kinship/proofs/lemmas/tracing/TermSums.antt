@@ -1,0 +1,118 @@
+-- The squared shares of x in its ancestors times the Mendelian sampling variances, added up from the youngest to the oldest.
+use Rattle.std.proofs.Common.{ℕ, suc, ◌+◌, ◌*◌, ◌-◌, ◌/◌, ◌^◌, ◌<◌, ◌≤◌, ◌≡◌, ⊎_elim, List, length, Some, cond, ltb, arith, sym, ◌∙◌, ap}
+use Rattle.std.specs.List.{sum_by, range_with_len}
+use Rattle.std.proofs.Math.Nat.{mul-le-mul_left}
+use Rattle.std.proofs.Math.Pow.{pow_pos}
+use Rattle.std.proofs.lemmas.Bool.{cases_lt, lt-ltb, le-ltb}
+use Rattle.std.proofs.lemmas.List.Sums.{sum_by-le-sum_by}
+use Rattle.herd_frozen.specs.declared.freezing.frozen.Parents.{Parents}
+use Rattle.herd_frozen.specs.declared.freezing.frozen.Row.{Row}
+use Rattle.herd_frozen.specs.freezing.Frozen.{IsFrozen, depth_at}
+use Rattle.herd_kinship.specs.Coefficients.{own_relationship}
+use Rattle.herd_kinship.specs.Table.{entry, mendelian}
+use Rattle.herd_kinship.specs.Shares.{share, shared}
+use Rattle.herd_kinship.specs.FrozenAncestry.{ancestry_of, number_of_row}
+use Rattle.herd_kinship.specs.Ranks.{AreParentsAt, sire_rank, dam_rank, ranked}
+use Rattle.herd_kinship.specs.Tracing.{IsNext}
+use Rattle.herd_kinship.proofs.lemmas.tracing.Brought.{cancel, later_none}
+use Rattle.herd_kinship.proofs.lemmas.laws.Decompose.{decomposition}
+use Rattle.herd_kinship.proofs.lemmas.ancestry.Depth.{known_some}
+use Rattle.herd_kinship.proofs.lemmas.tracing.Done.{done, done-start, done-step, done-end}
+use Rattle.herd_kinship.proofs.lemmas.ancestry.Exact.{term-exact}
+use Rattle.herd_kinship.proofs.lemmas.books.FrozenDepths.{ranked-depth, ranked-below_depth, depth-at_most}
+use Rattle.herd_kinship.proofs.lemmas.books.FrozenFacts.{frozen-ranked, ranked-lawful, ranked-shallow}
+use Rattle.herd_kinship.proofs.lemmas.tracing.KnownFacts.{entry-rank, mendelian-rank}
+use Rattle.herd_kinship.proofs.lemmas.books.ParentsFacts.{parents-depth, parents-within}
+use Rattle.herd_kinship.proofs.lemmas.books.Ranks.{rank-in}
+use Rattle.herd_kinship.proofs.lemmas.ancestry.Table.{entry-bound}
+
+-- what the ancestor at j adds to the relationship of x with itself, in unit 2^-4l
+abbrev pub term_of : ℕ → List Row → ℕ → ℕ → ℕ
+term_of l rows x j = share (ranked rows) l (Some x) j * share (ranked rows) l (Some x) j * mendelian (ranked rows) l j
+
+-- the terms of the ranks from the border on are added up, in unit 2^-2l
+abbrev pub IsSummed : ℕ → List Row → ℕ → ℕ → ℕ → Type 0
+IsSummed l rows x border sum = 2 ^ (2 * l) * sum ≡ done (length rows) (term_of l rows x) border
+
+-- what is added for an ancestor j of x, by its Mendelian sampling variance, its share and the two depths
+pub record IsAdded (l : ℕ) (rows : List Row) (x j part own sum deep depth : ℕ) : Type 0 where
+  pub shift : 2 * deep - 2 * depth < 128
+  pub fits : part / 2 ^ (2 * deep - 2 * depth) * (own * own) < 2 ^ 128
+  pub sum_fits : sum + part / 2 ^ (2 * deep - 2 * depth) * (own * own) < 2 ^ 128
+  pub summed : IsSummed l rows x j (sum + part / 2 ^ (2 * deep - 2 * depth) * (own * own))
+
+module _ (l most : ℕ) (rows : List Row) (f : IsFrozen l most rows) (x : ℕ) (lx : x < length rows) where
+  -- a later animal is no ancestor
+  pub summed-start : IsSummed l rows x (x + 1) 0
+  summed-start =
+      let none = done-start (length rows) (term_of l rows x) (x + 1) (λ j a b.
+      let z = later_none (length rows) (sire_rank rows) (dam_rank rows) (frozen-ranked l most rows f) l (ranked-shallow l most rows f) x j (omega arith) b in
+      rw z (omega arith)) in
+      omega (arith, none)
+
+  summed-next : (b j own sum : ℕ) → j < length rows → IsNext l rows x b j own → IsSummed l rows x b sum →
+      IsSummed l rows x j (sum + own * own * (mendelian (ranked rows) l j / 2 ^ (depth_at rows x + depth_at rows x - 2 * depth_at rows j)))
+  summed-next b j own sum lj next so_far =
+      let kin = ranked rows in
+      let s = next.share_is in
+      let q : ℕ = mendelian kin l j / 2 ^ (depth_at rows x + depth_at rows x - 2 * depth_at rows j) in
+      let term : term_of l rows x j ≡ 2 ^ (2 * l) * (own * own * q) =
+      term-exact kin (ranked-lawful l most rows f) l (depth_at rows x) (depth_at rows x) (depth_at rows j) x x j
+      (depth-at_most l most rows f x lx) (depth-at_most l most rows f x lx) s.less_deep s.less_deep
+      (ranked-below_depth l most rows f x lx) (ranked-below_depth l most rows f x lx) (ranked-below_depth l most rows f j lj) (ranked-depth l most rows f j lj).0
+      ∙ ap (λ v. 2 ^ (2 * l) * (v * v * q)) (sym s.own_is) in
+      let step = done-step (length rows) (term_of l rows x) b j next.below lj (λ i low high. let z = next.between i low high in rw z (omega arith)) in
+      omega (arith, step, term, so_far)
+
+  all_terms : sum_by (term_of l rows x) (range_with_len 0 (length rows)) ≡ 2 ^ (2 * l) * entry (ranked rows) (2 * l) (Some x) (Some x)
+  unfolding shared
+  all_terms =
+      let known = known_some (ranked rows) x (rank-in (length rows) x lx) in
+      decomposition (ranked rows) (ranked-lawful l most rows f) l (ranked-shallow l most rows f) (Some x) (Some x) known known
+
+  -- a sum so far is below 2
+  summed-bound : (border sum : ℕ) → IsSummed l rows x border sum → sum < 2 ^ suc (2 * l)
+  summed-bound border sum so_far =
+      let part : done (length rows) (term_of l rows x) border ≤ sum_by (term_of l rows x) (range_with_len 0 (length rows)) =
+      sum_by-le-sum_by (λ j. cond (ltb j border) 0 (term_of l rows x j)) (term_of l rows x) (range_with_len 0 (length rows))
+      (λ j. ⊎_elim (λ (a : j < border). rw (lt-ltb j border a) (omega arith)) (λ (a : border ≤ j). rw (le-ltb j border a) (omega arith)) (cases_lt j border)) in
+      let e : ℕ = entry (ranked rows) (2 * l) (Some x) (Some x) in
+      let top : e < 2 ^ suc (2 * l) = entry-bound (ranked rows) (2 * l) (Some x) (Some x) in
+      ⊎_elim (λ (a : sum < 2 ^ suc (2 * l)). a)
+      (λ (a : 2 ^ suc (2 * l) ≤ sum).
+      let more : suc e ≤ sum = omega arith in
+      let big : 2 ^ (2 * l) * suc e ≤ 2 ^ (2 * l) * sum = mul-le-mul_left (2 ^ (2 * l)) more in
+      let unit = pow_pos (2 * l) in
+      absurd (omega (arith, part, all_terms, so_far, big, unit)))
+      (cases_lt sum (2 ^ suc (2 * l)))
+
+  -- the term of the next ancestor is added
+  pub added : (b j part own sum : ℕ) (deep ancestor : Parents) → 2 * l < 128 → 2 ^ suc (2 * l) < 2 ^ 128 → AreParentsAt rows x deep → AreParentsAt rows j ancestor →
+      IsNext l rows x b j own → part ≡ mendelian (ancestry_of rows) l (number_of_row rows j) → IsSummed l rows x b sum →
+      IsAdded l rows x j part own sum deep.depth ancestor.depth
+  added b j part own sum deep ancestor small room at there next part_is so_far =
+      let dx = parents-depth rows x deep at in
+      let dj = parents-depth rows j ancestor there in
+      let lj = parents-within rows j ancestor there in
+      let limit = depth-at_most l most rows f x lx in
+      let steps : 2 * deep.depth - 2 * ancestor.depth ≡ depth_at rows x + depth_at rows x - 2 * depth_at rows j = omega (arith, dx, dj) in
+      let term : part / 2 ^ (2 * deep.depth - 2 * ancestor.depth) * (own * own)
+      ≡ own * own * (mendelian (ranked rows) l j / 2 ^ (depth_at rows x + depth_at rows x - 2 * depth_at rows j)) =
+      rw (steps, part_is, ← mendelian-rank l most rows f j lj) (omega arith) in
+      let summed : IsSummed l rows x j (sum + part / 2 ^ (2 * deep.depth - 2 * ancestor.depth) * (own * own)) =
+      rw term (summed-next b j own sum lj next so_far) in
+      let below = summed-bound j (sum + part / 2 ^ (2 * deep.depth - 2 * ancestor.depth) * (own * own)) summed in
+      record {
+        shift = omega (arith, dx, limit);
+        fits = omega (arith, below, room);
+        sum_fits = omega (arith, below, room);
+        summed = summed;
+      }
+
+  -- where nothing is left below the border the sum is the entry
+  pub summed-end : (border sum : ℕ) → ((j : ℕ) → j < border → share (ranked rows) l (Some x) j ≡ 0) → IsSummed l rows x border sum →
+      sum ≡ own_relationship l rows x
+  summed-end border sum none so_far =
+      cancel (2 ^ (2 * l)) sum (entry (ranked rows) (2 * l) (Some x) (Some x)) (pow_pos (2 * l))
+      (so_far ∙ (done-end (length rows) (term_of l rows x) border (λ j a. let z = none j a in rw z (omega arith)) ∙ all_terms))
+      ∙ entry-rank l most rows f (2 * l) x x lx lx

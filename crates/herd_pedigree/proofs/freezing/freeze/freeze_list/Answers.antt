@@ -1,4 +1,0 @@
-use Rattle.herd_pedigree.proofs.freezing.freeze.freeze_list.Goals as goal
-
-pub frozen_from-requires-clause-parents : goal.frozen_from-requires-clause-parents
-frozen_from-requires-clause-parents g c = record { lawful = c.requires; finds = c.in_ok-places.ensures }

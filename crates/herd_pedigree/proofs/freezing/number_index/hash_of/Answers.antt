@@ -1,7 +1,0 @@
-use Rattle.std.proofs.Common.{refl}
-use Rattle.herd_pedigree.specs.freezing.NumberIndex.{hash_of}
-use Rattle.herd_pedigree.proofs.freezing.number_index.hash_of.Goals as goal
-
-pub returns : goal.returns
-unfolding hash_of
-returns c = rw (c.finish.ensures, c.hash.ensures, c.default-hasher.ensures) refl

@@ -1,8 +1,0 @@
-use Rattle.std.proofs.Common.{sym, ap, ◌∙◌, List, length}
-use Rattle.herd_pedigree.specs.declared.freezing.frozen.Row.{Row}
-use Rattle.herd_pedigree.proofs.lemmas.freezing.RowsFacts.{length-rows}
-use Rattle.herd_pedigree.proofs.freezing.rows.Rows.len.Goals as goal
-
-pub returns : goal.returns
-returns g c =
-    c.len.ensures ∙ c.self.inside.records.ok.0 ∙ sym (length-rows c.self.inside.records.items c.self.inside.parents.items c.self.invariant) ∙ ap (λ (rows : List Row). length rows) c.self.view_is

@@ -1,7 +1,0 @@
--- What follows from what a book may be.
-pub mod PathFacts
-pub mod BookFacts
-pub mod PermutedFacts
-pub mod FaultFacts
-pub mod WrittenFacts
-pub mod LawfulChanges
