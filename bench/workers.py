@@ -8,13 +8,12 @@ For each shape the program's `file` and its `inbreeding` by each number of worke
 workers that go by sires beside them; the least of the runs counts, so that only an idle machine tells anything.
 
 A line for each number of workers: the clock's milliseconds by one worker and by so many, the second by the first, the
-same of processor time, and the speed-up of the coefficients alone: of the program, whole runs less that of `file`; of
-the native program, its own clock around them. The status is 1 where two lists differ.
+same of processor time, and the speed-up of what a list takes beyond `file`: whole runs less that of `file`, of the
+program and of the native one. The status is 1 where two lists differ.
 """
 
 import argparse
 import os
-import re
 import sys
 import tempfile
 
@@ -36,14 +35,15 @@ def jobs_of(program, native, workers, block):
     jobs = {"file": [program, "file"], "one": [program, "inbreeding"]}
     for n in workers:
         jobs[f"x{n}"] = [program, "inbreeding", "--workers", str(n), "--block", str(block)]
+    jobs["native file"] = [native, "file", "--depth", "60"]
     for n in [1, *workers]:
         jobs[f"native x{n}"] = [native, "sires", "--workers", str(n), "--block", str(block), "--depth", "60"]
     return jobs
 
 
 def measured(jobs, file, runs, out):
-    """The least seconds of the clock and of the processor of each job, those of its coefficients, and its list."""
-    wall, processor, alone, lists = {}, {}, {}, {}
+    """The least seconds of the clock and of the processor of each job, and what it wrote."""
+    wall, processor, wrote = {}, {}, {}
     for _ in range(runs):
         for name, words in jobs.items():
             used, took, status, told = ran(words, file, out)
@@ -51,10 +51,13 @@ def measured(jobs, file, runs, out):
                 sys.exit(f"{name} ended with status {status}: {told.strip()}")
             wall[name] = min(wall.get(name, 9e9), took)
             processor[name] = min(processor.get(name, 9e9), used)
-            if it := re.search(r"trace-ms=([\d.]+)", told):
-                alone[name] = min(alone.get(name, 9e9), float(it[1]))
-            lists[name] = digest(out)
-    return wall, processor, alone, lists
+            wrote[name] = digest(out)
+    return wall, processor, wrote
+
+
+def speed_up(wall, file, one, more):
+    """How many times as fast a list is by more workers, beyond what the replies to the same file take."""
+    return (wall[one] - wall[file]) / max(wall[more] - wall[file], 1e-6)
 
 
 def main():
@@ -74,12 +77,12 @@ def main():
     all_same = True
     for shape in said.shapes.split(","):
         file = book(said.work, shape, said.size)
-        wall, processor, alone, lists = measured(jobs, file, said.runs, os.path.join(said.work, "list.out"))
-        same = len({lists[name] for name in jobs if name != "file"}) == 1
+        wall, processor, wrote = measured(jobs, file, said.runs, os.path.join(said.work, "list.out"))
+        same = len({wrote[name] for name in jobs if name not in ("file", "native file")}) == 1
         all_same = all_same and same
         for n in workers:
-            ours = (wall["one"] - wall["file"]) / max(wall[f"x{n}"] - wall["file"], 1e-6)
-            theirs = alone["native x1"] / alone[f"native x{n}"]
+            ours = speed_up(wall, "file", "one", f"x{n}")
+            theirs = speed_up(wall, "native file", "native x1", f"native x{n}")
             print(
                 f"{shape:9} x{n}: file {wall['file'] * 1e3:5.0f} one {wall['one'] * 1e3:6.0f} x{n} {wall[f'x{n}'] * 1e3:6.0f}"
                 f"  clock {wall[f'x{n}'] / wall['one']:.2f}  processor {processor[f'x{n}'] / processor['one']:.2f}"
