@@ -1,7 +1,7 @@
 //! A pedigree whose memory is refused answers so and is as before, or it answers in full.
 
 use super::changes::{Change, file, file_all, pedigree_of};
-use super::family::{birth, cows, family, no_parents, older_sire, sire};
+use super::family::{birth, cows, family, no_parents, older_sire, sire, transfer};
 use super::seen::{Seen, family_seen, tells};
 use herd_fixtures::row_at;
 use herd_frozen::{Frozen, Row};
@@ -76,6 +76,15 @@ fn seen_after(
     Ok(family_seen(rt, &pedigree))
 }
 
+// Sets an owner, for which no memory is taken, and takes that back: the book is as before, and nothing can be taken back.
+fn leave_nothing_to_take_back(rt: &impl Abort, pedigree: &mut Pedigree<&LocalHeap>) {
+    assert!(rt; file(rt, pedigree, transfer()).is_ok());
+    if pedigree.can_take_back() {
+        pedigree.take_back();
+    }
+    assert!(rt; !pedigree.can_take_back());
+}
+
 // Whether a change is refused in the crowded heap at first. It is made then, and this is told of the family.
 fn is_made_in_time(
     rt: &impl Abort,
@@ -84,6 +93,7 @@ fn is_made_in_time(
     change: Change,
     wanted: &[Seen; 6],
 ) -> bool {
+    leave_nothing_to_take_back(rt, pedigree);
     refusals(rt, pedigree, &mut blocks, change) > 0 && tells(rt, pedigree, wanted)
 }
 

@@ -133,7 +133,8 @@ fn expect_full(rt: &impl Abort, copybook: &mut Copybook<Global>) -> Result<(), F
     requires full { length copybook.old.journal ≡ copybook.old.limits.steps }
 {
     let records = records()?;
-    let step = accepted(Text::Founder(Bull(5)))?;
+    // It would set a record.
+    let step = accepted(Text::Exit(Bull(1), "2006-01-01"))?;
     assert!(rt; has_records(copybook, &records));
     assert!(rt; takes_no_more(copybook, &step, &records));
     assert_eq!(rt; copybook.steps(), 8);
