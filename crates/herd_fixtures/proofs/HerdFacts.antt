@@ -1,5 +1,5 @@
 -- One digit that isn't zero is a herd.
-use Rattle.std.proofs.Common.{ℕ, zero, suc, ◌+◌, ◌<◌, ◌≤◌, [], ◌∷◌, length, slice_index, arith}
+use Rattle.std.proofs.Common.{ℕ, zero, suc, ◌+◌, ◌<◌, ◌≤◌, [], ◌∷◌, slice_index, arith}
 use Rattle.std.specs.Char.{IsAsciiDigit}
 use Rattle.herd_animal.specs.Herd.{IsHerd}
 

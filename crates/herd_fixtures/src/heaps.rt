@@ -6,6 +6,9 @@ use std::alloc::{AllocError, Global};
 /// The bytes of a heap that are spare.
 const SPARE: usize = 8192;
 
+/// More than the blocks that a small heap has.
+pub const MOST_BLOCKS: u32 = 4_096;
+
 /// A heap with so many bytes beside the spare ones.
 pub fn heap_of(alloc: Global, bytes: usize) -> Result<LocalHeap, AllocError> {
     LocalHeap::new(alloc, SPARE.saturating_add(bytes))
@@ -14,4 +17,45 @@ pub fn heap_of(alloc: Global, bytes: usize) -> Result<LocalHeap, AllocError> {
 /// The spare bytes of a heap, taken until they are dropped.
 pub fn spare_of(heap: &LocalHeap) -> Result<Vec<u8, &LocalHeap>, AllocError> {
     Vec::with_capacity(heap, SPARE)
+}
+
+/// A heap of 1,024 small blocks.
+pub fn small_heap(alloc: Global) -> Result<LocalHeap, AllocError> {
+    LocalHeap::new(alloc, 16_384)
+}
+
+/// What takes up a heap, if there is one, by small blocks of 16 bytes.
+#[derive(Drop)]
+pub struct Crowd<'a> {
+    heap: Option<&'a LocalHeap>,
+    blocks: Vec<Vec<u8, &'a LocalHeap>, Global>,
+}
+
+impl<'a> Crowd<'a> {
+    /// It takes up nothing yet.
+    pub fn of(alloc: Global, heap: Option<&'a LocalHeap>) -> Crowd<'a> {
+        Crowd {
+            heap,
+            blocks: Vec::new(alloc),
+        }
+    }
+
+    /// Takes up all that is left.
+    pub fn fill(&mut self) -> Result<(), AllocError> {
+        let Some(heap) = self.heap else {
+            return Ok(());
+        };
+        for _ in 0..MOST_BLOCKS {
+            match Vec::with_capacity(heap, 16) {
+                Ok(block) => self.blocks.push(block)?,
+                Err(AllocError) => break,
+            }
+        }
+        Ok(())
+    }
+
+    /// Gives back the block that was taken last.
+    pub fn give_back(&mut self) {
+        drop(self.blocks.pop());
+    }
 }

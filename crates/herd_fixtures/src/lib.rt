@@ -15,7 +15,7 @@ pub use books::{
     BirthFault, file_birth, file_births, founders, frozen_of, generations, pair_of, pedigree_of,
 };
 pub use families::{descendants_of_full_sibs, full_sibs};
-pub use heaps::{heap_of, spare_of};
+pub use heaps::{Crowd, MOST_BLOCKS, heap_of, small_heap, spare_of};
 pub use herd::herd_of;
 pub use name::Name;
 pub use rows::row_at;

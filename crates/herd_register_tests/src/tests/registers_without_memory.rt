@@ -1,10 +1,10 @@
-//! Registers on heaps that are too small.
+//! A register whose heap is filled up before each text, so that every growth is refused in turn.
 
-use super::families::{birth, exit, line, transfer, with_dam, without_sire};
+use super::families::{exit, line, transfer, with_dam, without_sire};
 use super::filed::answered;
 use super::seen::{expect_depths, is_seen, seen_of};
 use super::texts::Text;
-use herd_fixtures::{heap_of, spare_of};
+use herd_fixtures::{Crowd, MOST_BLOCKS, small_heap};
 use herd_register::{FileFault, Limits, Register, Reply};
 use linked_list_allocator::LocalHeap;
 use std::alloc::Allocator;
@@ -35,107 +35,84 @@ fn is_answered<A: Allocator + Copy>(
     }
 }
 
-// How many texts are answered before one is refused.
-fn answered_first<A: Allocator + Copy>(
+// Fills the heap and files a text, with one more free block each time, until it is answered. How often it wasn't.
+fn refusals(
     rt: &impl Abort,
-    register: &mut Register<A>,
-    texts: &[Text],
-) -> Result<usize, Fail> {
-    for (place, text) in texts.iter().enumerate() {
-        if !is_answered(rt, register, *text)? {
-            return Ok(place);
+    crowd: &mut Crowd<'_>,
+    register: &mut Register<&LocalHeap>,
+    text: Text,
+) -> Result<u32, Fail> {
+    crowd.fill()?;
+    for refused in 0..MOST_BLOCKS {
+        if is_answered(rt, register, text)? {
+            return Ok(refused);
         }
+        crowd.give_back();
     }
-    Ok(texts.len())
+    Ok(MOST_BLOCKS)
 }
 
-// All but the first texts are answered.
-fn expect_answered<A: Allocator + Copy>(
+// Files the line, for which memory is refused at first.
+fn file_line(
     rt: &impl Abort,
-    register: &mut Register<A>,
-    texts: &[Text],
-    first: usize,
+    crowd: &mut Crowd<'_>,
+    register: &mut Register<&LocalHeap>,
 ) -> Result<(), Fail> {
-    for text in texts.iter().skip(first) {
-        assert!(rt; is_answered(rt, register, *text)?);
+    let mut refused: u32 = 0;
+    for text in line() {
+        refused = refused.wrapping_add(refusals(rt, crowd, register, text)?);
     }
+    assert!(rt; refused > 0);
+    expect_depths(rt, register, 1);
     Ok(())
 }
 
-// How many texts are answered while the spare bytes of the heap are taken.
-fn answered_without_spare(
-    rt: &impl Abort,
-    heap: &LocalHeap,
-    register: &mut Register<&LocalHeap>,
-    texts: &[Text],
-) -> Result<usize, Fail> {
-    let spare = spare_of(heap)?;
-    let answered = answered_first(rt, register, texts)?;
-    drop(spare);
-    Ok(answered)
+// A text that is filed after the line, whether memory is refused for it at first, and the calf's depth then.
+type Next = (Text, bool, u8);
+
+// The calf's sire is unknown, for which depths alone ask for memory, and then both its parents are known, at which the
+// journal grows. No other text takes memory.
+fn texts() -> [Next; 4] {
+    [
+        (without_sire(), true, 0),
+        (with_dam(), true, 1),
+        (transfer(), false, 1),
+        (exit(), false, 1),
+    ]
 }
 
-// Whether the heap is too small for the texts. They are answered once the spare bytes are given back, and the calf has
-// this depth then, each bull of its line a step more.
-fn is_filed_late(
+fn file_next(
     rt: &impl Abort,
-    heap: &LocalHeap,
+    crowd: &mut Crowd<'_>,
     register: &mut Register<&LocalHeap>,
-    texts: &[Text],
-    depth: u8,
-) -> Result<bool, Fail> {
-    let answered = answered_without_spare(rt, heap, register, texts)?;
-    expect_answered(rt, register, texts, answered)?;
+    (text, is_refused, depth): Next,
+) -> Result<(), Fail> {
+    let refused = refusals(rt, crowd, register, text)?;
+    assert_eq!(rt; refused > 0, is_refused);
     expect_depths(rt, register, depth);
-    Ok(answered < texts.len())
-}
-
-// Whether a heap with so many bytes is too small for the texts.
-fn is_too_small(
-    rt: &(impl Abort + AllocGlobal),
-    bytes: usize,
-    texts: &[Text],
-    depth: u8,
-) -> Result<bool, Fail> {
-    let limits = Limits {
-        animals: 8,
-        steps: 9,
-    };
-    let heap = heap_of(rt.alloc(), bytes)?;
-    let mut register = Register::new(&heap, limits);
-    is_filed_late(rt, &heap, &mut register, texts, depth)
-}
-
-// The line, its calf's dam, and a last text, at which the journal grows.
-fn nine(last: Text) -> [Text; 9] {
-    let [bull, cow, calf, a, b, c, d] = line();
-    [bull, cow, calf, a, b, c, d, with_dam(), last]
-}
-
-// Every growth is refused in turn: the heap is a little larger each time.
-fn refuse_each_growth(
-    rt: &(impl Abort + AllocGlobal),
-    texts: &[Text],
-    depth: u8,
-) -> Result<(), Fail> {
-    assert!(rt; is_too_small(rt, 16, texts, depth)?);
-    for size in 1..512 {
-        is_too_small(rt, 16 * size, texts, depth)?;
-    }
-    assert!(rt; !is_too_small(rt, 8192, texts, depth)?);
     Ok(())
 }
 
-// The first takes a step of each depth of the line.
+fn file_all_in_crowd(
+    rt: &impl Abort,
+    crowd: &mut Crowd<'_>,
+    register: &mut Register<&LocalHeap>,
+) -> Result<(), Fail> {
+    file_line(rt, crowd, register)?;
+    for next in texts() {
+        file_next(rt, crowd, register, next)?;
+    }
+    Ok(())
+}
+
 #[test]
 fn changes_nothing_without_memory(rt: HostRuntime) -> Result<(), Fail> {
-    for (last, depth) in [
-        (without_sire(), 0),
-        (birth(), 1),
-        (transfer(), 1),
-        (exit(), 1),
-    ] {
-        refuse_each_growth(&rt, &nine(last), depth)?;
-    }
-    Ok(())
+    let limits = Limits {
+        animals: 7,
+        steps: 11,
+    };
+    let heap = small_heap(rt.alloc())?;
+    let mut crowd = Crowd::of(rt.alloc(), Some(&heap));
+    let mut register = Register::new(&heap, limits);
+    file_all_in_crowd(&rt, &mut crowd, &mut register)
 }
