@@ -1,8 +1,9 @@
-ghost use Rattle.std.specs.Prelude.{◌≡◌, ◌+◌, ◌<◌, ◌≤◌, length, map, slice_get, All, IfOk, IfSome, IsPermutation};
+ghost use Rattle.std.specs.Prelude.{◌≡◌, ◌<◌, ◌≤◌, length, map, slice_get, All, IfOk, IfSome, IsPermutation};
 ghost use Rattle.std.specs.List.{range_with_len};
-ghost use Rattle.std.specs.Option.{option_and_then, option_map_or};
+ghost use Rattle.std.specs.Option.{option_and_then};
 ghost use Rattle.herd_frozen.specs.freezing.Frozen.{IsFrozenFrom, depth_at, numbers_of};
 ghost use Rattle.herd_frozen.specs.freezing.Freeze.{AreRanks, AreRows, IsAgeOrder, IsRanked, IsRowOf, places_of};
+ghost use Rattle.herd_frozen.specs.rules.Depths.{depth_above};
 ghost use Rattle.herd_frozen.specs.rules.Lawful.{IsLawful};
 ghost use Rattle.herd_frozen.specs.places.Places.{IsIndexIn};
 ghost use Rattle.herd_frozen.specs.declared.TheConstants.{DEPTH_LIMIT, MOST_ANIMALS};
@@ -60,7 +61,7 @@ fn rank_of(ranks: &[u32], parent: Option<u32>) -> Option<u32>
 fn above<A: Allocator>(rows: &Rows<A>, parent: Option<u32>) -> u8
     requires within { IfSome parent (λ rank. rank < length rows.now) }
     requires shallow { All (λ row. row.depth ≤ DEPTH_LIMIT) rows.now }
-    ensures { result ≡ option_map_or (λ rank. depth_at rows.now rank + 1) parent 0 }
+    ensures { result ≡ depth_above (depth_at rows.now) parent }
 {
     match parent {
         Some(rank) => rows.depth(rank) + 1,

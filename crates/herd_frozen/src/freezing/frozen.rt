@@ -82,7 +82,8 @@ impl<A: Allocator> Frozen<A> {
     #[inline(always)]
     pub fn row(&self, rank: u32) -> Row
         requires { rank < length self.now }
-        ensures { slice_get self.now rank ≡ Some result }
+        ensures row { slice_get self.now rank ≡ Some result }
+        ensures frozen { IsFrozen DEPTH_LIMIT MOST_ANIMALS self.now }
     {
         self.rows.row(rank)
     }
@@ -110,7 +111,8 @@ impl<A: Allocator> Frozen<A> {
     /// The parents and the depth of the row at a rank. It reads less memory than `row`.
     pub fn parents(&self, rank: u32) -> Parents
         requires { rank < length self.now }
-        ensures { slice_get (map parents_of self.now) rank ≡ Some result }
+        ensures parents { slice_get (map parents_of self.now) rank ≡ Some result }
+        ensures frozen { IsFrozen DEPTH_LIMIT MOST_ANIMALS self.now }
     {
         self.rows.parents(rank)
     }

@@ -183,9 +183,8 @@ impl<A: Allocator> Rows<A> {
         self.parents.reserve(1)?;
         let record = RowRecord::of(&row);
         let parents = PackedParents::of(&row);
-        if self.records.push(record).is_err() || self.parents.push(parents).is_err() {
-            unreachable!();
-        }
+        self.records.push_reserved(record);
+        self.parents.push_reserved(parents);
         Ok(())
     }
 }

@@ -8,9 +8,9 @@ use herd_animal::{AnimalNumber, Day, Herd};
 pub struct Animal {
     /// Its birth day.
     pub birth: Day,
-    /// Its number, where the sire is known.
+    /// The number of its sire, where he is known.
     pub sire: Option<AnimalNumber>,
-    /// Her number, where the dam is known.
+    /// The number of its dam, where she is known.
     pub dam: Option<AnimalNumber>,
     /// Whether it was born from a stored embryo: then its dam may have left before.
     pub embryo: bool,

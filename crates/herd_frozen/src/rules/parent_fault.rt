@@ -24,6 +24,6 @@ pub enum ParentFault {
     DamGone,
     /// Some path of the book, a descendant's too, would have more than `DEPTH_LIMIT` parent steps, or come back to
     /// its animal.
-    #[error("a line would be too long")]
+    #[error("a path would be too long")]
     TooDeep,
 }

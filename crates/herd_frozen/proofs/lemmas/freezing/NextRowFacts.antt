@@ -31,9 +31,15 @@ pub record IsParentOf (book : Book) (keys : List AgeKey) (ranks : List ℕ) (row
   pub earlier : IfSome (option_and_then (slice_get ranks) place) (λ rank. rank < length rows)
   pub above : IsAbove (parentage_of book) parent (option_map_or (λ rank. depth_at rows rank + 1) (option_and_then (slice_get ranks) place) 0)
 
+-- what is known of the record of a key, with the places of its parents
+pub record IsNext (book : Book) (keys : List AgeKey) (ranks : List ℕ) (rows : List Row) (key : AgeKey) (animal : Animal) (link : Link) : Type 0 where
+  pub entry : slice_get book key.place ≡ Some (key.number, animal)
+  pub sire : IsParentOf book keys ranks rows link.sire animal.sire
+  pub dam : IsParentOf book keys ranks rows link.dam animal.dam
+
 module _ (l most : ℕ) (book : Book) (keys : List AgeKey) (ranks : List ℕ) (rows : List Row) (is : IsRanked l most book keys ranks) (made : AreRows book keys rows) where
   -- the depths so far are within the limit
-  pub rows-shallow : length rows ≤ length keys → All (λ row. row.depth ≤ l) rows
+  pub rows-shallow : length rows < length keys → All (λ row. row.depth ≤ l) rows
   rows-shallow few i d h =
       let row = there rows i h in
       let key = there keys i (omega arith) in
@@ -83,13 +89,7 @@ module _ (l most : ℕ) (book : Book) (keys : List AgeKey) (ranks : List ℕ) (r
     pub place-within : key.place < length book
     place-within = let its_key : IsKeyOf book key = key-at book keys is.ordered (length rows) key at in slice_get_within book key.place (key.number, its_key.animal) its_key.entry
 
-    -- what is known of it, with the places of its parents
-    pub record IsNext (animal : Animal) (link : Link) : Type 0 where
-      pub entry : slice_get book key.place ≡ Some (key.number, animal)
-      pub sire : IsParentOf book keys ranks rows link.sire animal.sire
-      pub dam : IsParentOf book keys ranks rows link.dam animal.dam
-
-    pub next : (entry : List ℕ × Animal) (link : Link) → slice_get book key.place ≡ Some entry → IsLinkAt book key.place link → IsNext entry.1 link
+    pub next : (entry : List ℕ × Animal) (link : Link) → slice_get book key.place ≡ Some entry → IsLinkAt book key.place link → IsNext book keys ranks rows key entry.1 link
     next entry link there linked =
         let its_key : IsKeyOf book key = key-at book keys is.ordered (length rows) key at in
         let animal : its_key.animal ≡ entry.1 = ap (λ (e : List ℕ × Animal). e.1) (same_Some (key.number, its_key.animal) entry (sym its_key.entry ∙ there)) in
@@ -107,7 +107,7 @@ module _ (l most : ℕ) (book : Book) (keys : List AgeKey) (ranks : List ℕ) (r
         }
 
     -- its row
-    pub row-next : (animal : Animal) (link : Link) → IsNext animal link → (row : Row) → row.number ≡ key.number → row.animal ≡ animal →
+    pub row-next : (animal : Animal) (link : Link) → IsNext book keys ranks rows key animal link → (row : Row) → row.number ≡ key.number → row.animal ≡ animal →
         row.sire ≡ option_and_then (slice_get ranks) link.sire → row.dam ≡ option_and_then (slice_get ranks) link.dam →
         row.depth ≡ max (option_map_or (λ rank. depth_at rows rank + 1) row.sire 0) (option_map_or (λ rank. depth_at rows rank + 1) row.dam 0) →
         IsRowOf book keys key row
@@ -124,8 +124,8 @@ module _ (l most : ℕ) (book : Book) (keys : List AgeKey) (ranks : List ℕ) (r
         }
 
 -- the key whose turn it is
-pub key-read : (keys : List AgeKey) (rows : List Row) → length rows < length keys → (key : AgeKey) → key ≡ get_or keys (length rows) key → slice_get keys (length rows) ≡ Some key
-key-read keys rows more key read = slice_get_read keys (length keys) (length rows) key refl more read
+pub key-read : (keys : List AgeKey) (rows : List Row) → length rows < length keys → (n : ℕ) → n ≡ length rows → (key : AgeKey) → key ≡ get_or keys n key → slice_get keys (length rows) ≡ Some key
+key-read keys rows more n long key read = slice_get_read keys (length keys) (length rows) key refl more (read ∙ ap (λ m. get_or keys m key) long)
 
 push_cases : {X : Type 0} (xs : List X) (y x : X) (i : ℕ) → slice_get (xs ++ y ∷ []) i ≡ Some x → (slice_get xs i ≡ Some x) ⊎ ((i ≡ length xs) × (y ≡ x))
 push_cases [] y x zero at = inr (refl, same_Some y x at)
@@ -144,7 +144,7 @@ rows-more book keys rows row made next_made rank key other at_key at_row =
     (push_cases rows row other rank at_row)
 
 -- the rank of a parent whose row is made is where that row stands
-pub made-already : (book : Book) (keys : List AgeKey) (rows : List Row) → AreRows book keys rows → length rows ≤ length keys → (rank : Option ℕ) (parent : Option (List ℕ))
+pub made-already : (book : Book) (keys : List AgeKey) (rows : List Row) → AreRows book keys rows → length rows < length keys → (rank : Option ℕ) (parent : Option (List ℕ))
     → IsIndexIn (map (λ k. k.number) keys) rank parent → IfSome rank (λ p. p < length rows) → IsIndexIn (numbers_of rows) rank parent
 made-already book keys rows made few None None is earlier = tt
 made-already book keys rows made few None (Some x) is earlier = absurd is

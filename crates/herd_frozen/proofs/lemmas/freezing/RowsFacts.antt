@@ -7,6 +7,7 @@ use Rattle.herd_frozen.specs.declared.freezing.frozen.Row.{Row}
 use Rattle.herd_frozen.specs.declared.freezing.rows.PackedParents.{PackedParents}
 use Rattle.herd_frozen.specs.declared.freezing.rows.RowRecord.{RowRecord}
 use Rattle.herd_frozen.specs.freezing.Frozen.{depth_at, numbers_of, parents_of}
+use Rattle.herd_frozen.specs.places.PackedIndex.{nowhere}
 use Rattle.herd_frozen.specs.places.Places.{IsIndexIn, number_at}
 use Rattle.herd_frozen.specs.freezing.Rows.{AreKept, ParentsAmong, numbers_kept, packed_parents, record_of_row, row_kept, rows_kept, rows_with}
 use Rattle.herd_frozen.proofs.lemmas.rules.BookFacts.{push_cases, there}
@@ -67,22 +68,38 @@ module _ (rs : List RowRecord) (ps : List PackedParents) (kept : AreKept rs ps) 
   pub numbers-rows : numbers_of (rows_kept rs ps) ≡ numbers_kept rs
   numbers-rows = numbers-rows_with (numbers_kept rs) rs ps kept.long
 
-  module _ (row : Row) (sire : IsIndexIn (numbers_of (rows_kept rs ps)) row.sire row.animal.sire) (dam : IsIndexIn (numbers_of (rows_kept rs ps)) row.dam row.animal.dam) where
+  -- a rank of the rows is one of what is kept of them
+  pub rank-kept : {rows : List Row} → rows_kept rs ps ≡ rows → (rank : ℕ) → rank < length rows → (rank < length rs) × (rank < length ps)
+  rank-kept {rows} told rank within =
+      let long : length rows ≡ length rs = sym (ap (λ (l : List Row). length l) told) ∙ length-rows in
+      let both : length ps ≡ length rs = kept.long in
+      (omega arith, omega arith)
+
+  module _ (rows : List Row) (told : rows_kept rs ps ≡ rows) (row : Row) (sire : IsIndexIn (numbers_of rows) row.sire row.animal.sire) (dam : IsIndexIn (numbers_of rows) row.dam row.animal.dam) where
+    numbers_told : numbers_of rows ≡ numbers_kept rs
+    numbers_told = sym (ap (λ (l : List Row). numbers_of l) told) ∙ numbers-rows
+
     sire_here : IsIndexIn (numbers_kept rs) row.sire row.animal.sire
-    sire_here = subst (λ ns. IsIndexIn ns row.sire row.animal.sire) numbers-rows sire
+    sire_here = subst (λ ns. IsIndexIn ns row.sire row.animal.sire) numbers_told sire
 
     dam_here : IsIndexIn (numbers_kept rs) row.dam row.animal.dam
-    dam_here = subst (λ ns. IsIndexIn ns row.dam row.animal.dam) numbers-rows dam
+    dam_here = subst (λ ns. IsIndexIn ns row.dam row.animal.dam) numbers_told dam
 
     numbers_long : length (numbers_kept rs) ≡ length rs
     numbers_long = length-map rs (λ r. r.number)
 
     -- its parents stand among the rows
-    pub parents-here : IfSome row.sire (λ p. p < length rs) × IfSome row.dam (λ p. p < length rs)
+    parents-here : IfSome row.sire (λ p. p < length rs) × IfSome row.dam (λ p. p < length rs)
     parents-here = (
       further row.sire (omega (arith, numbers_long)) (place-within (numbers_kept rs) row.sire row.animal.sire sire_here),
       further row.dam (omega (arith, numbers_long)) (place-within (numbers_kept rs) row.dam row.animal.dam dam_here),
     )
+
+    -- so their ranks can be packed
+    pub parents-packed : length rows < nowhere → IfSome row.sire (λ p. p < nowhere) × IfSome row.dam (λ p. p < nowhere)
+    parents-packed few =
+        let long : length rows ≡ length rs = sym (ap (λ (l : List Row). length l) told) ∙ length-rows in
+        (further row.sire (omega arith) parents-here.0, further row.dam (omega arith) parents-here.1)
 
     pub kept-push : AreKept (rs ++ record_of_row row ∷ []) (ps ++ packed_parents row ∷ [])
     kept-push =
@@ -99,14 +116,14 @@ module _ (rs : List RowRecord) (ps : List PackedParents) (kept : AreKept rs ps) 
         }
 
     -- one more row
-    pub rows-push : rows_kept (rs ++ record_of_row row ∷ []) (ps ++ packed_parents row ∷ []) ≡ rows_kept rs ps ++ row ∷ []
+    pub rows-push : rows_kept (rs ++ record_of_row row ∷ []) (ps ++ packed_parents row ∷ []) ≡ rows ++ row ∷ []
     rows-push =
         let numbers : List (List ℕ) = numbers_kept rs in
         let closed : ParentsAmong (length numbers) ps = subst (λ n. ParentsAmong n ps) (sym numbers_long) kept.closed in
         ap (λ ns. rows_with ns (rs ++ record_of_row row ∷ []) (ps ++ packed_parents row ∷ [])) (map_push (λ r. r.number) rs (record_of_row row))
         ∙ rows_with-push (numbers ++ row.number ∷ []) rs ps (record_of_row row) (packed_parents row) kept.long
         ∙ (λ i. rows_with-more numbers row.number rs ps closed i ++ row_kept-push numbers row.number (record_of_row row) (packed_parents row) (place-within numbers row.sire row.animal.sire sire_here) (place-within numbers row.dam row.animal.dam dam_here) i ∷ [])
-        ∙ ap (λ r. rows_kept rs ps ++ r ∷ []) (row-back numbers row sire_here dam_here)
+        ∙ (λ i. told i ++ row-back numbers row sire_here dam_here i ∷ [])
 
   -- what is told of the row at a rank
   pub number-told : (i : ℕ) (r : RowRecord) → slice_get rs i ≡ Some r → slice_get (numbers_of (rows_kept rs ps)) i ≡ Some r.number

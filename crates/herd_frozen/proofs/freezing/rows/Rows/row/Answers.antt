@@ -4,30 +4,23 @@ use Rattle.std.proofs.lemmas.Option.{slice_get_read}
 use Rattle.herd_frozen.specs.declared.freezing.frozen.Row.{Row}
 use Rattle.herd_frozen.specs.freezing.Frozen.{numbers_of, parents_of}
 use Rattle.herd_frozen.specs.places.Places.{number_at}
-use Rattle.herd_frozen.specs.freezing.Rows.{rows_kept}
-use Rattle.herd_frozen.proofs.lemmas.freezing.RowsFacts.{length-rows, row-told}
+use Rattle.herd_frozen.proofs.lemmas.freezing.RowsFacts.{rank-kept, row-told}
 use Rattle.herd_frozen.proofs.freezing.rows.Rows.row.Goals as goal
 
 pub index-kept-requires : goal.index-kept-requires
 index-kept-requires g c =
-    let rs = c.self.inside.records.items in
-    let ps = c.self.inside.parents.items in
-    let seen : length (rows_kept rs ps) ≡ length c.args.self.now = ap (λ (rows : List Row). length rows) c.self.view_is in
-    let long : length (rows_kept rs ps) ≡ length rs = length-rows rs ps c.self.invariant in
-    let here = c.requires in
+    let here = rank-kept c.self.inside.records.items c.self.inside.parents.items c.self.invariant c.self.view_is c.args.rank c.requires in
     let ok = c.self.inside.records.ok.0 in
-    omega (arith, seen, long, here, ok)
+    omega (arith, here.0, ok)
 
 pub returns : goal.returns
 returns g c =
     let rs = c.self.inside.records.items in
     let ps = c.self.inside.parents.items in
-    let seen : length (rows_kept rs ps) ≡ length c.args.self.now = ap (λ (rows : List Row). length rows) c.self.view_is in
-    let long : length (rows_kept rs ps) ≡ length rs = length-rows rs ps c.self.invariant in
-    let here = c.requires in
+    let here = rank-kept rs ps c.self.invariant c.self.view_is c.args.rank c.requires in
     let kept = c.index-kept.result.now in
     let parents = c.parents-parents.result in
-    let at = slice_get_read rs (length rs) c.args.rank kept refl (omega (arith, seen, long, here)) c.index-kept.ensures in
+    let at = slice_get_read rs (length rs) c.args.rank kept refl here.0 c.index-kept.ensures in
     let told = subst (λ (rows : List Row). slice_get (map parents_of rows) c.args.rank ≡ Some parents) (sym c.self.view_is) c.parents-parents.ensures in
     let sire = subst (λ (rows : List Row). c.number_at.result ≡ number_at (numbers_of rows) parents.sire) (sym c.self.view_is) c.number_at.ensures in
     let dam = subst (λ (rows : List Row). c.number_at-2.result ≡ number_at (numbers_of rows) parents.dam) (sym c.self.view_is) c.number_at-2.ensures in
