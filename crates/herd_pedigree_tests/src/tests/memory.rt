@@ -3,7 +3,7 @@
 use super::changes::{Change, file, file_all, pedigree_of};
 use super::family::{birth, cows, family, no_parents, older_sire, sire, transfer};
 use super::seen::{Seen, family_seen, tells};
-use herd_fixtures::row_at;
+use herd_fixtures::{Crowd, MOST_BLOCKS, row_at, small_heap};
 use herd_frozen::{Frozen, Row};
 use herd_pedigree::Pedigree;
 use linked_list_allocator::LocalHeap;
@@ -11,46 +11,25 @@ use std::alloc::{AllocError, Allocator, Global};
 use std::process::Abort;
 use std::test::Fail;
 
-// More than the blocks that a heap has.
-const TIMES: u32 = 4_096;
-
-type Blocks<'a> = Vec<Vec<u8, &'a LocalHeap>, Global>;
-
-fn small_heap(alloc: Global) -> Result<LocalHeap, AllocError> {
-    LocalHeap::new(alloc, 16_384)
-}
-
-// Takes up all that is left of a heap, by small blocks.
-fn crowd<'a>(alloc: Global, heap: &'a LocalHeap) -> Result<Blocks<'a>, AllocError> {
-    let mut blocks = Vec::new(alloc);
-    for _ in 0..TIMES {
-        match Vec::with_capacity(heap, 16) {
-            Ok(block) => blocks.push(block)?,
-            Err(AllocError) => break,
-        }
-    }
-    Ok(blocks)
-}
-
 // Files a change, with one more free block each time, until it is accepted. Whenever it isn't, the book is as
 // before. Returns how often it wasn't.
 fn refusals(
     rt: &impl Abort,
     pedigree: &mut Pedigree<&LocalHeap>,
-    blocks: &mut Blocks<'_>,
+    crowd: &mut Crowd<'_>,
     change: Change,
 ) -> u32 {
     let before = family_seen(rt, pedigree);
     let can_take_back = pedigree.can_take_back();
-    for refused in 0..TIMES {
+    for refused in 0..MOST_BLOCKS {
         if file(rt, pedigree, change).is_ok() {
             return refused;
         }
         assert!(rt; tells(rt, pedigree, &before), "{change:?}");
         assert_eq!(rt; pedigree.can_take_back(), can_take_back, "{change:?}");
-        drop(blocks.pop());
+        crowd.give_back();
     }
-    TIMES
+    MOST_BLOCKS
 }
 
 // The family's book after some changes.
@@ -88,13 +67,13 @@ fn leave_nothing_to_take_back(rt: &impl Abort, pedigree: &mut Pedigree<&LocalHea
 // Whether a change is refused in the crowded heap at first. It is made then, and this is told of the family.
 fn is_made_in_time(
     rt: &impl Abort,
-    mut blocks: Blocks<'_>,
+    crowd: &mut Crowd<'_>,
     pedigree: &mut Pedigree<&LocalHeap>,
     change: Change,
     wanted: &[Seen; 6],
 ) -> bool {
     leave_nothing_to_take_back(rt, pedigree);
-    refusals(rt, pedigree, &mut blocks, change) > 0 && tells(rt, pedigree, wanted)
+    refusals(rt, pedigree, crowd, change) > 0 && tells(rt, pedigree, wanted)
 }
 
 fn expect_in_crowd(
@@ -106,8 +85,9 @@ fn expect_in_crowd(
     wanted: &[Seen; 6],
 ) -> Result<(), Fail> {
     let mut pedigree = family_after(rt, heap, before)?;
-    let blocks = crowd(alloc, heap)?;
-    let is_made = is_made_in_time(rt, blocks, &mut pedigree, change, wanted);
+    let mut crowd = Crowd::of(alloc, Some(heap));
+    crowd.fill()?;
+    let is_made = is_made_in_time(rt, &mut crowd, &mut pedigree, change, wanted);
     assert!(rt; is_made, "{change:?}");
     Ok(())
 }
@@ -160,14 +140,14 @@ fn has_rows<A: Allocator>(frozen: &Frozen<A>, rows: &[Row; 5]) -> bool {
 fn is_frozen_in_time(
     pedigree: &Pedigree<Global>,
     heap: &LocalHeap,
-    blocks: &mut Blocks<'_>,
+    crowd: &mut Crowd<'_>,
     rows: &[Row; 5],
 ) -> bool {
-    for refused in 0..TIMES {
+    for refused in 0..MOST_BLOCKS {
         if let Ok(frozen) = pedigree.freeze(heap) {
             return refused > 0 && has_rows(&frozen, rows);
         }
-        drop(blocks.pop());
+        crowd.give_back();
     }
     false
 }
@@ -185,8 +165,9 @@ fn expect_frozen_in_time(
     rows: &[Row; 5],
 ) -> Result<(), Fail> {
     let heap = small_heap(alloc)?;
-    let mut blocks = crowd(alloc, &heap)?;
-    assert!(rt; is_frozen_in_time(pedigree, &heap, &mut blocks, rows));
+    let mut crowd = Crowd::of(alloc, Some(&heap));
+    crowd.fill()?;
+    assert!(rt; is_frozen_in_time(pedigree, &heap, &mut crowd, rows));
     Ok(())
 }
 
