@@ -131,7 +131,6 @@ impl<A: Allocator> Calves<A> {
         ensures mates { (calf dam : ℕ) → sire_rank frozen.now calf ≡ Some sire → dam_rank frozen.now calf ≡ Some dam
             → mark marked.new.chunks.items (last - dam) ≡ 1 }
     {
-        prove!(sire < frozen.len());
         let mut link = self.youngest(frozen, sire);
         while let Some(calf) = link {
             mark_parent(marked, last, parents_at(frozen, calf).dam);
@@ -153,7 +152,6 @@ impl<A: Allocator> Calves<A> {
         ensures { IfOk result (λ _. GoesOnWith frozen.now (λ s. s ≡ sire)
             (λ calf. at_parent column.now (dam_rank frozen.now calf) / 2) list.old.items list.new.items) }
     {
-        prove!(sire < frozen.len());
         let mut link = self.youngest(frozen, sire);
         while let Some(rank) = link {
             let numerator = with_parent(column, parents_at(frozen, rank).dam) / 2;

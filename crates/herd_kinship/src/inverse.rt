@@ -127,8 +127,6 @@ pub fn contributions<F: Allocator, C: Allocator>(
     ensures list { result.list ≡ filled (contributions_of DEPTH_LIMIT frozen.now rank) }
     ensures lowest { All (λ one. IsGcd one.value.numerator one.value.denominator 1) result.list }
 {
-    // Taking the length ensures that the rows are those of a frozen book.
-    frozen.len();
     let row = frozen.row(rank);
     let weights = Weights::of(mendelian(frozen, coefficients.list(), rank));
     match (row.sire, row.dam) {

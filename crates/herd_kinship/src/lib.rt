@@ -20,7 +20,7 @@
 //! |---|---|---|---|
 //! | A, coefficients, Mendelian sampling variances | `Table` | | `Table`, `Depth`, `Bounds` |
 //! | shares, A = T D T', the laws | `Shares`, `Laws` | `laws` | `Shares`, `Exact`, `Decompose`, `LawFacts` |
-//! | a frozen book as an ancestry | `FrozenAncestry`, `Ranks` | | `BookFacts`, `FrozenFacts`, `Renamed` |
+//! | a frozen book as an ancestry | `FrozenAncestry`, `Ranks` | | `BookFacts`, `BookPaths`, `FrozenFacts`, `Renamed` |
 //! | columns of A | `Columns` | `columns` | `PassedOn`, `Collecting` |
 //! | sire by sire | `Mates`, `CalfCoefficients` | `coefficients`, `mates` | `BySires` |
 //! | a sire's calves | `CalfLinks` | `calves` | `CalfFacts`, `CalfListFacts` |

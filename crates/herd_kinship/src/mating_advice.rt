@@ -77,8 +77,6 @@ fn pair_of<F: Allocator>(
     ensures fault { IfErr result
         (λ fault. mating_fault DEPTH_LIMIT (book_of frozen.now) sire.now dam.now ≡ Some fault) }
 {
-    // Taking the length ensures that the rows are those of a frozen book.
-    frozen.len();
     let Some(sire_rank) = frozen.rank(sire) else {
         return Err(MatingFault::SireMissing);
     };

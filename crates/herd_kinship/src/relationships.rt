@@ -8,7 +8,7 @@ ghost use Rattle.herd_kinship.specs.Mating.{AreRelationshipsOf};
 ghost use Rattle.herd_kinship.specs.Tracing.{IsIdle};
 
 use crate::coefficients::Coefficients;
-use crate::columns::{with_parent, write_parts};
+use crate::columns::{pass_to, write_parts};
 use crate::tracing::{Tracing, parents_at};
 use herd_animal::AnimalNumber;
 use herd_frozen::Frozen;
@@ -62,8 +62,6 @@ impl<A: Allocator + Clone> Relationships<A> {
         ensures absent { is_there (book_of frozen.now) number.now ≡ false
             → MatchResult result (λ relationships. relationships ≡ []) (λ _. ⊥) }
     {
-        // Taking the length ensures that the rows are those of a frozen book.
-        frozen.len();
         match frozen.rank(number) {
             Some(rank) => Relationships::of(alloc, frozen, coefficients, rank),
             None => Ok(Relationships {
@@ -115,10 +113,7 @@ fn pass_on<F: Allocator>(frozen: &Frozen<F>, rank: u32, column: &mut [u128])
     ensures related { (j : ℕ) → j < length frozen.now
         → slice_index column.new j ≡ related DEPTH_LIMIT frozen.now rank (Some j) }
 {
-    prove!(rank < frozen.len());
     for j in 0..frozen.len() {
-        let parents = parents_at(frozen, j);
-        let both = with_parent(column, parents.sire) + with_parent(column, parents.dam);
-        column[j as usize] += both / 2;
+        pass_to(column, parents_at(frozen, j), j);
     }
 }

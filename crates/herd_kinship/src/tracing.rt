@@ -1,6 +1,7 @@
 ghost use Rattle.std.specs.Prelude.{◌≡◌, ℕ, ◌+◌, ◌*◌, ◌-◌, ◌/◌, ◌^◌, ◌<◌, ◌≤◌, ◌&&◌, is_some, length, min, slice_get, slice_index, IfOk, IfSome, IfNone, Some};
 ghost use Rattle.std.specs.Option.{ForSome};
-ghost use Rattle.herd_frozen.specs.declared.TheConstants.{DEPTH_LIMIT};
+ghost use Rattle.herd_frozen.specs.declared.TheConstants.{DEPTH_LIMIT, MOST_ANIMALS};
+ghost use Rattle.herd_frozen.specs.freezing.Frozen.{IsFrozen};
 ghost use Rattle.herd_kinship.specs.Coefficients.{IsKnownParent, KnowsAncestors, own_relationship, quarter_of};
 ghost use Rattle.herd_kinship.specs.FrozenAncestry.{ancestry_of, number_of_row};
 ghost use Rattle.herd_kinship.specs.Ranks.{AreParentsAt, HasUnknownParent, ranked};
@@ -119,7 +120,8 @@ impl<A: Allocator> Tracing<A> {
         if let Some(rank) = parent {
             let steps = met.parents.depth - parents_at(frozen, rank).depth;
             let distance = (self.rank - rank) as usize;
-            self.shares[distance] += met.share << (steps - 1);
+            let gift = met.share << (steps - 1);
+            self.shares[distance] += gift;
             self.pending.insert(distance);
         }
     }
@@ -128,7 +130,8 @@ impl<A: Allocator> Tracing<A> {
 /// The parents and the depth of the animal at a rank.
 pub fn parents_at<F: Allocator>(frozen: &Frozen<F>, rank: u32) -> Parents
     requires { rank < length frozen.now }
-    ensures { AreParentsAt frozen.now rank result }
+    ensures parents { AreParentsAt frozen.now rank result }
+    ensures frozen { IsFrozen DEPTH_LIMIT MOST_ANIMALS frozen.now }
 {
     frozen.parents(rank)
 }
@@ -167,7 +170,6 @@ pub fn mendelian<F: Allocator>(frozen: &Frozen<F>, known: &[u128], rank: u32) ->
     ensures positive { 0 < result }
     ensures at_most_one { result ≤ 2 ^ (2 * DEPTH_LIMIT) }
 {
-    prove!(rank < frozen.len());
     variance_by(known, parents_at(frozen, rank))
 }
 
@@ -198,7 +200,6 @@ fn trace_ancestors<F: Allocator, A: Allocator + Clone>(
     requires known { KnowsAncestors DEPTH_LIMIT frozen.now known.now rank }
     ensures { IfOk result (λ value. value ≡ own_relationship DEPTH_LIMIT frozen.now rank) }
 {
-    prove!(rank < frozen.len());
     let depth = parents_at(frozen, rank).depth;
     let mut tracing = Tracing::with_room(alloc, rank + 1)?;
     tracing.start(frozen, rank);
@@ -228,7 +229,6 @@ pub fn trace<F: Allocator, A: Allocator + Clone>(
     ensures value { IfOk result (λ value. value ≡ own_relationship DEPTH_LIMIT frozen.now rank) }
     ensures unknown { HasUnknownParent frozen.now rank → result ≡ Ok (2 ^ (2 * DEPTH_LIMIT)) }
 {
-    prove!(rank < frozen.len());
     let row = frozen.row(rank);
     if has_both_parents(&row) {
         trace_ancestors(alloc, frozen, known, rank)

@@ -1,5 +1,7 @@
 -- A frozen book as an ancestry, by numbers and by ranks.
+pub mod Counts
 pub mod BookFacts
+pub mod BookPaths
 pub mod Ranks
 pub mod FrozenFacts
 pub mod FrozenDepths

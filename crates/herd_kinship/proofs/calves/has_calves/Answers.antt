@@ -26,7 +26,7 @@ loop-calf-preserved g c =
     (λ (below : x < i). c.loop-calf.invariant s x below calf)
     (λ (at : i ≤ x).
     let same : x ≡ i = omega arith in
-    no-calf rows i c.parents_at.result c.parents_at.ensures unknown s (subst (λ v. IsCalf rows s v) same calf))
+    no-calf rows i c.parents_at.result c.parents_at.ensures.parents unknown s (subst (λ v. IsCalf rows s v) same calf))
     (cases_lt x i)
 
 pub returns-clause-no : goal.returns-clause-no
@@ -41,4 +41,4 @@ returns-then-is_some-clause-yes g c = λ _.
     let some : is_some c.sire_of_pair.result ≡ true = cc in
     let sire = if-some (λ s. c.parents_at.result.sire ≡ Some s) c.sire_of_pair.result some c.sire_of_pair.ensures.sire in
     let dam = if-some (λ s. is_some c.parents_at.result.dam ≡ true) c.sire_of_pair.result some c.sire_of_pair.ensures.dam in
-    (sire.0, c.loop-calf.calf, calf-pair c.args.frozen.now c.loop-calf.calf sire.0 c.parents_at.result c.parents_at.ensures sire.1 dam.1)
+    (sire.0, c.loop-calf.calf, calf-pair c.args.frozen.now c.loop-calf.calf sire.0 c.parents_at.result c.parents_at.ensures.parents sire.1 dam.1)

@@ -14,7 +14,7 @@ listed : (g : Over) (c : After-of-weights g) (s d : Option ℕ) → c.row-row.re
     AreListed DEPTH_LIMIT c.args.frozen.now c.args.rank contributions
 listed g c s d =
     let weights = c.of-weights.ensures in
-    listed-are DEPTH_LIMIT MOST_ANIMALS c.args.frozen.now c.len.ensures.frozen (lit< tt) (lit< tt) c.args.rank c.requires.rank c.row-row.result c.row-row.ensures
+    listed-are DEPTH_LIMIT MOST_ANIMALS c.args.frozen.now c.row-row.ensures.frozen (lit< tt) (lit< tt) c.args.rank c.requires.rank c.row-row.result c.row-row.ensures.row
     c.mendelian.result c.mendelian.ensures.value c.mendelian.type_inv c.of-weights.result.alpha c.of-weights.result.minus_half c.of-weights.result.quarter
     weights.alpha weights.minus_half weights.quarter s d
 

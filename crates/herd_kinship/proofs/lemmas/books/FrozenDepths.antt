@@ -9,7 +9,7 @@ use Rattle.herd_kinship.specs.Ancestry.{Ancestry, IsParentIn, PathTo}
 use Rattle.herd_kinship.specs.FrozenAncestry.{ancestry_of, number_of_row}
 use Rattle.herd_kinship.specs.Ranks.{ranked}
 use Rattle.herd_kinship.proofs.lemmas.ancestry.LawfulAncestry.{IsDepth, Path}
-use Rattle.herd_kinship.proofs.lemmas.books.BookFacts.{depth_from_book}
+use Rattle.herd_kinship.proofs.lemmas.books.BookPaths.{depth_from_book}
 use Rattle.herd_kinship.proofs.lemmas.ancestry.Depth.{Below, Below-shallow, Below-depth, known_some}
 use Rattle.herd_kinship.proofs.lemmas.books.FrozenFacts.{IsParentRank, dam_at, frozen-renamed, number_of_row-is, ranked-lawful, ranked-shallow, row_at, sire_at}
 use Rattle.herd_kinship.proofs.lemmas.books.Ranks.{rank-in, rank-below}

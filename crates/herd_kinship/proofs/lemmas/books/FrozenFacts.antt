@@ -4,7 +4,7 @@ use Rattle.std.specs.declared.cmp.Ordering.TheVariants.{Less}
 use Rattle.std.specs.List.{range_with_len}
 use Rattle.std.specs.List.Sorted.{IsPermutation}
 use Rattle.std.specs.Map.{keys_of}
-use Rattle.std.specs.Option.{option_map}
+use Rattle.std.specs.Option.{option_and_then, option_map}
 use Rattle.std.specs.Cmp.Lexicographic.{slice_cmp}
 use Rattle.std.specs.Ordering.{is_lt, is_eq, int_cmp, nat_cmp}
 use Rattle.std.specs.Prelude.{bytes_eq}
@@ -20,12 +20,13 @@ use Rattle.std.proofs.lemmas.Option.{slice_get-map, slice_get-get_or, slice_get_
 use Rattle.herd_frozen.specs.declared.rules.animal.Animal.{Animal}
 use Rattle.herd_frozen.specs.declared.freezing.frozen.Row.{Row}
 use Rattle.herd_frozen.specs.rules.Book.{record_of}
-use Rattle.herd_frozen.specs.freezing.Frozen.{IsFrozen, IsRankOf, age_cmp, book_of, numbers_of}
+use Rattle.herd_frozen.specs.freezing.Frozen.{IsFrozen, IsFrozenRow, IsRankOf, age_cmp, book_of, numbers_of}
 use Rattle.herd_kinship.specs.Ancestry.{IsParentIn}
 use Rattle.herd_kinship.specs.FrozenAncestry.{ancestry_of, number_of_row}
 use Rattle.herd_kinship.specs.Ranks.{sire_rank, dam_rank, ranked}
 use Rattle.herd_kinship.proofs.lemmas.ancestry.LawfulAncestry.{IsLawful, IsShallow, IsRenamed}
-use Rattle.herd_kinship.proofs.lemmas.books.BookFacts.{age_cmp-total, before_from_ordered, book-lawful, book-shallow, by_order, then_equal}
+use Rattle.herd_kinship.proofs.lemmas.books.BookFacts.{age_cmp-total, before_from_ordered, book-lawful, by_order, then_equal}
+use Rattle.herd_kinship.proofs.lemmas.books.BookPaths.{book-shallow}
 use Rattle.herd_kinship.proofs.lemmas.books.Ranks.{AreRanked, ranks-are_lawful, rank-below}
 use Rattle.herd_kinship.proofs.lemmas.ancestry.Renamed.{shallow-renamed}
 use Rattle.herd_kinship.proofs.lemmas.ancestry.Shares.{apart, apart_back}
@@ -130,31 +131,27 @@ pub record IsParentRank (rows : List Row) (known : Option (List ℕ)) (rank : Op
   pub number : option_map (number_of_row rows) rank ≡ known
   pub within : (p : ℕ) → rank ≡ Some p → p < length rows
 
+parent_at : (l most : ℕ) (rows : List Row) → IsFrozen l most rows → (rank : Row → Option ℕ) (parent : Animal → Option (List ℕ)) →
+    ((row : Row) → IsFrozenRow rows row → IsRankOf rows (rank row) (parent row.animal)) → (i : ℕ) → i < length rows →
+    IsParentRank rows (option_and_then parent (record_of (book_of rows) (number_of_row rows i))) (option_and_then rank (slice_get rows i))
+parent_at l most rows f rank parent given i li =
+    let a = row_at rows i li in
+    let is : option_and_then rank (slice_get rows i) ≡ rank a.0 = rw a.1 refl in
+    let known : option_and_then parent (record_of (book_of rows) (number_of_row rows i)) ≡ parent a.0.animal =
+    rw (number_of_row-is rows i a.0 a.1, record_at-row l most rows f i a.0 a.1) refl in
+    let row = given a.0 (f.each i a.0 a.1) in
+    record {
+      number = rw (is, known) (rank_of rows (rank a.0) (parent a.0.animal) row);
+      within = λ p e. rank_in_rows rows (rank a.0) (parent a.0.animal) row p (sym is ∙ e);
+    }
+
 pub sire_at : (l most : ℕ) (rows : List Row) → IsFrozen l most rows → (i : ℕ) → i < length rows →
     IsParentRank rows ((ancestry_of rows).sire (number_of_row rows i)) (sire_rank rows i)
-sire_at l most rows f i li =
-    let a = row_at rows i li in
-    let is : sire_rank rows i ≡ a.0.sire = rw a.1 refl in
-    let known : (ancestry_of rows).sire (number_of_row rows i) ≡ a.0.animal.sire =
-    rw (number_of_row-is rows i a.0 a.1, record_at-row l most rows f i a.0 a.1) refl in
-    let row = f.each i a.0 a.1 in
-    record {
-      number = rw (is, known) (rank_of rows a.0.sire a.0.animal.sire row.sire);
-      within = λ p e. rank_in_rows rows a.0.sire a.0.animal.sire row.sire p (sym is ∙ e);
-    }
+sire_at l most rows f = parent_at l most rows f (λ row. row.sire) (λ animal. animal.sire) (λ row is. is.sire)
 
 pub dam_at : (l most : ℕ) (rows : List Row) → IsFrozen l most rows → (i : ℕ) → i < length rows →
     IsParentRank rows ((ancestry_of rows).dam (number_of_row rows i)) (dam_rank rows i)
-dam_at l most rows f i li =
-    let a = row_at rows i li in
-    let is : dam_rank rows i ≡ a.0.dam = rw a.1 refl in
-    let known : (ancestry_of rows).dam (number_of_row rows i) ≡ a.0.animal.dam =
-    rw (number_of_row-is rows i a.0 a.1, record_at-row l most rows f i a.0 a.1) refl in
-    let row = f.each i a.0 a.1 in
-    record {
-      number = rw (is, known) (rank_of rows a.0.dam a.0.animal.dam row.dam);
-      within = λ p e. rank_in_rows rows a.0.dam a.0.animal.dam row.dam p (sym is ∙ e);
-    }
+dam_at l most rows f = parent_at l most rows f (λ row. row.dam) (λ animal. animal.dam) (λ row is. is.dam)
 
 -- an animal that is before another stands below it
 below_from_before : (l most : ℕ) (rows : List Row) → IsFrozen l most rows → (p i : ℕ) → p < length rows → i < length rows →

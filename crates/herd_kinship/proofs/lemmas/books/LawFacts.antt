@@ -4,7 +4,7 @@ use Rattle.herd_frozen.specs.declared.freezing.frozen.Row.{Row}
 use Rattle.herd_frozen.specs.freezing.Frozen.{IsFrozen, book_of}
 use Rattle.herd_kinship.specs.FrozenAncestry.{ancestry_of, number_of_row}
 use Rattle.herd_kinship.specs.Laws.{KeepsHalves, IsBounded, IsDecomposed, IsDiagonalised}
-use Rattle.herd_kinship.proofs.lemmas.books.BookFacts.{depth_from_book}
+use Rattle.herd_kinship.proofs.lemmas.books.BookPaths.{depth_from_book}
 use Rattle.herd_kinship.proofs.lemmas.ancestry.Bounds.{coefficient-bound, mendelian-positive, mendelian-at_most}
 use Rattle.herd_kinship.proofs.lemmas.laws.Decompose.{decomposition}
 use Rattle.herd_kinship.proofs.lemmas.ancestry.Depth.{Below, Below-shallow, Below-depth, unit, known_some}

@@ -7,7 +7,7 @@ use Rattle.herd_frozen.specs.declared.freezing.frozen.Parents.{Parents}
 use Rattle.herd_frozen.specs.declared.freezing.frozen.Row.{Row}
 use Rattle.herd_frozen.specs.freezing.Frozen.{IsFrozen}
 use Rattle.herd_kinship.specs.Ancestry.{IsParentIn}
-use Rattle.herd_kinship.specs.Columns.{at_parent, related, inherited, HasAll, IsCollection}
+use Rattle.herd_kinship.specs.Columns.{at_parent, related, inherited, passed_to, CanPassTo, HasAll, IsCollection}
 use Rattle.herd_kinship.specs.FrozenAncestry.{ancestry_of, number_of_row}
 use Rattle.herd_kinship.specs.Ranks.{AreParentsAt, sire_rank, dam_rank, ranked}
 use Rattle.herd_kinship.specs.Shares.{share}
@@ -53,12 +53,10 @@ pub record HasParents (l : ℕ) (rows : List Row) (s : ℕ) (column : List ℕ) 
   pub value : at_parent column o ≡ related l rows s o
   pub below_two : related l rows s o < 2 ^ suc (2 * l)
 
--- what a step adds up at the rank j
+-- a step can be made at the rank j, and makes its relationship
 pub record IsPassing (l : ℕ) (rows : List Row) (s : ℕ) (column : List ℕ) (j : ℕ) (parents : Parents) : Type 0 where
-  pub sire : HasParents l rows s column parents.sire
-  pub dam : HasParents l rows s column parents.dam
-  pub value : get_or column j 0 + (at_parent column parents.sire + at_parent column parents.dam) / 2 ≡ related l rows s (Some j)
-  pub below_two : related l rows s (Some j) < 2 ^ suc (2 * l)
+  pub can : CanPassTo column parents j
+  pub value : passed_to column parents j ≡ related l rows s (Some j)
 
 -- what a tracing's step writes for the ancestor j, by its Mendelian sampling variance, its share and the two depths
 pub record IsPart (l : ℕ) (rows : List Row) (s j part own deep depth : ℕ) : Type 0 where
@@ -118,6 +116,29 @@ module _ (l most : ℕ) (rows : List Row) (f : IsFrozen l most rows) (s : ℕ) (
       (λ (bj : border ≤ j). so_far.written j bj lj zero)
       (cases_lt j border)
 
+  -- a step, where the parents have their relationships and the animal its part
+  is-passing : (j : ℕ) (column : List ℕ) (parents : Parents) → 2 ^ suc (2 * l) + 2 ^ suc (2 * l) < 2 ^ 128 → AreParentsAt rows j parents → j < length column →
+      get_or column j 0 ≡ inherited l rows s j → HasParents l rows s column parents.sire → HasParents l rows s column parents.dam → IsPassing l rows s column j parents
+  is-passing j column parents room at here left sire dam =
+      let es = parents-sire rows j parents at in
+      let ed = parents-dam rows j parents at in
+      let step : (related l rows s parents.sire + related l rows s parents.dam) / 2 + inherited l rows s j ≡ related l rows s (Some j) =
+      rw (← es, ← ed) (column-step l most rows f s ls j (parents-within rows j parents at)) in
+      let value : passed_to column parents j ≡ related l rows s (Some j) = rw (sire.value, dam.value, left) (omega (arith, step)) in
+      let below = related-bound l most rows f s ls (Some j) in
+      let of_sire = sire.below_two in
+      let of_dam = dam.below_two in
+      record {
+        can = record {
+          itself = here;
+          sire = sire.within;
+          dam = dam.within;
+          both = rw (sire.value, dam.value) (omega (arith, of_sire, of_dam, room));
+          sum = rw value (omega (arith, below, room));
+        };
+        value = value;
+      }
+
   -- the same in the order of ranks
   has-lower : (i : ℕ) (column : List ℕ) → i < length rows → AreRelated l rows s i column → (o : Option ℕ) → ((p : ℕ) → o ≡ Some p → IsParentIn (ranked rows) p i) →
       HasParents l rows s column o
@@ -135,21 +156,14 @@ module _ (l most : ℕ) (rows : List Row) (f : IsFrozen l most rows) (s : ℕ) (
         below_two = related-bound l most rows f s ls (Some q);
       }
 
-  pub related-passing : (i : ℕ) (column : List ℕ) (parents : Parents) → AreParentsAt rows i parents → AreRelated l rows s i column → IsPassing l rows s column i parents
-  related-passing i column parents at so_far =
+  pub related-passing : (i : ℕ) (column : List ℕ) (parents : Parents) → 2 ^ suc (2 * l) + 2 ^ suc (2 * l) < 2 ^ 128 → AreParentsAt rows i parents → AreRelated l rows s i column →
+      IsPassing l rows s column i parents
+  related-passing i column parents room at so_far =
       let li = parents-within rows i parents at in
-      let es = parents-sire rows i parents at in
-      let ed = parents-dam rows i parents at in
-      let sire = has-lower i column li so_far parents.sire (λ p e. inl (es ∙ e)) in
-      let dam = has-lower i column li so_far parents.dam (λ p e. inr (ed ∙ e)) in
-      let step : (related l rows s parents.sire + related l rows s parents.dam) / 2 + inherited l rows s i ≡ related l rows s (Some i) =
-      rw (← es, ← ed) (column-step l most rows f s ls i li) in
-      record {
-        sire = sire;
-        dam = dam;
-        value = rw (sire.value, dam.value, so_far.left i (omega arith) li) (omega (arith, step));
-        below_two = related-bound l most rows f s ls (Some i);
-      }
+      let each : length column ≡ length rows = so_far.each in
+      is-passing i column parents room at (omega arith) (so_far.left i (omega arith) li)
+      (has-lower i column li so_far parents.sire (λ p e. inl (parents-sire rows i parents at ∙ e)))
+      (has-lower i column li so_far parents.dam (λ p e. inr (parents-dam rows i parents at ∙ e)))
 
   pub related-next : (i v : ℕ) (column : List ℕ) → i < length rows → v ≡ related l rows s (Some i) → AreRelated l rows s i column → AreRelated l rows s (i + 1) (set column i v)
   related-next i v column li value so_far =
@@ -198,26 +212,18 @@ module _ (l most : ℕ) (rows : List Row) (f : IsFrozen l most rows) (s : ℕ) (
     }
 
     -- a step at the index below i, by the parents of its rank
-    pub passing : (i : ℕ) (column : List ℕ) (parents : Parents) → 0 < i → i ≤ length collected → AreParentsAt rows (get_or collected (i - 1) 0) parents →
-        IsPassedOn l rows s collected i column → IsPassing l rows s column (get_or collected (i - 1) 0) parents
-    passing i column parents pos top at so_far =
+    pub passing : (i : ℕ) (column : List ℕ) (parents : Parents) → 2 ^ suc (2 * l) + 2 ^ suc (2 * l) < 2 ^ 128 → 0 < i → i ≤ length collected →
+        AreParentsAt rows (get_or collected (i - 1) 0) parents → IsPassedOn l rows s collected i column → IsPassing l rows s column (get_or collected (i - 1) 0) parents
+    passing i column parents room pos top at so_far =
         let k : ℕ = i - 1 in
         let j : ℕ = get_or collected k 0 in
         let lk : k < length collected = omega arith in
         let next : IsPassedOn l rows s collected (k + 1) column = subst (λ v. IsPassedOn l rows s collected v column) (let e : i ≡ k + 1 = omega arith in e) so_far in
-        let es = parents-sire rows j parents at in
-        let ed = parents-dam rows j parents at in
-        let sire = has-parent k column lk next parents.sire (λ p e. inl (es ∙ e)) in
-        let dam = has-parent k column lk next parents.dam (λ p e. inr (ed ∙ e)) in
-        let step : (related l rows s parents.sire + related l rows s parents.dam) / 2 + inherited l rows s j ≡ related l rows s (Some j) =
-        rw (← es, ← ed) (column-step l most rows f s ls j (is.within k lk)) in
-        let below = related-bound l most rows f s ls (Some j) in
-        record {
-          sire = sire;
-          dam = dam;
-          value = rw (sire.value, dam.value, next.left k (omega arith) lk) (omega (arith, step));
-          below_two = below;
-        }
+        let within : j < length rows = is.within k lk in
+        let each : length column ≡ length rows = so_far.each in
+        is-passing j column parents room at (omega arith) (next.left k (omega arith) lk)
+        (has-parent k column lk next parents.sire (λ p e. inl (parents-sire rows j parents at ∙ e)))
+        (has-parent k column lk next parents.dam (λ p e. inr (parents-dam rows j parents at ∙ e)))
 
     pub passed-next : (i v : ℕ) (column : List ℕ) → 0 < i → i ≤ length collected → v ≡ related l rows s (Some (get_or collected (i - 1) 0)) → IsPassedOn l rows s collected i column →
         IsPassedOn l rows s collected (i - 1) (set column (get_or collected (i - 1) 0) v)

@@ -17,22 +17,22 @@ returns-in_default-clause-fault g c =
 
 pub returns-in_default-rank-clause-fault : goal.returns-in_default-rank-clause-fault
 returns-in_default-rank-clause-fault g c =
-    let here = rank-there DEPTH_LIMIT c.args.frozen.now c.len.ensures.frozen c.args.sire.now c.in-Some.sire_rank c.in-Some.ensures.rank in
+    let here = rank-there DEPTH_LIMIT c.args.frozen.now c.in-Some.ensures.frozen c.args.sire.now c.in-Some.sire_rank c.in-Some.ensures.rank in
     dam-missing DEPTH_LIMIT (book_of c.args.frozen.now) c.args.sire.now c.args.dam.now here c.in_default-rank.ensures.absent
 
 -- both animals are in the book
 there : (g : Over) (c : In-Some-rank g) → (is_there (book_of c.args.frozen.now) c.args.sire.now ≡ true) × (is_there (book_of c.args.frozen.now) c.args.dam.now ≡ true)
 there g c = (
-  rank-there DEPTH_LIMIT c.args.frozen.now c.len.ensures.frozen c.args.sire.now c.in-Some.sire_rank c.in-Some.ensures.rank,
-  rank-there DEPTH_LIMIT c.args.frozen.now c.len.ensures.frozen c.args.dam.now c.in-Some-rank.dam_rank c.in-Some-rank.ensures.rank,
+  rank-there DEPTH_LIMIT c.args.frozen.now c.in-Some.ensures.frozen c.args.sire.now c.in-Some.sire_rank c.in-Some.ensures.rank,
+  rank-there DEPTH_LIMIT c.args.frozen.now c.in-Some.ensures.frozen c.args.dam.now c.in-Some-rank.dam_rank c.in-Some-rank.ensures.rank,
 )
 
 -- the greater depth of the two
 deeper : (g : Over) (c : After-max-deeper g) → c.max-deeper.result ≡ max (depth_at c.args.frozen.now c.in-Some.sire_rank) (depth_at c.args.frozen.now c.in-Some-rank.dam_rank)
 deeper g c =
     rw (
-      depth_at-row c.args.frozen.now c.in-Some.sire_rank c.row.result c.row.ensures,
-      depth_at-row c.args.frozen.now c.in-Some-rank.dam_rank c.row-2.result c.row-2.ensures,
+      depth_at-row c.args.frozen.now c.in-Some.sire_rank c.row.result c.row.ensures.row,
+      depth_at-row c.args.frozen.now c.in-Some-rank.dam_rank c.row-2.result c.row-2.ensures.row,
     ) c.max-deeper.ensures
 
 pub returns-then-not-is_male-clause-fault : goal.returns-then-not-is_male-clause-fault
@@ -56,16 +56,16 @@ returns-then-deeper-ge-DEPTH_LIMIT-clause-fault g c =
     let deepest : (is_deepest DEPTH_LIMIT (book_of rows) s || is_deepest DEPTH_LIMIT (book_of rows) d) ≡ true =
     ⊎_elim
     (λ (low : depth_at rows c.in-Some.sire_rank < DEPTH_LIMIT).
-    or_right _ _ (deepest-true DEPTH_LIMIT rows c.len.ensures.frozen d c.in-Some-rank.dam_rank c.in-Some-rank.ensures.rank (omega (arith, high, greater))))
+    or_right _ _ (deepest-true DEPTH_LIMIT rows c.in-Some.ensures.frozen d c.in-Some-rank.dam_rank c.in-Some-rank.ensures.rank (omega (arith, high, greater))))
     (λ (top : DEPTH_LIMIT ≤ depth_at rows c.in-Some.sire_rank).
-    or_left _ _ (deepest-true DEPTH_LIMIT rows c.len.ensures.frozen s c.in-Some.sire_rank c.in-Some.ensures.rank top))
+    or_left _ _ (deepest-true DEPTH_LIMIT rows c.in-Some.ensures.frozen s c.in-Some.sire_rank c.in-Some.ensures.rank top))
     (cases_lt (depth_at rows c.in-Some.sire_rank) DEPTH_LIMIT) in
     too-deep DEPTH_LIMIT (book_of rows) s d known.0 known.1 (cc) (cc) deepest
 
 pub returns-clause-pair : goal.returns-clause-pair
 returns-clause-pair g c =
     let rows = c.args.frozen.now in
-    let f = c.len.ensures.frozen in
+    let f = c.in-Some.ensures.frozen in
     let s = c.args.sire.now in
     let d = c.args.dam.now in
     let i = c.in-Some.sire_rank in

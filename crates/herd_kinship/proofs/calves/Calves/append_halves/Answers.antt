@@ -27,7 +27,7 @@ parents_at-requires g c = within g (goal.at.parents_at-requires g c).In-Some
 
 pub with_parent-numerator-requires : goal.with_parent-numerator-requires
 with_parent-numerator-requires g c = λ d e.
-    let lower = dam-older DEPTH_LIMIT MOST_ANIMALS c.args.frozen.now c.args.sire c.in-Some.rank c.parents_at.result c.len.ensures.frozen (c.loop-link.invariant.walked.next c.in-Some.rank c.in-Some.is) c.parents_at.ensures d e in
+    let lower = dam-older DEPTH_LIMIT MOST_ANIMALS c.args.frozen.now c.args.sire c.in-Some.rank c.parents_at.result c.parents_at.ensures.frozen (c.loop-link.invariant.walked.next c.in-Some.rank c.in-Some.is) c.parents_at.ensures.parents d e in
     let here = within g (goal.at.with_parent-numerator-requires g c).In-Some in
     let column = c.requires.column in
     omega arith
@@ -48,7 +48,7 @@ loop-link-preserved g c =
     let half : ℕ → ℕ = λ x. at_parent c.args.column.now (dam_rank rows x) / 2 in
     let value : c.with_parent-numerator.result / 2 ≡ half z =
     ap (λ v. v / 2) c.with_parent-numerator.ensures
-    ∙ ap (λ o. at_parent c.args.column.now o / 2) (sym (parents-dam rows z c.parents_at.result c.parents_at.ensures)) in
+    ∙ ap (λ o. at_parent c.args.column.now o / 2) (sym (parents-dam rows z c.parents_at.result c.parents_at.ensures.parents)) in
     growing-next rows c.args.sire half (record { rank = z; numerator = c.with_parent-numerator.result / 2 }) c.older-link.result c.args.list.now.items c.loop-link.list.items c.push.new.self.items
     (c.loop-link.invariant.walked.next z c.in-Some.is) value (next g (goal.at.loop-link-preserved g c).After-older-link) c.in_ok-push.ensures.items
     (subst (λ o. IsGrowing rows c.args.sire half o c.args.list.now.items c.loop-link.list.items) c.in-Some.is c.loop-link.invariant)

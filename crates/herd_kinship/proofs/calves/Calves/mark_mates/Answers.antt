@@ -32,7 +32,7 @@ parents_at-requires g c = within g (goal.at.parents_at-requires g c).In-Some
 
 pub mark_parent-requires-clause-older : goal.mark_parent-requires-clause-older
 mark_parent-requires-clause-older g c = λ d e.
-    let lower = dam-older DEPTH_LIMIT MOST_ANIMALS c.args.frozen.now c.args.sire c.in-Some.calf c.parents_at.result c.len.ensures.frozen (c.loop-link.invariant.walked.next c.in-Some.calf c.in-Some.is) c.parents_at.ensures d e in
+    let lower = dam-older DEPTH_LIMIT MOST_ANIMALS c.args.frozen.now c.args.sire c.in-Some.calf c.parents_at.result c.parents_at.ensures.frozen (c.loop-link.invariant.walked.next c.in-Some.calf c.in-Some.is) c.parents_at.ensures.parents d e in
     let here = within g (goal.at.mark_parent-requires-clause-older g c).In-Some in
     let last = c.requires.last in
     omega arith
@@ -67,6 +67,6 @@ loop-link-preserved g c =
           (gives-from last chunks chunks' dam gives e m);
       walked = walked-next rows c.args.sire z c.older-link.result (λ x. (d : ℕ) → dam_rank rows x ≡ Some d → mark chunks (last - d) ≡ 1) _ is
           (λ x zx marked d e. gives-kept last chunks chunks' dam gives (last - d) (marked d e))
-          (λ d e. gives-it last chunks chunks' dam gives d (sym (parents-dam rows z c.parents_at.result c.parents_at.ensures) ∙ e))
+          (λ d e. gives-it last chunks chunks' dam gives d (sym (parents-dam rows z c.parents_at.result c.parents_at.ensures.parents) ∙ e))
           (subst (λ o. IsWalked rows c.args.sire o (λ x. (d : ℕ) → dam_rank rows x ≡ Some d → mark chunks (last - d) ≡ 1)) c.in-Some.is c.loop-link.invariant.walked);
     }

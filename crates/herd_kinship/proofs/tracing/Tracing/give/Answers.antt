@@ -17,16 +17,16 @@ gift : (g : Over) (c : After-parents_at g) →
     IsGift DEPTH_LIMIT c.args.frozen.now c.args.self.now.rank c.args.self.now.shares.items c.args.met.rank c.args.met.share c.in-Some.rank c.args.met.parents.depth c.parents_at.result.depth
 gift g c =
     gift-is DEPTH_LIMIT c.args.frozen.now c.args.self.now.rank c.args.self.now.shares.items c.args.met.rank c.args.met.share c.in-Some.rank c.args.met.parents c.parents_at.result
-    (lit< tt) (lit< tt) (c.requires.room c.in-Some.rank c.in-Some.is) c.requires.row c.parents_at.ensures
+    (lit< tt) (lit< tt) (c.requires.room c.in-Some.rank c.in-Some.is) c.requires.row c.parents_at.ensures.parents
 
 pub overflow_sub-steps : goal.overflow_sub-steps
 overflow_sub-steps g c = let less = (gift g (goal.at.overflow_sub-steps g c).After-parents_at).less_deep in omega (arith, less)
 
-pub overflow_sub-steps-in-Some : goal.overflow_sub-steps-in-Some
-overflow_sub-steps-in-Some g c = let less = (gift g (goal.at.overflow_sub-steps-in-Some g c).After-parents_at).less_deep in omega (arith, less)
+pub overflow_sub-gift : goal.overflow_sub-gift
+overflow_sub-gift g c = let less = (gift g (goal.at.overflow_sub-gift g c).After-parents_at).less_deep in omega (arith, less)
 
-pub overflow_shl-met : goal.overflow_shl-met
-overflow_shl-met g c = (gift g (goal.at.overflow_shl-met g c).After-parents_at).steps
+pub overflow_shl-gift : goal.overflow_shl-gift
+overflow_shl-gift g c = (gift g (goal.at.overflow_shl-gift g c).After-parents_at).steps
 
 pub overflow_sub-distance : goal.overflow_sub-distance
 overflow_sub-distance g c = (gift g (goal.at.overflow_sub-distance g c).After-parents_at).distance

@@ -35,7 +35,7 @@ met g c =
       distance = record { found = c.in-Some.ensures.found; nearest = c.in-Some.ensures.nearest; taken = c.in-Some.ensures.taken };
       own_is = get_or_read shares d c.index-share.result.now (omega (arith, near, long)) c.index-share.ensures 0;
     })
-    c.parents_at-parents.result c.parents_at-parents.ensures
+    c.parents_at-parents.result c.parents_at-parents.ensures.parents
 
 pub give-requires-clause-room : goal.give-requires-clause-room
 give-requires-clause-room g c = (met g (goal.at.give-requires-clause-room g c).After-index-share).room_sire
