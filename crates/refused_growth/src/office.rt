@@ -4,7 +4,7 @@ ghost use Rattle.herd_office.specs.Parts.{AreNamed};
 use crate::TIMES;
 use crate::founder::founder;
 use herd_office::{Desk, Inspector, Office, OfficeName, OfficeParts};
-use herd_register::Limits;
+use herd_register::{Command, FileFault, Limits};
 use std::alloc::Global;
 use std::io;
 use std::marker::Brand;
@@ -80,13 +80,10 @@ fn tell_step<N: OfficeName, R: Wait + Print>(
     let Ok(birth) = founder(serial) else {
         return Ok(false);
     };
-    match desk.file(rt, office, birth) {
+    match filed_serial(rt, office, desk, birth) {
         Ok(filed) => {
             let answered = desk.answered();
-            println!(rt;
-                "office: step {} filed, {answered} by the desk",
-                filed.serial
-            )?;
+            println!(rt; "office: step {filed} filed, {answered} by the desk")?;
             Ok(true)
         }
         Err(fault) => {
@@ -94,6 +91,16 @@ fn tell_step<N: OfficeName, R: Wait + Print>(
             Ok(false)
         }
     }
+}
+
+// The number of the step that the desk files.
+fn filed_serial<N: OfficeName, R: Wait>(
+    rt: &R,
+    office: &Office<N, &R>,
+    desk: &mut Desk<N>,
+    birth: Command,
+) -> Result<u32, FileFault> {
+    desk.file(rt, office, birth).map(|filed| filed.serial)
 }
 
 fn tell_seen<N: OfficeName, R: Print>(
