@@ -21,7 +21,7 @@ abbrev pub standing : {N R A : Type 0} {O : office_name.Ghosts N} {L : ledger.Gh
 standing inside desk =
     record {
       journal = inside.register.journal;
-      total = inside.answered.total;
+      total = inside.ledger.total;
       answered = desk.answered;
       history = desk.history;
       shown = state_of inside.copies.writer.desk.shown.value;

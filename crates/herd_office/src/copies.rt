@@ -67,11 +67,11 @@ pub fn make_copies<R: Wait>(
     ensures fault { IfErr result (λ fault. fault ≡ OpenFault.Memory) }
 {
     let copies = Writer::new(alloc, first, second, usize::from(readers))?;
-    Ok(named(rt, copies))
+    Ok(introduced(rt, copies))
 }
 
 // A publish of nothing, by which the writer knows the office.
-fn named<R: Wait>(rt: &R, copies: Copies) -> Copies
+fn introduced<R: Wait>(rt: &R, copies: Copies) -> Copies
     requires pending { drop copies.behind copies.log.items ≡ [] }
     requires told { IsTold copies.desk.shown.value.copybook copies.desk.shown.value.past }
     ensures state { state_of result.desk.shown.value ≡ state_of copies.desk.shown.value }

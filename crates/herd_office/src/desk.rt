@@ -92,10 +92,10 @@ fn make_desk<N: OfficeName>(number: u16, share: Share<N>, history: &History<N>) 
 
 impl<N: OfficeName> Desk<N> {
     /// Counts a call that was answered.
-    pub(crate) fn answer(&mut self, book: &mut Book<N>, history: History<N>)
+    pub(crate) fn answer(&mut self, ledger: &mut Book<N>, history: History<N>)
         requires fits { self.old.answered + 1 < 2 ^ 64 }
         requires stored { self.old.answered + 1 ≤ of_desk self.old.number history }
-        ensures total { book.new.total ≡ book.old.total + 1 }
+        ensures total { ledger.new.total ≡ ledger.old.total + 1 }
         ensures answered { (self.new.answered ≡ self.old.answered + 1) × (self.new.number ≡ self.old.number)
             × (self.new.history ≡ history) }
     {
@@ -105,7 +105,7 @@ impl<N: OfficeName> Desk<N> {
             share,
             history: held,
         } = self;
-        book.add(share, 1);
+        ledger.add(share, 1);
         *answered += 1;
         *held = history;
     }

@@ -25,7 +25,7 @@ pub fn file_on<N: OfficeName, W: Wait, R: Wait + Drop, A: Allocator + Copy>(
         (λ f. inside.new.register.journal ≡ with_step_of inside.old.register.journal desk.old.number command f.reply) }
     ensures reply { IfOk result (λ f. f.reply ≡ answer_after N.limits inside.old.register.journal command) }
     ensures serial { IfOk result (λ f. f.serial ≡ length inside.new.register.journal) }
-    ensures counted { IfOk result (λ _. (inside.new.answered.total ≡ inside.old.answered.total + 1)
+    ensures counted { IfOk result (λ _. (inside.new.ledger.total ≡ inside.old.ledger.total + 1)
         × (desk.new.answered ≡ desk.old.answered + 1)) }
     ensures begins { IfOk result (λ _. IsPrefix desk.old.history inside.old.register.journal) }
     ensures history { IfOk result
@@ -41,7 +41,7 @@ pub fn file_on<N: OfficeName, W: Wait, R: Wait + Drop, A: Allocator + Copy>(
 {
     let Inside {
         register,
-        answered,
+        ledger,
         rest: _,
         keeper,
         copies,
@@ -55,11 +55,11 @@ pub fn file_on<N: OfficeName, W: Wait, R: Wait + Drop, A: Allocator + Copy>(
         return Err(FileFault::NoReading);
     }
     keeper.claim_next()?;
-    answered.audit(&mut desk.share);
+    ledger.audit(&mut desk.share);
     let step = file_in(register, &mut copies.writer, desk.number, &command)?;
     keeper.add(&step);
     show(rt, &mut copies.writer, &step, keeper.history.past());
-    desk.answer(answered, keeper.history.again());
+    desk.answer(ledger, keeper.history.again());
     Ok(Filed {
         serial: steps as u32 + 1,
         reply: step.reply,

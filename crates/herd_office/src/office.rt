@@ -85,20 +85,21 @@ impl<R: Wait + Drop> OfficeParts<R> {
     }
 }
 
-/// What lies under the lock: the register, how many calls were answered, the history, and the copies that readers take.
+/// What lies under the lock: the register, the ledger of the desks' calls, the history, and the readers' copies.
 ///
 /// The register is legal, the total is the length of its journal, the published list is that journal, and nothing is
 /// pending.
 #[derive(Drop)]
 pub struct Inside<N: OfficeName, R: Wait + Drop, A: Allocator = Global> {
     pub(crate) register: Register<A>,
-    pub(crate) answered: Book<N>,
+    /// How many calls were answered in all.
+    pub(crate) ledger: Book<N>,
     /// What the desks have no part of: nothing.
     pub(crate) rest: Share<N>,
     pub(crate) keeper: Keeper<N>,
     pub(crate) copies: Held<R>,
     pub ghost limits: { register.limits ≡ N.limits },
-    pub ghost counted: { length register.journal ≡ answered.total },
+    pub ghost counted: { length register.journal ≡ ledger.total },
     pub ghost shown: { AreOf (state_of copies.writer.desk.shown.value) register.journal N.limits N.book },
     pub ghost settled: { drop copies.writer.behind copies.writer.log.items ≡ [] },
     pub ghost kept: { keeper.history ≡ register.journal },
@@ -141,7 +142,7 @@ impl<N: OfficeName, R: Wait + Drop, A: Allocator + Copy> Office<N, R, A> {
             desks: desk_count,
             inspectors: inspector_count,
         } = parts;
-        let (answered, mut rest) = blank.open::<N>();
+        let (ledger, mut rest) = blank.open::<N>();
         let keeper = Keeper::<N>::new(opened);
         let desks = make_desks(alloc, desk_count, &mut rest, &keeper.history)?;
         let inspectors = make_inspectors(
@@ -152,7 +153,7 @@ impl<N: OfficeName, R: Wait + Drop, A: Allocator + Copy> Office<N, R, A> {
         )?;
         let inside = Inside {
             register: Register::new(alloc, limits),
-            answered,
+            ledger,
             rest,
             keeper,
             copies,
@@ -262,12 +263,12 @@ impl<N: OfficeName, R: Wait + Drop, A: Allocator> Inside<N, R, A> {
     {
         let Inside {
             register,
-            mut answered,
+            mut ledger,
             rest: _rest,
             keeper: _keeper,
             copies,
         } = self;
-        answered.audit(&mut all);
+        ledger.audit(&mut all);
         copies.free(rt);
         register
     }

@@ -26,7 +26,7 @@ impl<'a, A: Allocator, W: Work<A>> Promise<
 }
 
 /// A worker's thread, which promises to bring back what its task asks for.
-pub type Worker<'a, W, S, O, A> = PromisedHandle<
+pub type WorkerThread<'a, W, S, O, A> = PromisedHandle<
     Result<WorkerOutput<S, O, A>, AllocError>,
     Task<'a, W, A>,
 >;
@@ -118,11 +118,11 @@ fn start_all<'s, E, R: Wait + Sync, A: Allocator + Copy + Send + Sync, W: Work<A
     alloc: A,
     task: Task<'s, W, A>,
     mut starter: Starter<W::Scratch, W::Output, A>,
-    mut workers: Vec<Worker<'s, W, W::Scratch, W::Output, A>, A>,
+    mut workers: Vec<WorkerThread<'s, W, W::Scratch, W::Output, A>, A>,
 ) -> Result<
     (
         Starter<W::Scratch, W::Output, A>,
-        Vec<Worker<'s, W, W::Scratch, W::Output, A>, A>,
+        Vec<WorkerThread<'s, W, W::Scratch, W::Output, A>, A>,
     ),
     PoolFault,
 >
@@ -153,7 +153,7 @@ fn start_one<'s, E, R: Wait + Sync, A: Allocator + Copy + Send + Sync, W: Work<A
     task: Task<'s, W, A>,
     pass: BlockPass<A>,
     scratch: W::Scratch,
-) -> Result<Worker<'s, W, W::Scratch, W::Output, A>, PoolFault>
+) -> Result<WorkerThread<'s, W, W::Scratch, W::Output, A>, PoolFault>
     requires knows { W.knows task.work.now }
     requires pass { IsBlockPass task.stealer.now pass [] }
     requires ready { W.is_ready task.work.now scratch }
@@ -184,7 +184,7 @@ fn start_one<'s, E, R: Wait + Sync, A: Allocator + Copy + Send + Sync, W: Work<A
 fn join_all<'s, R: Threads, A: Allocator + Copy, W: Work<A>>(
     rt: &R,
     task: Task<'s, W, A>,
-    started: Vec<Worker<'s, W, W::Scratch, W::Output, A>, A>,
+    started: Vec<WorkerThread<'s, W, W::Scratch, W::Output, A>, A>,
     mut starter: Starter<W::Scratch, W::Output, A>,
 ) -> Result<Starter<W::Scratch, W::Output, A>, AllocError>
     requires task { (k : ℕ) (d : _) → k < vec_len started → (get_or (vec_items started) k d).promise ≡ task }
