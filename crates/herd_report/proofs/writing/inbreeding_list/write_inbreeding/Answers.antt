@@ -22,7 +22,7 @@ returns-in_err-push_line-clause-err g c =
     let row = c.row.result in
     let rows = c.args.frozen.now in
     let line = λ (r : Row). coefficient_line r.number (coefficient (ancestry_of rows) DEPTH_LIMIT r.number) in
-    let some = some_left line rows c.loop-rank.rank row c.row.ensures (some_coefficient_line row.number (coefficient (ancestry_of rows) DEPTH_LIMIT row.number)) in
+    let some = some_left line rows c.loop-rank.rank row c.row.ensures.row (some_coefficient_line row.number (coefficient (ancestry_of rows) DEPTH_LIMIT row.number)) in
     rw exit.1 (front_passed (holds_passed c.loop-rank.invariant.text c.in_ok-pass_on.ensures.ok) some)
 
 pub loop-rank-preserved : goal.loop-rank-preserved
@@ -31,10 +31,10 @@ loop-rank-preserved g c =
     let rows = c.args.frozen.now in
     let rank = c.loop-rank.rank in
     let line = λ (r : Row). coefficient_line r.number (coefficient (ancestry_of rows) DEPTH_LIMIT r.number) in
-    let numerator = c.numerator-numerator.ensures.value ∙ numerator_is DEPTH_LIMIT rows c.args.coefficients.now c.requires rank row c.row.ensures in
+    let numerator = c.numerator-numerator.ensures.value ∙ numerator_is DEPTH_LIMIT rows c.args.coefficients.now c.requires rank row c.row.ensures.row in
     let joined = c.in_ok-push_line.ensures.line ∙ ap (λ n. c.pass_on.new.self ++ coefficient_line row.number n) numerator in
     record {
-      text = holds_element line rows rank row (holds_passed c.loop-rank.invariant.text c.in_ok-pass_on.ensures.ok) c.row.ensures joined;
+      text = holds_element line rows rank row (holds_passed c.loop-rank.invariant.text c.in_ok-pass_on.ensures.ok) c.row.ensures.row joined;
       made = c.in_ok-push_line.ensures.made;
     }
 
