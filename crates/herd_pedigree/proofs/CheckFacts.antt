@@ -1,14 +1,14 @@
 -- The first fault, and when it is that a path is too long.
-use Rattle.std.proofs.Common.{ℕ, zero, suc, ◌||◌, ℤ, pos, ◌+◌, ◌<◌, ◌≤◌, ◌≡◌, ◌≢◌, ⊎_elim, inl, inr, arith, refl, sym, ap, ◌∙◌, subst, Bool, true, false, nat_lt, if◌then◌else◌, IsTrue, IsFalse, List, [], ◌∷◌, Option, Some, None, IfSome, length, slice_get, slice_index, slice_set, get_or}
+use Rattle.std.proofs.Common.{ℕ, suc, ℤ, pos, ◌+◌, ◌<◌, ◌≤◌, ◌≡◌, ◌≢◌, ⊎_elim, inl, inr, arith, refl, sym, ap, ◌∙◌, subst, Bool, true, false, nat_lt, if◌then◌else◌, IsTrue, IsFalse, List, [], ◌∷◌, Option, Some, None, IfSome, length, slice_get, slice_index, slice_set, get_or}
 use Rattle.std.specs.Str.{bytes_eq}
 use Rattle.std.specs.List.{IsDistinct, list_any}
 use Rattle.std.specs.Map.{keys_of}
 use Rattle.std.specs.Option.{option_or}
-use Rattle.std.proofs.lemmas.Bool.{false_from_ne_true, cases_eq, cases_lt, lt-ltb, le-ltb, ltb-true, or_left}
-use Rattle.std.proofs.lemmas.Option.{slice_get_within, same_Some}
+use Rattle.std.proofs.lemmas.Bool.{false_from_ne_true, cases_eq, cases_lt, lt-ltb, le-ltb, ltb-true}
+use Rattle.std.proofs.lemmas.Option.{slice_get_within}
 use Rattle.std.proofs.lemmas.List.{get_or-set_same, get_or-set_other, length-set}
 use Rattle.std.proofs.lemmas.List.Folds.{list_any_none}
-use Rattle.indexmap.specs.IndexMap.{set_value_at}
+use Rattle.herd_pedigree.specs.store.Records.{set_value_at}
 use Rattle.herd_frozen.specs.declared.rules.animal.Animal.{Animal}
 use Rattle.herd_frozen.specs.declared.rules.parent_fault.ParentFault.{ParentFault}
 use Rattle.herd_frozen.specs.declared.rules.parent_fault.ParentFault.TheVariants.{TooDeep}
@@ -18,7 +18,9 @@ use Rattle.herd_frozen.specs.rules.ParentFault.{parent_fault, fault_by_records, 
 use Rattle.herd_frozen.specs.rules.Depths.{IsParent, AreDepths, depth_from}
 use Rattle.herd_frozen.specs.places.Places.{parent_at, parentage_at, IsIndexIn, AreParents}
 use Rattle.herd_pedigree.specs.store.Kept.{IsKept}
+use Rattle.herd_pedigree.specs.declared.store.correction.Correction.{Correction}
 use Rattle.herd_pedigree.specs.store.Carry.{IsSettled}
+use Rattle.herd_pedigree.specs.store.Correction.{IsSound}
 use Rattle.herd_frozen.proofs.lemmas.rules.PathFacts.{Path, path-from_test, test-from_path, path-at_most, path-there, below_from, depths-fall, depths-path, depths-shallow}
 use Rattle.herd_frozen.proofs.lemmas.rules.BookFacts.{entry_from_key, lookup_at, length-keys, there}
 use Rattle.herd_frozen.proofs.lemmas.rules.FaultFacts.{fault-split}
@@ -27,6 +29,7 @@ use Rattle.herd_pedigree.proofs.lemmas.store.DepthFacts.{IsLeafSet, depths-leaf,
 use Rattle.herd_pedigree.proofs.lemmas.store.ProgenyFacts.{parent-within}
 use Rattle.herd_pedigree.proofs.lemmas.store.CarryFacts.{settled-but}
 use Rattle.herd_pedigree.proofs.lemmas.store.CorrectionFacts.{parent_in}
+use Rattle.herd_pedigree.proofs.lemmas.store.ListFacts.{any_found}
 use Rattle.herd_pedigree.proofs.KeptFacts.{too_deep-birth}
 use Rattle.herd_frozen.proofs.lemmas.rules.WrittenFacts.{written-changed, too_deep-written}
 use Rattle.herd_pedigree.proofs.lemmas.store.SetFacts.{keys-set, set-changed, AreParents-set}
@@ -163,6 +166,13 @@ pub told-there : (l : ℕ) (book : Book) → IsDistinct bytes_eq (keys_of book) 
     IfSome (record_of book number) (λ animal. told ≡ parent_fault l book number animal.birth s d animal.embryo)
 told-there l book once place number a entry s d told is = rw (lookup_at book once place number a entry) is
 
+-- what is told of it where the records of its parents show this
+pub told-by_records : (book now : Book) → book ≡ now → IsDistinct bytes_eq (keys_of book) → (place : ℕ) (number : List ℕ) (a : Animal) → slice_get book place ≡ Some (number, a) → (s d : Option (List ℕ)) (shown : Option ParentFault) →
+    fault_by_records book a.birth s d a.embryo ≡ shown → (P : ParentFault → Type 0) → IfSome shown P → IfSome (record_of now number) (λ animal. IfSome (fault_by_records now animal.birth s d animal.embryo) P)
+told-by_records book now same once place number a entry s d shown is P h =
+    subst (λ b. IfSome (record_of b number) (λ animal. IfSome (fault_by_records b animal.birth s d animal.embryo) P)) same
+    (rw (lookup_at book once place number a entry, is) h)
+
 -- a new parent is there, where those that are exchanged are
 closed-exchange : (l most : ℕ) (book : Book) (sires dams : List (Option ℕ)) (depths : List ℕ) → IsKept l most book sires dams depths → (a : ℕ) (sire dam : Option ℕ) → a < length sires →
     ((p : ℕ) → sire ≡ Some p → p < length sires) → ((p : ℕ) → dam ≡ Some p → p < length sires) → (p x : ℕ) → IsParent (parentage_at (slice_set sires a sire) (slice_set dams a dam)) p x → p < length sires
@@ -182,11 +192,23 @@ closed-exchange l most book sires dams depths k a sire dam here sire_in dam_in p
     (parent-elsewhere sires dams a sire dam here wide x p other is))
     (cases_eq x a)
 
-pub closed-within : (l most : ℕ) (book : Book) (sires dams : List (Option ℕ)) (depths : List ℕ) → IsKept l most book sires dams depths → (a : ℕ) (sire dam : Option ℕ) → a < length sires →
+closed-within : (l most : ℕ) (book : Book) (sires dams : List (Option ℕ)) (depths : List ℕ) → IsKept l most book sires dams depths → (a : ℕ) (sire dam : Option ℕ) → a < length sires →
     IfSome sire (λ p. p < length book) → IfSome dam (λ p. p < length book) → (p x : ℕ) → IsParent (parentage_at (slice_set sires a sire) (slice_set dams a dam)) p x → p < length sires
 closed-within l most book sires dams depths k a sire dam here sire_in dam_in =
     let m = sym k.sires_are.long in
     closed-exchange l most book sires dams depths k a sire dam here (λ p e. subst (λ n. p < n) m (parent_in sire (length book) p sire_in e)) (λ p e. subst (λ n. p < n) m (parent_in dam (length book) p dam_in e))
+
+-- so that a correction of an animal of the book by parents of the book is sound
+pub correction-sound : {A : Type 0} (l most : ℕ) (book : Book) (depths : List ℕ) (c : Correction A) → IsKept l most book c.sires.now.parents c.dams.now.parents depths →
+    c.place < length book → IfSome c.sire (λ p. p < length book) → IfSome c.dam (λ p. p < length book) → IsSound c
+correction-sound l most book depths c k within sire_in dam_in =
+    let m = k.sires_are.long in
+    let here : c.place < length c.sires.now.parents = omega (arith, within, m) in
+    record {
+      here = here;
+      wide = k.dams_are.long ∙ sym m;
+      closed = closed-within l most book c.sires.now.parents c.dams.now.parents depths k c.place c.sire c.dam here sire_in dam_in;
+    }
 
 -- all but the animal whose parents are exchanged are settled
 pub settled-exchange : (l most : ℕ) (book : Book) (sires dams : List (Option ℕ)) (depths : List ℕ) → IsKept l most book sires dams depths → (a : ℕ) (sire dam : Option ℕ) → a < length sires →
@@ -195,15 +217,6 @@ settled-exchange l most book sires dams depths k a sire dam here =
     let wide : length dams ≡ length sires = k.dams_are.long ∙ sym k.sires_are.long in
     settled-but l (parentage_at sires dams) (parentage_at (slice_set sires a sire) (slice_set dams a dam)) depths a k.depths_are
     (λ x other there. (there-same sires dams a sire dam here wide x there, get_or-set_other sires a x sire None other, get_or-set_other dams a x dam None other))
-
-any_yes : {X : Type 0} (test : X → Bool) (xs : List X) (k : ℕ) (x : X) → slice_get xs k ≡ Some x → test x ≡ true → list_any test xs ≡ true
-any_yes test [] k x at t = absurd (cc)
-any_yes test (y ∷ ys) zero x at t = let e : y ≡ x = same_Some _ _ at in or_left (test y) (list_any test ys) (ap test e ∙ t)
-any_yes test (y ∷ ys) (suc k) x at t = or_later (test y) (list_any test ys) (any_yes test ys k x at t)
-  where
-    or_later : (a b : Bool) → b ≡ true → (a || b) ≡ true
-    or_later true b h = refl
-    or_later false b h = h
 
 module _ (l most : ℕ) (book : Book) (sires dams : List (Option ℕ)) (depths : List ℕ) (k : IsKept l most book sires dams depths)
     (number : List ℕ) (a : ℕ) (at : slice_get (keys_of book) a ≡ Some number)
@@ -230,7 +243,7 @@ module _ (l most : ℕ) (book : Book) (sires dams : List (Option ℕ)) (depths :
       let test : has_path (parentage_of (changed book number (with_parents s d))) (l + 1) x.0 ≡ true = test-from_path (parentage_of (changed book number (with_parents s d))) (l + 1) x.0 by_number in
       let keys : slice_get (number ∷ keys_of book) (suc c) ≡ Some x.0 = ap (λ ks. slice_get ks c) (sym (keys-corrected l most book sires dams depths k number a at sire dam s d sire_is dam_is)) ∙ x.1 in
       too_deep-told l most book sires dams depths k number a at sire dam s d sire_is dam_is
-      ∙ any_yes (has_path (parentage_of (changed book number (with_parents s d))) (l + 1)) (number ∷ keys_of book) (suc c) x.0 keys test
+      ∙ any_found (has_path (parentage_of (changed book number (with_parents s d))) (l + 1)) (number ∷ keys_of book) (suc c) x.0 keys test
 
   -- and where there is none, no path of the book is too long
   pub not_deep-by_place : ((c : ℕ) → has_path (parentage_at (slice_set sires a sire) (slice_set dams a dam)) (l + 1) c ≡ false) → is_too_deep l book number s d ≡ false

@@ -1,11 +1,11 @@
 -- What is held after a correction, and what taking a change back needs.
-use Rattle.std.proofs.Common.{ℕ, ◌+◌, ◌-◌, ◌<◌, ◌≤◌, ◌≡◌, ⊎_elim, inl, inr, arith, refl, sym, ap, ◌∙◌, subst, true, false, IsTrue, List, [], Option, Some, None, length, slice_get, slice_index, slice_set, All}
+use Rattle.std.proofs.Common.{ℕ, ◌+◌, ◌-◌, ◌<◌, ◌≤◌, ◌≡◌, ⊎_elim, inl, inr, arith, refl, sym, ap, ◌∙◌, subst, true, false, IsTrue, List, [], Option, Some, None, IfSome, length, slice_get, slice_index, slice_set, All}
 use Rattle.std.specs.Map.{keys_of}
 use Rattle.std.proofs.lemmas.Bool.{cases_lt, lt-ltb}
 use Rattle.std.proofs.lemmas.Option.{same_Some, slice_get_within}
 use Rattle.std.proofs.lemmas.List.{get_or-take, get_or-set_same, length-set, length-take-le, set-set, set-get_or}
-use Rattle.indexmap.specs.IndexMap.{set_value_at}
-use Rattle.herd_frozen.specs.declared.rules.animal.Animal.{Animal}
+use Rattle.herd_pedigree.specs.declared.store.records.StoredRecord.{StoredRecord}
+use Rattle.herd_pedigree.specs.declared.store.undo.Undo.{Undo}
 use Rattle.herd_pedigree.specs.declared.store.undo.Undo.TheVariants.{Nothing, Birth, Record}
 use Rattle.herd_frozen.specs.rules.Paths.{Parentage, has_path}
 use Rattle.herd_frozen.specs.rules.Book.{Book, changed, with_parents}
@@ -14,19 +14,22 @@ use Rattle.herd_frozen.specs.rules.Depths.{IsParent, AreDepths}
 use Rattle.herd_frozen.specs.places.Places.{parent_at, parentage_at, IsIndexIn}
 use Rattle.herd_pedigree.specs.store.Carry.{IsSettled}
 use Rattle.herd_pedigree.specs.store.Kept.{IsKept}
-use Rattle.herd_pedigree.specs.store.Records.{NamesItsOwn}
+use Rattle.herd_pedigree.specs.store.Records.{NamesItsOwn, animal_of, set_value_at}
 use Rattle.herd_pedigree.specs.store.Undo.{IsHeld, without_last, undone_writes}
 use Rattle.herd_frozen.proofs.lemmas.rules.PathFacts.{depths-fall}
-use Rattle.herd_frozen.proofs.lemmas.rules.BookFacts.{there as there_at}
 use Rattle.herd_frozen.proofs.lemmas.rules.FaultFacts.{HasNoFault, no_fault}
 use Rattle.herd_pedigree.proofs.lemmas.LawfulChanges.{lawful-parents}
-use Rattle.herd_pedigree.proofs.lemmas.store.SetFacts.{keys-set, set-changed, set-back, set_there, length-set-at}
+use Rattle.herd_pedigree.proofs.lemmas.store.SetFacts.{set-changed, stored-back, length-set-at}
 use Rattle.herd_pedigree.proofs.lemmas.store.CarryFacts.{settled-depths, settled-deep}
+use Rattle.herd_pedigree.proofs.lemmas.store.CorrectionFacts.{if_parent}
 use Rattle.herd_pedigree.proofs.lemmas.store.ProgenyFacts.{parent-within}
 use Rattle.herd_pedigree.proofs.CheckFacts.{parents-within, sires-corrected, dams-corrected, closed-after, shallow-by_place}
 
 -- the last animal, which was added last, has no calves
-module _ (l most : ℕ) (book : Book) (sires dams : List (Option ℕ)) (depths : List ℕ) (log : List (ℕ × ℕ)) (h : IsHeld l most book sires dams depths log Birth) where
+module _ (l most : ℕ) (book : Book) (sires dams : List (Option ℕ)) (depths : List ℕ) (log : List (ℕ × ℕ)) (undo : Undo) (is_birth : undo ≡ Birth) (held : IsHeld l most book sires dams depths log undo) where
+  h : IsHeld l most book sires dams depths log Birth
+  h = subst (λ u. IsHeld l most book sires dams depths log u) is_birth held
+
   old : IsKept l most (without_last book) (without_last sires) (without_last dams) (without_last depths)
   old = h.before (without_last book) refl
 
@@ -80,49 +83,38 @@ module _ (l most : ℕ) (book : Book) (sires dams : List (Option ℕ)) (depths :
       none-of_last c (inr (e ∙ ap Some same))
 
 -- the parents that taking back sets are there
-module _ (l most : ℕ) (book : Book) (sires dams : List (Option ℕ)) (depths : List ℕ) (log : List (ℕ × ℕ)) (place : ℕ) (animal : Animal) (sire dam : Option ℕ) (h : IsHeld l most book sires dams depths log (Record place animal sire dam)) where
-  was : IsKept l most (set_value_at book place animal) (slice_set sires place sire) (slice_set dams place dam) (undone_writes log depths)
-  was = h.before (set_value_at book place animal) refl
+module _ (l most : ℕ) (book : Book) (sires dams : List (Option ℕ)) (depths : List ℕ) (log : List (ℕ × ℕ)) (undo : Undo) (place : ℕ) (was : StoredRecord) (is_record : undo ≡ Record place was) (held : IsHeld l most book sires dams depths log undo) where
+  written : IsHeld l most book sires dams depths log (Record place was)
+  written = subst (λ u. IsHeld l most book sires dams depths log u) is_record held
 
-  -- the number at the place of the record that is taken back
-  entry-before : (number : List ℕ) × (slice_get (set_value_at book place animal) place ≡ Some (number, animal))
-  entry-before = let e = there_at book place h.within.0 in (e.0.0, set_there book place animal e.0 e.1)
+  before : IsKept l most (set_value_at book place (animal_of (keys_of book) was)) (slice_set sires place was.sire) (slice_set dams place was.dam) (undone_writes log depths)
+  before = written.before (set_value_at book place (animal_of (keys_of book) was)) refl
 
-  pub undo-sire_is : IsIndexIn (keys_of book) sire animal.sire
-  undo-sire_is =
-      let m = h.kept.sires_are.long in
-      let here : place < length sires = let w = h.within.0 in omega (arith, w, m) in
-      let is : IsIndexIn (keys_of (set_value_at book place animal)) (parent_at (slice_set sires place sire) place) animal.sire = was.sires_are.each place (entry-before.0, animal) entry-before.1 in
-      subst (λ ks. IsIndexIn ks sire animal.sire) (keys-set book place animal)
-      (subst (λ o. IsIndexIn (keys_of (set_value_at book place animal)) o animal.sire) (get_or-set_same sires place sire None here) is)
-
-  pub undo-dam_is : IsIndexIn (keys_of book) dam animal.dam
-  undo-dam_is =
-      let m = h.kept.dams_are.long in
-      let here : place < length dams = let w = h.within.0 in omega (arith, w, m) in
-      let is : IsIndexIn (keys_of (set_value_at book place animal)) (parent_at (slice_set dams place dam) place) animal.dam = was.dams_are.each place (entry-before.0, animal) entry-before.1 in
-      subst (λ ks. IsIndexIn ks dam animal.dam) (keys-set book place animal)
-      (subst (λ o. IsIndexIn (keys_of (set_value_at book place animal)) o animal.dam) (get_or-set_same dams place dam None here) is)
-
-  pub undo-sire : (p : ℕ) → sire ≡ Some p → p < length sires
+  pub undo-sire : (p : ℕ) → was.sire ≡ Some p → p < length sires
   undo-sire p e =
-      let m = h.kept.sires_are.long in
-      let n = length-set-at book place animal in
-      let here : place < length sires = let w = h.within.0 in omega (arith, w, m) in
-      let w = parents-within (set_value_at book place animal) (λ animal. animal.sire) (slice_set sires place sire) was.sires_are place p (get_or-set_same sires place sire None here ∙ e) in
+      let m = written.kept.sires_are.long in
+      let n = length-set-at book place (animal_of (keys_of book) was) in
+      let here : place < length sires = let w = written.within.0 in omega (arith, w, m) in
+      let w = parents-within (set_value_at book place (animal_of (keys_of book) was)) (λ animal. animal.sire) (slice_set sires place was.sire) before.sires_are place p (get_or-set_same sires place was.sire None here ∙ e) in
       omega (arith, w, n, m)
 
-  pub undo-dam : (p : ℕ) → dam ≡ Some p → p < length dams
+  pub undo-dam : (p : ℕ) → was.dam ≡ Some p → p < length dams
   undo-dam p e =
-      let m = h.kept.dams_are.long in
-      let n = length-set-at book place animal in
-      let here : place < length dams = let w = h.within.0 in omega (arith, w, m) in
-      let w = parents-within (set_value_at book place animal) (λ animal. animal.dam) (slice_set dams place dam) was.dams_are place p (get_or-set_same dams place dam None here ∙ e) in
+      let m = written.kept.dams_are.long in
+      let n = length-set-at book place (animal_of (keys_of book) was) in
+      let here : place < length dams = let w = written.within.0 in omega (arith, w, m) in
+      let w = parents-within (set_value_at book place (animal_of (keys_of book) was)) (λ animal. animal.dam) (slice_set dams place was.dam) before.dams_are place p (get_or-set_same dams place was.dam None here ∙ e) in
       omega (arith, w, n, m)
+
+  pub undo-sire_within : IfSome was.sire (λ p. p < length book)
+  undo-sire_within = if_parent was.sire (length book) (λ p e. let w = undo-sire p e in let m = written.kept.sires_are.long in omega (arith, w, m))
+
+  pub undo-dam_within : IfSome was.dam (λ p. p < length book)
+  undo-dam_within = if_parent was.dam (length book) (λ p e. let w = undo-dam p e in let m = written.kept.dams_are.long in omega (arith, w, m))
 
 -- a correction with no fault
 module _ (l most : ℕ) (book : Book) (sires dams : List (Option ℕ)) (depths : List ℕ) (k : IsKept l most book sires dams depths)
-    (number : List ℕ) (a : ℕ) (at : slice_get (keys_of book) a ≡ Some number) (animal : Animal) (entry : slice_get book a ≡ Some (number, animal))
+    (number : List ℕ) (a : ℕ) (at : slice_get (keys_of book) a ≡ Some number) (was : StoredRecord) (entry : slice_get book a ≡ Some (number, animal_of (keys_of book) was))
     (sire dam : Option ℕ) (s d : Option (List ℕ)) (sire_is : IsIndexIn (keys_of book) sire s) (dam_is : IsIndexIn (keys_of book) dam d)
     (asked : IsCorrection l book number s d) where
   fine : HasNoFault l book number asked.animal.birth s d asked.animal.embryo
@@ -148,10 +140,10 @@ module _ (l most : ℕ) (book : Book) (sires dams : List (Option ℕ)) (depths :
     IsKept-corrected : IsKept l most (changed book number (with_parents s d)) (slice_set sires a sire) (slice_set dams a dam) after
     IsKept-corrected =
         let new : Book = changed book number (with_parents s d) in
-        let same : set_value_at book a (with_parents s d animal) ≡ changed book number (with_parents s d) = set-changed book k.lawful.once a number animal (with_parents s d) entry in
+        let same : set_value_at book a (with_parents s d (animal_of (keys_of book) was)) ≡ changed book number (with_parents s d) = set-changed book k.lawful.once a number (animal_of (keys_of book) was) (with_parents s d) entry in
         let sires_are = sires-corrected l most book sires dams depths k number a at sire dam s d sire_is dam_is in
         let dams_are = dams-corrected l most book sires dams depths k number a at sire dam s d sire_is dam_is in
-        let n : length new ≡ length book = ap (λ es. length es) (sym same) ∙ length-set-at book a (with_parents s d animal) in
+        let n : length new ≡ length book = ap (λ es. length es) (sym same) ∙ length-set-at book a (with_parents s d (animal_of (keys_of book) was)) in
         record {
           lawful = lawful-parents l most book number s d k.lawful asked;
           sires_are = sires_are;
@@ -161,12 +153,12 @@ module _ (l most : ℕ) (book : Book) (sires dams : List (Option ℕ)) (depths :
         }
 
     -- what is held once the correction is noted
-    pub IsHeld-corrected : (log : List (ℕ × ℕ)) → All (λ write. write.0 < length depths) log → undone_writes log after ≡ depths → (was_sire was_dam : Option ℕ) → was_sire ≡ parent_at sires a → was_dam ≡ parent_at dams a →
-        IsHeld l most (set_value_at book a (with_parents s d animal)) (slice_set sires a sire) (slice_set dams a dam) after log (Record a animal was_sire was_dam)
-    IsHeld-corrected log logged undone was_sire was_dam e f =
-        let same : set_value_at book a (with_parents s d animal) ≡ changed book number (with_parents s d) = set-changed book k.lawful.once a number animal (with_parents s d) entry in
-        let n = length-set-at book a (with_parents s d animal) in
-        let w = slice_get_within book a (number, animal) entry in
+    pub IsHeld-corrected : (log : List (ℕ × ℕ)) → All (λ write. write.0 < length depths) log → undone_writes log after ≡ depths → was.sire ≡ parent_at sires a → was.dam ≡ parent_at dams a →
+        IsHeld l most (set_value_at book a (with_parents s d (animal_of (keys_of book) was))) (slice_set sires a sire) (slice_set dams a dam) after log (Record a was)
+    IsHeld-corrected log logged undone e f =
+        let same : set_value_at book a (with_parents s d (animal_of (keys_of book) was)) ≡ changed book number (with_parents s d) = set-changed book k.lawful.once a number (animal_of (keys_of book) was) (with_parents s d) entry in
+        let n = length-set-at book a (with_parents s d (animal_of (keys_of book) was)) in
+        let w = slice_get_within book a (number, animal_of (keys_of book) was) entry in
         record {
           kept = subst (λ es. IsKept l most es (slice_set sires a sire) (slice_set dams a dam) after) (sym same) IsKept-corrected;
           within = (
@@ -174,8 +166,8 @@ module _ (l most : ℕ) (book : Book) (sires dams : List (Option ℕ)) (depths :
             subst (λ m. All (λ (write : ℕ × ℕ). write.0 < m) log) (k.long ∙ sym n) logged,
           );
           before = λ old is.
-              let back : book ≡ old = sym (set-back book a number animal (with_parents s d animal) entry) ∙ same_Some _ _ is in
-              let sires_same : slice_set (slice_set sires a sire) a was_sire ≡ sires = set-set sires a sire was_sire ∙ ap (λ o. slice_set sires a o) e ∙ set-get_or sires a None in
-              let dams_same : slice_set (slice_set dams a dam) a was_dam ≡ dams = set-set dams a dam was_dam ∙ ap (λ o. slice_set dams a o) f ∙ set-get_or dams a None in
+              let back : book ≡ old = sym (stored-back book a number (with_parents s d (animal_of (keys_of book) was)) was entry) ∙ same_Some _ _ is in
+              let sires_same : slice_set (slice_set sires a sire) a was.sire ≡ sires = set-set sires a sire was.sire ∙ ap (λ o. slice_set sires a o) e ∙ set-get_or sires a None in
+              let dams_same : slice_set (slice_set dams a dam) a was.dam ≡ dams = set-set dams a dam was.dam ∙ ap (λ o. slice_set dams a o) f ∙ set-get_or dams a None in
               rw (sires_same, dams_same, undone) (subst (λ old. IsKept l most old sires dams depths) back k);
         }

@@ -17,6 +17,7 @@ use Rattle.herd_frozen.specs.places.Places.{parent_at, parentage_at, IsIndexIn, 
 use Rattle.herd_pedigree.specs.store.Kept.{IsKept}
 use Rattle.herd_pedigree.specs.declared.store.undo.Undo.TheVariants.{Birth, Nothing}
 use Rattle.herd_pedigree.specs.store.Undo.{IsHeld}
+use Rattle.herd_frozen.proofs.lemmas.places.NumberFacts.{place-within}
 use Rattle.herd_frozen.proofs.lemmas.rules.PathFacts.{Path, depths-path, test-from_path}
 use Rattle.herd_frozen.proofs.lemmas.rules.BookFacts.{push_cases, push_keeps, push_last, keys-push, length-keys, distinct-push, key_from_entry}
 use Rattle.herd_pedigree.proofs.lemmas.store.PlaceFacts.{no_longer_path, path_by_number, there_by_place, depth_by_number}
@@ -31,12 +32,6 @@ IsIndexIn-push numbers number None None h = h
 IsIndexIn-push numbers number None (Some n) h = h
 IsIndexIn-push numbers number (Some p) None h = h
 IsIndexIn-push numbers number (Some p) (Some n) h = push_keeps numbers number n p h
-
--- the place of a parent is within the book
-pub place-within : (numbers : List (List ℕ)) (o : Option ℕ) (n : Option (List ℕ)) → IsIndexIn numbers o n → IfSome o (λ p. p < length numbers)
-place-within numbers None n h = tt
-place-within numbers (Some p) None h = absurd h
-place-within numbers (Some p) (Some n) h = slice_get_within numbers p n h
 
 -- one parent of each, with an animal more at the end
 pub AreParents-push : (book : Book) (parent_of : Animal → Option (List ℕ)) (parents : List (Option ℕ)) (number : List ℕ) (animal : Animal) (o : Option ℕ) → AreParents book parent_of parents → IsIndexIn (keys_of book) o (parent_of animal) →

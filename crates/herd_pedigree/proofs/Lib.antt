@@ -2,3 +2,4 @@ pub mod lemmas
 mod KeptFacts
 mod CheckFacts
 mod HeldFacts
+mod RegistrationFacts

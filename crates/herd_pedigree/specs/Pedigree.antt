@@ -1,8 +1,14 @@
 -- A pedigree as contracts see it, and what a change of one record asks for.
-use Rattle.std.specs.Prelude.{◌≡◌, ℕ, ◌<◌, ◌≤ℤ◌, IsFalse, ℤ, List, length, Option, Some, None}
+use Rattle.std.specs.Prelude.{◌≡◌, ℕ, ◌<◌, ◌≤ℤ◌, IsFalse, ℤ, List, length, slice_get, if◌then◌else◌, Option, Some, None}
+use Rattle.std.specs.Map.{keys_of}
+use Rattle.std.specs.Option.{option_map_or}
 use Rattle.herd_frozen.specs.declared.rules.animal.Animal.{Animal}
-use Rattle.herd_frozen.specs.rules.Book.{Book, record_of, has_calved_after}
+use Rattle.herd_frozen.specs.declared.rules.parent_fault.ParentFault.{ParentFault}
+use Rattle.herd_frozen.specs.rules.Book.{Book, is_there, record_of, has_calved_after}
 use Rattle.herd_frozen.specs.rules.ParentFault.{parent_fault}
+use Rattle.herd_pedigree.specs.declared.found.Found.{Found}
+use Rattle.herd_pedigree.specs.declared.registration.Registration.{Registration}
+use Rattle.herd_pedigree.specs.declared.registration.Registration.TheVariants.{Added, AlreadyThere, Unsound}
 
 -- the book, and the book before the last change that can be taken back
 pub record Pedigree : Type 0 where
@@ -19,6 +25,21 @@ pub record IsNewborn (most : ℕ) (book : Book) (number : List ℕ) (animal : An
   pub room : length book < most
   pub since : animal.since ≡ animal.birth
   pub left : animal.left ≡ None
+
+-- what becomes of a birth: its number may be there, and else its parents may have a fault
+abbrev pub registration : ℕ → Book → List ℕ → Animal → Registration
+registration l book number animal =
+    if is_there book number then AlreadyThere
+    else option_map_or Unsound (parent_fault l book number animal.birth animal.sire animal.dam animal.embryo) Added
+
+-- what becomes of one whose parents have this fault
+abbrev pub unsound : Book → List ℕ → ParentFault → Registration
+unsound book number fault = if is_there book number then AlreadyThere else Unsound fault
+
+-- the number stands at the place
+pub record IsFound (book : Book) (found : Found) : Type 0 where
+  pub within : found.place < length book
+  pub at : slice_get (keys_of book) found.place ≡ Some found.number
 
 -- the record may be added under the number
 pub record IsBirth (l most : ℕ) (book : Book) (number : List ℕ) (animal : Animal) : Type 0 where

@@ -2,6 +2,7 @@
 //!
 //! `Pedigree` is the book, and always lawful. A birth and a correction of parents are checked and made by one call,
 //! which tells the first fault of the parents, if they have one; an owner and an exit are set by calls of their own.
+//! Who asks for more than one thing of an animal finds it once, by `Pedigree::find`, and passes on what was `Found`.
 //! The last change can be taken back. `Pedigree::freeze` gives the book in age order, as `herd_frozen` has it.
 //!
 //!     let mut pedigree = Pedigree::new(alloc);
@@ -14,11 +15,15 @@
 //! The crate `library_example` has whole calls.
 #![tactic(auto)]
 
+mod found;
 mod named;
 mod pedigree;
+mod registration;
 mod store;
 
+pub use found::Found;
 pub use pedigree::Pedigree;
+pub use registration::Registration;
 // A crate can name a pedigree in a contract only if the types of its fields are exported.
 #[doc(hidden)]
 pub use store::progeny::{Family, Progeny};

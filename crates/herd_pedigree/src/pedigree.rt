@@ -1,19 +1,21 @@
-ghost use Rattle.std.specs.Prelude.{◌≡◌, ◌==◌, ◌<◌, ◌≤◌, [], ◌++◌, ◌∷◌, ℕ, List, length, Option, None, Some, IfNone, IfOk, IfSome, OnOk, OnErr, IsSome, is_some, slice_get};
-ghost use Rattle.std.specs.Map.{keys_of, values_of};
-ghost use Rattle.indexmap.specs.IndexMap.{set_value_at};
-ghost use Rattle.herd_frozen.specs.rules.Book.{IsDepthOf, changed, has_calved_after, record_of, with_left, with_owner, with_parents};
+ghost use Rattle.std.specs.Prelude.{◌≡◌, ◌≢◌, ◌==◌, ◌<◌, ◌≤◌, [], ◌++◌, ◌∷◌, ℕ, List, length, Option, None, Some, IfNone, IfOk, IfSome, IsTrue, OnOk, OnErr, IsSome, is_some, vec_capacity, vec_len};
+ghost use Rattle.std.specs.Map.{keys_of};
+ghost use Rattle.herd_frozen.specs.rules.Book.{IsDepthOf, changed, has_calved_after, is_there, record_of, with_left, with_owner, with_parents};
 ghost use Rattle.herd_frozen.specs.freezing.Frozen.{IsFrozenFrom};
 ghost use Rattle.herd_frozen.specs.rules.Lawful.{IsLawful};
 ghost use Rattle.herd_frozen.specs.rules.ParentFault.{fault_by_records, is_too_deep, parent_fault};
 ghost use Rattle.herd_frozen.specs.places.Places.{IsIndexIn};
-ghost use Rattle.herd_pedigree.specs.Pedigree.{IsBirth, IsCorrection, IsExit, IsNewborn, IsPresentOn, changed_to};
+ghost use Rattle.herd_pedigree.specs.Pedigree.{IsBirth, IsCorrection, IsExit, IsFound, IsNewborn, IsPresentOn, changed_to, registration, unsound};
+ghost use Rattle.herd_pedigree.specs.store.Records.{IsStoredAt, animal_of, set_value_at};
 ghost use Rattle.herd_frozen.specs.declared.TheConstants.{DEPTH_LIMIT, MOST_ANIMALS};
 
+use crate::found::Found;
 use crate::named::sound_parents;
+use crate::registration::Registration;
 use crate::store::correction::Correction;
 use crate::store::depth::{depth_with, undo_writes};
 use crate::store::progeny::Progeny;
-use crate::store::records::Records;
+use crate::store::records::{Records, StoredRecord};
 use crate::store::undo::Undo;
 use herd_animal::{AnimalNumber, Day, Herd};
 use herd_frozen::{Animal, DEPTH_LIMIT, Frozen, ParentFault, frozen_from};
@@ -151,6 +153,33 @@ impl<A: Allocator + Copy> Pedigree<A> {
         ensures refused { IfOk result (λ fault. IsSome fault → self.new ≡ self.old) }
         ensures err { OnErr result (self.new ≡ self.old) }
     {
+        match self.add_if_new(number, animal)? {
+            Registration::Added => Ok(None),
+            Registration::Unsound(fault) => Ok(Some(fault)),
+            Registration::AlreadyThere => unreachable!(),
+        }
+    }
+
+    /// Adds an animal, unless its number is in the book, or its parents have a fault. Its number is looked up once. The
+    /// only error is a growth of memory that is refused; then all is as it was.
+    pub fn add_if_new(
+        &mut self,
+        number: AnimalNumber,
+        animal: Animal,
+    ) -> Result<Registration, AllocError>
+        requires room { length self.old.book < MOST_ANIMALS }
+        requires since { animal.since ≡ animal.birth }
+        requires left { animal.left ≡ None }
+        ensures outcome { IfOk result (λ outcome. outcome ≡ registration DEPTH_LIMIT self.old.book number animal) }
+        // What the records of the number and of the parents show needs no memory.
+        ensures there { IsTrue (is_there self.old.book number) → result ≡ Ok Registration.AlreadyThere }
+        ensures by_records { IfSome (fault_by_records self.old.book animal.birth animal.sire animal.dam animal.embryo)
+            (λ fault. result ≡ Ok (unsound self.old.book number fault)) }
+        ensures added { result ≡ Ok Registration.Added
+            → self.new ≡ changed_to self.old (self.old.book ++ (number, animal) ∷ []) }
+        ensures refused { IfOk result (λ outcome. outcome ≢ Registration.Added → self.new ≡ self.old) }
+        ensures err { OnErr result (self.new ≡ self.old) }
+    {
         match sound_parents(
             &self.records,
             animal.birth,
@@ -159,42 +188,60 @@ impl<A: Allocator + Copy> Pedigree<A> {
             animal.embryo,
         ) {
             Ok(parents) => self.add_unless_too_deep(number, animal, parents.sire, parents.dam),
-            Err(fault) => Ok(Some(fault)),
+            Err(fault) => Ok(self.unsound(&number, fault)),
         }
     }
 
-    // Adds an animal whose parents stand at these places, unless its depth is above the limit.
+    // What becomes of a birth whose parents have a fault.
+    fn unsound(&self, number: &AnimalNumber, fault: ParentFault) -> Registration
+        ensures { result ≡ unsound self.now.book number.now fault }
+    {
+        if self.records.place_of(number).is_some() {
+            Registration::AlreadyThere
+        } else {
+            Registration::Unsound(fault)
+        }
+    }
+
+    // Adds an animal whose parents stand at these places, unless its number is there or its depth is above the limit.
     fn add_unless_too_deep(
         &mut self,
         number: AnimalNumber,
         animal: Animal,
         sire: Option<u32>,
         dam: Option<u32>,
-    ) -> Result<Option<ParentFault>, AllocError>
-        requires newborn { IsNewborn MOST_ANIMALS self.old.book number animal }
+    ) -> Result<Registration, AllocError>
+        requires room { length self.old.book < MOST_ANIMALS }
+        requires since { animal.since ≡ animal.birth }
+        requires left { animal.left ≡ None }
         requires sound { fault_by_records self.old.book animal.birth animal.sire animal.dam animal.embryo ≡ None }
         requires sire { IsIndexIn (keys_of self.old.book) sire animal.sire }
         requires dam { IsIndexIn (keys_of self.old.book) dam animal.dam }
-        ensures fault { IfOk result (λ fault. fault
-            ≡ parent_fault DEPTH_LIMIT self.old.book number animal.birth animal.sire animal.dam animal.embryo) }
-        ensures added { result ≡ Ok None → self.new ≡ changed_to self.old (self.old.book ++ (number, animal) ∷ []) }
-        ensures refused { IfOk result (λ fault. IsSome fault → self.new ≡ self.old) }
+        ensures outcome { IfOk result (λ outcome. outcome ≡ registration DEPTH_LIMIT self.old.book number animal) }
+        ensures there { IsTrue (is_there self.old.book number) → result ≡ Ok Registration.AlreadyThere }
+        ensures added { result ≡ Ok Registration.Added
+            → self.new ≡ changed_to self.old (self.old.book ++ (number, animal) ∷ []) }
+        ensures refused { IfOk result (λ outcome. outcome ≢ Registration.Added → self.new ≡ self.old) }
         ensures err { OnErr result (self.new ≡ self.old) }
     {
         let depth = depth_with(&self.depths, sire, dam);
         if depth > u16::from(DEPTH_LIMIT) {
-            return Ok(Some(ParentFault::TooDeep));
+            return Ok(self.unsound(&number, ParentFault::TooDeep));
         }
-        self.records.reserve()?;
-        self.depths.reserve(1)?;
-        self.sires.reserve()?;
-        self.dams.reserve()?;
-        self.records.push(number, animal, sire, dam);
+        if let Err(refused) = make_room(&mut self.depths, &mut self.sires, &mut self.dams) {
+            return match self.records.place_of(&number) {
+                Some(_) => Ok(Registration::AlreadyThere),
+                None => Err(refused),
+            };
+        }
+        if !self.records.push_if_new(number, animal, sire, dam)? {
+            return Ok(Registration::AlreadyThere);
+        }
         self.depths.push_reserved(depth as u8);
         self.sires.push(sire);
         self.dams.push(dam);
         self.undo = Undo::Birth;
-        Ok(None)
+        Ok(Registration::Added)
     }
 
     /// Sets both parents of an animal, also to unknown, and carries depths on to its descendants. The only error is a
@@ -236,12 +283,34 @@ impl<A: Allocator + Copy> Pedigree<A> {
         ensures refused { IfOk result (λ fault. IsSome fault → self.new ≡ self.old) }
         ensures err { OnErr result (self.new ≡ self.old) }
     {
-        let Some(index) = self.records.place_of(&number) else {
+        let Some(found) = self.find(&number) else {
             unreachable!();
         };
-        let place = index as u32;
-        let animal = self.records.animal_at(index);
-        let Animal { birth, embryo, .. } = animal;
+        self.set_parents_at_if_sound(&found, sire, dam)
+    }
+
+    /// Sets both parents of an animal that was found, as `set_parents_if_sound` does.
+    pub fn set_parents_at_if_sound(
+        &mut self,
+        found: &Found,
+        sire: Option<AnimalNumber>,
+        dam: Option<AnimalNumber>,
+    ) -> Result<Option<ParentFault>, AllocError>
+        requires { IsFound self.old.book found.now }
+        ensures fault { IfOk result (λ fault. IfSome (record_of self.old.book found.now.number)
+            (λ animal. fault
+            ≡ parent_fault DEPTH_LIMIT self.old.book found.now.number animal.birth sire dam animal.embryo)) }
+        // What the parents' records show needs no memory.
+        ensures by_records { IfSome (record_of self.old.book found.now.number) (λ animal. IfSome
+            (fault_by_records self.old.book animal.birth sire dam animal.embryo) (λ fault. result ≡ Ok (Some fault))) }
+        ensures set { result ≡ Ok None
+            → self.new ≡ changed_to self.old (changed self.old.book found.now.number (with_parents sire dam)) }
+        ensures refused { IfOk result (λ fault. IsSome fault → self.new ≡ self.old) }
+        ensures err { OnErr result (self.new ≡ self.old) }
+    {
+        let place = found.place;
+        let was = self.records.stored_at(place as usize);
+        let Animal { birth, embryo, .. } = self.records.animal_at(place as usize);
         let parents = match sound_parents(&self.records, birth, &sire, &dam, embryo) {
             Ok(parents) => parents,
             Err(fault) => return Ok(Some(fault)),
@@ -258,17 +327,10 @@ impl<A: Allocator + Copy> Pedigree<A> {
             return Ok(Some(ParentFault::TooDeep));
         };
         self.old_depths = log;
-        let corrected = animal.with_parents(sire, dam);
-        self.records
-            .set(index, corrected, parents.sire, parents.dam);
-        self.undo = Undo::Record {
-            place,
-            animal,
-            sire: self.sires.parent(place),
-            dam: self.dams.parent(place),
-        };
+        self.records.write(place as usize, was.with_parents(parents.sire, parents.dam));
         self.sires.set(place, parents.sire);
         self.dams.set(place, parents.dam);
+        self.undo = Undo::Record { place, was };
         Ok(None)
     }
 }
@@ -308,6 +370,29 @@ impl<A: Allocator> Pedigree<A> {
         Some(self.depths[place])
     }
 
+    /// The animal of a number, for the calls that end in `_at`: they don't look the number up again.
+    #[inline(always)]
+    pub fn find(&self, number: &AnimalNumber) -> Option<Found>
+        ensures absent { IfNone result (record_of self.now.book number.now ≡ None) }
+        ensures number { IfSome result (λ found. found.number ≡ number.now) }
+        ensures found { IfSome result (IsFound self.now.book) }
+    {
+        let place = self.records.place_of(number)?;
+        Some(Found {
+            number: *number,
+            place: place as u32,
+        })
+    }
+
+    /// The record of an animal that was found.
+    #[inline(always)]
+    pub fn animal_at(&self, found: &Found) -> Animal
+        requires { IsFound self.now.book found.now }
+        ensures { record_of self.now.book found.now.number ≡ Some result }
+    {
+        self.records.animal_at(found.place as usize)
+    }
+
     /// Whether an animal is the dam of one born after the day. Calves from stored embryos don't count.
     pub fn calved_after(&self, number: &AnimalNumber, day: Day) -> bool
         ensures { result ≡ has_calved_after self.now.book number.now day }
@@ -315,7 +400,19 @@ impl<A: Allocator> Pedigree<A> {
         let Some(place) = self.records.place_of(number) else {
             return false;
         };
-        for calf in self.dams.calves(place as u32) {
+        let found = Found {
+            number: *number,
+            place: place as u32,
+        };
+        self.calved_after_at(&found, day)
+    }
+
+    /// Whether an animal that was found is the dam of one born after the day, as `calved_after` says.
+    pub fn calved_after_at(&self, found: &Found, day: Day) -> bool
+        requires { IsFound self.now.book found.now }
+        ensures { result ≡ has_calved_after self.now.book found.now.number day }
+    {
+        for calf in self.dams.calves(found.place) {
             let calf = self.records.animal_at(calf as usize);
             if !calf.embryo && day < calf.birth {
                 return true;
@@ -329,11 +426,20 @@ impl<A: Allocator> Pedigree<A> {
         requires { IsPresentOn self.old.book number day }
         ensures { self.new ≡ changed_to self.old (changed self.old.book number (with_owner herd day)) }
     {
-        let Some(place) = self.records.place_of(&number) else {
+        let Some(found) = self.find(&number) else {
             unreachable!();
         };
-        let animal = self.records.animal_at(place);
-        self.set_record(place, animal, animal.with_owner(herd, day));
+        self.set_owner_at(&found, herd, day);
+    }
+
+    /// Sets the owner of an animal that was found, as `set_owner` does.
+    pub fn set_owner_at(&mut self, found: &Found, herd: Herd, day: Day)
+        requires found { IsFound self.old.book found.now }
+        requires present { IsPresentOn self.old.book found.now.number day }
+        ensures { self.new ≡ changed_to self.old (changed self.old.book found.now.number (with_owner herd day)) }
+    {
+        let was = self.records.stored_at(found.place as usize);
+        self.set_record(found.place, was, was.with_owner(herd, day));
     }
 
     /// Sets the day on which an animal left. It takes no memory.
@@ -341,31 +447,35 @@ impl<A: Allocator> Pedigree<A> {
         requires { IsExit self.old.book number day }
         ensures { self.new ≡ changed_to self.old (changed self.old.book number (with_left day)) }
     {
-        let Some(place) = self.records.place_of(&number) else {
+        let Some(found) = self.find(&number) else {
             unreachable!();
         };
-        let animal = self.records.animal_at(place);
-        self.set_record(place, animal, animal.with_left(day));
+        self.set_left_at(&found, day);
     }
 
-    // Sets the record at a place to another one with the same parents.
-    fn set_record(&mut self, place: usize, was: Animal, becomes: Animal)
+    /// Sets the day on which an animal that was found left. It takes no memory.
+    pub fn set_left_at(&mut self, found: &Found, day: Day)
+        requires found { IsFound self.old.book found.now }
+        requires exit { IsExit self.old.book found.now.number day }
+        ensures { self.new ≡ changed_to self.old (changed self.old.book found.now.number (with_left day)) }
+    {
+        let was = self.records.stored_at(found.place as usize);
+        self.set_record(found.place, was, was.with_left(day));
+    }
+
+    // Writes what is kept at a place, where the parents stay.
+    fn set_record(&mut self, place: u32, was: StoredRecord, becomes: StoredRecord)
         requires within { place < length self.old.book }
-        requires there { slice_get (values_of self.old.book) place ≡ Some was }
+        requires stored { IsStoredAt self.old.book place was }
         requires sire { becomes.sire ≡ was.sire }
         requires dam { becomes.dam ≡ was.dam }
-        requires lawful { IsLawful DEPTH_LIMIT MOST_ANIMALS (set_value_at self.old.book place becomes) }
-        ensures { self.new ≡ changed_to self.old (set_value_at self.old.book place becomes) }
+        requires lawful { IsLawful DEPTH_LIMIT MOST_ANIMALS
+            (set_value_at self.old.book place (animal_of (keys_of self.old.book) becomes)) }
+        ensures { self.new
+            ≡ changed_to self.old (set_value_at self.old.book place (animal_of (keys_of self.old.book) becomes)) }
     {
-        let sire = self.sires.parent(place as u32);
-        let dam = self.dams.parent(place as u32);
-        self.records.set(place, becomes, sire, dam);
-        self.undo = Undo::Record {
-            place: place as u32,
-            animal: was,
-            sire,
-            dam,
-        };
+        self.records.write(place as usize, becomes);
+        self.undo = Undo::Record { place, was };
         self.old_depths.clear();
     }
 
@@ -395,15 +505,11 @@ impl<A: Allocator> Pedigree<A> {
                 self.dams.pop();
                 let _ = self.depths.pop();
             }
-            Undo::Record {
-                place,
-                animal,
-                sire,
-                dam,
-            } => {
-                self.records.set(place as usize, animal, sire, dam);
-                self.sires.set(place, sire);
-                self.dams.set(place, dam);
+            Undo::Record { place, was } => {
+                let parents = was.parents();
+                self.records.write(place as usize, was);
+                self.sires.set(place, parents.sire);
+                self.dams.set(place, parents.dam);
                 undo_writes(&mut self.depths, &mut self.old_depths);
             }
         }
@@ -415,4 +521,22 @@ impl<A: Allocator> Pedigree<A> {
     {
         frozen_from(alloc, &self.records)
     }
+}
+
+// Makes room for one more animal beside its record.
+fn make_room<A: Allocator>(
+    depths: &mut Vec<u8, A>,
+    sires: &mut Progeny<A>,
+    dams: &mut Progeny<A>,
+) -> Result<(), AllocError>
+    ensures depths { depths.new.items ≡ depths.old.items }
+    ensures sires { sires.new.parents ≡ sires.old.parents }
+    ensures dams { dams.new.parents ≡ dams.old.parents }
+    ensures depths_room { OnOk result (vec_len depths.new < vec_capacity depths.new) }
+    ensures sires_room { OnOk result (0 < sires.new.room) }
+    ensures dams_room { OnOk result (0 < dams.new.room) }
+{
+    depths.reserve(1)?;
+    sires.reserve()?;
+    dams.reserve()
 }

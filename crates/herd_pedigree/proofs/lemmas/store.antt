@@ -6,6 +6,10 @@ pub mod SetFacts
 pub mod UndoFacts
 pub mod ListFacts
 pub mod ProgenyFacts
+pub mod LinkFacts
+pub mod UnlinkFacts
+pub mod PopFacts
+pub mod ChainFacts
 pub mod CarryFacts
 pub mod CorrectionFacts
 pub mod CalvedFacts

@@ -1,19 +1,19 @@
 -- The records of a book by place, each with the places of its parents.
-use Rattle.std.specs.Prelude.{◌≡◌, ℕ, ◌<◌, List, map, length, slice_get, IfSome, Option, Some}
-use Rattle.std.specs.Map.{keys_of}
+pub use Rattle.indexmap.specs.IndexMap.{set_value_at}
+use Rattle.std.specs.Prelude.{◌≡◌, ℕ, ◌<◌, ℤ, List, map, length, slice_get, IfSome, Option, Some}
+use Rattle.std.specs.Map.{keys_of, values_of}
 use Rattle.herd_frozen.specs.declared.rules.animal.Animal.{Animal}
 use Rattle.herd_pedigree.specs.declared.store.records.StoredRecord.{StoredRecord}
 use Rattle.herd_frozen.specs.rules.Book.{Book}
 use Rattle.herd_frozen.specs.places.Places.{IsIndexIn, number_at}
 
--- a book, and for how many more animals there is room
+-- what contracts see of the records: their book
 pub record Records : Type 0 where
   pub book : Book
-  pub room : ℕ
 
 -- the record of an entry, with the numbers of the parents for their places
-abbrev pub named : List (List ℕ) → StoredRecord → Animal
-named numbers entry = record {
+abbrev pub animal_of : List (List ℕ) → StoredRecord → Animal
+animal_of numbers entry = record {
   birth = entry.birth;
   sire = number_at numbers entry.sire;
   dam = number_at numbers entry.dam;
@@ -23,9 +23,25 @@ named numbers entry = record {
   left = entry.left;
 }
 
+-- what is kept of an animal, with parents at other places, another owner or an exit
+abbrev pub stored_with_parents : Option ℕ → Option ℕ → StoredRecord → StoredRecord
+stored_with_parents sire dam stored = record stored { sire = sire; dam = dam }
+
+abbrev pub stored_with_owner : ℕ → ℤ → StoredRecord → StoredRecord
+stored_with_owner herd day stored = record stored { herd = herd; since = day }
+
+abbrev pub stored_with_left : ℤ → StoredRecord → StoredRecord
+stored_with_left day stored = record stored { left = Some day }
+
+-- this is what is kept at a place of the book
+pub record IsStoredAt (book : Book) (place : ℕ) (stored : StoredRecord) : Type 0 where
+  pub animal : slice_get (values_of book) place ≡ Some (animal_of (keys_of book) stored)
+  pub sire : IfSome stored.sire (λ p. p < length book)
+  pub dam : IfSome stored.dam (λ p. p < length book)
+
 -- the book of entries, with the numbers of all animals
 abbrev pub book_with : List (List ℕ) → List (List ℕ × StoredRecord) → Book
-book_with numbers entries = map (λ entry. (entry.0, named numbers entry.1)) entries
+book_with numbers entries = map (λ entry. (entry.0, animal_of numbers entry.1)) entries
 
 -- the book of all entries
 abbrev pub stored_book : List (List ℕ × StoredRecord) → Book

@@ -1,10 +1,11 @@
 -- What taking the last change back leaves.
 use Rattle.std.specs.Prelude.{◌≡◌, ℕ, ◌-◌, ◌<◌, List, [], ◌∷◌, All, length, take, slice_set, Option, Some, None}
-use Rattle.indexmap.specs.IndexMap.{set_value_at}
+use Rattle.std.specs.Map.{keys_of}
 use Rattle.herd_pedigree.specs.declared.store.undo.Undo.{Undo}
 use Rattle.herd_pedigree.specs.declared.store.undo.Undo.TheVariants.{Nothing, Birth, Record}
 use Rattle.herd_frozen.specs.rules.Book.{Book}
 use Rattle.herd_pedigree.specs.store.Kept.{IsKept}
+use Rattle.herd_pedigree.specs.store.Records.{animal_of, set_value_at}
 
 -- a list without its last element
 abbrev pub without_last : {X : Type 0} → List X → List X
@@ -19,31 +20,31 @@ undone_writes (write ∷ log) depths = slice_set (undone_writes log depths) writ
 abbrev pub undone_book : Undo → Book → Option Book
 undone_book Nothing book = None
 undone_book Birth book = Some (without_last book)
-undone_book (Record place animal sire dam) book = Some (set_value_at book place animal)
+undone_book (Record place was) book = Some (set_value_at book place (animal_of (keys_of book) was))
 
 -- the places of the sires before it
 abbrev pub undone_sires : Undo → List (Option ℕ) → List (Option ℕ)
 undone_sires Nothing sires = sires
 undone_sires Birth sires = without_last sires
-undone_sires (Record place animal sire dam) sires = slice_set sires place sire
+undone_sires (Record place was) sires = slice_set sires place was.sire
 
 -- the places of the dams before it
 abbrev pub undone_dams : Undo → List (Option ℕ) → List (Option ℕ)
 undone_dams Nothing dams = dams
 undone_dams Birth dams = without_last dams
-undone_dams (Record place animal sire dam) dams = slice_set dams place dam
+undone_dams (Record place was) dams = slice_set dams place was.dam
 
 -- the depths before it
 abbrev pub undone_depths : Undo → List (ℕ × ℕ) → List ℕ → List ℕ
 undone_depths Nothing log depths = depths
 undone_depths Birth log depths = without_last depths
-undone_depths (Record place animal sire dam) log depths = undone_writes log depths
+undone_depths (Record place was) log depths = undone_writes log depths
 
 -- the change wrote within a book of n animals
 abbrev pub IsWithin : Undo → List (ℕ × ℕ) → ℕ → Type 0
 IsWithin Nothing log n = Unit {0}
 IsWithin Birth log n = 0 < n
-IsWithin (Record place animal sire dam) log n = (place < n) × All (λ write. write.0 < n) log
+IsWithin (Record place was) log n = (place < n) × All (λ write. write.0 < n) log
 
 -- what the pedigree keeps, now and before the last change
 pub record IsHeld (l most : ℕ) (book : Book) (sires dams : List (Option ℕ)) (depths : List ℕ) (log : List (ℕ × ℕ)) (undo : Undo) : Type 0 where

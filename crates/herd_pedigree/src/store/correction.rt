@@ -155,9 +155,9 @@ impl<A: Allocator> Correction<'_, A> {
         Ok(())
     }
 
-    /// Carries depths on to the animal and its descendants, and logs what is written over. Whether that came to
-    /// an end: else some path is too long.
-    pub fn carry<B: Allocator + Copy>(
+    // Carries depths on to the animal and its descendants, and logs what is written over. Whether that came to an end:
+    // else some path is too long.
+    fn carry<B: Allocator + Copy>(
         &self,
         alloc: B,
         depths: &mut [u8],
@@ -182,6 +182,33 @@ impl<A: Allocator> Correction<'_, A> {
             pending = calves;
         }
         Ok(pending.as_slice().is_empty())
+    }
+
+    // Carries depths on, from an empty log, and returns whether no path is too long.
+    fn stays_shallow<B: Allocator + Copy>(
+        &self,
+        alloc: B,
+        depths: &mut [u8],
+        log: &mut Vec<(u32, u8), B>,
+    ) -> Result<bool, AllocError>
+        requires sound { IsSound self.now }
+        requires long { length depths.old ≡ length self.now.sires.now.parents }
+        requires settled { IsSettled DEPTH_LIMIT (corrected self.now) (slice_index depths.old) (self.now.place ∷ []) }
+        requires shallow { (x : ℕ) → x < length depths.old → slice_index depths.old x ≤ DEPTH_LIMIT }
+        requires empty { log.old.items ≡ [] }
+        ensures logged { All (λ write. write.0 < length depths.old) log.new.items }
+        ensures undone { undone_writes log.new.items depths.new ≡ depths.old }
+        ensures settled { IfOk result
+            (λ shallow. IsTrue shallow → IsSettled DEPTH_LIMIT (corrected self.now) (slice_index depths.new) []) }
+        ensures shallow { IfOk result (λ shallow. IsTrue shallow
+            → (x : ℕ) → IsFalse (has_path (corrected self.now) (DEPTH_LIMIT + 1) x)) }
+        ensures deep { IfOk result
+            (λ shallow. IsFalse shallow → (x : ℕ) × IsTrue (has_path (corrected self.now) (DEPTH_LIMIT + 1) x)) }
+    {
+        if !self.carry(alloc, depths, log)? {
+            return Ok(false);
+        }
+        Ok(!has_greater(depths, log, DEPTH_LIMIT))
     }
 
     /// Carries depths on and returns the log. Where some path would be too long, or memory is refused, all depths are
@@ -209,11 +236,9 @@ impl<A: Allocator> Correction<'_, A> {
         ensures err { OnErr result (depths.new ≡ depths.old) }
     {
         let mut log = Vec::new(alloc);
-        match self.carry(alloc, depths, &mut log) {
-            Ok(done) => {
-                if done && !has_greater(depths, &log, DEPTH_LIMIT) {
-                    return Ok(Some(log));
-                }
+        match self.stays_shallow(alloc, depths, &mut log) {
+            Ok(true) => Ok(Some(log)),
+            Ok(false) => {
                 undo_writes(depths, &mut log);
                 Ok(None)
             }
@@ -241,10 +266,8 @@ impl<A: Allocator> Correction<'_, A> {
     {
         let mut depths = Vec::from_slice(alloc, depths)?;
         let mut log = Vec::new(alloc);
-        if !self.carry(alloc, &mut depths, &mut log)? {
-            return Ok(true);
-        }
-        Ok(has_greater(&depths, &log, DEPTH_LIMIT))
+        let shallow = self.stays_shallow(alloc, &mut depths, &mut log)?;
+        Ok(!shallow)
     }
 }
 

@@ -148,9 +148,7 @@ impl<A: Allocator> Progeny<A> {
             next: PackedIndex::none(),
             first: PackedIndex::none(),
         };
-        if self.families.push(alone).is_err() {
-            unreachable!();
-        }
+        self.families.push_reserved(alone);
     }
 
     /// Sets the parent of the animal at a place. It takes no memory.

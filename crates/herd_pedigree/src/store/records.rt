@@ -1,19 +1,20 @@
 //! The records of a book, which keep the places of the parents for their numbers.
-ghost use Rattle.std.specs.Prelude.{◌≡◌, ◌<◌, ◌^◌, [], ◌++◌, ◌∷◌, length, position, slice_get, None, IfSome, OnOk, is_some};
+ghost use Rattle.std.specs.Prelude.{◌≡◌, ◌<◌, ◌^◌, [], ◌++◌, ◌∷◌, length, not, position, slice_get, true, false, None, IfOk, IfSome, OnErr, is_some};
 ghost use Rattle.std.specs.List.{IsDistinct};
 ghost use Rattle.std.specs.Map.{keys_of, values_of};
 ghost use Rattle.std.specs.Str.{bytes_eq};
-ghost use Rattle.indexmap.specs.IndexMap.{set_value_at};
+ghost use Rattle.indexmap.specs.IndexMap.{get};
 ghost use Rattle.herd_frozen.specs.rules.Book.{is_there, record_of};
 ghost use Rattle.herd_frozen.specs.places.Links.{IsLinkAt};
 ghost use Rattle.herd_frozen.specs.places.PackedIndex.{nowhere};
 ghost use Rattle.herd_frozen.specs.places.Places.{IsIndexIn, number_at};
-ghost use Rattle.herd_pedigree.specs.store.Records.{NamesItsOwn, named};
+ghost use Rattle.herd_pedigree.specs.store.Records.{IsStoredAt, NamesItsOwn, animal_of, set_value_at, stored_with_left, stored_with_owner, stored_with_parents};
 ghost use Rattle.herd_pedigree.specs.store.Undo.{without_last};
 
 use herd_animal::{AnimalNumber, Day, Herd};
 use herd_frozen::{Animal, Link, PackedIndex};
 use indexmap::IndexMap;
+use indexmap::map::Entry;
 use std::alloc::{AllocError, Allocator};
 use std::hash::{BuildHasherDefault, FoldHasher};
 use std::marker::Model;
@@ -37,12 +38,11 @@ pub struct Records<A: Allocator> {
 }
 
 impl<A: Allocator> Model for Records<A> {
-    ghost use Rattle.indexmap.specs.IndexMap.{spare};
     ghost use Rattle.herd_pedigree.specs.store.Records.{AreClosed, Records, stored_book};
 
     ghost Value = { Records };
 
-    ghost view = { λ r. record { book = stored_book r.entries.entries; room = spare r.entries } };
+    ghost view = { λ r. record { book = stored_book r.entries.entries } };
 
     ghost invariant = { λ r. AreClosed r.entries.entries };
 }
@@ -68,6 +68,52 @@ impl StoredRecord {
             herd: animal.herd,
             since: animal.since,
             left: animal.left,
+        }
+    }
+
+    /// The places of the parents.
+    #[inline(always)]
+    pub(crate) fn parents(&self) -> Link
+        ensures sire { result.sire ≡ self.now.sire }
+        ensures dam { result.dam ≡ self.now.dam }
+    {
+        Link {
+            sire: self.sire.get(),
+            dam: self.dam.get(),
+        }
+    }
+
+    /// The same with parents that stand at these places.
+    pub(crate) fn with_parents(&self, sire: Option<u32>, dam: Option<u32>) -> StoredRecord
+        requires sire { IfSome sire (λ place. place < nowhere) }
+        requires dam { IfSome dam (λ place. place < nowhere) }
+        ensures { result ≡ stored_with_parents sire dam self.now }
+    {
+        StoredRecord {
+            sire: PackedIndex::of(sire),
+            dam: PackedIndex::of(dam),
+            ..*self
+        }
+    }
+
+    /// The same, owned by the herd from the day on.
+    pub(crate) fn with_owner(&self, herd: Herd, day: Day) -> StoredRecord
+        ensures { result ≡ stored_with_owner herd day self.now }
+    {
+        StoredRecord {
+            herd,
+            since: day,
+            ..*self
+        }
+    }
+
+    /// The same, gone on the day.
+    pub(crate) fn with_left(&self, day: Day) -> StoredRecord
+        ensures { result ≡ stored_with_left day self.now }
+    {
+        StoredRecord {
+            left: Some(day),
+            ..*self
         }
     }
 }
@@ -115,7 +161,7 @@ impl<A: Allocator> Records<A> {
         requires { place < length self.now.book }
         ensures { slice_get (values_of self.now.book) place ≡ Some result }
     {
-        self.named(&self.entries[place])
+        self.animal_of(&self.entries[place])
     }
 
     /// The record of an animal.
@@ -124,7 +170,7 @@ impl<A: Allocator> Records<A> {
         ensures { result ≡ record_of self.now.book number.now }
     {
         let entry = self.entries.get(number)?;
-        Some(self.named(entry))
+        Some(self.animal_of(entry))
     }
 
     /// The number and the record at a place, where there are so many.
@@ -133,8 +179,17 @@ impl<A: Allocator> Records<A> {
         ensures { result ≡ slice_get self.now.book place }
     {
         let (number, entry) = self.entries.get_index(place)?;
-        let animal = self.named(entry);
+        let animal = self.animal_of(entry);
         Some((*number, animal))
+    }
+
+    /// What is kept at a place.
+    #[inline(always)]
+    pub(crate) fn stored_at(&self, place: usize) -> StoredRecord
+        requires { place < length self.now.book }
+        ensures { IsStoredAt self.now.book place result }
+    {
+        self.entries[place]
     }
 
     /// The places of the parents of the animal at a place.
@@ -143,17 +198,13 @@ impl<A: Allocator> Records<A> {
         requires { place < length self.now.book }
         ensures { IsLinkAt self.now.book place result }
     {
-        let entry = &self.entries[place];
-        Link {
-            sire: entry.sire.get(),
-            dam: entry.dam.get(),
-        }
+        self.entries[place].parents()
     }
 
-    // The record that an entry is of.
+    // The animal that an entry is of.
     #[inline(always)]
-    fn named(&self, entry: &StoredRecord) -> Animal
-        ensures { result ≡ named (keys_of self.now.book) entry.now }
+    fn animal_of(&self, entry: &StoredRecord) -> Animal
+        ensures { result ≡ animal_of (keys_of self.now.book) entry.now }
     {
         Animal {
             birth: entry.birth,
@@ -176,47 +227,36 @@ impl<A: Allocator> Records<A> {
         Some(*number)
     }
 
-    /// Makes room for one more animal.
-    pub fn reserve(&mut self) -> Result<(), AllocError>
-        ensures book { self.new.book ≡ self.old.book }
-        ensures room { OnOk result (0 < self.new.room) }
-    {
-        self.entries.reserve(1)
-    }
-
-    /// Adds an animal whose parents stand at these places. It takes no memory.
-    pub fn push(
+    /// Adds an animal whose parents stand at these places, unless its number is there, and returns whether it was new.
+    /// The only error is a growth of memory that is refused; a number that is there needs none.
+    pub fn push_if_new(
         &mut self,
         number: AnimalNumber,
         animal: Animal,
         sire: Option<u32>,
         dam: Option<u32>,
-    )
-        requires absent { record_of self.old.book number ≡ None }
+    ) -> Result<bool, AllocError>
         requires few { length self.old.book < 2 ^ 32 }
         requires sire { IsIndexIn (keys_of self.old.book) sire animal.sire }
         requires dam { IsIndexIn (keys_of self.old.book) dam animal.dam }
-        requires room { 0 < self.old.room }
-        ensures { self.new.book ≡ self.old.book ++ (number, animal) ∷ [] }
+        ensures new { IfOk result (λ new. new ≡ not (is_there self.old.book number)) }
+        ensures added { result ≡ Ok true → self.new.book ≡ self.old.book ++ (number, animal) ∷ [] }
+        ensures there { result ≡ Ok false → self.new.book ≡ self.old.book }
+        ensures err { OnErr result (self.new.book ≡ self.old.book) }
+        ensures absent { OnErr result (record_of self.old.book number ≡ None) }
     {
-        if self
-            .entries
-            .insert(number, StoredRecord::new(animal, sire, dam))
-            .is_err()
-        {
-            unreachable!();
-        }
+        let stored = StoredRecord::new(animal, sire, dam);
+        insert_if_new(&mut self.entries, number, stored)
     }
 
-    /// Sets the record at a place, to that of an animal whose parents stand at these places. It takes no memory.
-    pub fn set(&mut self, place: usize, animal: Animal, sire: Option<u32>, dam: Option<u32>)
+    /// Writes what is kept at a place. It takes no memory.
+    pub(crate) fn write(&mut self, place: usize, stored: StoredRecord)
         requires within { place < length self.old.book }
-        requires few { length self.old.book < 2 ^ 32 }
-        requires sire { IsIndexIn (keys_of self.old.book) sire animal.sire }
-        requires dam { IsIndexIn (keys_of self.old.book) dam animal.dam }
-        ensures { self.new.book ≡ set_value_at self.old.book place animal }
+        requires sire { IfSome stored.sire (λ p. p < length self.old.book) }
+        requires dam { IfSome stored.dam (λ p. p < length self.old.book) }
+        ensures { self.new.book ≡ set_value_at self.old.book place (animal_of (keys_of self.old.book) stored) }
     {
-        self.entries[place] = StoredRecord::new(animal, sire, dam);
+        self.entries[place] = stored;
     }
 
     /// Takes the last animal away, which is nobody's parent. It takes no memory.
@@ -226,5 +266,27 @@ impl<A: Allocator> Records<A> {
         ensures { self.new.book ≡ without_last self.old.book }
     {
         let _ = self.entries.pop();
+    }
+}
+
+// Inserts a record last, unless its number is there, and returns whether it was new.
+#[inline(always)]
+fn insert_if_new<A: Allocator>(
+    entries: &mut IndexMap<AnimalNumber, StoredRecord, BuildHasherDefault<FoldHasher>, A>,
+    number: AnimalNumber,
+    stored: StoredRecord,
+) -> Result<bool, AllocError>
+    ensures new { IfOk result (λ new. new ≡ not (is_some (get bytes_eq entries.old number))) }
+    ensures added { result ≡ Ok true → entries.new.entries ≡ entries.old.entries ++ (number, stored) ∷ [] }
+    ensures there { result ≡ Ok false → entries.new.entries ≡ entries.old.entries }
+    ensures err { OnErr result (entries.new.entries ≡ entries.old.entries) }
+    ensures absent { OnErr result (get bytes_eq entries.old number ≡ None) }
+{
+    match entries.entry(number)? {
+        Entry::Vacant(entry) => {
+            entry.insert(stored);
+            Ok(true)
+        }
+        Entry::Occupied(_) => Ok(false),
     }
 }

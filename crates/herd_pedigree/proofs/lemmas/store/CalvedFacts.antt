@@ -1,15 +1,16 @@
 -- Whether an animal is the dam of one born after a day, by her calves alone.
-use Rattle.std.proofs.Common.{ℕ, ℤ, zero, suc, ◌≡◌, ⊎_elim, refl, sym, ap, ◌∙◌, subst, Bool, true, false, not, ◌&&◌, ◌||◌, int_lt, List, [], ◌∷◌, Option, Some, None, slice_get, get_or}
+use Rattle.std.proofs.Common.{ℕ, ℤ, zero, suc, ◌≡◌, ⊎_elim, sym, ap, ◌∙◌, subst, Bool, true, false, not, ◌&&◌, int_lt, List, [], ◌∷◌, Option, Some, None, slice_get, get_or}
 use Rattle.std.specs.Str.{bytes_eq}
-use Rattle.std.specs.List.{IsDistinct, list_any}
+use Rattle.std.specs.List.{IsDistinct}
 use Rattle.std.specs.Map.{keys_of, values_of}
 use Rattle.std.specs.Option.{option_map_or}
-use Rattle.std.proofs.lemmas.Bool.{cases_Bool, false_from_ne_true, and_parts, or_left}
+use Rattle.std.proofs.lemmas.Bool.{cases_Bool, false_from_ne_true, and_parts}
 use Rattle.std.proofs.lemmas.Option.{same_Some, slice_get-get_or}
 use Rattle.std.proofs.lemmas.List.Folds.{list_any_none}
 use Rattle.herd_frozen.specs.declared.rules.animal.Animal.{Animal}
 use Rattle.herd_frozen.specs.rules.Book.{Book, record_of, has_calved_after, is_calf_after}
 use Rattle.herd_frozen.specs.places.Places.{parent_at, IsIndexIn, AreParents}
+use Rattle.herd_pedigree.proofs.lemmas.store.ListFacts.{any_found}
 use Rattle.herd_frozen.proofs.lemmas.rules.BookFacts.{same_bytes, bytes_itself, stands_once, entry_from_key, value_at}
 
 -- the calf counts: it is from no stored embryo, and born after the day
@@ -19,15 +20,6 @@ counts day animal = not animal.embryo && int_lt day animal.birth
 named : (number : List ℕ) (dam : Option (List ℕ)) → option_map_or (bytes_eq number) dam false ≡ true → dam ≡ Some number
 named number None h = absurd (cc)
 named number (Some d) h = ap Some (sym (same_bytes number d h))
-
-any_found : {X : Type 0} (test : X → Bool) (xs : List X) (k : ℕ) (x : X) → slice_get xs k ≡ Some x → test x ≡ true → list_any test xs ≡ true
-any_found test [] k x at t = absurd (cc)
-any_found test (y ∷ ys) zero x at t = let e : y ≡ x = same_Some _ _ at in or_left (test y) (list_any test ys) (ap test e ∙ t)
-any_found test (y ∷ ys) (suc k) x at t = later (test y) (list_any test ys) (any_found test ys k x at t)
-  where
-    later : (a b : Bool) → b ≡ true → (a || b) ≡ true
-    later true b h = refl
-    later false b h = h
 
 -- who stands in the book has a record
 no_record : (es : Book) (q : ℕ) (x : List ℕ) (animal : Animal) → slice_get es q ≡ Some (x, animal) → record_of es x ≡ None → ⊥

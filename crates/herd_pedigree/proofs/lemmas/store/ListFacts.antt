@@ -1,7 +1,9 @@
 -- What a list holds, and what a filter leaves of it.
-use Rattle.std.proofs.Common.{ℕ, zero, suc, ◌<◌, ◌≡◌, ◌⊎◌, ⊎_elim, inl, inr, Bool, true, false, filter, Contains, arith, refl, subst, List, [], ◌∷◌, get_or}
-use Rattle.std.proofs.lemmas.Bool.{cases_Bool}
+use Rattle.std.proofs.Common.{ℕ, zero, suc, ◌<◌, ◌≡◌, ◌⊎◌, ◌||◌, ⊎_elim, inl, inr, Bool, true, false, filter, Contains, arith, refl, ap, ◌∙◌, subst, List, [], ◌∷◌, Some, get_or, slice_get}
+use Rattle.std.specs.List.{list_any}
+use Rattle.std.proofs.lemmas.Bool.{cases_Bool, or_left}
 use Rattle.std.proofs.lemmas.List.Elements.{Contains-append_right, Contains-append_cases}
+use Rattle.std.proofs.lemmas.Option.{same_Some}
 
 module _ {X : Type 0} where
   pub contains_here : (x : X) (xs : List X) → Contains (x ∷ xs) x
@@ -46,3 +48,13 @@ module _ {X : Type 0} where
       (contains_cases x y (filter p xs) (rw t at h)))
       (λ (t : p x ≡ false). let rest = filter-only p xs y (rw t at h) in (contains_later x y xs rest.0, rest.1))
       (cases_Bool (p x))
+
+-- one element that passes a test is enough
+pub any_found : {X : Type 0} (test : X → Bool) (xs : List X) (k : ℕ) (x : X) → slice_get xs k ≡ Some x → test x ≡ true → list_any test xs ≡ true
+any_found test [] k x at t = absurd (cc)
+any_found test (y ∷ ys) zero x at t = let e : y ≡ x = same_Some _ _ at in or_left (test y) (list_any test ys) (ap test e ∙ t)
+any_found test (y ∷ ys) (suc k) x at t = later (test y) (list_any test ys) (any_found test ys k x at t)
+  where
+    later : (a b : Bool) → b ≡ true → (a || b) ≡ true
+    later true b h = refl
+    later false b h = h

@@ -1,21 +1,22 @@
 -- One record set at its place.
-use Rattle.std.proofs.Common.{ℕ, zero, suc, ◌<◌, ◌≡◌, ◌≢◌, ◌⊎◌, ⊎_elim, inl, inr, arith, refl, sym, ap, ◌∙◌, subst, true, false, List, [], ◌∷◌, Option, Some, None, length, position, slice_get, slice_set, All}
+use Rattle.std.proofs.Common.{ℕ, zero, suc, ◌<◌, ◌≡◌, ◌≢◌, ◌⊎◌, ⊎_elim, inl, inr, arith, refl, sym, ap, ◌∙◌, subst, true, false, List, [], ◌∷◌, Option, Some, None, length, slice_get, slice_set, All}
 use Rattle.std.specs.Str.{bytes_eq}
 use Rattle.std.specs.List.{IsDistinct}
-use Rattle.std.specs.Map.{keys_of, values_of}
+use Rattle.std.specs.Map.{keys_of}
 use Rattle.std.proofs.lemmas.Option.{same_Some, slice_get_within}
 use Rattle.std.proofs.lemmas.List.{get_or-set_same, get_or-set_other, length-set, set-get_or}
 use Rattle.std.proofs.lemmas.List.Elements.{All-nil}
-use Rattle.indexmap.specs.IndexMap.{set_value_at}
 use Rattle.herd_frozen.specs.declared.rules.animal.Animal.{Animal}
+use Rattle.herd_pedigree.specs.declared.store.records.StoredRecord.{StoredRecord}
 use Rattle.herd_pedigree.specs.declared.store.undo.Undo.TheVariants.{Record}
 use Rattle.herd_frozen.specs.rules.Book.{Book, changed}
 use Rattle.herd_frozen.specs.rules.Lawful.{IsLawful}
 use Rattle.herd_pedigree.specs.Pedigree.{Pedigree, changed_to}
 use Rattle.herd_frozen.specs.places.Places.{parent_at, IsIndexIn, AreParents}
 use Rattle.herd_pedigree.specs.store.Kept.{IsKept}
+use Rattle.herd_pedigree.specs.store.Records.{animal_of, set_value_at}
 use Rattle.herd_pedigree.specs.store.Undo.{IsHeld}
-use Rattle.herd_frozen.proofs.lemmas.rules.BookFacts.{bytes_itself, bytes_turned, apart_at, entry_found}
+use Rattle.herd_frozen.proofs.lemmas.rules.BookFacts.{bytes_itself, bytes_turned, apart_at}
 
 pub keys-set : {X : Type 0} (es : List (List ℕ × X)) (i : ℕ) (b : X) → keys_of (set_value_at es i b) ≡ keys_of es
 keys-set [] i b = refl
@@ -26,12 +27,6 @@ pub length-set-at : {X : Type 0} (es : List (List ℕ × X)) (i : ℕ) (b : X) �
 length-set-at [] i b = refl
 length-set-at (e ∷ es) zero b = refl
 length-set-at (e ∷ es) (suc i) b = ap (λ n. suc n) (length-set-at es i b)
-
--- the record that was set
-pub set_there : {X : Type 0} (es : List (List ℕ × X)) (i : ℕ) (b : X) (entry : List ℕ × X) → slice_get es i ≡ Some entry → slice_get (set_value_at es i b) i ≡ Some (entry.0, b)
-set_there [] i b entry at = absurd (cc)
-set_there (e ∷ es) zero b entry at = let k : e ≡ entry = same_Some _ _ at in ap (λ p. Some (p.0, b)) k
-set_there (e ∷ es) (suc i) b entry at = set_there es i b entry at
 
 -- an entry is that which was set, or as it was
 pub set_value-cases : {X : Type 0} (es : List (List ℕ × X)) (i c : ℕ) (b : X) (entry : List ℕ × X) → slice_get (set_value_at es i b) c ≡ Some entry → ((c ≡ i) × (b ≡ entry.1)) ⊎ ((c ≢ i) × (slice_get es c ≡ Some entry))
@@ -54,15 +49,17 @@ set-changed (e ∷ es) once (suc i) x a change at =
     let t : bytes_eq x e.0 ≡ false = bytes_turned e.0 x (apart_at e.0 es i x a once.0 at) in
     rw t (ap (λ l. e ∷ l) (set-changed es once.1 i x a change at))
 
-pub set-found : (book : Book) → IsDistinct bytes_eq (keys_of book) → (x : List ℕ) (i : ℕ) (a b : Animal) (change : Animal → Animal) → Some i ≡ position (bytes_eq x) (keys_of book) → slice_get (values_of book) i ≡ Some a → b ≡ change a →
-    set_value_at book i b ≡ changed book x change
-set-found book once x i a b change found value is = ap (λ v. set_value_at book i v) is ∙ set-changed book once i x a change (entry_found book x i a found value)
-
 -- what was there is set back
 pub set-back : (es : Book) (i : ℕ) (x : List ℕ) (a b : Animal) → slice_get es i ≡ Some (x, a) → set_value_at (set_value_at es i b) i a ≡ es
 set-back [] i x a b at = absurd (cc)
 set-back (e ∷ es) zero x a b at = let k : e ≡ (x, a) = same_Some _ _ at in ap (λ p. p ∷ es) (λ i. (e.0, sym (ap (λ p. p.1) k) i))
 set-back (e ∷ es) (suc i) x a b at = ap (λ l. e ∷ l) (set-back es i x a b at)
+
+-- also where it is told by what was kept of it
+pub stored-back : (es : Book) (i : ℕ) (x : List ℕ) (b : Animal) (was : StoredRecord) → slice_get es i ≡ Some (x, animal_of (keys_of es) was) →
+    set_value_at (set_value_at es i b) i (animal_of (keys_of (set_value_at es i b)) was) ≡ es
+stored-back es i x b was at =
+    ap (λ ks. set_value_at (set_value_at es i b) i (animal_of ks was)) (keys-set es i b) ∙ set-back es i x (animal_of (keys_of es) was) b at
 
 -- one parent of each, with another of the animal at a place
 pub AreParents-set : (book : Book) (parent_of : Animal → Option (List ℕ)) (parents : List (Option ℕ)) (i : ℕ) (b : Animal) (o : Option ℕ) → AreParents book parent_of parents → i < length book → IsIndexIn (keys_of book) o (parent_of b) →
@@ -90,39 +87,42 @@ AreParents-same book parent_of parents i x a b k at same =
     subst (λ ps. AreParents (set_value_at book i b) parent_of ps) (set-get_or parents i None)
     (AreParents-set book parent_of parents i b (parent_at parents i) k (slice_get_within book i (x, a) at) (subst (λ n. IsIndexIn (keys_of book) (parent_at parents i) n) (sym same) (k.each i (x, a) at)))
 
-module _ (l most : ℕ) (book : Book) (sires dams : List (Option ℕ)) (depths : List ℕ) (k : IsKept l most book sires dams depths) (i : ℕ) (x : List ℕ) (a b : Animal) (at : slice_get book i ≡ Some (x, a)) (sire : b.sire ≡ a.sire) (dam : b.dam ≡ a.dam) (lawful : IsLawful l most (set_value_at book i b)) where
+module _ (l most : ℕ) (book : Book) (sires dams : List (Option ℕ)) (depths : List ℕ) (k : IsKept l most book sires dams depths) (i : ℕ) (x : List ℕ) (was : StoredRecord) (b : Animal)
+    (at : slice_get book i ≡ Some (x, animal_of (keys_of book) was)) (sire : b.sire ≡ (animal_of (keys_of book) was).sire) (dam : b.dam ≡ (animal_of (keys_of book) was).dam) (lawful : IsLawful l most (set_value_at book i b)) where
   -- what is kept, where the parents stay
   IsKept-same : IsKept l most (set_value_at book i b) sires dams depths
   IsKept-same = record {
     lawful = lawful;
-    sires_are = AreParents-same book (λ animal. animal.sire) sires i x a b k.sires_are at sire;
-    dams_are = AreParents-same book (λ animal. animal.dam) dams i x a b k.dams_are at dam;
+    sires_are = AreParents-same book (λ animal. animal.sire) sires i x (animal_of (keys_of book) was) b k.sires_are at sire;
+    dams_are = AreParents-same book (λ animal. animal.dam) dams i x (animal_of (keys_of book) was) b k.dams_are at dam;
     long = k.long ∙ sym (length-set-at book i b);
     depths_are = k.depths_are;
   }
 
   -- and what is held, once the write is noted
-  pub IsHeld-same : (log : List (ℕ × ℕ)) → log ≡ [] → (s d : Option ℕ) → s ≡ parent_at sires i → d ≡ parent_at dams i → IsHeld l most (set_value_at book i b) sires dams depths log (Record i a s d)
-  IsHeld-same log empty s d e f = record {
+  pub IsHeld-same : (log : List (ℕ × ℕ)) → log ≡ [] → was.sire ≡ parent_at sires i → was.dam ≡ parent_at dams i → IsHeld l most (set_value_at book i b) sires dams depths log (Record i was)
+  IsHeld-same log empty e f = record {
     kept = IsKept-same;
     within = (
-      let w = slice_get_within book i (x, a) at in let n = length-set-at book i b in omega (arith, w, n),
+      let w = slice_get_within book i (x, animal_of (keys_of book) was) at in let n = length-set-at book i b in omega (arith, w, n),
       subst (λ ws. All (λ write. write.0 < length (set_value_at book i b)) ws) (sym empty) (All-nil (λ (write : ℕ × ℕ). write.0 < length (set_value_at book i b))),
     );
     before = λ old is.
-        let same : book ≡ old = sym (set-back book i x a b at) ∙ same_Some _ _ is in
-        let sires_same : slice_set sires i s ≡ sires = ap (λ o. slice_set sires i o) e ∙ set-get_or sires i None in
-        let dams_same : slice_set dams i d ≡ dams = ap (λ o. slice_set dams i o) f ∙ set-get_or dams i None in
+        let same : book ≡ old = sym (stored-back book i x b was at) ∙ same_Some _ _ is in
+        let sires_same : slice_set sires i was.sire ≡ sires = ap (λ o. slice_set sires i o) e ∙ set-get_or sires i None in
+        let dams_same : slice_set dams i was.dam ≡ dams = ap (λ o. slice_set dams i o) f ∙ set-get_or dams i None in
         rw (sires_same, dams_same, empty) (subst (λ old. IsKept l most old sires dams depths) same k);
   }
 
 -- the view after a record was set by its place
-pub set-view : (was : Pedigree) (book : Book) (i : ℕ) (x : List ℕ) (a b : Animal) → slice_get book i ≡ Some (x, a) → book ≡ was.book →
-    record { book = set_value_at book i b; before = Some (set_value_at (set_value_at book i b) i a) } ≡ changed_to was (set_value_at was.book i b)
-set-view was book i x a b at w = λ j. record { book = set_value_at (w j) i b; before = (ap Some (set-back book i x a b at ∙ w)) j }
+pub set-view : (old : Pedigree) (book : Book) (i : ℕ) (x : List ℕ) (was : StoredRecord) (b : Animal) → slice_get book i ≡ Some (x, animal_of (keys_of book) was) → book ≡ old.book →
+    record { book = set_value_at book i b; before = Some (set_value_at (set_value_at book i b) i (animal_of (keys_of (set_value_at book i b)) was)) } ≡ changed_to old (set_value_at old.book i b)
+set-view old book i x was b at w = λ j. record { book = set_value_at (w j) i b; before = (ap Some (stored-back book i x b was at ∙ w)) j }
 
 -- and by its number
-pub record-view : (was : Pedigree) (book : Book) (once : IsDistinct bytes_eq (keys_of book)) (i : ℕ) (x : List ℕ) (a : Animal) (change : Animal → Animal) → slice_get book i ≡ Some (x, a) → book ≡ was.book →
-    record { book = set_value_at book i (change a); before = Some (set_value_at (set_value_at book i (change a)) i a) } ≡ changed_to was (changed was.book x change)
-record-view was book once i x a change at w =
-    λ j. record { book = (set-changed book once i x a change at ∙ ap (λ b. changed b x change) w) j; before = (ap Some (set-back book i x a (change a) at ∙ w)) j }
+pub record-view : (old : Pedigree) (book : Book) (once : IsDistinct bytes_eq (keys_of book)) (i : ℕ) (x : List ℕ) (was : StoredRecord) (change : Animal → Animal) → slice_get book i ≡ Some (x, animal_of (keys_of book) was) → book ≡ old.book →
+    record { book = set_value_at book i (change (animal_of (keys_of book) was)); before = Some (set_value_at (set_value_at book i (change (animal_of (keys_of book) was))) i (animal_of (keys_of (set_value_at book i (change (animal_of (keys_of book) was)))) was)) }
+    ≡ changed_to old (changed old.book x change)
+record-view old book once i x was change at w =
+    let b : Animal = change (animal_of (keys_of book) was) in
+    λ j. record { book = (set-changed book once i x (animal_of (keys_of book) was) change at ∙ ap (λ b. changed b x change) w) j; before = (ap Some (stored-back book i x b was at ∙ w)) j }

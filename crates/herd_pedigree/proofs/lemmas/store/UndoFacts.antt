@@ -3,10 +3,12 @@ use Rattle.std.proofs.Common.{ℕ, ◌-◌, ◌≤◌, ◌≡◌, ◌≢◌, ⊎
 use Rattle.std.proofs.lemmas.Bool.{cases_eq}
 use Rattle.std.proofs.lemmas.List.{get_or-set_other, length_push, take_at}
 use Rattle.std.proofs.lemmas.List.Elements.{All-rest}
+use Rattle.std.specs.Map.{keys_of}
 use Rattle.herd_frozen.specs.declared.rules.animal.Animal.{Animal}
+use Rattle.herd_pedigree.specs.declared.store.records.StoredRecord.{StoredRecord}
 use Rattle.herd_frozen.specs.rules.Book.{Book}
 use Rattle.herd_pedigree.specs.Pedigree.{Pedigree, changed_to}
-use Rattle.indexmap.specs.IndexMap.{set_value_at}
+use Rattle.herd_pedigree.specs.store.Records.{animal_of, set_value_at}
 use Rattle.herd_pedigree.specs.declared.store.undo.Undo.{Undo}
 use Rattle.herd_pedigree.specs.declared.store.undo.Undo.TheVariants.{Nothing, Record}
 use Rattle.herd_pedigree.specs.store.Undo.{IsHeld, undone_writes, without_last}
@@ -39,8 +41,8 @@ birth-view was book entries entry e w =
 
 -- what is held once a write of a record is taken back
 pub IsHeld-undone : (l most : ℕ) (book : Book) (sires dams : List (Option ℕ)) (depths : List ℕ) (log : List (ℕ × ℕ)) (undo : Undo) → IsHeld l most book sires dams depths log undo →
-    (place : ℕ) (animal : Animal) (sire dam : Option ℕ) → undo ≡ Record place animal sire dam → (left : List (ℕ × ℕ)) →
-    IsHeld l most (set_value_at book place animal) (slice_set sires place sire) (slice_set dams place dam) (undone_writes log depths) left Nothing
-IsHeld-undone l most book sires dams depths log undo h place animal sire dam is left =
-    let held : IsHeld l most book sires dams depths log (Record place animal sire dam) = subst (λ u. IsHeld l most book sires dams depths log u) is h in
-    record { kept = held.before (set_value_at book place animal) refl; within = tt; before = λ old e. absurd (cc) }
+    (place : ℕ) (was : StoredRecord) → undo ≡ Record place was → (left : List (ℕ × ℕ)) →
+    IsHeld l most (set_value_at book place (animal_of (keys_of book) was)) (slice_set sires place was.sire) (slice_set dams place was.dam) (undone_writes log depths) left Nothing
+IsHeld-undone l most book sires dams depths log undo h place was is left =
+    let held : IsHeld l most book sires dams depths log (Record place was) = subst (λ u. IsHeld l most book sires dams depths log u) is h in
+    record { kept = held.before (set_value_at book place (animal_of (keys_of book) was)) refl; within = tt; before = λ old e. absurd (cc) }

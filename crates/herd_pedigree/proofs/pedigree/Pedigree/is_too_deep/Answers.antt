@@ -12,7 +12,7 @@ use Rattle.herd_pedigree.specs.store.Carry.{IsSettled}
 use Rattle.herd_frozen.specs.declared.TheConstants.{DEPTH_LIMIT, MOST_ANIMALS}
 use Rattle.herd_frozen.proofs.lemmas.rules.BookFacts.{at_position, none_if}
 use Rattle.herd_pedigree.proofs.lemmas.store.CorrectionFacts.{IfOk-both}
-use Rattle.herd_pedigree.proofs.CheckFacts.{too_deep-absent, not_deep-lower, too_deep-leaf, too_deep-told_by, closed-within, settled-exchange}
+use Rattle.herd_pedigree.proofs.CheckFacts.{too_deep-absent, not_deep-lower, too_deep-leaf, too_deep-told_by, correction-sound, settled-exchange}
 use Rattle.herd_pedigree.proofs.pedigree.Pedigree.is_too_deep.Goals as goal
 
 pub returns-in_default : goal.returns-in_default
@@ -50,16 +50,9 @@ returns-then-depth-from g c =
 
 pub has_no_calves-requires : goal.has_no_calves-requires
 has_no_calves-requires g c =
-    let kept = c.self.invariant.kept in
-    let m = kept.sires_are.long in
-    let here : c.in-Some.place < length c.self.inside.sires.parents = let w = c.in-Some.ensures.within in omega (arith, w, m) in
-    record {
-      here = here;
-      wide = kept.dams_are.long ∙ sym m;
-      closed = closed-within DEPTH_LIMIT MOST_ANIMALS c.self.inside.records.book c.self.inside.sires.parents c.self.inside.dams.parents c.self.inside.depths.items kept c.in-Some.place c.args.sire c.args.dam here
-          (subst (λ p. IfSome c.args.sire (λ place. place < length p.book)) (sym c.self.view_is) c.requires.sire)
-          (subst (λ p. IfSome c.args.dam (λ place. place < length p.book)) (sym c.self.view_is) c.requires.dam);
-    }
+    correction-sound DEPTH_LIMIT MOST_ANIMALS c.self.inside.records.book c.self.inside.depths.items _ c.self.invariant.kept c.in-Some.ensures.within
+    (subst (λ p. IfSome c.args.sire (λ place. place < length p.book)) (sym c.self.view_is) c.requires.sire)
+    (subst (λ p. IfSome c.args.dam (λ place. place < length p.book)) (sym c.self.view_is) c.requires.dam)
 
 pub returns-then-has_no_calves : goal.returns-then-has_no_calves
 returns-then-has_no_calves g c =
@@ -78,16 +71,9 @@ returns-then-has_no_calves g c =
 
 pub is_too_deep-requires-clause-sound : goal.is_too_deep-requires-clause-sound
 is_too_deep-requires-clause-sound g c =
-    let kept = c.self.invariant.kept in
-    let m = kept.sires_are.long in
-    let here : c.in-Some.place < length c.self.inside.sires.parents = let w = c.in-Some.ensures.within in omega (arith, w, m) in
-    record {
-      here = here;
-      wide = kept.dams_are.long ∙ sym m;
-      closed = closed-within DEPTH_LIMIT MOST_ANIMALS c.self.inside.records.book c.self.inside.sires.parents c.self.inside.dams.parents c.self.inside.depths.items kept c.in-Some.place c.args.sire c.args.dam here
-          (subst (λ p. IfSome c.args.sire (λ place. place < length p.book)) (sym c.self.view_is) c.requires.sire)
-          (subst (λ p. IfSome c.args.dam (λ place. place < length p.book)) (sym c.self.view_is) c.requires.dam);
-    }
+    correction-sound DEPTH_LIMIT MOST_ANIMALS c.self.inside.records.book c.self.inside.depths.items _ c.self.invariant.kept c.in-Some.ensures.within
+    (subst (λ p. IfSome c.args.sire (λ place. place < length p.book)) (sym c.self.view_is) c.requires.sire)
+    (subst (λ p. IfSome c.args.dam (λ place. place < length p.book)) (sym c.self.view_is) c.requires.dam)
 
 pub is_too_deep-requires-clause-settled : goal.is_too_deep-requires-clause-settled
 is_too_deep-requires-clause-settled g c =

@@ -1,31 +1,29 @@
--- `Pedigree::set_record`: what `set` requires, the invariant, and its result.
-use Rattle.std.proofs.Common.{sym, ap, subst, ◌≡◌, ℕ, List, Option, Some, slice_get}
-use Rattle.std.specs.Map.{keys_of, values_of}
-use Rattle.indexmap.specs.IndexMap.{set_value_at}
-use Rattle.herd_pedigree.specs.declared.store.undo.Undo.TheVariants.{Record}
+-- `Pedigree::set_record`: what `write` requires, the invariant, and its result.
+use Rattle.std.proofs.Common.{◌<◌, sym, ap, ◌∙◌, subst, ◌≡◌, ℕ, List, Option, IfSome, Some, length}
+use Rattle.std.specs.Map.{keys_of}
 use Rattle.herd_frozen.specs.rules.Book.{Book}
 use Rattle.herd_frozen.specs.rules.Lawful.{IsLawful}
+use Rattle.herd_frozen.specs.places.Places.{number_at}
+use Rattle.herd_pedigree.specs.declared.store.records.StoredRecord.{StoredRecord}
+use Rattle.herd_pedigree.specs.declared.store.undo.Undo.TheVariants.{Record}
 use Rattle.herd_pedigree.specs.Pedigree.{changed_to}
-use Rattle.herd_frozen.specs.places.Places.{IsIndexIn}
+use Rattle.herd_pedigree.specs.store.Records.{IsStoredAt, animal_of, set_value_at}
 use Rattle.herd_pedigree.specs.store.Undo.{IsHeld}
 use Rattle.herd_frozen.specs.declared.TheConstants.{DEPTH_LIMIT, MOST_ANIMALS}
 use Rattle.herd_frozen.proofs.lemmas.rules.BookFacts.{entry_from_value}
+use Rattle.herd_pedigree.proofs.lemmas.store.RecordsFacts.{stored-dam, stored-sire}
 use Rattle.herd_pedigree.proofs.lemmas.store.SetFacts.{IsHeld-same, set-view}
 use Rattle.herd_pedigree.proofs.pedigree.Pedigree.set_record.Goals as goal
 
-pub set-requires-clause-sire : goal.set-requires-clause-sire
-set-requires-clause-sire g c =
-    let book : Book = c.self.inside.records.book in
-    let entry = entry_from_value book c.args.place c.args.was (subst (λ p. slice_get (values_of p.book) c.args.place ≡ Some c.args.was) (sym c.self.view_is) c.requires.there) in
-    subst (λ o. IsIndexIn (keys_of book) c.parent-sire.result o) (sym c.requires.sire)
-    (subst (λ o. IsIndexIn (keys_of book) o c.args.was.sire) (sym c.parent-sire.ensures) (c.self.invariant.kept.sires_are.each c.args.place (entry.0, c.args.was) entry.1))
+pub write-requires-clause-sire : goal.write-requires-clause-sire
+write-requires-clause-sire g c =
+    subst (λ o. IfSome o (λ p. p < length c.self.inside.records.book)) (sym c.requires.sire)
+    (subst (λ r. IfSome c.args.was.sire (λ p. p < length r.book)) (sym c.self.view_is) c.requires.stored.sire)
 
-pub set-requires-clause-dam : goal.set-requires-clause-dam
-set-requires-clause-dam g c =
-    let book : Book = c.self.inside.records.book in
-    let entry = entry_from_value book c.args.place c.args.was (subst (λ p. slice_get (values_of p.book) c.args.place ≡ Some c.args.was) (sym c.self.view_is) c.requires.there) in
-    subst (λ o. IsIndexIn (keys_of book) c.parent-dam.result o) (sym c.requires.dam)
-    (subst (λ o. IsIndexIn (keys_of book) o c.args.was.dam) (sym c.parent-dam.ensures) (c.self.invariant.kept.dams_are.each c.args.place (entry.0, c.args.was) entry.1))
+pub write-requires-clause-dam : goal.write-requires-clause-dam
+write-requires-clause-dam g c =
+    subst (λ o. IfSome o (λ p. p < length c.self.inside.records.book)) (sym c.requires.dam)
+    (subst (λ r. IfSome c.args.was.dam (λ p. p < length r.book)) (sym c.self.view_is) c.requires.stored.dam)
 
 pub invariant_of-self : goal.invariant_of-self
 invariant_of-self g c =
@@ -34,16 +32,28 @@ invariant_of-self g c =
     let dams : List (Option ℕ) = c.self.inside.dams.parents in
     let depths : List ℕ = c.self.inside.depths.items in
     let log : List (ℕ × ℕ) = c.clear.new.self.items in
-    let sire : Option ℕ = c.parent-sire.result in
-    let dam : Option ℕ = c.parent-dam.result in
-    let entry = entry_from_value book c.args.place c.args.was (subst (λ p. slice_get (values_of p.book) c.args.place ≡ Some c.args.was) (sym c.self.view_is) c.requires.there) in
-    let lawful : IsLawful DEPTH_LIMIT MOST_ANIMALS (set_value_at book c.args.place c.args.becomes) = subst (λ p. IsLawful DEPTH_LIMIT MOST_ANIMALS (set_value_at p.book c.args.place c.args.becomes)) (sym c.self.view_is) c.requires.lawful in
-    subst (λ b. IsHeld DEPTH_LIMIT MOST_ANIMALS b sires dams depths log (Record c.args.place c.args.was sire dam)) (sym c.set.ensures)
-    (IsHeld-same DEPTH_LIMIT MOST_ANIMALS book sires dams depths c.self.invariant.kept c.args.place entry.0 c.args.was c.args.becomes entry.1 c.requires.sire c.requires.dam lawful log c.clear.ensures.items sire dam c.parent-sire.ensures c.parent-dam.ensures)
+    let place : ℕ = c.args.place in
+    let was : StoredRecord = c.args.was in
+    let becomes : StoredRecord = c.args.becomes in
+    let kept = c.self.invariant.kept in
+    let stored : IsStoredAt book place was = subst (λ p. IsStoredAt p.book place was) (sym c.self.view_is) c.requires.stored in
+    let lawful : IsLawful DEPTH_LIMIT MOST_ANIMALS (set_value_at book place (animal_of (keys_of book) becomes)) =
+    subst (λ p. IsLawful DEPTH_LIMIT MOST_ANIMALS (set_value_at p.book place (animal_of (keys_of p.book) becomes))) (sym c.self.view_is) c.requires.lawful in
+    let entry = entry_from_value book place (animal_of (keys_of book) was) stored.animal in
+    subst (λ b. IsHeld DEPTH_LIMIT MOST_ANIMALS b sires dams depths log (Record place was)) (sym c.write.ensures)
+    (IsHeld-same DEPTH_LIMIT MOST_ANIMALS book sires dams depths kept place entry.0 was (animal_of (keys_of book) becomes) entry.1
+    (ap (λ o. number_at (keys_of book) o) c.requires.sire) (ap (λ o. number_at (keys_of book) o) c.requires.dam) lawful log c.clear.ensures.items
+    (stored-sire book sires kept.lawful.once kept.sires_are place entry.0 was entry.1 stored) (stored-dam book dams kept.lawful.once kept.dams_are place entry.0 was entry.1 stored))
 
 pub returns : goal.returns
 returns g c =
     let book : Book = c.self.inside.records.book in
-    let entry = entry_from_value book c.args.place c.args.was (subst (λ p. slice_get (values_of p.book) c.args.place ≡ Some c.args.was) (sym c.self.view_is) c.requires.there) in
-    subst (λ b. record { book = b; before = Some (set_value_at b c.args.place c.args.was) } ≡ changed_to c.args.self.now (set_value_at c.args.self.now.book c.args.place c.args.becomes)) (sym c.set.ensures)
-    (set-view c.args.self.now book c.args.place entry.0 c.args.was c.args.becomes entry.1 (ap (λ p. p.book) c.self.view_is))
+    let place : ℕ = c.args.place in
+    let was : StoredRecord = c.args.was in
+    let becomes : StoredRecord = c.args.becomes in
+    let stored : IsStoredAt book place was = subst (λ p. IsStoredAt p.book place was) (sym c.self.view_is) c.requires.stored in
+    let entry = entry_from_value book place (animal_of (keys_of book) was) stored.animal in
+    let same : book ≡ c.args.self.now.book = ap (λ p. p.book) c.self.view_is in
+    subst (λ b. record { book = b; before = Some (set_value_at b place (animal_of (keys_of b) was)) } ≡ changed_to c.args.self.now (set_value_at c.args.self.now.book place (animal_of (keys_of c.args.self.now.book) becomes))) (sym c.write.ensures)
+    (set-view c.args.self.now book place entry.0 was (animal_of (keys_of book) becomes) entry.1 same
+    ∙ ap (λ b. changed_to c.args.self.now (set_value_at c.args.self.now.book place (animal_of (keys_of b) becomes))) same)

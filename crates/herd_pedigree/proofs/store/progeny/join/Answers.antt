@@ -1,7 +1,8 @@
 -- `join`: what `set_previous` requires and its clauses `chained` and `parents`.
 use Rattle.std.proofs.Common.{arith, ap, sym, ◌∙◌, List}
 use Rattle.herd_pedigree.specs.declared.store.progeny.Family.{Family}
-use Rattle.herd_pedigree.proofs.lemmas.store.ProgenyFacts.{animal-within, chained-link, joined, parents-set}
+use Rattle.herd_pedigree.proofs.lemmas.store.LinkFacts.{chained-link, joined}
+use Rattle.herd_pedigree.proofs.lemmas.store.ProgenyFacts.{animal-within, parents-set}
 use Rattle.herd_pedigree.proofs.store.progeny.join.Goals as goal
 
 pub set_previous-requires : goal.set_previous-requires

@@ -1,7 +1,8 @@
 -- `part`: what `set_first`, `set_next` and `set_previous` require and its clauses `chained` and `parents`.
 use Rattle.std.proofs.Common.{arith, ap, sym, ◌∙◌, List, None}
 use Rattle.herd_pedigree.specs.declared.store.progeny.Family.{Family}
-use Rattle.herd_pedigree.proofs.lemmas.store.ProgenyFacts.{chained-part, led-within, next-within, parents-set, parted, previous-within}
+use Rattle.herd_pedigree.proofs.lemmas.store.ProgenyFacts.{parents-set}
+use Rattle.herd_pedigree.proofs.lemmas.store.UnlinkFacts.{chained-part, led-within, next-within, parted, previous-within}
 use Rattle.herd_pedigree.proofs.store.progeny.part.Goals as goal
 
 pub set_first-requires : goal.set_first-requires

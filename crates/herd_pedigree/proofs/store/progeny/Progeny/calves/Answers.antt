@@ -4,7 +4,7 @@ use Rattle.herd_pedigree.specs.declared.store.progeny.Family.{Family}
 use Rattle.herd_pedigree.specs.store.Calves.{chain, family_at, first_of}
 use Rattle.herd_frozen.specs.places.Places.{parent_at}
 use Rattle.herd_pedigree.specs.store.Progeny.{Progeny}
-use Rattle.herd_pedigree.proofs.lemmas.store.ProgenyFacts.{calves-shown}
+use Rattle.herd_pedigree.proofs.lemmas.store.ChainFacts.{calves-shown}
 use Rattle.herd_pedigree.proofs.store.progeny.Progeny.calves.Goals as goal
 
 pub returns : goal.returns

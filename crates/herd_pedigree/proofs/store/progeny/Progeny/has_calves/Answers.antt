@@ -3,7 +3,8 @@ use Rattle.std.proofs.Common.{sym, ap, ◌∙◌, ◌≡◌, ℕ, List, None, is
 use Rattle.herd_pedigree.specs.declared.store.progeny.Family.{Family}
 use Rattle.herd_pedigree.specs.store.Calves.{family_at, first_of}
 use Rattle.herd_frozen.specs.places.Places.{parent_at}
-use Rattle.herd_pedigree.proofs.lemmas.store.ProgenyFacts.{no-calves, parents-seen, none_if_not, some_if}
+use Rattle.herd_pedigree.proofs.lemmas.store.ChainFacts.{no-calves}
+use Rattle.herd_pedigree.proofs.lemmas.store.ProgenyFacts.{parents-seen, none_if_not, some_if}
 use Rattle.herd_pedigree.proofs.store.progeny.Progeny.has_calves.Goals as goal
 
 pub returns-clause-some : goal.returns-clause-some

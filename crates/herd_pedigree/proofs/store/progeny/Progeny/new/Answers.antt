@@ -1,5 +1,5 @@
 -- `Progeny::new`: the invariant.
-use Rattle.herd_pedigree.proofs.lemmas.store.ProgenyFacts.{chained-empty}
+use Rattle.herd_pedigree.proofs.lemmas.store.PopFacts.{chained-empty}
 use Rattle.herd_pedigree.proofs.store.progeny.Progeny.new.Goals as goal
 
 pub invariant_of-result : goal.invariant_of-result

@@ -1,11 +1,11 @@
 -- `Progeny::push_alone`: the invariant.
 use Rattle.std.proofs.Common.{rules, ◌≡◌, [], ◌∷◌, ◌++◌}
 use Rattle.herd_pedigree.specs.store.Calves.{alone}
-use Rattle.herd_pedigree.proofs.lemmas.store.ProgenyFacts.{chained-append}
+use Rattle.herd_pedigree.proofs.lemmas.store.PopFacts.{chained-append}
 use Rattle.herd_pedigree.proofs.store.progeny.Progeny.push_alone.Goals as goal
 
 pub invariant_of-self : goal.invariant_of-self
 invariant_of-self g c =
     let inside = c.self.inside in
-    let families : c.push.new.self.items ≡ inside.families.items ++ alone ∷ [] = search rules in
+    let families : c.push_reserved.new.self.items ≡ inside.families.items ++ alone ∷ [] = search rules in
     rw families (chained-append inside.families.items c.self.invariant)

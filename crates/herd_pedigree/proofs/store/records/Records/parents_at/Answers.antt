@@ -1,5 +1,6 @@
 -- `Records::parents_at`: its result.
-use Rattle.std.proofs.Common.{subst, ℕ, List}
+use Rattle.std.proofs.Common.{sym, subst, ℕ, List, ◌≡◌}
+use Rattle.herd_frozen.specs.declared.places.links.Link.{Link}
 use Rattle.herd_frozen.specs.places.Links.{IsLinkAt}
 use Rattle.herd_pedigree.specs.declared.store.records.StoredRecord.{StoredRecord}
 use Rattle.herd_pedigree.proofs.lemmas.store.RecordsFacts.{link-kept}
@@ -8,7 +9,8 @@ use Rattle.herd_pedigree.proofs.store.records.Records.parents_at.Goals as goal
 pub returns : goal.returns
 returns g c =
     let es : List (List ℕ × StoredRecord) = c.self.inside.entries.entries in
-    let entry : StoredRecord = c.index-entry.result.now in
-    rw (c.get.ensures, c.get-2.ensures)
-    (subst (λ r. IsLinkAt r.book c.args.place (record { sire = entry.sire; dam = entry.dam })) c.self.view_is
-    (link-kept es c.args.place entry c.index-entry.ensures c.self.invariant))
+    let entry : StoredRecord = c.index.result.now in
+    let link : Link = record { sire = entry.sire; dam = entry.dam } in
+    let same : c.parents.result ≡ link = λ i. record { sire = c.parents.ensures.sire i; dam = c.parents.ensures.dam i } in
+    subst (λ l. IsLinkAt c.args.self.now.book c.args.place l) (sym same)
+    (subst (λ r. IsLinkAt r.book c.args.place link) c.self.view_is (link-kept es c.args.place entry c.index.ensures c.self.invariant))

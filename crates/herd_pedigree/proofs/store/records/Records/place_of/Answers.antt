@@ -3,7 +3,7 @@ use Rattle.std.proofs.Common.{◌≡◌, ◌∙◌, sym, ap, subst, ℕ, List, I
 use Rattle.std.specs.Map.{keys_of, values_of, lookup}
 use Rattle.std.specs.Str.{bytes_eq}
 use Rattle.herd_frozen.specs.rules.Book.{is_there, record_of}
-use Rattle.herd_pedigree.specs.store.Records.{named}
+use Rattle.herd_pedigree.specs.store.Records.{animal_of}
 use Rattle.herd_pedigree.specs.declared.store.records.StoredRecord.{StoredRecord}
 use Rattle.herd_pedigree.proofs.lemmas.store.RecordsFacts.{is_some-map, keys-stored_book, lookup-book_with, value-found}
 use Rattle.herd_pedigree.proofs.store.records.Records.place_of.Goals as goal
@@ -20,7 +20,7 @@ returns-clause-found g c =
     let es : List (List ℕ × StoredRecord) = c.self.inside.entries.entries in
     let number : List ℕ = c.args.number.now in
     subst (λ r. is_some c.get_index_of.result ≡ is_there r.book number) c.self.view_is
-    (c.get_index_of.ensures.found ∙ sym (is_some-map (named (keys_of es)) (lookup (bytes_eq number) es)) ∙ sym (ap (λ o. is_some o) (lookup-book_with (keys_of es) (bytes_eq number) es)))
+    (c.get_index_of.ensures.found ∙ sym (is_some-map (animal_of (keys_of es)) (lookup (bytes_eq number) es)) ∙ sym (ap (λ o. is_some o) (lookup-book_with (keys_of es) (bytes_eq number) es)))
 
 pub returns-clause-value : goal.returns-clause-value
 returns-clause-value g c =

@@ -1,0 +1,187 @@
+-- The chain of a parent holds its calves, and nobody else.
+use Rattle.std.proofs.Common.{◌↔◌, Contains, ℕ, zero, suc, ◌+◌, ◌<◌, ◌≤◌, ◌≡◌, ◌≢◌, ◌⊎◌, ◌==◌, inl, inr, arith, refl, sym, ap, ◌∙◌, cond, List, Option, Some, None, length, slice_get, unwrap_or}
+use Rattle.std.proofs.lemmas.Bool.{cases_eq, eq-eqb, ne_eqb}
+use Rattle.std.proofs.lemmas.Option.{same_Some, slice_get_within, slice_get-get_or, get_or_from_slice_get}
+use Rattle.herd_pedigree.specs.declared.store.progeny.Family.{Family}
+use Rattle.herd_frozen.specs.places.Places.{parent_at}
+use Rattle.herd_pedigree.specs.store.Calves.{AreChained, chain, first_of, next_of, parent_of, parents_of, previous_of}
+use Rattle.herd_pedigree.proofs.lemmas.store.ProgenyFacts.{animal-within, known, parents-seen}
+
+-- so many different numbers below n are at most n
+skipped : (ℕ → ℕ) → ℕ → ℕ → ℕ → ℕ
+skipped f n last i = cond (f i == n) (f last) (f i)
+
+skips : (f : ℕ → ℕ) (n last i : ℕ) → ((f i ≡ n) × (skipped f n last i ≡ f last)) ⊎ ((f i ≢ n) × (skipped f n last i ≡ f i))
+unfolding skipped
+skips f n last i = elim (cases_eq (f i) n) [
+  | inl same ↦ inl (same, ap (λ t. cond t (f last) (f i)) (eq-eqb (f i) n same))
+  | inr other ↦ inr (other, ap (λ t. cond t (f last) (f i)) (ne_eqb (f i) n other))
+]
+
+pub pigeonhole : (m n : ℕ) (f : ℕ → ℕ) → ((i : ℕ) → i < m → f i < n) → ((i j : ℕ) → i < j → j < m → f i ≢ f j) → m ≤ n
+pigeonhole zero n f low apart = omega arith
+pigeonhole (suc m) zero f low apart = let bad = low 0 (omega arith) in absurd (omega (arith, bad))
+pigeonhole (suc m) (suc n) f low apart =
+    let last = low m (omega arith) in
+    let fewer = pigeonhole m n (skipped f n m)
+    (λ i h.
+    let l = low i (omega (arith, h)) in
+    let d = apart i m h (omega arith) in
+    elim (skips f n m i) [
+      | inl s ↦ let a = s.0 in let b = s.1 in omega (arith, a, b, d, last)
+      | inr s ↦ let a = s.0 in let b = s.1 in omega (arith, a, b, l)
+    ])
+    (λ i j h k e.
+    let d = apart i j h (omega (arith, k)) in
+    let di = apart i m (omega (arith, h, k)) (omega arith) in
+    let dj = apart j m k (omega arith) in
+    elim (skips f n m i) [
+      | inl s ↦ elim (skips f n m j) [
+        | inl t ↦ d (s.0 ∙ sym t.0)
+        | inr t ↦ dj (sym (sym s.1 ∙ e ∙ t.1))
+      ]
+      | inr s ↦ elim (skips f n m j) [
+        | inl t ↦ di (sym s.1 ∙ e ∙ t.1)
+        | inr t ↦ d (sym s.1 ∙ e ∙ t.1)
+      ]
+    ]) in
+    omega (arith, fewer)
+
+-- k calves further on
+steps : List Family → ℕ → Option ℕ → Option ℕ
+steps families zero calf = calf
+steps families (suc k) None = None
+steps families (suc k) (Some calf) = steps families k (next_of families calf)
+
+steps_none : (families : List Family) (k : ℕ) → steps families k None ≡ None
+unfolding steps
+steps_none families zero = refl
+steps_none families (suc k) = refl
+
+step_on : (families : List Family) (k : ℕ) (at : Option ℕ) (c : ℕ) → steps families k at ≡ Some c → steps families (suc k) at ≡ next_of families c
+unfolding steps
+step_on families zero None c e = absurd (cc)
+step_on families zero (Some x) c e = ap (λ v. next_of families v) (same_Some _ _ e)
+step_on families (suc k) None c e = absurd (cc)
+step_on families (suc k) (Some x) c e = step_on families k (next_of families x) c e
+
+step_past : (families : List Family) (k : ℕ) (at : Option ℕ) → steps families k at ≡ None → steps families (suc k) at ≡ None
+unfolding steps
+step_past families zero None e = refl
+step_past families zero (Some x) e = absurd (cc)
+step_past families (suc k) None e = refl
+step_past families (suc k) (Some x) e = step_past families k (next_of families x) e
+
+chain-at : (families : List Family) (n k : ℕ) (at : Option ℕ) → k < n → slice_get (chain families n at) k ≡ steps families k at
+unfolding steps
+chain-at families zero k at h = absurd (omega (arith, h))
+chain-at families (suc n) zero None h = refl
+chain-at families (suc n) (suc k) None h = refl
+chain-at families (suc n) zero (Some c) h = refl
+chain-at families (suc n) (suc k) (Some c) h = chain-at families n k (next_of families c) (omega (arith, h))
+
+chain-past : (families : List Family) (n k : ℕ) (at : Option ℕ) (c : ℕ) → slice_get (chain families n at) k ≡ Some c → k < n
+chain-past families zero k at c e = absurd (cc)
+chain-past families (suc n) k None c e = absurd (cc)
+chain-past families (suc n) zero (Some x) c e = omega arith
+chain-past families (suc n) (suc k) (Some x) c e = let h = chain-past families n k (next_of families x) c e in omega (arith, h)
+
+module _ (families : List Family) (a : AreChained families) (p : ℕ) where
+  -- each calf is reached from the first
+  reached : (m c : ℕ) → parent_of families c ≡ Some p → a.top ≤ m + a.seniority c → (k : ℕ) × (steps families k (first_of families p) ≡ Some c)
+  unfolding steps
+  reached zero c e h = let b = a.below c in absurd (omega (arith, b, h))
+  reached (suc m) c e h = elim (known (previous_of families c)) [
+    | inl none ↦ (0, a.foremost p c e none)
+    | inr some ↦
+        let on = a.previous some.0 c some.1 in
+        let was = a.next some.0 c on in
+        let r = was.1.1 in
+        let before = reached m some.0 (sym was.1.0 ∙ e) (omega (arith, h, r)) in
+        (suc before.0, step_on families before.0 (first_of families p) some.0 before.1 ∙ on)
+  ]
+
+  -- all of them are its calves
+  steps_to : (k c : ℕ) → steps families k (first_of families p) ≡ Some c → parent_of families c ≡ Some p
+  unfolding steps
+  steps_to zero c e = (a.first p c e).0
+  steps_to (suc k) c e = elim (known (steps families k (first_of families p))) [
+    | inl none ↦ let bad : None ≡ Some c = sym (step_past families k (first_of families p) none) ∙ e in absurd (cc)
+    | inr some ↦ (a.next some.0 c (sym (step_on families k (first_of families p) some.0 some.1) ∙ e)).1.0 ∙ steps_to k some.0 some.1
+  ]
+
+  -- those that come later have less seniority
+  falls : (i j : ℕ) (x y : ℕ) → i < j → steps families i (first_of families p) ≡ Some x → steps families j (first_of families p) ≡ Some y → a.seniority y < a.seniority x
+  unfolding steps
+  falls i zero x y h e f = absurd (omega (arith, h))
+  falls i (suc j) x y h e f = elim (known (steps families j (first_of families p))) [
+    | inl none ↦ let bad : None ≡ Some y = sym (step_past families j (first_of families p) none) ∙ f in absurd (cc)
+    | inr some ↦
+        let r = (a.next some.0 y (sym (step_on families j (first_of families p) some.0 some.1) ∙ f)).1.1 in
+        elim (cases_eq i j) [
+          | inl same ↦
+              let is_x : some.0 ≡ x = same_Some _ _ (sym some.1 ∙ ap (λ k. steps families k (first_of families p)) (sym same) ∙ e) in
+              let t = ap (λ v. a.seniority v) is_x in omega (arith, r, t)
+          | inr other ↦ let t = falls i j x some.0 (omega (arith, h, other)) e some.1 in omega (arith, r, t)
+        ]
+  ]
+
+  -- a chain goes on without a gap
+  all_before : (k i c : ℕ) → i ≤ k → steps families k (first_of families p) ≡ Some c → (x : ℕ) × (steps families i (first_of families p) ≡ Some x)
+  all_before zero i c h e = (c, ap (λ v. steps families v (first_of families p)) (let is : i ≡ 0 = omega (arith, h) in is) ∙ e)
+  all_before (suc k) i c h e = elim (cases_eq i (suc k)) [
+    | inl same ↦ (c, ap (λ v. steps families v (first_of families p)) same ∙ e)
+    | inr other ↦ elim (known (steps families k (first_of families p))) [
+      | inl none ↦ let bad : None ≡ Some c = sym (step_past families k (first_of families p) none) ∙ e in absurd (cc)
+      | inr some ↦ all_before k i some.0 (omega (arith, h, other)) some.1
+    ]
+  ]
+
+  at_step : ℕ → ℕ
+  at_step i = unwrap_or (steps families i (first_of families p)) 0
+
+  at_step_is : (i c : ℕ) → steps families i (first_of families p) ≡ Some c → at_step i ≡ c
+  unfolding at_step
+  at_step_is i c e = ap (λ o. unwrap_or o 0) e
+
+  -- so that it has no more calves than there are animals
+  short : (k c : ℕ) → steps families k (first_of families p) ≡ Some c → k < length families
+  short k c e =
+      let fits = pigeonhole (suc k) (length families) at_step
+      (λ i h.
+      let x = all_before k i c (omega (arith, h)) e in
+      let n = at_step_is i x.0 x.1 in
+      let w = animal-within families x.0 p (steps_to i x.0 x.1) in
+      omega (arith, n, w))
+      (λ i j h l is.
+      let x = all_before k i c (omega (arith, h, l)) e in
+      let y = all_before k j c (omega (arith, l)) e in
+      let r = falls i j x.0 y.0 h x.1 y.1 in
+      let same : x.0 ≡ y.0 = sym (at_step_is i x.0 x.1) ∙ is ∙ at_step_is j y.0 y.1 in
+      let t = ap (λ v. a.seniority v) same in
+      absurd (omega (arith, r, t))) in
+      omega (arith, fits)
+
+  -- the chain holds just the calves
+  pub calves-told : (c : ℕ) → Contains (chain families (length families) (first_of families p)) c ↔ (parent_at (parents_of families) c ≡ Some p)
+  calves-told c =
+      let calves : List ℕ = chain families (length families) (first_of families p) in (
+        λ is.
+            let at : slice_get calves is.0 ≡ Some c = slice_get-get_or calves is.0 c is.1 ∙ ap Some is.2 in
+            let k = chain-past families (length families) is.0 (first_of families p) c at in
+            parents-seen families c ∙ steps_to is.0 c (sym (chain-at families (length families) is.0 (first_of families p) k) ∙ at),
+        λ e.
+            let r = reached a.top c (sym (parents-seen families c) ∙ e) (omega arith) in
+            let at : slice_get calves r.0 ≡ Some c = chain-at families (length families) r.0 (first_of families p) (short r.0 c r.1) ∙ r.1 in
+            (r.0, slice_get_within calves r.0 c at, get_or_from_slice_get calves r.0 c c at),
+      )
+
+-- a parent with no first calf has none
+pub no-calves : (families : List Family) → AreChained families → (p : ℕ) → first_of families p ≡ None → (c : ℕ) → parent_of families c ≡ Some p → ⊥
+no-calves families a p none c e =
+    let r = reached families a p a.top c e (omega arith) in
+    let bad : None ≡ Some c = sym (steps_none families r.0) ∙ ap (λ o. steps families r.0 o) (sym none) ∙ r.1 in absurd (cc)
+
+-- the same of what is handed out
+pub calves-shown : (families : List Family) → AreChained families → (p : ℕ) (fs : List Family) (most : ℕ) (first : Option ℕ) → fs ≡ families → most ≡ length families → first ≡ first_of families p → (c : ℕ) → Contains (chain fs most first) c ↔ (parent_at (parents_of families) c ≡ Some p)
+calves-shown families a p fs most first e m f c = rw (e, m, f) (calves-told families a p c)
