@@ -1,21 +1,29 @@
 -- What the faults of a command say: a command without one is allowed.
-use Rattle.std.proofs.Common.{◌≡◌, ℕ, ◌<◌, ◌≤◌, ◌≤ℤ◌, Bool, true, false, T, List, [], ◌∷◌, length, Option, Some, None, ℤ, refl, sym, subst, ◌∙◌, arith}
+use Rattle.std.proofs.Common.{◌≡◌, ℕ, zero, suc, ◌<◌, ◌≤◌, ◌≤ℤ◌, Bool, true, false, T, List, [], ◌∷◌, length, Option, Some, None, IfSome, slice_get, ℤ, refl, sym, ap, subst, ◌∙◌, arith}
 use Rattle.std.specs.Prelude.{map, if◌then◌else◌, is_some, not, nat_lt, int_lt}
-use Rattle.std.specs.Option.{option_map}
-use Rattle.std.proofs.lemmas.Bool.{false≢true, true≢false, ltb-true, not-false}
+use Rattle.std.specs.Option.{option_map, option_map_or}
+use Rattle.std.specs.Map.{keys_of}
+use Rattle.std.specs.Str.{bytes_eq}
+use Rattle.std.proofs.lemmas.Option.{same_Some}
+use Rattle.herd_frozen.proofs.lemmas.rules.BookFacts.{bytes_itself}
+use Rattle.std.proofs.lemmas.Bool.{false≢true, true≢false, lt-ltb, ltb-true, not-false}
 use lib.Signed.{lt_z_no}
 use Rattle.herd_frozen.specs.rules.Book.{Book, record_of, is_there}
 use Rattle.herd_frozen.specs.rules.ParentFault.{first_that_holds, parent_fault, parent_faults}
-use Rattle.herd_pedigree.specs.Pedigree.{IsBirth, IsCorrection, IsPresentOn, IsExit}
+use Rattle.herd_frozen.specs.declared.rules.parent_fault.ParentFault.{ParentFault}
+use Rattle.herd_pedigree.specs.declared.registration.Registration.{Registration}
+use Rattle.herd_pedigree.specs.declared.registration.Registration.TheVariants.{Added, AlreadyThere as There, Unsound}
+use Rattle.herd_pedigree.specs.Pedigree.{IsBirth, IsCorrection, IsPresentOn, IsExit, registration}
 use Rattle.herd_frozen.specs.declared.rules.animal.Animal.{Animal}
 use Rattle.herd_frozen.specs.declared.TheConstants.{DEPTH_LIMIT, MOST_ANIMALS}
 use Rattle.herd_register.specs.declared.command.Command.{Command}
 use Rattle.herd_register.specs.declared.command.Command.TheVariants.{Birth, Parents, Transfer, Exit}
 use Rattle.herd_register.specs.declared.limits.Limits.{Limits}
+use Rattle.herd_register.specs.declared.reply.Refusal.{Refusal}
 use Rattle.herd_register.specs.declared.reply.Refusal.TheVariants.{AlreadyThere, BookFull, NotRegistered}
 use Rattle.herd_register.specs.Command.{IsAllowed}
 use Rattle.herd_register.specs.Refusal.{refusal_of}
-use Rattle.herd_register.specs.Run.{correction_refusals, exit_refusals, fault, has_record, newborn, parent_refusals, transfer_refusals}
+use Rattle.herd_register.specs.Run.{birth_refusals, correction_refusals, exit_refusals, fault, has_record, newborn, parent_refusals, transfer_refusals}
 
 -- the first of renamed faults is the first fault, renamed
 first_that_holds-map : {F G : Type 0} (f : F → G) (faults : List (Bool × F)) → first_that_holds (map (λ (fault : Bool × F). (fault.0, f fault.1)) faults) ≡ option_map f (first_that_holds faults)
@@ -29,6 +37,42 @@ first_that_holds-map {F} {G} f (fault ∷ faults) = by fault.0 (first_that_holds
 pub first_of_parent_refusals : (book : Book) (number : List ℕ) (birth : ℤ) (sire dam : Option (List ℕ)) (embryo : Bool) → first_that_holds (parent_refusals book number birth sire dam embryo) ≡ option_map refusal_of (parent_fault DEPTH_LIMIT book number birth sire dam embryo)
 unfolding parent_refusals parent_fault
 first_of_parent_refusals book number birth sire dam embryo = first_that_holds-map refusal_of (parent_faults DEPTH_LIMIT book number birth sire dam embryo)
+
+-- the refusal of a birth that found room, by what became of it
+abbrev pub refusal_told : Registration → Option Refusal
+refusal_told Added = None
+refusal_told There = Some AlreadyThere
+refusal_told (Unsound fault) = Some (refusal_of fault)
+
+told-sound : (fault : Option ParentFault) → refusal_told (option_map_or Unsound fault Added) ≡ option_map refusal_of fault
+told-sound None = refl
+told-sound (Some fault) = refl
+
+pub birth-told : (limits : Limits) (book : Book) (number : List ℕ) (animal : Animal) → length book < limits.animals → (told : Registration) → told ≡ registration DEPTH_LIMIT book number animal →
+    refusal_told told ≡ first_that_holds (birth_refusals limits book number animal.birth animal.sire animal.dam animal.embryo)
+birth-told limits book number animal room told is = ap refusal_told is ∙ by (is_there book number) refl where
+  by : (there : Bool) → is_there book number ≡ there → refusal_told (registration DEPTH_LIMIT book number animal) ≡ first_that_holds (birth_refusals limits book number animal.birth animal.sire animal.dam animal.embryo)
+  by true e = rw e refl
+  by false e = rw (e, lt-ltb (length book) limits.animals room) (told-sound (parent_fault DEPTH_LIMIT book number animal.birth animal.sire animal.dam animal.embryo) ∙ sym (first_of_parent_refusals book number animal.birth animal.sire animal.dam animal.embryo))
+
+-- a number that has a place has a record
+pub registered : (book : Book) (place : ℕ) (number : List ℕ) → slice_get (keys_of book) place ≡ Some number → (here : Animal) × (record_of book number ≡ Some here)
+registered [] place number at = absurd (cc)
+registered (entry ∷ book) zero number at =
+    let same : entry.0 ≡ number = same_Some _ _ at in
+    let found : bytes_eq number entry.0 ≡ true = subst (λ (n : List ℕ). bytes_eq number n ≡ true) (sym same) (bytes_itself number) in
+    (entry.1, rw found refl)
+registered (entry ∷ book) (suc place) number at = by (bytes_eq number entry.0) (registered book place number at) where
+  by : (found : Bool) → ((here : Animal) × (record_of book number ≡ Some here)) → (here : Animal) × ((if found then Some entry.1 else record_of book number) ≡ Some here)
+  by true rest = (entry.1, refl)
+  by false rest = rest
+
+-- the refusal of a correction is the fault of the new parents, of which the pedigree tells the first
+pub correction-told : (book : Book) (animal : List ℕ) (sire dam : Option (List ℕ)) (here : Animal) → record_of book animal ≡ Some here → (fault : Option ParentFault) →
+    IfSome (record_of book animal) (λ there. fault ≡ parent_fault DEPTH_LIMIT book animal there.birth sire dam there.embryo) → option_map refusal_of fault ≡ first_that_holds (correction_refusals book animal sire dam)
+correction-told book animal sire dam here there fault told =
+    let first : fault ≡ parent_fault DEPTH_LIMIT book animal here.birth sire dam here.embryo = rw there at told in
+    rw there (ap (option_map refusal_of) first ∙ sym (first_of_parent_refusals book animal here.birth sire dam here.embryo))
 
 -- where no fault is the first that holds, each test of the list failed
 abbrev NoneHolds : {F : Type 0} → List (Bool × F) → Type 0

@@ -1,4 +1,8 @@
+ghost use Rattle.std.specs.Prelude.{◌≡◌};
+ghost use Rattle.herd_register.specs.Run.{newborn};
+
 use herd_animal::{AnimalNumber, Day, Herd};
+use herd_frozen::Animal;
 
 /// What a clerk files.
 #[derive(Clone, Copy, Debug, PartialEq, Eq)]
@@ -45,4 +49,25 @@ pub enum Command {
         /// The day on which it left.
         day: Day,
     },
+}
+
+/// The record that a birth of this day makes.
+pub(crate) fn newborn(
+    day: Day,
+    sire: Option<AnimalNumber>,
+    dam: Option<AnimalNumber>,
+    herd: Herd,
+    embryo: bool,
+) -> Animal
+    ensures { result ≡ newborn day sire dam herd embryo }
+{
+    Animal {
+        birth: day,
+        sire,
+        dam,
+        embryo,
+        herd,
+        since: day,
+        left: None,
+    }
 }

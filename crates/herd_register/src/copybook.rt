@@ -7,7 +7,7 @@ ghost use Rattle.herd_register.specs.CopiedRecords.{records_of};
 ghost use Rattle.herd_register.specs.Register.{AreLimits};
 ghost use Rattle.herd_register.specs.Run.{IsLegal, commands_of, run_book};
 
-use crate::command::Command;
+use crate::command::{Command, newborn};
 use crate::copied_records::CopiedRecords;
 use crate::limits::Limits;
 use crate::reply::Reply;
@@ -56,7 +56,7 @@ impl<A: Allocator> Copybook<A> {
     pub fn take_over(&mut self, step: &Step)
         ensures { self.new ≡ taken_over self.old step.now }
     {
-        if self.journal.len() >= self.limits.steps as usize {
+        if self.limits.are_reached_by(self.journal.len()) {
             return;
         }
         self.journal.push_reserved(*step);
@@ -106,18 +106,7 @@ fn set<A: Allocator>(records: &mut CopiedRecords<A>, command: &Command)
             dam,
             herd,
             embryo,
-        } => records.put(
-            animal,
-            Animal {
-                birth: day,
-                sire,
-                dam,
-                embryo,
-                herd,
-                since: day,
-                left: None,
-            },
-        ),
+        } => records.put(animal, newborn(day, sire, dam, herd, embryo)),
         Command::Parents { animal, sire, dam } => records.set_parents(&animal, sire, dam),
         Command::Transfer {
             animal,

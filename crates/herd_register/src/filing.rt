@@ -2,16 +2,16 @@
 ghost use Rattle.std.specs.Prelude.{◌≡◌, ◌≤◌, IfNone, IfOk, IsSome, OnOk, OnErr};
 ghost use Rattle.herd_frozen.specs.rules.Book.{changed, with_left, with_owner, with_parents};
 ghost use Rattle.herd_frozen.specs.rules.ParentFault.{first_that_holds};
-ghost use Rattle.herd_pedigree.specs.Pedigree.{changed_to};
+ghost use Rattle.herd_pedigree.specs.Pedigree.{IsFound, changed_to};
 ghost use Rattle.herd_frozen.specs.declared.TheConstants.{MOST_ANIMALS};
 ghost use Rattle.herd_register.specs.Run.{answer, birth_refusals, correction_refusals, exit_refusals, next, transfer_refusals, with_record};
 
-use crate::command::Command;
+use crate::command::{Command, newborn};
 use crate::limits::Limits;
 use crate::reply::{Refusal, Reply};
 use herd_animal::{AnimalNumber, Day, Herd};
 use herd_frozen::Animal;
-use herd_pedigree::Pedigree;
+use herd_pedigree::{Found, Pedigree, Registration};
 use std::alloc::{AllocError, Allocator};
 
 impl Command {
@@ -35,18 +35,12 @@ impl Command {
                 dam,
                 herd,
                 embryo,
-            } => {
-                let newborn = Animal {
-                    birth: day,
-                    sire,
-                    dam,
-                    embryo,
-                    herd,
-                    since: day,
-                    left: None,
-                };
-                register(limits, pedigree, animal, newborn)?
-            }
+            } => file_birth(
+                limits,
+                pedigree,
+                animal,
+                newborn(day, sire, dam, herd, embryo),
+            )?,
             Command::Parents { animal, sire, dam } => correct(pedigree, animal, sire, dam)?,
             Command::Transfer {
                 animal,
@@ -64,8 +58,7 @@ impl Command {
 }
 
 // Adds the record of a birth, unless it is refused.
-#[tactic(auto, using(crate::proofs::FaultFacts::first_of_parent_refusals))]
-fn register<A: Allocator + Copy>(
+fn file_birth<A: Allocator + Copy>(
     limits: Limits,
     pedigree: &mut Pedigree<A>,
     number: AnimalNumber,
@@ -81,14 +74,17 @@ fn register<A: Allocator + Copy>(
     ensures refused { IfOk result (λ refusal. IsSome refusal → pedigree.new ≡ pedigree.old) }
     ensures err { OnErr result (pedigree.new ≡ pedigree.old) }
 {
-    if pedigree.get(&number).is_some() {
-        return Ok(Some(Refusal::AlreadyThere));
-    }
     if pedigree.len() >= limits.animals {
-        return Ok(Some(Refusal::BookFull));
+        return match pedigree.get(&number) {
+            Some(_) => Ok(Some(Refusal::AlreadyThere)),
+            None => Ok(Some(Refusal::BookFull)),
+        };
     }
-    let fault = pedigree.add_if_sound(number, newborn)?;
-    Ok(fault.map(Refusal::from))
+    match pedigree.add_if_new(number, newborn)? {
+        Registration::Added => Ok(None),
+        Registration::AlreadyThere => Ok(Some(Refusal::AlreadyThere)),
+        Registration::Unsound(fault) => Ok(Some(Refusal::from(fault))),
+    }
 }
 
 // Sets both parents, unless it is refused.
@@ -106,10 +102,10 @@ fn correct<A: Allocator + Copy>(
     ensures refused { IfOk result (λ refusal. IsSome refusal → pedigree.new ≡ pedigree.old) }
     ensures err { OnErr result (pedigree.new ≡ pedigree.old) }
 {
-    if pedigree.get(&animal).is_none() {
+    let Some(found) = pedigree.find(&animal) else {
         return Ok(Some(Refusal::NotRegistered));
-    }
-    let fault = pedigree.set_parents_if_sound(animal, sire, dam)?;
+    };
+    let fault = pedigree.set_parents_at_if_sound(&found, sire, dam)?;
     Ok(fault.map(Refusal::from))
 }
 
@@ -127,9 +123,12 @@ fn transfer<A: Allocator>(
         (pedigree.new ≡ changed_to pedigree.old (changed pedigree.old.book animal (with_owner taker day))) }
     ensures refused { IsSome result → pedigree.new ≡ pedigree.old }
 {
-    let refusal = transfer_refusal(pedigree, animal, day, giver, taker);
+    let Some(found) = pedigree.find(&animal) else {
+        return Some(Refusal::NotRegistered);
+    };
+    let refusal = transfer_refusal(pedigree, &found, day, giver, taker);
     if refusal.is_none() {
-        pedigree.set_owner(animal, taker, day);
+        pedigree.set_owner_at(&found, taker, day);
     }
     refusal
 }
@@ -146,25 +145,28 @@ fn leave<A: Allocator>(
         (pedigree.new ≡ changed_to pedigree.old (changed pedigree.old.book animal (with_left day))) }
     ensures refused { IsSome result → pedigree.new ≡ pedigree.old }
 {
-    let refusal = exit_refusal(pedigree, animal, day);
+    let Some(found) = pedigree.find(&animal) else {
+        return Some(Refusal::NotRegistered);
+    };
+    let refusal = exit_refusal(pedigree, &found, day);
     if refusal.is_none() {
-        pedigree.set_left(animal, day);
+        pedigree.set_left_at(&found, day);
     }
     refusal
 }
 
 fn transfer_refusal<A: Allocator>(
     pedigree: &Pedigree<A>,
-    animal: AnimalNumber,
+    found: &Found,
     day: Day,
     giver: Herd,
     taker: Herd,
 ) -> Option<Refusal>
-    ensures { result ≡ first_that_holds (transfer_refusals pedigree.now.book animal day giver taker) }
+    requires { IsFound pedigree.now.book found.now }
+    ensures { result
+        ≡ first_that_holds (transfer_refusals pedigree.now.book found.now.number day giver taker) }
 {
-    let Some(here) = pedigree.get(&animal) else {
-        return Some(Refusal::NotRegistered);
-    };
+    let here = pedigree.animal_at(found);
     if here.left.is_some() {
         Some(Refusal::Gone)
     } else if here.herd != giver {
@@ -178,21 +180,16 @@ fn transfer_refusal<A: Allocator>(
     }
 }
 
-fn exit_refusal<A: Allocator>(
-    pedigree: &Pedigree<A>,
-    animal: AnimalNumber,
-    day: Day,
-) -> Option<Refusal>
-    ensures { result ≡ first_that_holds (exit_refusals pedigree.now.book animal day) }
+fn exit_refusal<A: Allocator>(pedigree: &Pedigree<A>, found: &Found, day: Day) -> Option<Refusal>
+    requires { IsFound pedigree.now.book found.now }
+    ensures { result ≡ first_that_holds (exit_refusals pedigree.now.book found.now.number day) }
 {
-    let Some(here) = pedigree.get(&animal) else {
-        return Some(Refusal::NotRegistered);
-    };
+    let here = pedigree.animal_at(found);
     if here.left.is_some() {
         Some(Refusal::Gone)
     } else if day < here.since {
         Some(Refusal::DayTooEarly)
-    } else if pedigree.calved_after(&animal, day) {
+    } else if pedigree.calved_after_at(found, day) {
         Some(Refusal::CalvedLater)
     } else {
         None

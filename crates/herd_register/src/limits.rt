@@ -1,3 +1,5 @@
+ghost use Rattle.std.specs.Prelude.{◌<◌, ◌≤◌, IsFalse, IsTrue};
+
 /// The number of steps that a journal may have.
 pub const MOST_STEPS: u32 = 1_000_000;
 
@@ -8,4 +10,14 @@ pub struct Limits {
     pub animals: u32,
     /// The number of steps in the journal, from 1 to 1,000,000.
     pub steps: u32,
+}
+
+impl Limits {
+    /// Whether a journal of so many steps is full.
+    pub(crate) fn are_reached_by(&self, steps: usize) -> bool
+        ensures full { IsTrue result → self.now.steps ≤ steps }
+        ensures room { IsFalse result → steps < self.now.steps }
+    {
+        steps >= self.steps as usize
+    }
 }

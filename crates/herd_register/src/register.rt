@@ -61,7 +61,7 @@ impl<A: Allocator + Copy> Register<A> {
 
         // The journal's end is asked first. A command that isn't answered changes nothing.
         ensures full { (result ≡ Err FileFault.JournalFull) ↔ (length self.old.journal ≡ self.old.limits.steps) }
-        ensures no_copies { result ≢ Err FileFault.NoReading }
+        ensures reading { result ≢ Err FileFault.NoReading }
         ensures fault { OnErr result (self.new ≡ self.old) }
     {
         if self.is_full() {
@@ -116,7 +116,7 @@ impl<A: Allocator> Register<A> {
     pub fn is_full(&self) -> bool
         ensures { IsTrue result ↔ (length self.now.journal ≡ self.now.limits.steps) }
     {
-        self.journal.len() >= self.limits.steps as usize
+        self.limits.are_reached_by(self.journal.len())
     }
 
     /// Whether the last step can be taken out again: so it is after `file` answered, until `withdraw`.

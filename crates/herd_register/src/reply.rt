@@ -31,7 +31,7 @@ pub enum Refusal {
     DamNotOlder,
     #[error("the dam has left")]
     DamGone,
-    #[error("a line would be too long")]
+    #[error("a path would be too long")]
     TooDeep,
     /// Of any command but a birth.
     #[error("the number isn't in the book")]
