@@ -1,4 +1,4 @@
--- The steps of commands that are filed one after the other.
+-- What a run files and writes, and how it ends.
 use Rattle.std.proofs.Common.{◌≡◌, ◌≢◌, ◌↔◌, inl, inr, ℕ, suc, ◌+◌, ◌<◌, arith, true, false, MatchBool, Option, Some, None, Result, Err, List, [], ◌∷◌, ◌++◌, refl, ap, sym, subst, ◌∙◌, ⊎_elim, append_assoc, append-nil, length, length-append}
 use Rattle.std.proofs.lemmas.List.Sorted.{IsPermutation-sym}
 use Rattle.std.specs.Prelude.{Bool, is_some}
@@ -32,6 +32,8 @@ use Rattle.herd_report.specs.declared.orders.Order.TheVariants.{File, Inbreeding
 use Rattle.herd_report.specs.declared.run_fault.RunFault.{RunFault}
 use Rattle.herd_report.specs.declared.run_fault.RunFault.TheVariants.{Line, NotRegistered, NoThread, Memory, Write}
 use Rattle.herd_report.proofs.lemmas.writing.OutputFacts.{passes_before, some_before}
+
+-- ---- commands that are filed one after the other
 
 -- the steps of more commands come after those of the first ones
 pub filed_from-append : (limits : Limits) (book : Book) (first rest : List Command) →
@@ -71,6 +73,8 @@ filed-more limits commands command old new filed e =
           ∙ sym (filed_from-append limits [] commands (command ∷ []));
     }
 
+-- ---- their replies
+
 -- the lines of more steps come after those of the first ones
 pub reply_lines_from-append : (serial : ℕ) (first rest : List Step) →
     reply_lines_from serial (first ++ rest) ≡ reply_lines_from serial first ++ reply_lines_from (serial + length first) rest
@@ -92,6 +96,8 @@ replies_to-append limits first rest =
 -- a front of a text is one of a longer text
 pub longer_text : (old new : Option (List ℕ)) (text more : List ℕ) → AppendsFront old new text → AppendsFront old new (text ++ more)
 longer_text old new text more front = record { rest = front.rest ++ more; left = some_before front.rest more front.left; passed = passes_before more front.passed }
+
+-- ---- a file that is read and filed
 
 -- commands that were read are the first of the file's
 pub first_commands : (most : ℕ) (file : CommandFile) (list : List Command) (fault : Option LineFault) → IsRead most file list fault →
@@ -118,6 +124,8 @@ filed_file limits file list register read filed = record {
   faultless = read.1;
   filed = subst (λ l. HasFiled limits l register) read.0 filed;
 }
+
+-- ---- what is written of it
 
 -- a text of the frozen rows is one of the file's commands
 pub report_of_file : (limits : Limits) (order : Order) (file : CommandFile) (rows : List Row) (Passes : List ℕ → Type 0) →
@@ -151,6 +159,8 @@ some_commands limits file old new report =
       | [] ↦ λ front. absurd (none_left old new front)
       | command ∷ rest ↦ λ front. omega arith
     ] front
+
+-- ---- how a run ends
 
 -- a run for the replies that stops while it writes
 pub stops_replying : (limits : Limits) (file : CommandFile) (list : List Command) (line : Option LineFault) (old new : Option (List ℕ)) (fault : ReportFault) →

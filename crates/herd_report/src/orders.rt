@@ -18,7 +18,7 @@ ghost use Rattle.herd_report.specs.RunFault.{CanEndFreezing, EndsFreezing, EndsL
 
 use crate::command_filing::{file_commands, file_faultless};
 use crate::run_fault::RunFault;
-use crate::writing::certificate::write_certificate_at;
+use crate::writing::certificate::write_certificate;
 use crate::writing::certificate_fault::CertificateFault;
 use crate::writing::inbreeding_list::write_inbreeding;
 use crate::writing::inverse_list::write_inverse;
@@ -153,11 +153,11 @@ fn certify<W: Write>(
     ensures absent { (result ≡ Err CertificateFault.NotRegistered) ↔ (is_there (book_of frozen.now) number ≡ false) }
     ensures untouched { is_there (book_of frozen.now) number ≡ false → writer.new ≡ writer.old }
 {
-    let Some(rank) = frozen.rank(&number) else {
+    let Some(_rank) = frozen.rank(&number) else {
         return Err(CertificateFault::NotRegistered);
     };
     let coefficients = coefficients_plain(alloc, frozen)?;
-    Ok(write_certificate_at(alloc, frozen, &coefficients, rank, writer)?)
+    write_certificate(alloc, frozen, &coefficients, number, writer)
 }
 
 // Writes mating advice for a dam.

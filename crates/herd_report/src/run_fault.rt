@@ -33,7 +33,7 @@ impl From<AllocError> for RunFault {
 
     ghost from_gives = { λ _ told. told ≡ Memory };
 
-    fn from(_cause: AllocError) -> RunFault {
+    fn from(_refused: AllocError) -> RunFault {
         RunFault::Memory
     }
 }

@@ -1,5 +1,5 @@
 -- How clerks end early, and that the text that they write tells of a file's commands.
-use Rattle.std.proofs.Common.{◌≡◌, ℕ, List, Option, None, Result, Ok, Err, length, refl, subst, sym}
+use Rattle.std.proofs.Common.{◌≡◌, ℕ, List, Option, None, Result, Ok, Err, drop, length, refl, subst, sym, take}
 use Rattle.std.specs.Prelude.{IfErr, OnErr}
 use Rattle.herd_register.specs.declared.command.Command.{Command}
 use Rattle.herd_register.specs.declared.limits.Limits.{Limits}
@@ -29,7 +29,7 @@ can-end-unwritten clerk.NoPlace = tt
 
 -- the text of a summary of the file's commands passes a test
 pub told-text : (limits : Limits) (desks base : ℕ) (file : CommandFile) (commands : List Command) (summary : Summary) (Passes : List ℕ → Type 0)
-    → IsSummaryOf (office_limits limits.animals (length commands)) desks base commands summary → Passes (summary_text summary)
+    → IsSummaryOf (office_limits limits.animals (length commands)) desks (take base commands) (drop base commands) summary → Passes (summary_text summary)
     → IsRead limits.steps file commands None → IsTold limits desks base file Passes
 told-text limits desks base file commands summary Passes counts passes read = record {
   text = summary_text summary;
@@ -42,7 +42,7 @@ told-text limits desks base file commands summary Passes counts passes read = re
 
 -- the writing of that text ends early
 pub ends-telling : (limits : Limits) (desks base : ℕ) (file : CommandFile) (commands : List Command) (summary : Summary) (old new : Option (List ℕ)) (fault : ReportFault)
-    → IsSummaryOf (office_limits limits.animals (length commands)) desks base commands summary → EndsTelling old new (summary_text summary) fault
+    → IsSummaryOf (office_limits limits.animals (length commands)) desks (take base commands) (drop base commands) summary → EndsTelling old new (summary_text summary) fault
     → IsRead limits.steps file commands None → EndsClerks limits desks base file old new (Run (run_fault_of fault))
 ends-telling limits desks base file commands summary old new report.Memory counts ends read = (read.1, ends)
 ends-telling limits desks base file commands summary old new report.Write counts ends read =

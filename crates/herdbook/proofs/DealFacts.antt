@@ -5,7 +5,8 @@ use Rattle.std.proofs.lemmas.Bool.Decides.{nat_tests}
 use Rattle.std.proofs.lemmas.Grind.{common_steps}
 use Rattle.std.proofs.lemmas.List.Elements.{All-cons, All-nil, filter-append}
 use Rattle.std.proofs.lemmas.List.Sums.{length-filter, sum_by-cons}
-use Rattle.std.proofs.lemmas.Option.{get_or_from_slice_get, slice_get_within}
+use Rattle.std.proofs.lemmas.Option.{get_or_from_slice_get, slice_get-map, slice_get_within}
+use Rattle.std.specs.Option.{option_map}
 use mathlib.Core.List.{IsPrefix}
 use Rattle.herd_register.specs.declared.command.Command.{Command}
 use Rattle.herd_register.specs.declared.reply.Reply.{Reply}
@@ -14,9 +15,15 @@ use Rattle.herd_register.specs.Run.{step_of}
 use Rattle.herd_office.specs.Closing.{BeginsWithAll}
 use Rattle.herd_office.specs.Filing.{EndsWith}
 use Rattle.herd_office.specs.Histories.{of_desk}
-use Rattle.herdbook.specs.Deal.{HasFiled, commands_at, dealt, dealt_first, every}
+use Rattle.herd_office.specs.declared.desk.Desk.{Desk}
+use Rattle.herd_office.specs.declared.name.OfficeName as office_name
+use Rattle.herdbook.specs.Deal.{AreFresh, HasBegun, HasFiled, commands_at, dealt, dealt_first, every}
 use Rattle.herdbook.specs.Summary.{count_of}
+use Rattle.herdbook.specs.declared.clerk.Clerk.{Clerk}
+use Rattle.herdbook.specs.declared.deal.Deal.{Deal}
 use Rattle.herdbook.specs.declared.summary.DeskCount.{DeskCount}
+
+-- ---- turns
 
 -- what is left out may be dropped first
 pub every-drop : (step out : ℕ) (commands : List Command) → every step out commands ≡ every step 0 (drop out commands)
@@ -45,6 +52,8 @@ pub every-one : (commands : List Command) → every 1 0 commands ≡ commands
 every-one [] = refl
 every-one (command ∷ more) = ap (λ l. command ∷ l) (every-one more)
 
+-- ---- what a desk has filed
+
 commands_at-append : (number : ℕ) (xs ys : List Step) → commands_at number (xs ++ ys) ≡ commands_at number xs ++ commands_at number ys
 commands_at-append number xs ys = ap (map (λ (s : Step). s.command)) (filter-append (λ (s : Step). s.desk == number) xs ys) ∙ search (common_steps)
 
@@ -60,20 +69,21 @@ none_at number steps none =
     ap (map (λ (s : Step). s.command)) (none_of (filter (λ (s : Step). s.desk == number) steps) (length-filter (λ (s : Step). s.desk == number) steps ∙ none))
 
 -- a longer history with no other step of the desk shows what it has filed
-pub shown : (number answered : ℕ) (history longer : List Step) (commands : List Command) → HasFiled number answered history commands
-    → IsPrefix history longer → of_desk number longer ≡ answered → commands_at number longer ≡ commands
-shown number answered history longer commands filed begins all =
-    let both : of_desk number history + of_desk number begins.0 ≡ answered =
-    sym (of_desk-append number history begins.0) ∙ ap (of_desk number) begins.1 ∙ all in
-    let just : of_desk number history ≡ answered = omega (arith, both, filed.stored) in
-    let none : of_desk number begins.0 ≡ 0 = omega (arith, both, filed.stored) in
-    let parts : commands_at number longer ≡ commands_at number history ++ commands_at number begins.0 =
-    sym (ap (commands_at number) begins.1) ∙ commands_at-append number history begins.0 in
-    parts ∙ ap (λ l. commands_at number history ++ l) (none_at number begins.0 none) ∙ search (common_steps) ∙ filed.known just
+pub shown : {N : Type 0} {O : office_name.Ghosts N} (desk : Desk N O) (longer : List Step) (commands : List Command) → HasFiled desk commands
+    → IsPrefix desk.history longer → of_desk desk.number longer ≡ desk.answered → commands_at desk.number longer ≡ commands
+shown desk longer commands filed begins all =
+    let number = desk.number in
+    let both : of_desk number desk.history + of_desk number begins.0 ≡ desk.answered =
+    sym (of_desk-append number desk.history begins.0) ∙ ap (of_desk number) begins.1 ∙ all in
+    let just : of_desk number desk.history ≡ desk.answered = omega (arith, both, desk.stored) in
+    let none : of_desk number begins.0 ≡ 0 = omega (arith, both, desk.stored) in
+    let parts : commands_at number longer ≡ commands_at number desk.history ++ commands_at number begins.0 =
+    sym (ap (commands_at number) begins.1) ∙ commands_at-append number desk.history begins.0 in
+    parts ∙ ap (λ l. commands_at number desk.history ++ l) (none_at number begins.0 none) ∙ search (common_steps) ∙ filed.known just
 
 -- a desk at which nothing was filed
-pub filed_none : (number : ℕ) → HasFiled number 0 [] []
-filed_none number = record { counted = refl; stored = omega arith; known = λ _. refl }
+pub filed_none : {N : Type 0} {O : office_name.Ghosts N} (desk : Desk N O) → desk.answered ≡ 0 → desk.history ≡ [] → HasFiled desk []
+filed_none desk none empty = record { counted = none; known = λ _. ap (commands_at desk.number) empty }
 
 -- a front of a list with one element more is one of the list, where it is no longer than that
 shorter_front : {A : Type 0} (front list : List A) (last : A) → IsPrefix front (list ++ last ∷ []) → length front ≤ length list → IsPrefix front list
@@ -91,28 +101,31 @@ own_step number step is = let own : (step.desk == number) ≡ true = grind (arit
 own_count : (number : ℕ) (step : Step) → step.desk ≡ number → of_desk number (step ∷ []) ≡ 1
 own_count number step is = grind (arith, nat_tests)
 
--- a desk that was given a slip for a command more
-pub filed_more : (number answered : ℕ) (history longer : List Step) (before : List Command) (command : Command) (reply : Reply)
-    → IsPrefix history longer → length history < length longer → EndsWith longer number command reply → answered + 1 ≤ of_desk number longer
-    → HasFiled number answered history before → HasFiled number (answered + 1) longer (before ++ command ∷ [])
-filed_more number answered history longer before command reply begins more ends stored filed =
+-- a desk that has answered one call more, whose history ends with its command
+pub filed_more : {N : Type 0} {O : office_name.Ghosts N} (old new : Desk N O) (before : List Command) (command : Command) (reply : Reply)
+    → new.number ≡ old.number → new.answered ≡ old.answered + 1 → IsPrefix old.history new.history → length old.history < length new.history
+    → EndsWith new.history old.number command reply → HasFiled old before → HasFiled new (before ++ command ∷ [])
+filed_more old new before command reply same answered begins more ends filed =
+    let number = old.number in
     let front = ends.0 in
     let step = step_of number command reply in
-    let is : longer ≡ front ++ step ∷ [] = ends.1 in
-    let len : length longer ≡ length front + 1 = ap length is ∙ search (arith, common_steps) in
-    let within : IsPrefix history front = shorter_front history front step (begins.0, begins.1 ∙ is) (omega (arith, more, len)) in
+    let is : new.history ≡ front ++ step ∷ [] = ends.1 in
+    let len : length new.history ≡ length front + 1 = ap length is ∙ search (arith, common_steps) in
+    let within : IsPrefix old.history front = shorter_front old.history front step (begins.0, begins.1 ∙ is) (omega (arith, more, len)) in
     let one_more : length (before ++ command ∷ []) ≡ length before + 1 = search (arith, common_steps) in
-    let count : of_desk number longer ≡ of_desk number front + 1 =
+    let count : of_desk number new.history ≡ of_desk number front + 1 =
     ap (of_desk number) is ∙ of_desk-append number front (step ∷ []) ∙ ap (λ n. of_desk number front + n) (own_count number step refl) in
     record {
-      counted = omega (arith, filed.counted, one_more);
-      stored = stored;
+      counted = omega (arith, answered, filed.counted, one_more);
       known = λ all.
-          let just : of_desk number front ≡ answered = omega (arith, count, all) in
-          ap (commands_at number) is ∙ commands_at-append number front (step ∷ [])
-          ∙ ap (λ l. l ++ commands_at number (step ∷ [])) (shown number answered history front before filed within just)
+          let own : of_desk number new.history ≡ new.answered = sym (ap (λ n. of_desk n new.history) same) ∙ all in
+          let just : of_desk number front ≡ old.answered = omega (arith, count, own, answered) in
+          ap (λ n. commands_at n new.history) same ∙ ap (commands_at number) is ∙ commands_at-append number front (step ∷ [])
+          ∙ ap (λ l. l ++ commands_at number (step ∷ [])) (shown old front before filed within just)
           ∙ ap (λ l. before ++ l) (own_step number step refl);
     }
+
+-- ---- what falls to all desks together
 
 -- the sum of the values at 0 and so many numbers more, which end before a bound
 abbrev up_to : (ℕ → ℕ) → ℕ → ℕ
@@ -190,25 +203,25 @@ all-counted number answered fell (desk ∷ more) counted =
       all-counted number answered fell more (λ k other there. counted (suc k) other there),
     )
 
+-- ---- desks underway
+
 -- what was filed of a turn, and what is left of it
-pub record Underway (number answered : ℕ) (history : List Step) (left all : List Command) : Type 0 where
+pub record Underway {N : Type 0} {O : office_name.Ghosts N} (desk : Desk N O) (left all : List Command) : Type 0 where
   pub done : List Command
-  pub filed : HasFiled number answered history done
+  pub filed : HasFiled desk done
   pub split : done ++ left ≡ all
 
 -- nothing was filed of it yet
-pub begun : (number answered : ℕ) (history : List Step) (step out : ℕ) (before commands : List Command) → HasFiled number answered history before
-    → Underway number answered history (every step 0 (drop out commands)) (before ++ every step out commands)
-begun number answered history step out before commands filed =
+pub begun : {N : Type 0} {O : office_name.Ghosts N} (desk : Desk N O) (step out : ℕ) (before commands : List Command) → HasFiled desk before
+    → Underway desk (every step 0 (drop out commands)) (before ++ every step out commands)
+begun desk step out before commands filed =
     record { done = before; filed = filed; split = ap (λ l. before ++ l) (sym (every-drop step out commands)) }
 
 -- the command at a place was filed
-pub gone_on : (number answered : ℕ) (history : List Step) (number′ answered′ : ℕ) (history′ : List Step) (step place : ℕ) (commands all : List Command) (command : Command)
-    → 1 ≤ step → slice_get commands place ≡ Some command
-    → ((before : List Command) → HasFiled number answered history before → HasFiled number′ answered′ history′ (before ++ command ∷ []))
-    → Underway number answered history (every step 0 (drop place commands)) all
-    → Underway number′ answered′ history′ (every step 0 (drop (place + step) commands)) all
-gone_on number answered history number′ answered′ history′ step place commands all command some is more under =
+pub gone_on : {N : Type 0} {O : office_name.Ghosts N} (old new : Desk N O) (step place : ℕ) (commands all : List Command) (command : Command)
+    → 1 ≤ step → slice_get commands place ≡ Some command → ((before : List Command) → HasFiled old before → HasFiled new (before ++ command ∷ []))
+    → Underway old (every step 0 (drop place commands)) all → Underway new (every step 0 (drop (place + step) commands)) all
+gone_on old new step place commands all command some is more under =
     record {
       done = under.done ++ command ∷ [];
       filed = more under.done under.filed;
@@ -218,49 +231,46 @@ gone_on number answered history number′ answered′ history′ step place comm
     }
 
 -- desks but the first, at which nothing was filed
-others : {C : Type 0} (number answered : C → ℕ) (history : C → List Step) (first : List Command) (from : ℕ) (clerks : List C) → 2 ≤ from
-    → ((place : ℕ) (clerk : C) → slice_get clerks place ≡ Some clerk → (number clerk ≡ place + from) × (answered clerk ≡ 0) × (history clerk ≡ []))
-    → All (λ c. HasFiled (number c) (answered c) (history c) (dealt_first first (number c))) clerks
-others number answered history first from [] le fresh = All-nil (λ c. HasFiled (number c) (answered c) (history c) (dealt_first first (number c)))
-others number answered history first from (clerk ∷ more) le fresh =
+others : {N : Type 0} {O : office_name.Ghosts N} (first : List Command) (from : ℕ) (clerks : List (Clerk N O)) → 2 ≤ from
+    → ((place : ℕ) (clerk : Clerk N O) → slice_get clerks place ≡ Some clerk
+    → (clerk.desk.number ≡ place + from) × (clerk.desk.answered ≡ 0) × (clerk.desk.history ≡ []))
+    → All (λ c. HasFiled c.desk (dealt_first first c.desk.number)) clerks
+others {N} {O} first from [] le fresh = All-nil (λ (c : Clerk N O). HasFiled c.desk (dealt_first first c.desk.number))
+others {N} {O} first from (clerk ∷ more) le fresh =
     let own = fresh 0 clerk refl in
-    let later : (number clerk == 1) ≡ false = grind (arith, nat_tests, own.0, le) in
-    let none : dealt_first first (number clerk) ≡ [] = rw later refl in
-    let here : HasFiled (number clerk) (answered clerk) (history clerk) (dealt_first first (number clerk)) =
-    rw (own.1, own.2, none) (filed_none (number clerk)) in
-    All-cons (λ c. HasFiled (number c) (answered c) (history c) (dealt_first first (number c))) clerk more here
-    (others number answered history first (from + 1) more (omega (arith, le))
-    (λ place c there. let known = fresh (suc place) c there in (omega (arith, known.0), known.1, known.2)))
+    let later : (clerk.desk.number == 1) ≡ false = grind (arith, nat_tests, own.0, le) in
+    let none : dealt_first first clerk.desk.number ≡ [] = rw later refl in
+    All-cons (λ (c : Clerk N O). HasFiled c.desk (dealt_first first c.desk.number)) clerk more
+    (subst (HasFiled clerk.desk) (sym none) (filed_none clerk.desk own.1 own.2))
+    (others first (from + 1) more (omega (arith, le)) (λ place c there. let known = fresh (suc place) c there in (omega (arith, known.0), known.1, known.2)))
 
 -- the first desk has filed the first commands, and the others nothing
-pub all_begun : {C : Type 0} (number answered : C → ℕ) (history : C → List Step) (first : List Command) (clerks : List C) (clerk : C)
-    → ((place : ℕ) (c : C) → slice_get clerks place ≡ Some c → (number c ≡ place + 1) × (answered c ≡ 0) × (history c ≡ []))
-    → number clerk ≡ 1 → HasFiled (number clerk) (answered clerk) (history clerk) first
-    → All (λ c. HasFiled (number c) (answered c) (history c) (dealt_first first (number c))) (set clerks 0 clerk)
-all_begun number answered history first [] clerk fresh one filed = All-nil (λ c. HasFiled (number c) (answered c) (history c) (dealt_first first (number c)))
-all_begun number answered history first (old ∷ more) clerk fresh one filed =
-    let all : first ≡ dealt_first first (number clerk) = sym (ap (dealt_first first) one) in
-    All-cons (λ c. HasFiled (number c) (answered c) (history c) (dealt_first first (number c))) clerk more
-    (subst (λ l. HasFiled (number clerk) (answered clerk) (history clerk) l) all filed)
-    (others number answered history first 2 more (omega arith)
-    (λ place c there. let known = fresh (suc place) c there in (omega (arith, known.0), known.1, known.2)))
+pub all_begun : {N : Type 0} {O : office_name.Ghosts N} (deal : Deal) (clerks : List (Clerk N O)) (clerk : Clerk N O) → AreFresh (map (λ c. c.desk) clerks)
+    → clerk.desk.number ≡ 1 → HasFiled clerk.desk deal.first.now → All (λ c. HasBegun deal c.desk) (set clerks 0 clerk)
+all_begun {N} {O} deal [] clerk fresh one filed = All-nil (λ (c : Clerk N O). HasBegun deal c.desk)
+all_begun {N} {O} deal (old ∷ more) clerk fresh one filed =
+    let all : deal.first.now ≡ dealt_first deal.first.now clerk.desk.number = sym (ap (dealt_first deal.first.now) one) in
+    All-cons (λ (c : Clerk N O). HasBegun deal c.desk) clerk more (subst (HasFiled clerk.desk) all filed)
+    (others deal.first.now 2 more (omega arith)
+    (λ place c there.
+    let known = fresh (suc place) c.desk (slice_get-map (λ (d : Clerk N O). d.desk) more place ∙ ap (option_map (λ (d : Clerk N O). d.desk)) there) in (omega (arith, known.0), known.1, known.2)))
 
 -- what holds of all holds of the one at a place
 pub all_at : {D : Type 0} (P : D → Type 0) (desks : List D) → All P desks → (place : ℕ) (desk : D) → slice_get desks place ≡ Some desk → P desk
 all_at P desks all place desk is = subst P (get_or_from_slice_get desks place desk desk is) (all place desk (slice_get_within desks place desk is))
 
 -- in the journal of a closed office each desk has the steps of what it has filed
-pub each-dealt : {D : Type 0} (number answered : D → ℕ) (history : D → List Step) (fell : ℕ → List Command) (journal : List Step) (desks : List D)
-    → ((place : ℕ) (desk : D) → slice_get desks place ≡ Some desk → HasFiled (number desk) (answered desk) (history desk) (fell (number desk)))
-    → ((place : ℕ) (desk : D) → slice_get desks place ≡ Some desk → answered desk ≡ of_desk (number desk) journal)
-    → BeginsWithAll history desks journal
-    → (place : ℕ) (count : DeskCount) → slice_get (map (λ d. count_of (number d) (answered d)) desks) place ≡ Some count
+pub each-dealt : {N : Type 0} {O : office_name.Ghosts N} (fell : ℕ → List Command) (journal : List Step) (desks : List (Desk N O))
+    → ((place : ℕ) (desk : Desk N O) → slice_get desks place ≡ Some desk → HasFiled desk (fell desk.number))
+    → ((place : ℕ) (desk : Desk N O) → slice_get desks place ≡ Some desk → desk.answered ≡ of_desk desk.number journal)
+    → BeginsWithAll (λ d. d.history) desks journal
+    → (place : ℕ) (count : DeskCount) → slice_get (map (λ d. count_of d.number d.answered) desks) place ≡ Some count
     → commands_at count.number journal ≡ fell count.number
-each-dealt number answered history fell journal [] filed counted begins place count is = absurd cc
-each-dealt number answered history fell journal (desk ∷ more) filed counted begins zero count is =
-    let same : count_of (number desk) (answered desk) ≡ count = cc in
+each-dealt fell journal [] filed counted begins place count is = absurd cc
+each-dealt fell journal (desk ∷ more) filed counted begins zero count is =
+    let same : count_of desk.number desk.answered ≡ count = cc in
     subst (λ (c : DeskCount). commands_at c.number journal ≡ fell c.number) same
-    (shown (number desk) (answered desk) (history desk) journal (fell (number desk)) (filed 0 desk refl) (begins 0 desk refl) (sym (counted 0 desk refl)))
-each-dealt number answered history fell journal (desk ∷ more) filed counted begins (suc place) count is =
-    each-dealt number answered history fell journal more (λ k d there. filed (suc k) d there) (λ k d there. counted (suc k) d there)
+    (shown desk journal (fell desk.number) (filed 0 desk refl) (begins 0 desk refl) (sym (counted 0 desk refl)))
+each-dealt fell journal (desk ∷ more) filed counted begins (suc place) count is =
+    each-dealt fell journal more (λ k d there. filed (suc k) d there) (λ k d there. counted (suc k) d there)
     (λ k d there. begins (suc k) d there) place count is

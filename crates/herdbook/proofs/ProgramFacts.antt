@@ -6,7 +6,7 @@ use Rattle.herd_register.specs.declared.limits.Limits.{Limits}
 use Rattle.herd_report.specs.reading.CommandFile.{commands}
 use Rattle.herdbook.specs.CommandLine.{command_line}
 use Rattle.herdbook.specs.Ending.{end_of_task}
-use Rattle.herdbook.specs.Program.{CanEnd, CanEndTask, EndsServing, HasTask, IsEnded, IsServed}
+use Rattle.herdbook.specs.Program.{CanEnd, CanEndServing, EndsServing, IsEnded, IsServed}
 use Rattle.herdbook.specs.Words.{IsAsked}
 use Rattle.herdbook.specs.declared.arguments.Request.{Request}
 use Rattle.herdbook.specs.declared.task_fault.TaskFault.{TaskFault}
@@ -26,7 +26,7 @@ ended-task (Some bytes) limits words old new request (Err fault) taken asked ok 
 -- and whatever is read, that end is one that the words leave open
 pub possible-task : {T : Type 0} (words : List (List ℕ)) (request : Request) (result : Result T TaskFault)
     → fault_of command_line words ≡ [] → IsAsked (subcommand_of command_line words) request
-    → IfErr result (λ fault. HasTask request (λ task. CanEndTask task fault)) → CanEnd words (end_of_task result)
+    → IfErr result (CanEndServing request) → CanEnd words (end_of_task result)
 possible-task words request (Ok done) taken asked possible = record { request = request; taken = taken; asked = asked; holds = tt }
 possible-task words request (Err fault) taken asked possible =
     inl (record { request = request; taken = taken; asked = asked; holds = possible })

@@ -1,19 +1,21 @@
 -- Desks that are handed in, their numbers, and what their counts add up to.
-use Rattle.std.proofs.Common.{◌≡◌, ◌∙◌, ◌≤◌, ℕ, zero, suc, ◌+◌, List, [], ◌∷◌, ◌++◌, ap, ap₂, append_assoc, arith, drop, get_or, length, map, set, slice_get, Some, refl, subst, sym, take}
+use Rattle.std.proofs.Common.{◌≡◌, ◌∙◌, ℕ, zero, suc, ◌+◌, List, [], ◌∷◌, ◌++◌, ap, ap₂, append_assoc, arith, get_or, length, map, set, slice_get, Some, refl, subst, sym}
 use Rattle.std.specs.List.{range_with_len}
 use Rattle.std.specs.Prelude.{sum_by}
-use Rattle.std.proofs.lemmas.List.{length-append, map-append, map-set, set-get_or, take-append-drop}
+use Rattle.std.proofs.lemmas.List.{map-append, map-set, set-get_or}
 use Rattle.std.proofs.lemmas.List.Folds.{fold-map}
 use mathlib.Core.List.{map-map}
 use Rattle.herd_register.specs.Register.{Register}
 use Rattle.herd_register.specs.Run.{IsLegal, commands_of, run_book}
-use Rattle.herd_register.specs.declared.command.Command.{Command}
 use Rattle.herd_register.specs.declared.limits.Limits.{Limits}
 use Rattle.herd_register.specs.declared.step.Step.{Step}
 use Rattle.herd_office.specs.Closing.{BeginsWithAll}
 use Rattle.herd_office.specs.Histories.{of_desk}
-use Rattle.herdbook.specs.Deal.{HasFiled, dealt}
-use Rattle.herdbook.specs.Summary.{CountsOf, IsSummaryOf, count_of}
+use Rattle.herd_office.specs.declared.desk.Desk.{Desk}
+use Rattle.herd_office.specs.declared.name.OfficeName as office_name
+use Rattle.herdbook.specs.Deal.{HasDone, dealt}
+use Rattle.herdbook.specs.Summary.{CountsOf, IsSummaryOfDeal, count_of}
+use Rattle.herdbook.specs.declared.deal.Deal.{Deal}
 use Rattle.herdbook.specs.declared.summary.DeskCount.{DeskCount}
 use Rattle.herdbook.specs.declared.summary.Summary.{Summary}
 use Rattle.herdbook.proofs.DealFacts.{all-counted, dealt-all, each-dealt}
@@ -65,23 +67,21 @@ numbers-set number clerks place old new same =
     ∙ sym (map-set number clerks place (get_or clerks place old)) ∙ ap (map number) (set-get_or clerks place old)
 
 -- a register whose journal has what each desk filed, counted desk by desk, is summed up
-pub summed_up : {D : Type 0} (number answered : D → ℕ) (history : D → List Step) (all : List D) (limits : Limits) (desks base : ℕ) (commands : List Command) (register : Register) (summary : Summary)
-    → 1 ≤ desks → map number all ≡ range_with_len 1 desks
-    → ((place : ℕ) (desk : D) → slice_get all place ≡ Some desk
-    → HasFiled (number desk) (answered desk) (history desk) (dealt desks (take base commands) (drop base commands) (number desk)))
-    → register.limits ≡ limits → IsLegal register.limits register.journal → length register.journal ≡ sum_by answered all
-    → ((place : ℕ) (desk : D) → slice_get all place ≡ Some desk → answered desk ≡ of_desk (number desk) register.journal)
-    → BeginsWithAll history all register.journal → CountsOf register (map (λ d. count_of (number d) (answered d)) all) summary
-    → IsSummaryOf limits desks base commands summary
-summed_up number answered history all limits desks base commands register summary some numbers filed same legal sum each begins counts =
-    let first = take base commands in
-    let rest = drop base commands in
-    let fell = dealt desks first rest in
+pub summed_up : {N : Type 0} {O : office_name.Ghosts N} (all : List (Desk N O)) (limits : Limits) (deal : Deal) (register : Register) (summary : Summary)
+    → map (λ d. d.number) all ≡ range_with_len 1 deal.desks
+    → ((place : ℕ) (desk : Desk N O) → slice_get all place ≡ Some desk → HasDone deal desk)
+    → register.limits ≡ limits → IsLegal register.limits register.journal → length register.journal ≡ sum_by (λ d. d.answered) all
+    → ((place : ℕ) (desk : Desk N O) → slice_get all place ≡ Some desk → desk.answered ≡ of_desk desk.number register.journal)
+    → BeginsWithAll (λ d. d.history) all register.journal → CountsOf register (map (λ d. count_of d.number d.answered) all) summary
+    → IsSummaryOfDeal limits deal summary
+summed_up {N} {O} all limits deal register summary numbers filed same legal sum each begins counts =
+    let number : Desk N O → ℕ = λ d. d.number in
+    let answered : Desk N O → ℕ = λ d. d.answered in
+    let fell = dealt deal.desks deal.first.now deal.rest.now in
     let journal = register.journal in
-    let as_many : length journal ≡ length commands =
+    let as_many : length journal ≡ length deal.first.now + length deal.rest.now =
     sum ∙ all-counted number answered fell all (λ place desk there. (filed place desk there).counted)
-    ∙ ap (sum_by (λ n. length (fell n))) numbers ∙ dealt-all desks first rest some
-    ∙ sym (length-append first rest) ∙ ap length (take-append-drop base commands) in
+    ∙ ap (sum_by (λ n. length (fell n))) numbers ∙ dealt-all deal.desks deal.first.now deal.rest.now deal.some in
     record {
       journal = journal;
       legal = subst (λ (l : Limits). IsLegal l journal) same legal;
@@ -90,7 +90,7 @@ summed_up number answered history all limits desks base commands register summar
       numbers_are = ap (map (λ d. d.number)) counts.desks_are ∙ numbers-counts number answered all ∙ numbers;
       sum_is = ap (sum_by (λ d. d.answered)) counts.desks_are ∙ sum-counts number answered all ∙ sym sum ∙ sym counts.steps_are;
       each_is = rw counts.desks_are (each-count number answered journal all each);
-      dealt_are = rw counts.desks_are (each-dealt number answered history fell journal all filed each begins);
+      dealt_are = rw counts.desks_are (each-dealt fell journal all filed each begins);
       animals_are = subst (λ (l : Limits). summary.animals ≡ length (run_book l (commands_of journal))) same counts.animals_are;
       all_seen = counts.all_seen;
     }

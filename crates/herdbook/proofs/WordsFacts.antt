@@ -1,6 +1,6 @@
 -- What the getters of `clap` tell of the words.
-use Rattle.std.proofs.Common.{◌≡◌, ℕ, ◌+◌, ◌<◌, inl, inr, List, [], Option, Some, None, option_map, unwrap_or, Bor, Result, slice_get, get_or, length, map, true, refl, subst, sym, ◌∙◌, ap, arith, Ok, Err}
-use Rattle.std.specs.Str.Parse.{ParsesUnsigned, ExplainsUnsignedError, HasUnsignedDigitsIfOk}
+use Rattle.std.proofs.Common.{◌≡◌, ℕ, ◌+◌, ◌<◌, ◌≤◌, ◌^◌, inl, inr, List, [], Option, Some, None, option_map, unwrap_or, Bor, Result, slice_get, get_or, length, map, true, refl, subst, sym, ◌∙◌, ap, arith, Ok, Err}
+use Rattle.std.specs.Str.Parse.{ParsesUnsigned, ExplainsUnsignedError, HasUnsignedDigitsIfOk, digits_value, without_leading_plus}
 use Rattle.std.specs.declared.num.ParseIntError.{ParseIntError}
 use Rattle.std.specs.Prelude.{IfErr, IfOk, IsErrAnd, IsSomeAnd}
 use Rattle.std.proofs.lemmas.Bool.{cases_order}
@@ -28,13 +28,25 @@ text_of-found given id found other same none =
 abbrev pub Parses : Text → Result ℕ ParseIntError → Type 0
 Parses text result = ParsesUnsigned 32 10 text result × ExplainsUnsignedError 10 text result × HasUnsignedDigitsIfOk text result
 
--- the number that `get_one` gives, and another where it gives none
-pub IsNumberOr-found : (other : ℕ) (text : Option Text) (found : Option ℕ) (number : ℕ) → (text ≡ None → found ≡ None) → ((t : Text) → text ≡ Some t → ReadsOne Parses t found) → number ≡ unwrap_or found other → IsNumberOr other text number
-IsNumberOr-found other None found number none some is = is ∙ ap (λ o. unwrap_or o other) (none refl)
-IsNumberOr-found other (Some text) (Some value) number none some is =
+-- the number that `get_one` gives, where it lies in the range
+pub IsNumberOr-given : (least most other number : ℕ) (text : Option Text) → (text ≡ None → Some number ≡ None) → ((t : Text) → text ≡ Some t → ReadsOne Parses t (Some number)) → least ≤ number → number ≤ most → IsNumberOr least most other text number
+IsNumberOr-given least most other number None none some low high = absurd (cc (none refl))
+IsNumberOr-given least most other number (Some text) none some low high =
     let read = some text refl in
-    inl (read.0.0.0, sym read.0.1 ∙ sym is, omega (arith, read.0.0.1, read.0.1, is))
-IsNumberOr-found other (Some text) None number none some is = inr ((some text refl).1.0, is)
+    inl (record { numeral = read.0.0.0; value = sym read.0.1; low = low; high = high })
+
+-- another, where it doesn't
+pub IsNumberOr-beyond : (least most other number : ℕ) (text : Option Text) → ((t : Text) → text ≡ Some t → ReadsOne Parses t (Some number)) → (least ≤ number → number ≤ most → ⊥) → IsNumberOr least most other text other
+IsNumberOr-beyond least most other number None some out = refl
+IsNumberOr-beyond least most other number (Some text) some out =
+    let is : number ≡ digits_value 10 (without_leading_plus text) = (some text refl).0.1 in
+    inr (λ n written. out (omega (arith, is, written.value, written.low)) (omega (arith, is, written.value, written.high)), refl)
+
+-- and where it gives none
+pub IsNumberOr-none : (least most other : ℕ) (text : Option Text) → most < 2 ^ 32 → ((t : Text) → text ≡ Some t → ReadsOne Parses t None) → IsNumberOr least most other text other
+IsNumberOr-none least most other None fits some = refl
+IsNumberOr-none least most other (Some text) fits some =
+    inr (λ n written. (some text refl).1.0 (written.numeral, omega (arith, written.value, written.high, fits)), refl)
 
 texts_or : (found : Option (Bor (List (Bor Text)))) (other : Bor (List (Bor Text))) → other.now ≡ [] → unwrap_or (option_map (λ texts. map (λ text. text.now) texts.now) found) [] ≡ map (λ text. text.now) (unwrap_or found other).now
 texts_or None other none = ap (map (λ text. text.now)) (sym none)

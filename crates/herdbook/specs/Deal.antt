@@ -1,8 +1,11 @@
 -- Which commands fall to which desk, and what a history has of a desk.
-use Rattle.std.specs.Prelude.{◌≡◌, ℕ, zero, suc, ◌==◌, ◌-◌, ◌≤◌, if◌then◌else◌, List, [], ◌∷◌, ◌++◌, length, map, filter}
+use Rattle.std.specs.Prelude.{◌≡◌, ℕ, zero, suc, ◌==◌, ◌+◌, ◌-◌, if◌then◌else◌, List, [], ◌∷◌, ◌++◌, Some, length, map, filter, slice_get}
 use Rattle.herd_register.specs.declared.command.Command.{Command}
 use Rattle.herd_register.specs.declared.step.Step.{Step}
 use Rattle.herd_office.specs.Histories.{of_desk}
+use Rattle.herd_office.specs.declared.desk.Desk.{Desk}
+use Rattle.herd_office.specs.declared.name.OfficeName as office_name
+use Rattle.herdbook.specs.declared.deal.Deal.{Deal}
 
 -- the command that comes once so many are left out, and from it on every so many-th; a step of 0 counts as 1
 abbrev pub every : ℕ → ℕ → List Command → List Command
@@ -23,9 +26,21 @@ dealt desks first rest number = dealt_first first number ++ every desks (number 
 abbrev pub commands_at : ℕ → List Step → List Command
 commands_at number journal = map (λ s. s.command) (filter (λ s. s.desk == number) journal)
 
--- what is known of a desk that has filed these commands: it answered as many calls, its history has at least as many
--- steps of the desk, and where it has no more, they are of just these commands, in their order
-pub record HasFiled (number answered : ℕ) (history : List Step) (commands : List Command) : Type 0 where
-  pub counted : answered ≡ length commands
-  pub stored : answered ≤ of_desk number history
-  pub known : of_desk number history ≡ answered → commands_at number history ≡ commands
+-- what is known of a desk that has filed these commands: it answered as many calls, and where its history has no more
+-- steps of the desk, they are of just these commands, in their order
+pub record HasFiled {N : Type 0} {O : office_name.Ghosts N} (desk : Desk N O) (commands : List Command) : Type 0 where
+  pub counted : desk.answered ≡ length commands
+  pub known : of_desk desk.number desk.history ≡ desk.answered → commands_at desk.number desk.history ≡ commands
+
+-- a desk has filed what falls to it of a deal before the desks take turns
+abbrev pub HasBegun : {N : Type 0} {O : office_name.Ghosts N} → Deal → Desk N O → Type 0
+HasBegun deal desk = HasFiled desk (dealt_first deal.first.now desk.number)
+
+-- a desk has filed all that falls to it of a deal
+abbrev pub HasDone : {N : Type 0} {O : office_name.Ghosts N} → Deal → Desk N O → Type 0
+HasDone deal desk = HasFiled desk (dealt deal.desks deal.first.now deal.rest.now desk.number)
+
+-- desks that are numbered from 1 on, at which nothing was filed
+abbrev pub AreFresh : {N : Type 0} {O : office_name.Ghosts N} → List (Desk N O) → Type 0
+AreFresh {N} {O} desks = (place : ℕ) (desk : Desk N O) → slice_get desks place ≡ Some desk
+    → (desk.number ≡ place + 1) × (desk.answered ≡ 0) × (desk.history ≡ [])

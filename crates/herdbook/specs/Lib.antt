@@ -4,6 +4,5 @@ pub mod Deal
 pub mod Ending
 pub mod FaultText
 pub mod Program
-pub mod Request
 pub mod Summary
 pub mod Words

@@ -4,44 +4,42 @@ use Rattle.clap.specs.Words.{fault_of, subcommand_of}
 use Rattle.herd_register.specs.declared.limits.Limits.{Limits}
 use Rattle.herd_report.specs.reading.CommandFile.{CommandFile, commands}
 use Rattle.herd_report.specs.Run.{CanEndBy, EndsBy, IsAnswered}
+use Rattle.herd_report.specs.declared.orders.Order.{Order}
 use Rattle.herdbook.specs.Clerks.{CanEndClerks, EndsClerks, IsFiledBy}
 use Rattle.herdbook.specs.CommandLine.{command_line}
 use Rattle.herdbook.specs.Ending.{Explains}
-use Rattle.herdbook.specs.Request.{IsTaskFor}
-use Rattle.herdbook.specs.Words.{IsAsked, IsRefused}
+use Rattle.herdbook.specs.Words.{IsAsked, IsOrderFor, IsRefused}
+use Rattle.herdbook.specs.declared.arguments.OwnedOrder.{OwnedOrder}
 use Rattle.herdbook.specs.declared.arguments.Request.{Request}
-use Rattle.herdbook.specs.declared.arguments.Task.{Task}
-use Rattle.herdbook.specs.declared.arguments.Task.TheVariants as task
+use Rattle.herdbook.specs.declared.arguments.Request.TheVariants as request
 use Rattle.herdbook.specs.declared.arguments.WordsFault.{WordsFault}
 use Rattle.herdbook.specs.declared.ending.Ending.{Ending}
 use Rattle.herdbook.specs.declared.ending.Ending.TheVariants.{Done, Early}
 use Rattle.herdbook.specs.declared.task_fault.TaskFault.{TaskFault}
 use Rattle.herdbook.specs.declared.task_fault.TaskFault.TheVariants.{Run, NoPlace}
 
--- a task was carried out on a command file
-abbrev pub IsCarriedOut : Task → Limits → CommandFile → Option (List ℕ) → Option (List ℕ) → Type 0
-IsCarriedOut (task.Run order) limits file old new = IsAnswered limits order file old new
-IsCarriedOut (task.Clerks desks base) limits file old new = IsFiledBy limits desks base file old new
-
--- how it may end early
-abbrev pub EndsCarrying : Task → Limits → CommandFile → Option (List ℕ) → Option (List ℕ) → TaskFault → Type 0
-EndsCarrying (task.Run order) limits file old new (Run fault) = EndsBy limits order file old new fault
-EndsCarrying (task.Run order) limits file old new NoPlace = ⊥
-EndsCarrying (task.Clerks desks base) limits file old new fault = EndsClerks limits desks base file old new fault
-
--- a task for the request, of which a fact holds
-pub record HasTask (request : Request) (Holds : Task → Type 0) : Type 0 where
-  pub task : Task
-  pub for : IsTaskFor request task
-  pub holds : Holds task
+-- an order that is lent for one that owns its sires, and of which a fact holds
+pub record Lends (asked : OwnedOrder) (Holds : Order → Type 0) : Type 0 where
+  pub order : Order
+  pub for : IsOrderFor asked order
+  pub holds : Holds order
 
 -- what a request asks for was carried out on a command file
 abbrev pub IsServed : Request → Limits → CommandFile → Option (List ℕ) → Option (List ℕ) → Type 0
-IsServed request limits file old new = HasTask request (λ task. IsCarriedOut task limits file old new)
+IsServed (request.Run asked) limits file old new = Lends asked (λ order. IsAnswered limits order file old new)
+IsServed (request.Clerks plan) limits file old new = IsFiledBy limits plan.desks plan.base file old new
 
--- it ended early
+-- how it may end early
 abbrev pub EndsServing : Request → Limits → CommandFile → Option (List ℕ) → Option (List ℕ) → TaskFault → Type 0
-EndsServing request limits file old new fault = HasTask request (λ task. EndsCarrying task limits file old new fault)
+EndsServing (request.Run asked) limits file old new (Run fault) = Lends asked (λ order. EndsBy limits order file old new fault)
+EndsServing (request.Run asked) limits file old new NoPlace = ⊥
+EndsServing (request.Clerks plan) limits file old new fault = EndsClerks limits plan.desks plan.base file old new fault
+
+-- the faults that it can end by, whatever is read
+abbrev pub CanEndServing : Request → TaskFault → Type 0
+CanEndServing (request.Run asked) (Run fault) = Lends asked (λ order. CanEndBy order fault)
+CanEndServing (request.Run asked) NoPlace = ⊥
+CanEndServing (request.Clerks plan) fault = CanEndClerks fault
 
 -- `clap` takes the words, and a fact holds of the request that they make
 pub record Asks (words : List (List ℕ)) (Holds : Request → Type 0) : Type 0 where
@@ -72,15 +70,9 @@ IsUntouchedUnlessAsked Untouched Done = Unit {0}
 IsUntouchedUnlessAsked Untouched (Early fault) = Unit {0}
 IsUntouchedUnlessAsked Untouched ending = Untouched
 
--- the faults that a task can end by, whatever is read
-abbrev pub CanEndTask : Task → TaskFault → Type 0
-CanEndTask (task.Run order) (Run fault) = CanEndBy order fault
-CanEndTask (task.Run order) NoPlace = ⊥
-CanEndTask (task.Clerks desks base) fault = CanEndClerks fault
-
 -- the ends that the words leave open, whatever is read
 abbrev pub CanEnd : List (List ℕ) → Ending → Type 0
 CanEnd words Done = Asks words (λ _. Unit {0})
 CanEnd words (Early fault) =
-    Asks words (λ request. HasTask request (λ task. CanEndTask task fault)) ⊎ AsksNothing words (Early fault)
+    Asks words (λ request. CanEndServing request fault) ⊎ AsksNothing words (Early fault)
 CanEnd words ending = AsksNothing words ending

@@ -1,5 +1,5 @@
 -- What clerks have done, and how it is told.
-use Rattle.std.specs.Prelude.{◌≡◌, ℕ, List, [], ◌∷◌, ◌++◌, codes, decimal, drop, length, map, sum_by, slice_get, take, Option, Some}
+use Rattle.std.specs.Prelude.{◌≡◌, ℕ, ◌+◌, List, [], ◌∷◌, ◌++◌, codes, decimal, drop, length, map, sum_by, slice_get, take, Option, Some}
 use Rattle.std.specs.List.{range_with_len}
 use Rattle.herd_register.specs.Run.{IsLegal, commands_of, run_book}
 use Rattle.herd_register.specs.Register.{Register, register_book}
@@ -11,6 +11,7 @@ use Rattle.herd_report.specs.writing.Output.{AppendsFront}
 use Rattle.herd_report.specs.declared.writing.report_fault.ReportFault.{ReportFault}
 use Rattle.herd_report.specs.declared.writing.report_fault.ReportFault.TheVariants.{Memory, Write}
 use Rattle.herdbook.specs.Deal.{commands_at, dealt}
+use Rattle.herdbook.specs.declared.deal.Deal.{Deal}
 use Rattle.herdbook.specs.declared.summary.DeskCount.{DeskCount}
 use Rattle.herdbook.specs.declared.summary.Summary.{Summary}
 
@@ -42,26 +43,30 @@ pub record CountsOf (register : Register) (desks : List DeskCount) (summary : Su
   pub animals_are : summary.animals ≡ length (register_book register)
   pub all_seen : summary.seen ≡ summary.steps
 
--- a summary of the closed office of so many desks for these commands, of which so many first ones fell to desk 1: a
--- legal journal is as long as they are, and each desk's steps in it are of the commands that fell to it, in their
--- order; there is a count for each desk, from 1 on, of its steps; the animals are those of the journal's book, and an
--- inspector has seen as many steps as there are; in which order different desks filed is left open
-pub record IsSummaryOf (limits : Limits) (desks base : ℕ) (commands : List Command) (summary : Summary) : Type 0 where
+-- a summary of the closed office of so many desks for commands of which the first ones fell to desk 1: a legal journal is
+-- as long as all are, and each desk's steps in it are of the commands that fell to it, in their order; there is a count
+-- for each desk, from 1 on, of its steps; the animals are those of the journal's book, and an inspector has seen as many
+-- steps as there are; in which order different desks filed is left open
+pub record IsSummaryOf (limits : Limits) (desks : ℕ) (first rest : List Command) (summary : Summary) : Type 0 where
   pub journal : List Step
   pub legal : IsLegal limits journal
   pub steps_are : summary.steps ≡ length journal
-  pub as_many : summary.steps ≡ length commands
+  pub as_many : summary.steps ≡ length first + length rest
   pub numbers_are : map (λ d. d.number) summary.desks.items ≡ range_with_len 1 desks
   pub sum_is : sum_by (λ d. d.answered) summary.desks.items ≡ summary.steps
   pub each_is : (place : ℕ) (desk : DeskCount) → slice_get summary.desks.items place ≡ Some desk
       → desk.answered ≡ of_desk desk.number journal
   pub dealt_are : (place : ℕ) (desk : DeskCount) → slice_get summary.desks.items place ≡ Some desk
-      → commands_at desk.number journal ≡ dealt desks (take base commands) (drop base commands) desk.number
+      → commands_at desk.number journal ≡ dealt desks first rest desk.number
   pub animals_are : summary.animals ≡ length (run_book limits (commands_of journal))
   pub all_seen : summary.seen ≡ summary.steps
 
--- the text is that of such a summary
+-- a summary of the closed office in which the commands of a deal were filed
+abbrev pub IsSummaryOfDeal : Limits → Deal → Summary → Type 0
+IsSummaryOfDeal limits deal summary = IsSummaryOf limits deal.desks deal.first.now deal.rest.now summary
+
+-- the text is that of such a summary, where so many first commands fell to desk 1
 pub record TellsOf (limits : Limits) (desks base : ℕ) (commands : List Command) (text : List ℕ) : Type 0 where
   pub summary : Summary
-  pub counts : IsSummaryOf limits desks base commands summary
+  pub counts : IsSummaryOf limits desks (take base commands) (drop base commands) summary
   pub text_is : text ≡ summary_text summary

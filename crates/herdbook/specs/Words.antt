@@ -1,17 +1,25 @@
 -- What the words of the command line ask for, or why they ask for nothing.
-use Rattle.std.specs.Prelude.{◌≡◌, ◌≢◌, ℕ, ◌<◌, ◌⊎◌, ◌^◌, List, [], Option, Some, None, unwrap_or, option_map, codes, slice_get}
+use Rattle.std.specs.Prelude.{◌≡◌, ◌≢◌, ℕ, ◌<◌, ◌≤◌, ◌⊎◌, List, [], Option, Some, None, unwrap_or, option_map, codes, slice_get}
 use Rattle.std.specs.Str.Parse.{IsNumeral, digits_value, without_leading_plus}
 use Rattle.clap.specs.Words.{HasKind, Row, Text, all_of, fault_of, first_of, kind_of, one_of, subcommand_of}
 use Rattle.clap.specs.declared.error.kind.ErrorKind.TheVariants.{OutOfMemory}
 use Rattle.herd_animal.specs.AnimalNumber.{IsAnimalNumber}
 use Rattle.herd_animal.specs.NumberFault.{IsNumberFault}
 use Rattle.herd_animal.specs.declared.number.NumberFault.{NumberFault}
-use Rattle.herd_pool.specs.declared.limits.TheConstants.{DEFAULT_BLOCK}
+use Rattle.herd_office.specs.declared.limits.TheConstants.{MOST_DESKS}
+use Rattle.herd_pool.specs.declared.limits.TheConstants.{DEFAULT_BLOCK, MOST_WORKERS}
+use Rattle.herd_report.specs.declared.orders.Order.{Order}
+use Rattle.herd_report.specs.declared.orders.Order.TheVariants.{File, Inbreeding, Certificate, Mating, Inverse}
 use Rattle.herdbook.specs.CommandLine.{command_line}
+use Rattle.herdbook.specs.declared.arguments.OwnedOrder.{OwnedOrder}
+use Rattle.herdbook.specs.declared.arguments.OwnedOrder.TheVariants as asked
 use Rattle.herdbook.specs.declared.arguments.Request.{Request}
-use Rattle.herdbook.specs.declared.arguments.Request.TheVariants.{File, Inbreeding, Certificate, Mating, Inverse, Clerks}
+use Rattle.herdbook.specs.declared.arguments.Request.TheVariants.{Run, Clerks}
 use Rattle.herdbook.specs.declared.arguments.WordsFault.{WordsFault}
 use Rattle.herdbook.specs.declared.arguments.WordsFault.TheVariants.{Words, Number}
+use Rattle.herdbook.specs.declared.plans.DeskPlan.{DeskPlan}
+use Rattle.herdbook.specs.declared.plans.WorkPlan.{WorkPlan}
+use Rattle.herdbook.specs.declared.program.TheConstants.{LIMITS}
 
 -- a subcommand's name, and what was found of its arguments
 abbrev pub Found : Type 0
@@ -23,12 +31,18 @@ name_in found = option_map (λ part. part.0) found
 abbrev pub rows_in : Found → List Row
 rows_in found = unwrap_or (option_map (λ part. part.1) found) []
 
--- the number that a text writes, and another where there is no text or it writes none below 2 ^ 32
-abbrev pub IsNumberOr : ℕ → Option Text → ℕ → Type 0
-IsNumberOr other None number = number ≡ other
-IsNumberOr other (Some text) number =
-    (IsNumeral 10 (without_leading_plus text) × (digits_value 10 (without_leading_plus text) ≡ number) × (number < 2 ^ 32))
-    ⊎ (¬ (IsNumeral 10 (without_leading_plus text) × (digits_value 10 (without_leading_plus text) < 2 ^ 32)) × (number ≡ other))
+-- a text writes a number from `least` to `most`
+pub record Writes (least most : ℕ) (text : Text) (number : ℕ) : Type 0 where
+  pub numeral : IsNumeral 10 (without_leading_plus text)
+  pub value : digits_value 10 (without_leading_plus text) ≡ number
+  pub low : least ≤ number
+  pub high : number ≤ most
+
+-- the number from `least` to `most` that a text writes, and another where there is no text or it writes none of these
+abbrev pub IsNumberOr : ℕ → ℕ → ℕ → Option Text → ℕ → Type 0
+IsNumberOr least most other None number = number ≡ other
+IsNumberOr least most other (Some text) number =
+    Writes least most text number ⊎ (((n : ℕ) → Writes least most text n → ⊥) × (number ≡ other))
 
 -- the first text of an argument, and the empty text where there is none
 abbrev pub text_of : Text → List Row → Text
@@ -38,32 +52,48 @@ text_of id rows = unwrap_or (first_of id rows) []
 abbrev pub texts_of : Text → List Row → List Text
 texts_of id rows = unwrap_or (all_of id rows) []
 
-abbrev pub IsAskedOfInbreeding : List Row → Request → Type 0
-IsAskedOfInbreeding rows (Inbreeding workers block) =
-    IsNumberOr 1 (one_of (codes "workers") rows) workers × IsNumberOr DEFAULT_BLOCK (one_of (codes "block") rows) block
-IsAskedOfInbreeding rows request = ⊥
+-- how the words share work, and commands; the numbers are those of the command line's rules
+abbrev pub IsWorkPlanOf : List Row → WorkPlan → Type 0
+IsWorkPlanOf rows plan =
+    IsNumberOr 1 MOST_WORKERS 1 (one_of (codes "workers") rows) plan.workers
+    × IsNumberOr 1 LIMITS.animals DEFAULT_BLOCK (one_of (codes "block") rows) plan.block
 
-abbrev pub IsAskedOfClerks : List Row → Request → Type 0
-IsAskedOfClerks rows (Clerks desks base) =
-    IsNumberOr 2 (one_of (codes "desks") rows) desks × IsNumberOr 0 (one_of (codes "base") rows) base
-IsAskedOfClerks rows request = ⊥
+abbrev pub IsDeskPlanOf : List Row → DeskPlan → Type 0
+IsDeskPlanOf rows plan =
+    IsNumberOr 1 MOST_DESKS 2 (one_of (codes "desks") rows) plan.desks
+    × IsNumberOr 0 LIMITS.steps 0 (one_of (codes "base") rows) plan.base
 
-abbrev pub IsAsked : Found → Request → Type 0
-IsAsked found File =
+abbrev pub IsAskedOfRun : Found → OwnedOrder → Type 0
+IsAskedOfRun found asked.File =
     (name_in found ≢ Some (codes "inbreeding")) × (name_in found ≢ Some (codes "certificate"))
     × (name_in found ≢ Some (codes "mating")) × (name_in found ≢ Some (codes "inverse"))
     × (name_in found ≢ Some (codes "clerks"))
-IsAsked found (Inbreeding workers block) =
-    (name_in found ≡ Some (codes "inbreeding")) × IsAskedOfInbreeding (rows_in found) (Inbreeding workers block)
-IsAsked found (Certificate number) =
+IsAskedOfRun found (asked.Inbreeding plan) =
+    (name_in found ≡ Some (codes "inbreeding")) × IsWorkPlanOf (rows_in found) plan
+IsAskedOfRun found (asked.Certificate number) =
     (name_in found ≡ Some (codes "certificate")) × (text_of (codes "NUMBER") (rows_in found) ≡ number)
-IsAsked found (Mating dam sires) =
+IsAskedOfRun found (asked.Mating dam sires) =
     (name_in found ≡ Some (codes "mating"))
     × (text_of (codes "dam") (rows_in found) ≡ dam)
     × (texts_of (codes "SIRE") (rows_in found) ≡ sires.items)
-IsAsked found Inverse = name_in found ≡ Some (codes "inverse")
-IsAsked found (Clerks desks base) =
-    (name_in found ≡ Some (codes "clerks")) × IsAskedOfClerks (rows_in found) (Clerks desks base)
+IsAskedOfRun found asked.Inverse = name_in found ≡ Some (codes "inverse")
+
+abbrev pub IsAsked : Found → Request → Type 0
+IsAsked found (Run order) = IsAskedOfRun found order
+IsAsked found (Clerks plan) = (name_in found ≡ Some (codes "clerks")) × IsDeskPlanOf (rows_in found) plan
+
+-- mating advice is ordered for this dam and these sires
+abbrev pub IsAdvice : List ℕ → List (List ℕ) → Order → Type 0
+IsAdvice dam sires (Mating d s) = (d ≡ dam) × (s.now ≡ sires)
+IsAdvice dam sires order = ⊥
+
+-- the order that is lent for one that owns its sires
+abbrev pub IsOrderFor : OwnedOrder → Order → Type 0
+IsOrderFor asked.File order = order ≡ File
+IsOrderFor (asked.Inbreeding plan) order = order ≡ Inbreeding plan.workers plan.block
+IsOrderFor (asked.Certificate number) order = order ≡ Certificate number
+IsOrderFor (asked.Mating dam sires) order = IsAdvice dam sires.items order
+IsOrderFor asked.Inverse order = order ≡ Inverse
 
 -- the fault is that of the first text that is no animal number
 pub record IsFirstFault (texts : List Text) (fault : NumberFault) : Type 0 where

@@ -1,14 +1,15 @@
 //! The words of the command line.
 
-ghost use Rattle.std.specs.Prelude.{◌≡◌, [], IfErr, IfOk, codes, false, map, string_bytes};
+ghost use Rattle.std.specs.Prelude.{◌≡◌, ◌≤◌, [], IfErr, IfOk, codes, false, map, string_bytes};
 ghost use Rattle.clap.specs.Words.{App, Rule, app_of, fault_of, found_of, new_app, one_of, rows_of, subcommand_of, subcommand_rows_of, with_rule};
 ghost use Rattle.herd_animal.specs.AnimalNumber.{IsAnimalNumber};
 ghost use Rattle.herd_animal.specs.NumberFault.{IsNumberFault};
 ghost use Rattle.herdbook.specs.CommandLine.{IsArgumentOf, IsCommandOf, certificate_line, clerks_line, command_line, dam_rule, file_line, inbreeding_line, inverse_line, line_with, mating_line, number_option, program, runs_line, sires_rule};
-ghost use Rattle.herdbook.specs.Request.{IsTask, IsTaskFor};
-ghost use Rattle.herdbook.specs.Words.{IsAsked, IsAskedOfClerks, IsAskedOfInbreeding, IsFirstFault, IsNumberOr, IsRefused, IsUnread, IsWrongNumber, text_of, texts_of};
+ghost use Rattle.herd_report.specs.Run.{IsOrder};
+ghost use Rattle.herdbook.specs.Words.{IsAsked, IsDeskPlanOf, IsFirstFault, IsNumberOr, IsOrderFor, IsRefused, IsUnread, IsWorkPlanOf, IsWrongNumber, text_of, texts_of};
 
 use crate::help;
+use crate::plans::{DeskPlan, WorkPlan};
 use crate::program::LIMITS;
 use clap::{Arg, ArgAction, ArgMatches, Command};
 use herd_animal::{AnimalNumber, NumberFault};
@@ -20,13 +21,19 @@ use std::alloc::{AllocError, Global};
 /// What the words ask for.
 #[derive(Drop)]
 pub enum Request {
+    /// One thread files the commands, and what is ordered of them is written.
+    Run(OwnedOrder),
+    /// The commands are filed at several desks, each with a clerk in a thread of its own.
+    Clerks(DeskPlan),
+}
+
+/// An order of a run, which owns its list of sires.
+#[derive(Drop)]
+pub enum OwnedOrder {
     /// The reply to each command.
     File,
-    /// Each animal's coefficient, by so many workers, a block of so many animals at a time.
-    Inbreeding {
-        workers: u32,
-        block: u32,
-    },
+    /// Each animal's coefficient.
+    Inbreeding(WorkPlan),
     /// The certificate of an animal.
     Certificate(AnimalNumber),
     /// For each sire, in the order given, the coefficient of a calf of his and the dam's.
@@ -36,19 +43,6 @@ pub enum Request {
     },
     /// What each animal adds to the inverse relationship matrix.
     Inverse,
-    /// Filing at so many desks, the first `base` commands at desk 1 before any other.
-    Clerks {
-        desks: u32,
-        base: u32,
-    },
-}
-
-/// What is carried out for a request.
-pub enum Task<'a> {
-    /// One thread files the commands, and what is ordered of them is written.
-    Run(Order<'a>),
-    /// The commands are filed at this many desks, from 1 to `MOST_DESKS`, the first `base` of them at desk 1.
-    Clerks { desks: u16, base: u32 },
 }
 
 /// Why the words ask for nothing.
@@ -92,28 +86,24 @@ impl From<NumberFault> for WordsFault {
     }
 }
 
-impl Request {
-    /// What is carried out for it.
-    pub fn task(&self) -> Task<'_>
-        ensures asked { IsTaskFor self.now result }
-        ensures possible { IsTask result }
+impl OwnedOrder {
+    /// The order, which borrows the sires.
+    pub fn lend(&self) -> Order<'_>
+        ensures asked { IsOrderFor self.now result }
+        ensures possible { IsOrder result }
     {
         match self {
-            Request::File => Task::Run(Order::File),
-            Request::Inbreeding { workers, block } => Task::Run(Order::Inbreeding {
-                workers: (*workers).clamp(1, MOST_WORKERS),
-                block: (*block).max(1),
-            }),
-            Request::Certificate(number) => Task::Run(Order::Certificate(*number)),
-            Request::Mating { dam, sires } => Task::Run(Order::Mating {
+            OwnedOrder::File => Order::File,
+            OwnedOrder::Inbreeding(plan) => Order::Inbreeding {
+                workers: plan.workers,
+                block: plan.block,
+            },
+            OwnedOrder::Certificate(number) => Order::Certificate(*number),
+            OwnedOrder::Mating { dam, sires } => Order::Mating {
                 dam: *dam,
                 sires: sires.as_slice(),
-            }),
-            Request::Inverse => Task::Run(Order::Inverse),
-            Request::Clerks { desks, base } => Task::Clerks {
-                desks: (*desks).clamp(1, MOST_DESKS as u32) as u16,
-                base: *base,
             },
+            OwnedOrder::Inverse => Order::Inverse,
         }
     }
 }
@@ -133,41 +123,53 @@ fn request_of(alloc: Global, matches: &ArgMatches<'_>) -> Result<Request, WordsF
     ensures unread { IfErr result (IsUnread (IsWrongNumber (subcommand_rows_of matches.now))) }
 {
     match matches.subcommand() {
-        Some(("inbreeding", given)) => Ok(inbreeding_of(given)),
-        Some(("certificate", given)) => Ok(Request::Certificate(number_argument(given, "NUMBER")?)),
-        Some(("mating", given)) => Ok(Request::Mating {
-            dam: number_argument(given, "dam")?,
-            sires: sires_of(alloc, given)?,
-        }),
-        Some(("inverse", _)) => Ok(Request::Inverse),
-        Some(("clerks", given)) => Ok(clerks_of(given)),
-        _ => Ok(Request::File),
+        Some(("inbreeding", given)) => {
+            let plan = work_plan_of(given);
+            Ok(Request::Run(OwnedOrder::Inbreeding(plan)))
+        }
+        Some(("certificate", given)) => {
+            let number = number_argument(given, "NUMBER")?;
+            Ok(Request::Run(OwnedOrder::Certificate(number)))
+        }
+        Some(("mating", given)) => {
+            let dam = number_argument(given, "dam")?;
+            let sires = sires_of(alloc, given)?;
+            Ok(Request::Run(OwnedOrder::Mating { dam, sires }))
+        }
+        Some(("inverse", _)) => Ok(Request::Run(OwnedOrder::Inverse)),
+        Some(("clerks", given)) => Ok(Request::Clerks(desk_plan_of(given))),
+        _ => Ok(Request::Run(OwnedOrder::File)),
     }
 }
 
-fn inbreeding_of(given: &ArgMatches<'_>) -> Request
-    ensures { IsAskedOfInbreeding (rows_of (found_of given.now)) result }
+fn work_plan_of(given: &ArgMatches<'_>) -> WorkPlan
+    ensures { IsWorkPlanOf (rows_of (found_of given.now)) result }
 {
-    Request::Inbreeding {
-        workers: option_or(given, "workers", 1),
-        block: option_or(given, "block", DEFAULT_BLOCK),
+    WorkPlan {
+        workers: option_or(given, "workers", 1, MOST_WORKERS, 1),
+        block: option_or(given, "block", 1, LIMITS.animals, DEFAULT_BLOCK),
     }
 }
 
-fn clerks_of(given: &ArgMatches<'_>) -> Request
-    ensures { IsAskedOfClerks (rows_of (found_of given.now)) result }
+fn desk_plan_of(given: &ArgMatches<'_>) -> DeskPlan
+    ensures { IsDeskPlanOf (rows_of (found_of given.now)) result }
 {
-    Request::Clerks {
-        desks: option_or(given, "desks", 2),
-        base: option_or(given, "base", 0),
+    DeskPlan {
+        desks: option_or(given, "desks", 1, MOST_DESKS as u32, 2) as u16,
+        base: option_or(given, "base", 0, LIMITS.steps, 0),
     }
 }
 
-// The number of an option, and another where the words don't give it.
-fn option_or(given: &ArgMatches<'_>, id: &str, other: u32) -> u32
-    ensures { IsNumberOr other (one_of id.now (rows_of (found_of given.now))) result }
+// The number of an option from `least` to `most`, and another where the words give none.
+fn option_or(given: &ArgMatches<'_>, id: &str, least: u32, most: u32, other: u32) -> u32
+    requires { (least ≤ other) × (other ≤ most) }
+    ensures given { IsNumberOr least most other (one_of id.now (rows_of (found_of given.now))) result }
+    ensures within { (least ≤ result) × (result ≤ most) }
 {
-    given.get_one::<u32>(id).unwrap_or(other)
+    match given.get_one::<u32>(id) {
+        Some(number) if least <= number && number <= most => number,
+        _ => other,
+    }
 }
 
 fn sires_of(alloc: Global, given: &ArgMatches<'_>) -> Result<Vec<AnimalNumber>, WordsFault>

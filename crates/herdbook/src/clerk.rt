@@ -1,11 +1,10 @@
 //! A clerk, who files commands at a desk one after the other.
-ghost use Rattle.std.specs.Prelude.{◌≡◌, ◌≤◌, List, [], ◌∷◌, ◌++◌, length, None, OnOk};
+ghost use Rattle.std.specs.Prelude.{◌≡◌, List, [], ◌∷◌, ◌++◌, None, OnOk};
 ghost use Rattle.herd_register.specs.declared.command.Command.{Command};
-ghost use Rattle.herd_register.specs.declared.limits.TheConstants.{MOST_STEPS};
-ghost use Rattle.herd_office.specs.declared.limits.TheConstants.{MOST_DESKS};
 ghost use Rattle.herdbook.specs.Deal.{HasFiled, every};
 
 use crate::clerk_fault::ClerkFault;
+use crate::deal::Turn;
 use herd_office::{Desk, Filed, Office, OfficeName, Slip};
 use herd_register::Command;
 use std::sync::Wait;
@@ -15,14 +14,6 @@ use std::sync::Wait;
 pub struct Clerk<N: OfficeName> {
     pub desk: Desk<N>,
     pub slip: Option<Slip<N>>,
-}
-
-/// Commands of a list: the one at the place `from`, and from it on every `step`-th.
-#[derive(Clone, Copy)]
-pub struct Turn<'a> {
-    pub commands: &'a [Command],
-    pub from: usize,
-    pub step: usize,
 }
 
 impl<N: OfficeName> Clerk<N> {
@@ -49,10 +40,8 @@ impl<N: OfficeName> Clerk<N> {
         command: Command,
     ) -> Result<(), ClerkFault>
         ensures number { self.new.desk.number ≡ self.old.desk.number }
-        ensures filed { (before : List Command)
-            → HasFiled self.old.desk.number self.old.desk.answered self.old.desk.history before
-            → OnOk result (HasFiled self.new.desk.number self.new.desk.answered self.new.desk.history
-            (before ++ command ∷ [])) }
+        ensures filed { (before : List Command) → HasFiled self.old.desk before
+            → OnOk result (HasFiled self.new.desk (before ++ command ∷ [])) }
     {
         let Filed {
             serial: _,
@@ -70,13 +59,9 @@ impl<N: OfficeName> Clerk<N> {
         office: &Office<N, R>,
         turn: Turn<'_>,
     ) -> Result<(), ClerkFault>
-        requires step { (1 ≤ turn.step) × (turn.step ≤ MOST_DESKS) }
-        requires few { length turn.commands.now ≤ MOST_STEPS }
         ensures number { self.new.desk.number ≡ self.old.desk.number }
-        ensures filed { (before : List Command)
-            → HasFiled self.old.desk.number self.old.desk.answered self.old.desk.history before
-            → OnOk result (HasFiled self.new.desk.number self.new.desk.answered self.new.desk.history
-            (before ++ every turn.entry.step turn.entry.from turn.entry.commands.now)) }
+        ensures filed { (before : List Command) → HasFiled self.old.desk before → OnOk result
+            (HasFiled self.new.desk (before ++ every turn.entry.step turn.entry.from turn.entry.commands.now)) }
     {
         let mut place = turn.from;
         while place < turn.commands.len() {

@@ -7,7 +7,7 @@ use crate::task_fault::TaskFault;
 use herd_office::{FreezeFault, OpenFault};
 use herd_register::FileFault;
 use herd_report::RunFault;
-use std::alloc::AllocError;
+use std::alloc::{AllocError, AllocFailed};
 
 /// Why clerks end early.
 #[derive(Clone, Copy, Debug, PartialEq, Eq, Drop)]
@@ -37,6 +37,14 @@ impl From<AllocError> for ClerkFault {
     ghost from_gives = { λ _ told. told ≡ Memory };
 
     fn from(_refused: AllocError) -> ClerkFault {
+        ClerkFault::Memory
+    }
+}
+
+impl<T: Drop> From<AllocFailed<T>> for ClerkFault {
+    ghost from_gives = { λ _ told. told ≡ Memory };
+
+    fn from(_refused: AllocFailed<T>) -> ClerkFault {
         ClerkFault::Memory
     }
 }

@@ -1,15 +1,13 @@
 //! Clerks who file side by side, each in a thread of its own.
-ghost use Rattle.std.specs.Prelude.{◌≡◌, ◌≤◌, All, IfOk, length, map, vec_items};
-ghost use Rattle.herd_register.specs.declared.limits.TheConstants.{MOST_STEPS};
-ghost use Rattle.herd_office.specs.declared.limits.TheConstants.{MOST_DESKS};
-ghost use Rattle.herdbook.specs.Deal.{HasFiled, dealt, dealt_first};
+ghost use Rattle.std.specs.Prelude.{◌≡◌, All, IfOk, map, vec_items};
+ghost use Rattle.herdbook.specs.Deal.{HasBegun, HasDone};
 ghost use Rattle.herdbook.specs.declared.deal.Deal.{Deal};
 
 use crate::clerk::Clerk;
 use crate::clerk_fault::ClerkFault;
 use crate::deal::Deal;
 use herd_office::{Office, OfficeName};
-use std::alloc::{AllocError, Global};
+use std::alloc::Global;
 use std::sync::Wait;
 use std::thread;
 use std::thread::{Promise, PromisedHandle, Scope, Threads};
@@ -24,11 +22,10 @@ pub struct DeskTask<'a> {
 
 impl<'a, N: OfficeName> Promise<Result<Clerk<N>, ClerkFault>> for DeskTask<'a> {
     ghost use Rattle.std.specs.Prelude.{◌≡◌, IfOk};
-    ghost use Rattle.herdbook.specs.Deal.{HasFiled, dealt};
+    ghost use Rattle.herdbook.specs.Deal.{HasDone};
 
-    ghost kept_by = { λ task result. IfOk result (λ clerk. (clerk.desk.number ≡ task.number)
-        × HasFiled clerk.desk.number clerk.desk.answered clerk.desk.history
-        (dealt task.deal.desks task.deal.first.now task.deal.rest.now clerk.desk.number)) };
+    ghost kept_by = { λ task result. IfOk result
+        (λ clerk. (clerk.desk.number ≡ task.number) × HasDone task.deal clerk.desk) };
 }
 
 type Started<'a, N> = PromisedHandle<Result<Clerk<N>, ClerkFault>, DeskTask<'a>>;
@@ -46,27 +43,19 @@ pub fn file_in_turn<
     clerks: Vec<Clerk<N>>,
     deal: Deal<'_>,
 ) -> Result<Vec<Clerk<N>>, ClerkFault>
-    requires desks { (1 ≤ deal.desks) × (deal.desks ≤ MOST_DESKS) }
-    requires few { length deal.rest.now ≤ MOST_STEPS }
-    requires first { All (λ c. HasFiled c.desk.number c.desk.answered c.desk.history
-        (dealt_first deal.first.now c.desk.number)) clerks.items }
+    requires first { All (λ c. HasBegun deal c.desk) clerks.items }
     ensures numbers { IfOk result
         (λ done. map (λ c. c.desk.number) done.items ≡ map (λ c. c.desk.number) clerks.items) }
-    ensures filed { IfOk result (λ done. All (λ c. HasFiled c.desk.number c.desk.answered c.desk.history
-        (dealt deal.entry.desks deal.entry.first.now deal.entry.rest.now c.desk.number)) done.items) }
+    ensures filed { IfOk result (λ done. All (λ c. HasDone deal.entry c.desk) done.items) }
 {
     thread::scope(
         thread::scope_env(),
         rt,
         |scope| -> Result<Vec<Clerk<N>>, ClerkFault>
-            requires desks { (1 ≤ deal.desks) × (deal.desks ≤ MOST_DESKS) }
-            requires few { length deal.rest.now ≤ MOST_STEPS }
-            requires first { All (λ c. HasFiled c.desk.number c.desk.answered c.desk.history
-                (dealt_first deal.first.now c.desk.number)) clerks.items }
+            requires { All (λ c. HasBegun deal c.desk) clerks.items }
             ensures numbers { IfOk result
                 (λ done. map (λ c. c.desk.number) done.items ≡ map (λ c. c.desk.number) clerks.items) }
-            ensures filed { IfOk result (λ done. All (λ c. HasFiled c.desk.number c.desk.answered c.desk.history
-                (dealt deal.entry.desks deal.entry.first.now deal.entry.rest.now c.desk.number)) done.items) }
+            ensures filed { IfOk result (λ done. All (λ c. HasDone deal.entry c.desk) done.items) }
         {
             let started = start_all(scope, rt, alloc, office, clerks, deal)?;
             join_all(rt, alloc, started)
@@ -83,10 +72,7 @@ fn start_all<'s, N: OfficeName + Send + Sync, E, H: Wait + Sync, R: Wait + Drop 
     clerks: Vec<Clerk<N>>,
     deal: Deal<'s>,
 ) -> Result<Vec<Started<'s, N>>, ClerkFault>
-    requires desks { (1 ≤ deal.desks) × (deal.desks ≤ MOST_DESKS) }
-    requires few { length deal.rest.now ≤ MOST_STEPS }
-    requires first { All (λ c. HasFiled c.desk.number c.desk.answered c.desk.history
-        (dealt_first deal.first.now c.desk.number)) clerks.items }
+    requires { All (λ c. HasBegun deal c.desk) clerks.items }
     ensures numbers { IfOk result
         (λ started. map (λ s. s.promise.number) (vec_items started) ≡ map (λ c. c.desk.number) clerks.items) }
     ensures deals { IfOk result (λ started. All (λ s. s.promise.deal ≡ deal.entry) (vec_items started)) }
@@ -94,7 +80,7 @@ fn start_all<'s, N: OfficeName + Send + Sync, E, H: Wait + Sync, R: Wait + Drop 
     let mut started = Vec::new(alloc);
     for clerk in clerks {
         let clerk = start(scope, rt, office, clerk, deal)?;
-        started.push(clerk).map_err(AllocError::from)?;
+        started.push(clerk)?;
     }
     Ok(started)
 }
@@ -107,10 +93,7 @@ fn start<'s, N: OfficeName + Send + Sync, E, H: Wait + Sync, R: Wait + Drop + Se
     clerk: Clerk<N>,
     deal: Deal<'s>,
 ) -> Result<Started<'s, N>, ClerkFault>
-    requires desks { (1 ≤ deal.desks) × (deal.desks ≤ MOST_DESKS) }
-    requires few { length deal.rest.now ≤ MOST_STEPS }
-    requires first { HasFiled clerk.desk.number clerk.desk.answered clerk.desk.history
-        (dealt_first deal.first.now clerk.desk.number) }
+    requires { HasBegun deal clerk.desk }
     ensures number { IfOk result (λ started. started.promise.number ≡ clerk.desk.number) }
     ensures deal { IfOk result (λ started. started.promise.deal ≡ deal.entry) }
 {
@@ -121,13 +104,9 @@ fn start<'s, N: OfficeName + Send + Sync, E, H: Wait + Sync, R: Wait + Drop + Se
     let started = scope.spawn_with(
         task,
         move || -> Result<Clerk<N>, ClerkFault>
-            requires desks { (1 ≤ deal.desks) × (deal.desks ≤ MOST_DESKS) }
-            requires few { length deal.rest.now ≤ MOST_STEPS }
-            requires first { HasFiled clerk.desk.number clerk.desk.answered clerk.desk.history
-                (dealt_first deal.first.now clerk.desk.number) }
+            requires { HasBegun deal clerk.desk }
             ensures number { IfOk result (λ done. done.desk.number ≡ clerk.desk.number) }
-            ensures filed { IfOk result (λ done. HasFiled done.desk.number done.desk.answered done.desk.history
-                (dealt deal.entry.desks deal.entry.first.now deal.entry.rest.now done.desk.number)) }
+            ensures filed { IfOk result (λ done. HasDone deal.entry done.desk) }
         { filed(rt, office, clerk, deal) },
     );
     match started {
@@ -143,13 +122,9 @@ fn filed<N: OfficeName, H: Wait, R: Wait + Drop>(
     mut clerk: Clerk<N>,
     deal: Deal<'_>,
 ) -> Result<Clerk<N>, ClerkFault>
-    requires desks { (1 ≤ deal.desks) × (deal.desks ≤ MOST_DESKS) }
-    requires few { length deal.rest.now ≤ MOST_STEPS }
-    requires first { HasFiled clerk.desk.number clerk.desk.answered clerk.desk.history
-        (dealt_first deal.first.now clerk.desk.number) }
+    requires { HasBegun deal clerk.desk }
     ensures number { IfOk result (λ done. done.desk.number ≡ clerk.desk.number) }
-    ensures filed { IfOk result (λ done. HasFiled done.desk.number done.desk.answered done.desk.history
-        (dealt deal.entry.desks deal.entry.first.now deal.entry.rest.now done.desk.number)) }
+    ensures filed { IfOk result (λ done. HasDone deal.entry done.desk) }
 {
     let turn = deal.turn(clerk.number());
     clerk.file_turn(rt, office, turn)?;
@@ -165,12 +140,11 @@ fn join_all<N: OfficeName, H: Threads>(
     ensures numbers { IfOk result
         (λ done. map (λ c. c.desk.number) done.items ≡ map (λ s. s.promise.number) (vec_items started.entry)) }
     ensures filed { (deal : Deal) → All (λ s. s.promise.deal ≡ deal) (vec_items started.entry)
-        → IfOk result (λ done. All (λ c. HasFiled c.desk.number c.desk.answered c.desk.history
-        (dealt deal.desks deal.first.now deal.rest.now c.desk.number)) done.items) }
+        → IfOk result (λ done. All (λ c. HasDone deal c.desk) done.items) }
 {
     let mut done = Vec::new(alloc);
     for handle in started {
-        done.push(handle.join(rt)?).map_err(AllocError::from)?;
+        done.push(handle.join(rt)?)?;
     }
     Ok(done)
 }

@@ -1,22 +1,22 @@
 //! Filing a command file at several desks, each with a clerk in a thread of its own.
-ghost use Rattle.std.specs.Prelude.{◌≡◌, ◌+◌, ◌≤◌, ℕ, List, [], All, IfErr, IfOk, IfSome, None, OnOk, Some, drop, length, map, slice_get, string_bytes, take, vec_len};
+ghost use Rattle.std.specs.Prelude.{◌≡◌, ◌≤◌, All, IfErr, IfOk, IfSome, None, OnOk, drop, length, map, string_bytes, take, vec_len};
 ghost use Rattle.std.specs.List.{range_with_len};
 ghost use Rattle.std.specs.Io.KnownBytes.{Appends};
 ghost use Rattle.herd_register.specs.Register.{AreLimits};
 ghost use Rattle.herd_register.specs.Run.{IsLegal};
-ghost use Rattle.herd_register.specs.declared.command.Command.{Command};
 ghost use Rattle.herd_register.specs.declared.limits.TheConstants.{MOST_STEPS};
 ghost use Rattle.herd_report.specs.reading.CommandFile.{CommandFile, IsRead, commands};
 ghost use Rattle.herd_office.specs.Parts.{AreNamed};
-ghost use Rattle.herd_office.specs.declared.limits.TheConstants.{MOST_DESKS};
 ghost use Rattle.herdbook.specs.Clerks.{CanEndClerks, EndsClerks, IsFiledBy, office_limits};
-ghost use Rattle.herdbook.specs.Deal.{HasFiled, dealt};
-ghost use Rattle.herdbook.specs.Summary.{CountsOf, EndsTelling, IsSummaryOf, count_of, summary_text};
+ghost use Rattle.herdbook.specs.Deal.{AreFresh, HasDone};
+ghost use Rattle.herdbook.specs.Summary.{CountsOf, EndsTelling, IsSummaryOf, IsSummaryOfDeal, count_of, summary_text};
+ghost use Rattle.herdbook.specs.declared.deal.Deal.{Deal};
 
-use crate::clerk::{Clerk, Turn};
+use crate::clerk::Clerk;
 use crate::clerk_fault::ClerkFault;
 use crate::crew::file_in_turn;
 use crate::deal::Deal;
+use crate::plans::DeskPlan;
 use crate::summary::{DeskCount, Summary, text_of};
 use crate::task_fault::TaskFault;
 use herd_office::{Desk, Inspector, Office, OfficeName, OfficeParts};
@@ -28,7 +28,7 @@ use std::marker::Brand;
 use std::sync::Wait;
 use std::thread::Threads;
 
-/// Reads a command file, has its commands filed at this many desks, and writes how many calls of each desk were
+/// Reads a command file, has its commands filed at the plan's desks, and writes how many calls of each desk were
 /// answered, how many steps and animals there are then, and how many steps an inspector has seen.
 ///
 /// The first `base` commands are filed at desk 1 before any other; the rest are dealt to the desks in turn, from desk 1
@@ -38,33 +38,23 @@ pub fn clerks<H: Threads + Wait + Sync, R: Read + Drop, W: Write>(
     rt: &H,
     alloc: Global,
     limits: Limits,
-    desks: u16,
-    base: u32,
+    plan: DeskPlan,
     reader: R,
     writer: &mut W,
 ) -> Result<(), TaskFault>
-    requires limits { AreLimits limits }
-    requires desks { (1 ≤ desks) × (desks ≤ MOST_DESKS) }
+    requires { AreLimits limits }
     ensures ok { OnOk result (IfSome (R.remaining reader)
-        (λ bytes. IsFiledBy limits desks base (commands bytes limits.steps)
+        (λ bytes. IsFiledBy limits plan.desks plan.base (commands bytes limits.steps)
         (W.contents writer.old) (W.contents writer.new))) }
     ensures err { IfErr result (λ fault. IfSome (R.remaining reader)
-        (λ bytes. EndsClerks limits desks base (commands bytes limits.steps)
+        (λ bytes. EndsClerks limits plan.desks plan.base (commands bytes limits.steps)
         (W.contents writer.old) (W.contents writer.new) fault)) }
     ensures fault { IfErr result CanEndClerks }
 {
     let commands = read_commands(alloc, reader, limits.steps);
     match commands.fault {
         Some(fault) => Err(TaskFault::Run(RunFault::Line(fault))),
-        None => file_all(
-            rt,
-            alloc,
-            limits,
-            desks,
-            base as usize,
-            commands.list.as_slice(),
-            writer,
-        ),
+        None => file_all(rt, alloc, limits, plan, commands.list.as_slice(), writer),
     }
 }
 
@@ -73,21 +63,19 @@ fn file_all<H: Threads + Wait + Sync, W: Write>(
     rt: &H,
     alloc: Global,
     limits: Limits,
-    desks: u16,
-    base: usize,
+    plan: DeskPlan,
     commands: &[Command],
     writer: &mut W,
 ) -> Result<(), TaskFault>
     requires limits { AreLimits limits }
-    requires desks { (1 ≤ desks) × (desks ≤ MOST_DESKS) }
     requires few { length commands.now ≤ limits.steps }
     ensures ok { OnOk result ((file : CommandFile) → IsRead limits.steps file commands.now None
-        → IsFiledBy limits desks base file (W.contents writer.old) (W.contents writer.new)) }
+        → IsFiledBy limits plan.desks plan.base file (W.contents writer.old) (W.contents writer.new)) }
     ensures err { IfErr result (λ fault. (file : CommandFile) → IsRead limits.steps file commands.now None
-        → EndsClerks limits desks base file (W.contents writer.old) (W.contents writer.new) fault) }
+        → EndsClerks limits plan.desks plan.base file (W.contents writer.old) (W.contents writer.new) fault) }
     ensures fault { IfErr result CanEndClerks }
 {
-    let summary = summary_of(rt, alloc, limits, desks, base, commands)?;
+    let summary = summary_of(rt, alloc, limits, plan, commands)?;
     Ok(write_summary(alloc, &summary, writer)?)
 }
 
@@ -111,22 +99,20 @@ fn summary_of<H: Threads + Wait + Sync>(
     rt: &H,
     alloc: Global,
     limits: Limits,
-    desks: u16,
-    base: usize,
+    plan: DeskPlan,
     commands: &[Command],
 ) -> Result<Summary, ClerkFault>
     requires limits { AreLimits limits }
-    requires desks { (1 ≤ desks) × (desks ≤ MOST_DESKS) }
     requires few { length commands.now ≤ limits.steps }
-    ensures { IfOk result
-        (IsSummaryOf (office_limits limits.animals (length commands.now)) desks base commands.now) }
+    ensures { IfOk result (IsSummaryOf (office_limits limits.animals (length commands.now))
+        plan.desks (take plan.base commands.now) (drop plan.base commands.now)) }
 {
     let limits = Limits {
         animals: limits.animals,
         steps: (commands.len() as u32).max(1),
     };
-    let parts = OfficeParts::new(rt, alloc, limits, desks, 1)?;
-    filed_in::<Brand, H>(rt, alloc, parts, base, commands)
+    let parts = OfficeParts::new(rt, alloc, limits, plan.desks, 1)?;
+    filed_in::<Brand, H>(rt, alloc, parts, Deal::of(plan, commands))
 }
 
 // The summary of the office that has these parts.
@@ -134,16 +120,14 @@ fn filed_in<N: OfficeName + Send + Sync, H: Threads + Wait + Sync>(
     rt: &H,
     alloc: Global,
     parts: OfficeParts<&H>,
-    base: usize,
-    commands: &[Command],
+    deal: Deal<'_>,
 ) -> Result<Summary, ClerkFault>
     requires named { AreNamed N.name N.parts N.all N.book N.limits parts }
-    requires desks { (1 ≤ parts.desks) × (parts.desks ≤ MOST_DESKS) }
-    requires few { length commands.now ≤ MOST_STEPS }
-    ensures { IfOk result (IsSummaryOf N.limits N.all base commands.now) }
+    requires desks { parts.desks ≡ deal.desks }
+    ensures { IfOk result (IsSummaryOfDeal N.limits deal.entry) }
 {
     let (office, desks, inspectors) = Office::<N, &H>::open(alloc, parts)?;
-    filed_at(rt, alloc, office, desks, inspectors, base, commands)
+    filed_at(rt, alloc, office, desks, inspectors, deal)
 }
 
 // The summary of an office that has these desks and inspectors, once the commands are filed.
@@ -153,17 +137,14 @@ fn filed_at<N: OfficeName + Send + Sync, H: Threads + Wait + Sync, R: Wait + Dro
     office: Office<N, R>,
     desks: Vec<Desk<N>>,
     inspectors: Vec<Inspector<N>>,
-    base: usize,
-    commands: &[Command],
+    deal: Deal<'_>,
 ) -> Result<Summary, ClerkFault>
-    requires all { vec_len desks ≡ N.all }
-    requires desks { (1 ≤ vec_len desks) × (vec_len desks ≤ MOST_DESKS) }
-    requires few { length commands.now ≤ MOST_STEPS }
-    requires fresh { (place : ℕ) (desk : _) → slice_get desks.items place ≡ Some desk
-        → (desk.number ≡ place + 1) × (desk.answered ≡ 0) × (desk.history ≡ []) }
-    ensures { IfOk result (IsSummaryOf N.limits N.all base commands.now) }
+    requires all { N.all ≡ deal.desks }
+    requires desks { vec_len desks ≡ deal.desks }
+    requires fresh { AreFresh desks.items }
+    ensures { IfOk result (IsSummaryOfDeal N.limits deal.entry) }
 {
-    let clerks = all_filed(rt, alloc, &office, desks, base, commands)?;
+    let clerks = all_filed(rt, alloc, &office, desks, deal)?;
     closed(rt, alloc, office, clerks, inspectors)
 }
 
@@ -173,40 +154,25 @@ fn all_filed<N: OfficeName + Send + Sync, H: Threads + Wait + Sync, R: Wait + Dr
     alloc: Global,
     office: &Office<N, R>,
     desks: Vec<Desk<N>>,
-    base: usize,
-    commands: &[Command],
+    deal: Deal<'_>,
 ) -> Result<Vec<Clerk<N>>, ClerkFault>
-    requires desks { (1 ≤ vec_len desks) × (vec_len desks ≤ MOST_DESKS) }
-    requires few { length commands.now ≤ MOST_STEPS }
-    requires fresh { (place : ℕ) (desk : _) → slice_get desks.items place ≡ Some desk
-        → (desk.number ≡ place + 1) × (desk.answered ≡ 0) × (desk.history ≡ []) }
+    requires desks { vec_len desks ≡ deal.desks }
+    requires fresh { AreFresh desks.items }
     ensures numbers { IfOk result (λ clerks. map (λ c. c.desk.number) clerks.items ≡ map (λ d. d.number) desks.items) }
-    ensures filed { IfOk result (λ clerks. All (λ c. HasFiled c.desk.number c.desk.answered c.desk.history
-        (dealt (vec_len desks) (take base commands.now) (drop base commands.now) c.desk.number)) clerks.items) }
+    ensures filed { IfOk result (λ clerks. All (λ c. HasDone deal.entry c.desk) clerks.items) }
 {
     let mut clerks = clerks_at(alloc, desks)?;
-    let (first, rest) = commands.split_at(base.min(commands.len()));
-    let turn = Turn {
-        commands: first,
-        from: 0,
-        step: 1,
-    };
-    clerks[0].file_turn(rt, office, turn)?;
-    let deal = Deal {
-        first,
-        rest,
-        desks: clerks.len(),
-    };
+    clerks[0].file_turn(rt, office, deal.first_turn())?;
     file_in_turn(rt, alloc, office, clerks, deal)
 }
 
 // A clerk for each desk, in their order.
-fn clerks_at<N: OfficeName>(alloc: Global, desks: Vec<Desk<N>>) -> Result<Vec<Clerk<N>>, ClerkFault>
+fn clerks_at<N: OfficeName>(alloc: Global, desks: Vec<Desk<N>>) -> Result<Vec<Clerk<N>>, AllocError>
     ensures { IfOk result (λ clerks. map (λ c. c.desk) clerks.items ≡ desks.items) }
 {
     let mut clerks = Vec::new(alloc);
     for desk in desks {
-        clerks.push(Clerk::new(desk)).map_err(AllocError::from)?;
+        clerks.push(Clerk::new(desk))?;
     }
     Ok(clerks)
 }
@@ -219,12 +185,9 @@ fn closed<N: OfficeName, H: Wait, R: Wait + Drop>(
     clerks: Vec<Clerk<N>>,
     inspectors: Vec<Inspector<N>>,
 ) -> Result<Summary, ClerkFault>
-    requires desks { 1 ≤ N.all }
-    requires numbers { map (λ c. c.desk.number) clerks.items ≡ range_with_len 1 N.all }
-    ensures { (base : ℕ) (all : List Command)
-        → All (λ c. HasFiled c.desk.number c.desk.answered c.desk.history
-        (dealt N.all (take base all) (drop base all) c.desk.number)) clerks.items
-        → IfOk result (IsSummaryOf N.limits N.all base all) }
+    requires { map (λ c. c.desk.number) clerks.items ≡ range_with_len 1 N.all }
+    ensures { (deal : Deal) → N.all ≡ deal.desks → All (λ c. HasDone deal c.desk) clerks.items
+        → IfOk result (IsSummaryOfDeal N.limits deal) }
 {
     let handed = handed_in(alloc, clerks, inspectors)?;
     match office.close(rt, handed.desks, handed.inspectors) {
@@ -286,7 +249,7 @@ fn desks_of<N: OfficeName>(
             answered: desk.answered(),
         };
         counts.push(count)?;
-        desks.push(desk).map_err(AllocError::from)?;
+        desks.push(desk)?;
     }
     Ok((desks, counts))
 }

@@ -7,12 +7,12 @@
 //!
 //! | | definition (`specs/`) | code (`src/`) | proof (`proofs/`) |
 //! |---|---|---|---|
-//! | the words, what they ask for | `CommandLine`, `Words`, `Request` | `arguments` | `CommandFacts`, `WordsFacts` |
+//! | the words, what they ask for | `CommandLine`, `Words` | `arguments`, `plans` | `CommandFacts`, `WordsFacts` |
 //! | the texts of help and of the version | | `help` | |
 //! | what the program does for its words | `Program` | `program` | `ProgramFacts` |
 //! | how it ends, and what is told on standard error | `Ending`, `FaultText` | `ending`, `task_fault`, `fault_text` | |
-//! | clerks, their threads, one's turn | `Clerks`, `Deal` | `desks`, `crew`, `clerk` | `DealFacts`, `SummaryFacts` |
-//! | the desk of each command | `Deal` | `deal` | `DealFacts` |
+//! | clerks, their threads, one at a desk | `Clerks`, `Deal` | `desks`, `crew`, `clerk` | `DealFacts`, `SummaryFacts` |
+//! | the desk of each command, a desk's turn | `Deal` | `deal` | `DealFacts` |
 //! | how clerks end early | `Clerks` | `clerk_fault` | `ClerksFacts` |
 //! | what each desk answered, as text | `Summary` | `summary` | `SummaryFacts` |
 #![tactic(auto)]
@@ -26,6 +26,7 @@ mod desks;
 mod ending;
 mod fault_text;
 mod help;
+mod plans;
 mod program;
 mod summary;
 mod task_fault;

@@ -2,10 +2,10 @@
 
 ghost use Rattle.std.specs.Prelude.{◌≡◌, IfErr, IfSome, OnOk, map, string_bytes};
 ghost use Rattle.herd_report.specs.reading.CommandFile.{commands};
-ghost use Rattle.herdbook.specs.Program.{CanEnd, CanEndTask, EndsServing, HasTask, IsEnded, IsServed, IsUntouchedUnlessAsked};
+ghost use Rattle.herdbook.specs.Program.{CanEnd, CanEndServing, EndsServing, IsEnded, IsServed, IsUntouchedUnlessAsked};
 ghost use Rattle.herdbook.specs.declared.program.TheConstants.{LIMITS};
 
-use crate::arguments::{Request, Task, read_words};
+use crate::arguments::{Request, read_words};
 use crate::desks::clerks;
 use crate::ending::Ending;
 use crate::task_fault::TaskFault;
@@ -59,10 +59,10 @@ fn served<H: Threads + Wait + Sync, R: Read + Drop, W: Write>(
     ensures err { IfErr result (λ fault. IfSome (R.remaining reader)
         (λ bytes. EndsServing request.now LIMITS (commands bytes LIMITS.steps)
         (W.contents writer.old) (W.contents writer.new) fault)) }
-    ensures possible { IfErr result (λ fault. HasTask request.now (λ task. CanEndTask task fault)) }
+    ensures possible { IfErr result (CanEndServing request.now) }
 {
-    match request.task() {
-        Task::Run(order) => Ok(run(rt, alloc, LIMITS, order, reader, writer)?),
-        Task::Clerks { desks, base } => clerks(rt, alloc, LIMITS, desks, base, reader, writer),
+    match request {
+        Request::Run(asked) => Ok(run(rt, alloc, LIMITS, asked.lend(), reader, writer)?),
+        Request::Clerks(plan) => clerks(rt, alloc, LIMITS, *plan, reader, writer),
     }
 }

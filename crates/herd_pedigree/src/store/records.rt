@@ -89,11 +89,9 @@ impl StoredRecord {
         requires dam { IfSome dam (λ place. place < nowhere) }
         ensures { result ≡ stored_with_parents sire dam self.now }
     {
-        StoredRecord {
-            sire: PackedIndex::of(sire),
-            dam: PackedIndex::of(dam),
-            ..*self
-        }
+        let dam = PackedIndex::of(dam);
+        let sire = PackedIndex::of(sire);
+        StoredRecord { sire, dam, ..*self }
     }
 
     /// The same, owned by the herd from the day on.

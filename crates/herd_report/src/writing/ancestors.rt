@@ -6,7 +6,7 @@ ghost use Rattle.herd_kinship.specs.FrozenAncestry.{number_of_row};
 ghost use Rattle.herd_report.specs.writing.Ancestors.{ancestor_of, letter_of, parent_rank};
 ghost use Rattle.herd_report.specs.writing.Certificate.{ancestor_line, ancestors_text};
 
-use crate::writing::output::Output;
+use crate::writing::output::Text;
 use herd_animal::AnimalNumber;
 use herd_frozen::{Frozen, Row};
 use std::alloc::{AllocError, Allocator};
@@ -62,7 +62,7 @@ impl Parent {
 /// Adds the lines of the ancestors of the animal at a rank, up to three parents away.
 #[tactic(auto, unfolding(crate::specs::writing::Certificate::ancestors_text))]
 pub(crate) fn push_ancestors<A: Allocator, F: Allocator>(
-    output: &mut Output<A>,
+    output: &mut Text<A>,
     frozen: &Frozen<F>,
     rank: u32,
 ) -> Result<(), AllocError>
@@ -76,7 +76,7 @@ pub(crate) fn push_ancestors<A: Allocator, F: Allocator>(
 
 // Adds the lines of the ancestors to which some paths lead.
 fn push_lines<A: Allocator, F: Allocator>(
-    output: &mut Output<A>,
+    output: &mut Text<A>,
     frozen: &Frozen<F>,
     rank: u32,
     paths: &[&[Parent]],
@@ -94,7 +94,7 @@ fn push_lines<A: Allocator, F: Allocator>(
 
 #[tactic(auto, unfolding(crate::specs::writing::Certificate::labelled_line))]
 fn push_ancestor<A: Allocator, F: Allocator>(
-    output: &mut Output<A>,
+    output: &mut Text<A>,
     frozen: &Frozen<F>,
     rank: u32,
     path: &[Parent],
@@ -113,7 +113,7 @@ fn push_ancestor<A: Allocator, F: Allocator>(
     output.push(b"\n")
 }
 
-fn push_letters<A: Allocator>(output: &mut Output<A>, path: &[Parent]) -> Result<(), AllocError>
+fn push_letters<A: Allocator>(output: &mut Text<A>, path: &[Parent]) -> Result<(), AllocError>
     ensures { OnOk result (output.new ≡ output.old ++ map letter_of path.now) }
 {
     for parent in path {

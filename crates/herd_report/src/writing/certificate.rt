@@ -12,7 +12,7 @@ ghost use Rattle.herd_report.specs.writing.Output.{AppendsFront};
 use crate::writing::ancestors::push_ancestors;
 use crate::writing::certificate_fault::CertificateFault;
 use crate::writing::coefficient_text::push_coefficient;
-use crate::writing::output::Output;
+use crate::writing::output::Text;
 use crate::writing::report_fault::ReportFault;
 use herd_animal::{AnimalNumber, Day, Sex};
 use herd_frozen::{Frozen, Row};
@@ -43,8 +43,8 @@ pub fn write_certificate<W: Write, A: Allocator, F: Allocator, C: Allocator>(
     Ok(write_certificate_at(alloc, frozen, coefficients, rank, writer)?)
 }
 
-/// Writes the certificate of the animal at a rank.
-pub(crate) fn write_certificate_at<W: Write, A: Allocator, F: Allocator, C: Allocator>(
+// Writes the certificate of the animal at a rank.
+fn write_certificate_at<W: Write, A: Allocator, F: Allocator, C: Allocator>(
     alloc: A,
     frozen: &Frozen<F>,
     coefficients: &Coefficients<C>,
@@ -58,8 +58,7 @@ pub(crate) fn write_certificate_at<W: Write, A: Allocator, F: Allocator, C: Allo
     ensures err { OnErr result (AppendsFront (W.contents writer.old) (W.contents writer.new)
         (certificate_of frozen.now (number_of_row frozen.now rank))) }
 {
-    prove!(rank < frozen.len());
-    let mut output = Output::new(alloc);
+    let mut output = Text::new(alloc);
     push_animal(&mut output, &frozen.row(rank), coefficients.numerator(rank))?;
     push_ancestors(&mut output, frozen, rank)?;
     output.finish(writer)
@@ -68,7 +67,7 @@ pub(crate) fn write_certificate_at<W: Write, A: Allocator, F: Allocator, C: Allo
 // Adds the lines on the animal itself.
 #[tactic(auto, using(std::proofs::Common::append_assoc))]
 fn push_animal<A: Allocator>(
-    output: &mut Output<A>,
+    output: &mut Text<A>,
     row: &Row,
     numerator: u128,
 ) -> Result<(), AllocError>
@@ -89,7 +88,7 @@ fn push_animal<A: Allocator>(
     push_inbreeding(output, numerator)
 }
 
-fn push_left<A: Allocator>(output: &mut Output<A>, left: Option<Day>) -> Result<(), AllocError>
+fn push_left<A: Allocator>(output: &mut Text<A>, left: Option<Day>) -> Result<(), AllocError>
     ensures { OnOk result (output.new ≡ output.old ++ labelled_line (codes "left") (left_text left)) }
 {
     match left {
@@ -98,7 +97,7 @@ fn push_left<A: Allocator>(output: &mut Output<A>, left: Option<Day>) -> Result<
     }
 }
 
-fn push_inbreeding<A: Allocator>(output: &mut Output<A>, numerator: u128) -> Result<(), AllocError>
+fn push_inbreeding<A: Allocator>(output: &mut Text<A>, numerator: u128) -> Result<(), AllocError>
     requires { numerator < 2 ^ (2 * DEPTH_LIMIT) }
     ensures { OnOk result
         (output.new ≡ output.old ++ labelled_line (codes "inbreeding") (coefficient_text (codes " ") numerator)) }
@@ -119,7 +118,7 @@ fn sex_word(sex: Sex) -> &'static [u8]
 
 // Adds a line of a name and a value.
 fn push_entry<A: Allocator>(
-    output: &mut Output<A>,
+    output: &mut Text<A>,
     name: &[u8],
     value: &[u8],
 ) -> Result<(), AllocError>

@@ -29,7 +29,7 @@ impl From<AllocError> for CertificateFault {
 
     ghost from_gives = { λ _ fault. fault ≡ Report Memory };
 
-    fn from(_cause: AllocError) -> CertificateFault {
+    fn from(_refused: AllocError) -> CertificateFault {
         CertificateFault::Report(ReportFault::Memory)
     }
 }

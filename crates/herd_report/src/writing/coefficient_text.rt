@@ -2,14 +2,14 @@ ghost use Rattle.std.specs.Prelude.{◌≡◌, ◌<◌, ◌*◌, ◌^◌, ◌++�
 ghost use Rattle.herd_frozen.specs.declared.TheConstants.{DEPTH_LIMIT};
 ghost use Rattle.herd_report.specs.writing.CoefficientText.{coefficient_line, coefficient_line_end, coefficient_text, fraction_text, percentage_text};
 
-use crate::writing::output::Output;
+use crate::writing::output::Text;
 use herd_animal::AnimalNumber;
 use herd_kinship::{Fraction, fraction, hundredths};
 use std::alloc::{AllocError, Allocator};
 
 /// Adds the line of an animal and its coefficient.
 pub(crate) fn push_coefficient_line<A: Allocator>(
-    output: &mut Output<A>,
+    output: &mut Text<A>,
     number: AnimalNumber,
     numerator: u128,
 ) -> Result<(), AllocError>
@@ -22,7 +22,7 @@ pub(crate) fn push_coefficient_line<A: Allocator>(
 
 /// Adds what follows the number in the line of an animal.
 pub(crate) fn push_line_end<A: Allocator>(
-    output: &mut Output<A>,
+    output: &mut Text<A>,
     numerator: u128,
 ) -> Result<(), AllocError>
     requires { numerator < 2 ^ (2 * DEPTH_LIMIT) }
@@ -36,7 +36,7 @@ pub(crate) fn push_line_end<A: Allocator>(
 /// Adds a coefficient: the fraction, a separator, and the percentage.
 #[tactic(auto, unfolding(crate::specs::writing::CoefficientText::coefficient_text))]
 pub(crate) fn push_coefficient<A: Allocator>(
-    output: &mut Output<A>,
+    output: &mut Text<A>,
     numerator: u128,
     separator: &[u8],
 ) -> Result<(), AllocError>
@@ -50,7 +50,7 @@ pub(crate) fn push_coefficient<A: Allocator>(
 
 /// Adds a fraction that is in lowest terms.
 pub(crate) fn push_fraction<A: Allocator>(
-    output: &mut Output<A>,
+    output: &mut Text<A>,
     fraction: Fraction,
 ) -> Result<(), AllocError>
     ensures { OnOk result (output.new ≡ output.old ++ fraction_text fraction) }
@@ -67,7 +67,7 @@ pub(crate) fn push_fraction<A: Allocator>(
 }
 
 // Adds hundredths of a percent.
-fn push_percentage<A: Allocator>(output: &mut Output<A>, hundredths: u32) -> Result<(), AllocError>
+fn push_percentage<A: Allocator>(output: &mut Text<A>, hundredths: u32) -> Result<(), AllocError>
     ensures { OnOk result (output.new ≡ output.old ++ percentage_text hundredths) }
 {
     let part = (hundredths % 100) as u8;

@@ -9,7 +9,7 @@ ghost use Rattle.herd_report.specs.writing.InbreedingList.{inbreeding_text};
 ghost use Rattle.herd_report.specs.writing.Output.{AppendsFront};
 
 use crate::writing::coefficient_text::push_line_end;
-use crate::writing::output::Output;
+use crate::writing::output::Text;
 use crate::writing::report_fault::ReportFault;
 use herd_animal::AnimalNumber;
 use herd_frozen::Frozen;
@@ -30,8 +30,8 @@ pub fn write_inbreeding<W: Write, A: Allocator, F: Allocator, C: Allocator>(
     ensures err { OnErr result (AppendsFront (W.contents writer.old) (W.contents writer.new)
         (inbreeding_text (coefficient (ancestry_of frozen.now) DEPTH_LIMIT) frozen.now)) }
 {
-    let mut output = Output::new(&alloc);
-    let mut end = Output::new(&alloc);
+    let mut output = Text::new(&alloc);
+    let mut end = Text::new(&alloc);
     let mut made = None;
     for rank in 0..frozen.len() {
         output.pass_on(writer)?;
@@ -50,8 +50,8 @@ pub fn write_inbreeding<W: Write, A: Allocator, F: Allocator, C: Allocator>(
 
 // Adds the line of an animal. Of equal coefficients that follow one another the end of the line is made once.
 fn push_line<A: Allocator>(
-    output: &mut Output<A>,
-    end: &mut Output<A>,
+    output: &mut Text<A>,
+    end: &mut Text<A>,
     made: Option<u128>,
     number: AnimalNumber,
     numerator: u128,
@@ -68,7 +68,7 @@ fn push_line<A: Allocator>(
 
 // Makes the end of the line of an animal, where the end that is there isn't of an equal coefficient.
 fn make_end<A: Allocator>(
-    end: &mut Output<A>,
+    end: &mut Text<A>,
     made: Option<u128>,
     numerator: u128,
 ) -> Result<(), AllocError>

@@ -10,7 +10,7 @@ ghost use Rattle.herd_report.specs.writing.InverseList.{contribution_line, contr
 ghost use Rattle.herd_report.specs.writing.Output.{AppendsFront};
 
 use crate::writing::coefficient_text::push_fraction;
-use crate::writing::output::Output;
+use crate::writing::output::Text;
 use crate::writing::report_fault::ReportFault;
 use herd_animal::AnimalNumber;
 use herd_frozen::Frozen;
@@ -30,8 +30,8 @@ pub fn write_inverse<W: Write, A: Allocator, F: Allocator, C: Allocator>(
     ensures err { OnErr result
         (AppendsFront (W.contents writer.old) (W.contents writer.new) (inverse_text frozen.now)) }
 {
-    let mut output = Output::new(&alloc);
-    let mut end = Output::new(&alloc);
+    let mut output = Text::new(&alloc);
+    let mut end = Text::new(&alloc);
     for rank in 0..frozen.len() {
         output.pass_on(writer)?;
         push_contributions(&mut output, &mut end, frozen, coefficients, rank)?;
@@ -41,8 +41,8 @@ pub fn write_inverse<W: Write, A: Allocator, F: Allocator, C: Allocator>(
 
 // Adds the lines of what the animal at a rank contributes.
 fn push_contributions<A: Allocator, F: Allocator, C: Allocator>(
-    output: &mut Output<A>,
-    end: &mut Output<A>,
+    output: &mut Text<A>,
+    end: &mut Text<A>,
     frozen: &Frozen<F>,
     coefficients: &Coefficients<C>,
     rank: u32,
@@ -60,8 +60,8 @@ fn push_contributions<A: Allocator, F: Allocator, C: Allocator>(
 // Adds the lines of some elements of the animal at a rank. Of equal values that follow one another the end of the line
 // is made once.
 fn push_elements<A: Allocator, F: Allocator>(
-    output: &mut Output<A>,
-    end: &mut Output<A>,
+    output: &mut Text<A>,
+    end: &mut Text<A>,
     frozen: &Frozen<F>,
     rank: u32,
     elements: &[Contribution],
@@ -81,7 +81,7 @@ fn push_elements<A: Allocator, F: Allocator>(
 
 // Makes the end of the line of an element, where the end that is there isn't of an equal value.
 fn make_end<A: Allocator>(
-    end: &mut Output<A>,
+    end: &mut Text<A>,
     made: Option<Fraction>,
     value: Fraction,
 ) -> Result<(), AllocError>
@@ -97,7 +97,7 @@ fn make_end<A: Allocator>(
 }
 
 fn push_element<A: Allocator, F: Allocator>(
-    output: &mut Output<A>,
+    output: &mut Text<A>,
     frozen: &Frozen<F>,
     rank: u32,
     element: Contribution,
@@ -116,7 +116,7 @@ fn push_element<A: Allocator, F: Allocator>(
 
 // Adds the number of the animal at a rank, and a comma.
 fn push_number_at<A: Allocator, F: Allocator>(
-    output: &mut Output<A>,
+    output: &mut Text<A>,
     frozen: &Frozen<F>,
     rank: u32,
 ) -> Result<(), AllocError>

@@ -8,7 +8,7 @@ ghost use Rattle.herd_report.specs.writing.MatingList.{mating_line, mating_text,
 ghost use Rattle.herd_report.specs.writing.Output.{AppendsFront};
 
 use crate::writing::coefficient_text::push_coefficient_line;
-use crate::writing::output::Output;
+use crate::writing::output::Text;
 use crate::writing::refused_text::push_refused_line_end;
 use crate::writing::report_fault::ReportFault;
 use herd_animal::AnimalNumber;
@@ -38,7 +38,7 @@ pub fn write_mating<W: Write, A: Allocator + Clone, F: Allocator, C: Allocator>(
         return Ok(());
     };
     let relationships = Relationships::of_number(alloc.clone()?, frozen, coefficients, &dam)?;
-    let mut output = Output::new(&alloc);
+    let mut output = Text::new(&alloc);
     for sire in sires {
         output.pass_on(writer)?;
         push_advice(&mut output, frozen, &relationships, *sire, dam)?;
@@ -48,7 +48,7 @@ pub fn write_mating<W: Write, A: Allocator + Clone, F: Allocator, C: Allocator>(
 
 // Adds the line of a sire.
 fn push_advice<A: Allocator, F: Allocator, R: Allocator>(
-    output: &mut Output<A>,
+    output: &mut Text<A>,
     frozen: &Frozen<F>,
     relationships: &Relationships<R>,
     sire: AnimalNumber,
@@ -64,7 +64,7 @@ fn push_advice<A: Allocator, F: Allocator, R: Allocator>(
 }
 
 fn push_refused<A: Allocator>(
-    output: &mut Output<A>,
+    output: &mut Text<A>,
     sire: AnimalNumber,
     fault: MatingFault,
 ) -> Result<(), AllocError>

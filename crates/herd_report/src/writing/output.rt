@@ -8,52 +8,52 @@ use std::alloc::{AllocError, Allocator};
 use std::io::Write;
 use std::marker::Model;
 
-// What waits is written once it has so many bytes.
+// Text is written once it has so many bytes.
 const PART: usize = 65_536;
 
-/// The end of a text that still waits to be written.
+/// Text in memory: the end of a report that still waits to be written, or a piece that is made once for several lines.
 #[derive(Drop)]
-pub(crate) struct Output<A: Allocator> {
-    waiting: Vec<u8, A>,
+pub(crate) struct Text<A: Allocator> {
+    bytes: Vec<u8, A>,
 }
 
-impl<A: Allocator> Model for Output<A> {
+impl<A: Allocator> Model for Text<A> {
     ghost use Rattle.std.specs.Prelude.{List, ℕ};
 
     ghost Value = { List ℕ };
 
-    ghost view = { λ output. output.waiting.items };
+    ghost view = { λ text. text.bytes.items };
 }
 
-impl<A: Allocator> Output<A> {
-    /// Nothing waits yet.
+impl<A: Allocator> Text<A> {
+    /// No text yet.
     pub(crate) fn new(alloc: A) -> Self
         ensures { result ≡ [] }
     {
-        Output {
-            waiting: Vec::new(alloc),
+        Text {
+            bytes: Vec::new(alloc),
         }
     }
 
-    /// What waits.
+    /// The text.
     pub(crate) fn bytes(&self) -> &[u8]
         ensures { result.now ≡ self.now }
     {
-        self.waiting.as_slice()
+        self.bytes.as_slice()
     }
 
-    /// Lets what waits go.
+    /// Lets the text go.
     pub(crate) fn clear(&mut self)
         ensures { self.new ≡ [] }
     {
-        self.waiting.clear();
+        self.bytes.clear();
     }
 
     /// Adds bytes at the end.
     pub(crate) fn push(&mut self, bytes: &[u8]) -> Result<(), AllocError>
         ensures { OnOk result (self.new ≡ self.old ++ bytes.now) }
     {
-        self.waiting.extend_from_slice(bytes)
+        self.bytes.extend_from_slice(bytes)
     }
 
     /// Adds a number at the end, in decimal.
@@ -63,26 +63,26 @@ impl<A: Allocator> Output<A> {
         self.push(Buffer::new().format(number).as_bytes())
     }
 
-    /// Writes what waits, where it is long enough for a write of its own.
+    /// Writes the text, where it is long enough for a write of its own.
     pub(crate) fn pass_on<W: Write>(&mut self, writer: &mut W) -> Result<(), ReportFault>
         ensures ok { OnOk result (PassesOn (W.contents writer.old) (W.contents writer.new) self.old self.new) }
         ensures err { OnErr result (AppendsFront (W.contents writer.old) (W.contents writer.new) self.old) }
         ensures fault { IfErr result (λ fault. fault ≡ ReportFault.Write) }
     {
-        if self.waiting.len() >= PART {
+        if self.bytes.len() >= PART {
             write_all(writer, self.bytes())?;
             self.clear();
         }
         Ok(())
     }
 
-    /// Writes all that waits.
+    /// Writes the text.
     pub(crate) fn finish<W: Write>(self, writer: &mut W) -> Result<(), ReportFault>
         ensures ok { OnOk result (Appends (W.contents writer.old) (W.contents writer.new) self) }
         ensures err { OnErr result (AppendsFront (W.contents writer.old) (W.contents writer.new) self) }
         ensures fault { IfErr result (λ fault. fault ≡ ReportFault.Write) }
     {
-        write_all(writer, self.waiting.as_slice())
+        write_all(writer, self.bytes.as_slice())
     }
 }
 

@@ -3,7 +3,7 @@ ghost use Rattle.std.specs.Io.KnownBytes.{Appends};
 ghost use Rattle.herd_report.specs.writing.Output.{AppendsFront};
 ghost use Rattle.herd_report.specs.writing.Replies.{reply_line, replies_text};
 
-use crate::writing::output::Output;
+use crate::writing::output::Text;
 use crate::writing::refused_text::push_refused_line_end;
 use crate::writing::report_fault::ReportFault;
 use herd_register::{Reply, Step};
@@ -19,7 +19,7 @@ pub fn write_replies<W: Write, A: Allocator>(
     ensures ok { OnOk result (Appends (W.contents writer.old) (W.contents writer.new) (replies_text steps.now)) }
     ensures err { OnErr result (AppendsFront (W.contents writer.old) (W.contents writer.new) (replies_text steps.now)) }
 {
-    let mut output = Output::new(alloc);
+    let mut output = Text::new(alloc);
     for (place, step) in steps.iter().enumerate() {
         output.pass_on(writer)?;
         push_reply(&mut output, place + 1, step.reply)?;
@@ -28,7 +28,7 @@ pub fn write_replies<W: Write, A: Allocator>(
 }
 
 fn push_reply<A: Allocator>(
-    output: &mut Output<A>,
+    output: &mut Text<A>,
     serial: usize,
     reply: Reply,
 ) -> Result<(), AllocError>

@@ -18,7 +18,7 @@ pub enum ReportFault {
 impl From<AllocError> for ReportFault {
     ghost from_gives = { λ _ fault. fault ≡ Memory };
 
-    fn from(_cause: AllocError) -> ReportFault {
+    fn from(_refused: AllocError) -> ReportFault {
         ReportFault::Memory
     }
 }

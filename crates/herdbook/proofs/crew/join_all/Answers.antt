@@ -3,7 +3,7 @@ use Rattle.std.proofs.Common.{rules, ◌≡◌, ◌++◌, [], ◌∷◌, List, A
 use Rattle.std.proofs.lemmas.List.Elements.{All-head, All-push, All-same, All-tail}
 use Rattle.std.specs.Vec.Iter.{into_iter_items}
 use Rattle.std.specs.declared.thread.PromisedHandle.{PromisedHandle}
-use Rattle.herdbook.specs.Deal.{HasFiled, dealt}
+use Rattle.herdbook.specs.Deal.{HasDone}
 use Rattle.herdbook.specs.declared.clerk.Clerk.{Clerk}
 use Rattle.herdbook.specs.declared.crew.DeskTask.{DeskTask}
 use Rattle.herdbook.specs.declared.deal.Deal.{Deal}
@@ -22,12 +22,11 @@ loop-handle-preserved g c =
           (into_iter_items c.next.new.self) came c.in-Some.handle _ joined step.0 c.in_ok-join.ensures.0 was.numbers;
       filed = λ deal same.
           let HasDeal : PromisedHandle _ DeskTask → Type 0 = λ s. s.promise.deal ≡ deal in
-          let HasDealt : Clerk _ _ → Type 0 = λ d. HasFiled d.desk.number d.desk.answered d.desk.history (dealt deal.desks deal.first.now deal.rest.now d.desk.number) in
+          let HasDealt : Clerk _ _ → Type 0 = λ d. HasDone deal d.desk in
           let known = was.filed deal same in
           let left : All HasDeal (c.in-Some.handle ∷ into_iter_items c.next.new.self) = subst (λ (l : List _). All HasDeal l) step.0 known.1 in
           let mine : c.in-Some.handle.promise.deal ≡ deal = All-head HasDeal c.in-Some.handle _ left in
           let kept : HasDealt came =
-          subst (λ (d : Deal). HasFiled came.desk.number came.desk.answered came.desk.history (dealt d.desks d.first.now d.rest.now came.desk.number)) mine
-          c.in_ok-join.ensures.1 in
+          subst (λ (d : Deal). HasDone d came.desk) mine c.in_ok-join.ensures.1 in
           (All-same HasDealt _ _ joined (All-push HasDealt _ came known.0 kept), All-tail HasDeal c.in-Some.handle _ left);
     }

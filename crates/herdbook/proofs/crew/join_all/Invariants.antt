@@ -1,7 +1,7 @@
 -- A clerk for each thread so far, who has filed what fell to him.
 use Rattle.std.proofs.Common.{◌≡◌, ◌++◌, All, map, vec_items}
 use Rattle.std.specs.Vec.Iter.{into_iter_items}
-use Rattle.herdbook.specs.Deal.{HasFiled, dealt}
+use Rattle.herdbook.specs.Deal.{HasDone}
 use Rattle.herdbook.specs.declared.deal.Deal.{Deal}
 use Rattle.herdbook.proofs.crew.join_all.Given as goal
 
@@ -9,6 +9,6 @@ abbrev pub invariant-loop-handle : goal.invariant-loop-handle
 invariant-loop-handle g l = record {
   numbers : map (λ c. c.desk.number) l.done.items ++ map (λ s. s.promise.number) (into_iter_items l.handle-iterator) ≡ map (λ s. s.promise.number) (vec_items l.fn.started);
   filed : (deal : Deal) → All (λ s. s.promise.deal ≡ deal) (vec_items l.fn.started)
-      → All (λ c. HasFiled c.desk.number c.desk.answered c.desk.history (dealt deal.desks deal.first.now deal.rest.now c.desk.number)) l.done.items
+      → All (λ c. HasDone deal c.desk) l.done.items
       × All (λ s. s.promise.deal ≡ deal) (into_iter_items l.handle-iterator);
 }

@@ -3,7 +3,7 @@ use Rattle.std.proofs.Common.{rules, ◌≡◌, ◌++◌, [], ◌∷◌, List, A
 use Rattle.std.proofs.lemmas.List.Elements.{All-push, All-same, All-tail}
 use Rattle.std.specs.Vec.Iter.{into_iter_items}
 use Rattle.std.specs.declared.thread.PromisedHandle.{PromisedHandle}
-use Rattle.herdbook.specs.Deal.{HasFiled, dealt_first}
+use Rattle.herdbook.specs.Deal.{HasBegun}
 use Rattle.herdbook.specs.declared.clerk.Clerk.{Clerk}
 use Rattle.herdbook.specs.declared.crew.DeskTask.{DeskTask}
 use Rattle.herdbook.proofs.SummaryFacts.{handed_over}
@@ -15,14 +15,14 @@ loop-clerk-preserved g c =
     let step = c.in-Some.ensures.steps in
     let deal = c.args.deal in
     let HasDeal : PromisedHandle _ DeskTask → Type 0 = λ s. s.promise.deal ≡ deal in
-    let HasBegun : Clerk _ _ → Type 0 = λ d. HasFiled d.desk.number d.desk.answered d.desk.history (dealt_first deal.first.now d.desk.number) in
+    let Begun : Clerk _ _ → Type 0 = λ d. HasBegun deal d.desk in
     let joined : vec_items c.push.new.self ≡ vec_items c.loop-clerk.started ++ c.in_ok-clerk.clerk ∷ [] = search rules in
-    let left : All HasBegun (c.in-Some.clerk ∷ into_iter_items c.next.new.self) = subst (λ (l : List _). All HasBegun l) step.0 was.first in
+    let left : All Begun (c.in-Some.clerk ∷ into_iter_items c.next.new.self) = subst (λ (l : List _). All Begun l) step.0 was.first in
     record {
       numbers =
           handed_over (λ s. s.promise.number) (λ d. d.desk.number) (vec_items c.loop-clerk.started) (vec_items c.push.new.self)
           (into_iter_items c.loop-clerk.clerk-iterator) (into_iter_items c.next.new.self) c.in_ok-clerk.clerk c.in-Some.clerk _ joined step.0
           c.in_ok-clerk.ensures.number was.numbers;
       deals = All-same HasDeal _ _ joined (All-push HasDeal _ c.in_ok-clerk.clerk was.deals c.in_ok-clerk.ensures.deal);
-      first = All-tail HasBegun c.in-Some.clerk _ left;
+      first = All-tail Begun c.in-Some.clerk _ left;
     }

@@ -14,7 +14,7 @@ pub returns-in_err-push_animal-clause-err : goal.returns-in_err-push_animal-clau
 returns-in_err-push_animal-clause-err g c =
     let exit = err_from_is_err_and c.from_residual.result c.from_residual.ensures.1 in
     let rows = c.args.frozen.now in
-    let some = some_certificate_at DEPTH_LIMIT MOST_ANIMALS rows c.len.ensures.frozen c.args.rank c.row.result c.row.ensures.row
+    let some = some_certificate_at DEPTH_LIMIT MOST_ANIMALS rows c.row.ensures.frozen c.args.rank c.row.result c.row.ensures.row
     (coefficient (ancestry_of rows) DEPTH_LIMIT (number_of_row rows c.args.rank)) in
     rw exit.1 (front_nothing _ _ some)
 
@@ -22,14 +22,14 @@ pub returns-in_err-push_ancestors-clause-err : goal.returns-in_err-push_ancestor
 returns-in_err-push_ancestors-clause-err g c =
     let exit = err_from_is_err_and c.from_residual-in_err-push_ancestors.result c.from_residual-in_err-push_ancestors.ensures.1 in
     let rows = c.args.frozen.now in
-    let some = some_certificate_at DEPTH_LIMIT MOST_ANIMALS rows c.len.ensures.frozen c.args.rank c.row.result c.row.ensures.row
+    let some = some_certificate_at DEPTH_LIMIT MOST_ANIMALS rows c.row.ensures.frozen c.args.rank c.row.result c.row.ensures.row
     (coefficient (ancestry_of rows) DEPTH_LIMIT (number_of_row rows c.args.rank)) in
     rw exit.1 (front_nothing _ _ some)
 
 pub returns-clause-ok : goal.returns-clause-ok
 returns-clause-ok g c =
     let rows = c.args.frozen.now in
-    let made = certificate_made DEPTH_LIMIT MOST_ANIMALS rows c.len.ensures.frozen c.args.rank c.row.result c.row.ensures.row c.numerator.result
+    let made = certificate_made DEPTH_LIMIT MOST_ANIMALS rows c.row.ensures.frozen c.args.rank c.row.result c.row.ensures.row c.numerator.result
     c.new-output.result c.push_animal.new.output c.push_ancestors.new.output c.new-output.ensures c.in_ok-push_animal.ensures c.in_ok-push_ancestors.ensures
     ∙ certificate_with_coefficient DEPTH_LIMIT rows c.args.coefficients.now c.requires.coefficients c.args.rank c.requires.rank c.numerator.result c.numerator.ensures.value in
     on_ok_weaker c.finish.result (subst (Appends (g.W.Write.contents c.args.writer.now) (g.W.Write.contents c.finish.new.writer)) made) c.finish.ensures.ok
@@ -37,7 +37,7 @@ returns-clause-ok g c =
 pub returns-clause-err : goal.returns-clause-err
 returns-clause-err g c =
     let rows = c.args.frozen.now in
-    let made = certificate_made DEPTH_LIMIT MOST_ANIMALS rows c.len.ensures.frozen c.args.rank c.row.result c.row.ensures.row c.numerator.result
+    let made = certificate_made DEPTH_LIMIT MOST_ANIMALS rows c.row.ensures.frozen c.args.rank c.row.result c.row.ensures.row c.numerator.result
     c.new-output.result c.push_animal.new.output c.push_ancestors.new.output c.new-output.ensures c.in_ok-push_animal.ensures c.in_ok-push_ancestors.ensures
     ∙ certificate_with_coefficient DEPTH_LIMIT rows c.args.coefficients.now c.requires.coefficients c.args.rank c.requires.rank c.numerator.result c.numerator.ensures.value in
     on_err_weaker c.finish.result (subst (AppendsFront (g.W.Write.contents c.args.writer.now) (g.W.Write.contents c.finish.new.writer)) made) c.finish.ensures.err

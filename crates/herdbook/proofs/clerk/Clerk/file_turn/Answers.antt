@@ -7,16 +7,13 @@ use Rattle.herdbook.proofs.clerk.Clerk.file_turn.Goals as goal
 
 pub loop-place-init : goal.loop-place-init
 loop-place-init g c =
-    let desk = c.args.self.now.desk in
     record {
       number = search rules;
-      under = λ before filed. begun desk.number desk.answered desk.history c.args.turn.step c.args.turn.from before c.args.turn.commands.now filed;
+      under = λ before filed. begun c.args.self.now.desk c.args.turn.step c.args.turn.from before c.args.turn.commands.now filed;
     }
 
 pub loop-place-preserved : goal.loop-place-preserved
 loop-place-preserved g c =
-    let old = c.loop-place.self.desk in
-    let new = c.file.new.self.desk in
     let turn = c.args.turn in
     let place = c.loop-place.place in
     let commands = turn.commands.now in
@@ -25,7 +22,7 @@ loop-place-preserved g c =
     record {
       number = search rules;
       under = λ before filed.
-          gone_on old.number old.answered old.history new.number new.answered new.history turn.step place commands
-          (before ++ every turn.step turn.from commands) command c.requires.step.0 (slice_get-get_or commands place c.index-turn-place.result within)
+          gone_on c.loop-place.self.desk c.file.new.self.desk turn.step place commands
+          (before ++ every turn.step turn.from commands) command turn.some (slice_get-get_or commands place c.index-turn-place.result within)
           c.in_ok-file.ensures.filed (c.loop-place.invariant.under before filed);
     }

@@ -7,13 +7,11 @@ use Rattle.herdbook.proofs.clerk.Clerk.file_turn.Given as goal
 
 abbrev pub invariant-loop-place : goal.invariant-loop-place
 invariant-loop-place g l =
-    let old = l.initial.self.desk in
-    let desk = l.self.desk in
     let commands = l.turn.commands.now in
     record {
-      number : desk.number ≡ old.number;
-      under : (before : List Command) → HasFiled old.number old.answered old.history before
-          → Underway desk.number desk.answered desk.history (every l.turn.step 0 (drop l.place commands)) (before ++ every l.turn.step l.turn.from commands);
+      number : l.self.desk.number ≡ l.initial.self.desk.number;
+      under : (before : List Command) → HasFiled l.initial.self.desk before
+          → Underway l.self.desk (every l.turn.step 0 (drop l.place commands)) (before ++ every l.turn.step l.turn.from commands);
     }
 
 abbrev pub decreases-loop-place : goal.decreases-loop-place
