@@ -55,8 +55,7 @@ fn seen_after(
     Ok(family_seen(rt, &pedigree))
 }
 
-// Sets an owner, for which no memory is taken, and takes that back: the book is as before, and no change is left to take
-// back.
+// Sets an owner, for which no memory is taken, and takes that back: the book is as before, and no change is left.
 fn leave_nothing_to_take_back(rt: &impl Abort, pedigree: &mut Pedigree<&LocalHeap>) {
     assert!(rt; file(rt, pedigree, transfer()).is_ok());
     if pedigree.can_take_back() {
