@@ -19,8 +19,8 @@ use Rattle.herd_frozen.specs.rules.Depths.{IsParent, AreDepths, depth_from}
 use Rattle.herd_frozen.specs.places.Places.{parent_at, parentage_at, IsIndexIn, AreParents}
 use Rattle.herd_pedigree.specs.store.Kept.{IsKept}
 use Rattle.herd_pedigree.specs.declared.store.correction.Correction.{Correction}
-use Rattle.herd_pedigree.specs.store.Carry.{IsSettled}
-use Rattle.herd_pedigree.specs.store.Correction.{IsSound}
+use Rattle.herd_pedigree.specs.store.Correction.{AreDepthsBefore, corrected}
+use Rattle.herd_pedigree.specs.store.Exchange.{IsSound}
 use Rattle.herd_frozen.proofs.lemmas.rules.PathFacts.{Path, path-from_test, test-from_path, path-at_most, path-there, below_from, depths-fall, depths-path, depths-shallow}
 use Rattle.herd_frozen.proofs.lemmas.rules.BookFacts.{entry_from_key, lookup_at, length-keys, there}
 use Rattle.herd_frozen.proofs.lemmas.rules.FaultFacts.{fault-split}
@@ -77,9 +77,6 @@ module _ (l most : ℕ) (book : Book) (sires dams : List (Option ℕ)) (depths :
     (sire dam : Option ℕ) (s d : Option (List ℕ)) (sire_is : IsIndexIn (keys_of book) sire s) (dam_is : IsIndexIn (keys_of book) dam d) where
   entry : (was : Animal) × (slice_get book a ≡ Some (number, was))
   entry = entry_from_key book a number at
-
-  pub corrected : Book
-  corrected = changed book number (with_parents s d)
 
   same_book : set_value_at book a (with_parents s d entry.0) ≡ changed book number (with_parents s d)
   same_book = set-changed book k.lawful.once a number entry.0 (with_parents s d) entry.1
@@ -199,31 +196,35 @@ closed-within l most book sires dams depths k a sire dam here sire_in dam_in =
     closed-exchange l most book sires dams depths k a sire dam here (λ p e. subst (λ n. p < n) m (parent_in sire (length book) p sire_in e)) (λ p e. subst (λ n. p < n) m (parent_in dam (length book) p dam_in e))
 
 -- so that a correction of an animal of the book by parents of the book is sound
-pub correction-sound : {A : Type 0} (l most : ℕ) (book : Book) (depths : List ℕ) (c : Correction A) → IsKept l most book c.sires.now.parents c.dams.now.parents depths →
-    c.place < length book → IfSome c.sire (λ p. p < length book) → IfSome c.dam (λ p. p < length book) → IsSound c
-correction-sound l most book depths c k within sire_in dam_in =
+pub correction-sound : (l most : ℕ) (book : Book) (sires dams : List (Option ℕ)) (depths : List ℕ) → IsKept l most book sires dams depths → (place : ℕ) (sire dam : Option ℕ) →
+    place < length book → IfSome sire (λ p. p < length book) → IfSome dam (λ p. p < length book) → IsSound sires dams place sire dam
+correction-sound l most book sires dams depths k place sire dam within sire_in dam_in =
     let m = k.sires_are.long in
-    let here : c.place < length c.sires.now.parents = omega (arith, within, m) in
+    let here : place < length sires = omega (arith, within, m) in
     record {
       here = here;
       wide = k.dams_are.long ∙ sym m;
-      closed = closed-within l most book c.sires.now.parents c.dams.now.parents depths k c.place c.sire c.dam here sire_in dam_in;
+      closed = closed-within l most book sires dams depths k place sire dam here sire_in dam_in;
     }
 
--- all but the animal whose parents are exchanged are settled
-pub settled-exchange : (l most : ℕ) (book : Book) (sires dams : List (Option ℕ)) (depths : List ℕ) → IsKept l most book sires dams depths → (a : ℕ) (sire dam : Option ℕ) → a < length sires →
-    IsSettled l (parentage_at (slice_set sires a sire) (slice_set dams a dam)) (slice_index depths) (a ∷ [])
-settled-exchange l most book sires dams depths k a sire dam here =
-    let wide : length dams ≡ length sires = k.dams_are.long ∙ sym k.sires_are.long in
-    settled-but l (parentage_at sires dams) (parentage_at (slice_set sires a sire) (slice_set dams a dam)) depths a k.depths_are
-    (λ x other there. (there-same sires dams a sire dam here wide x there, get_or-set_other sires a x sire None other, get_or-set_other dams a x dam None other))
+-- and finds the depths of the book
+pub correction-depths : {A : Type 0} (l most : ℕ) (book : Book) (depths : List ℕ) (c : Correction A) → IsKept l most book c.sires.now.parents c.dams.now.parents depths → (found : List ℕ) → found ≡ depths → AreDepthsBefore l c found
+correction-depths l most book depths c k found same =
+    let sires : List (Option ℕ) = c.sires.now.parents in
+    let dams : List (Option ℕ) = c.dams.now.parents in
+    let long : length depths ≡ length sires = k.long ∙ sym k.sires_are.long in
+    subst (λ ds. AreDepthsBefore l c ds) (sym same)
+    (record {
+      long = long;
+      settled =
+          settled-but l (parentage_at sires dams) (corrected c) depths c.place k.depths_are
+          (λ x other there. (there-same sires dams c.place c.sire c.dam c.sound.here c.sound.wide x there, get_or-set_other sires c.place x c.sire None other, get_or-set_other dams c.place x c.dam None other));
+      shallow = λ x within. k.depths_are.most x (lt-ltb x (length sires) (omega (arith, within, long)));
+    })
 
 module _ (l most : ℕ) (book : Book) (sires dams : List (Option ℕ)) (depths : List ℕ) (k : IsKept l most book sires dams depths)
     (number : List ℕ) (a : ℕ) (at : slice_get (keys_of book) a ≡ Some number)
     (sire dam : Option ℕ) (s d : Option (List ℕ)) (sire_is : IsIndexIn (keys_of book) sire s) (dam_is : IsIndexIn (keys_of book) dam d) where
-  after : Book
-  after = changed book number (with_parents s d)
-
   once-after : IsDistinct bytes_eq (keys_of (changed book number (with_parents s d)))
   once-after = once-corrected l most book sires dams depths k number a at sire dam s d sire_is dam_is
 

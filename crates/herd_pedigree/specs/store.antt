@@ -4,5 +4,6 @@ pub mod Undo
 pub mod Progeny
 pub mod Records
 pub mod Calves
+pub mod Exchange
 pub mod Correction
 pub mod Carry

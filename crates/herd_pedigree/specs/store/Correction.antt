@@ -1,16 +1,16 @@
--- The parents by place, with those of one animal exchanged.
-use Rattle.std.specs.Prelude.{◌≡◌, ℕ, ◌<◌, length, slice_set}
+-- A correction of parents, and the depths that it finds.
+use Rattle.std.specs.Prelude.{◌≡◌, ℕ, ◌<◌, ◌≤◌, List, [], ◌∷◌, length, slice_index}
 use Rattle.herd_pedigree.specs.declared.store.correction.Correction.{Correction}
 use Rattle.herd_frozen.specs.rules.Paths.{Parentage}
-use Rattle.herd_frozen.specs.rules.Depths.{IsParent}
-use Rattle.herd_frozen.specs.places.Places.{parentage_at}
+use Rattle.herd_pedigree.specs.store.Carry.{IsSettled}
+use Rattle.herd_pedigree.specs.store.Exchange.{exchanged}
 
 -- the places that there are, and the known parents of each
 abbrev pub corrected : {A : Type 0} → Correction A → Parentage ℕ
-corrected c = parentage_at (slice_set c.sires.now.parents c.place c.sire) (slice_set c.dams.now.parents c.place c.dam)
+corrected c = exchanged c.sires.now.parents c.dams.now.parents c.place c.sire c.dam
 
--- the animal and all parents are there
-pub record IsSound {A : Type 0} (c : Correction A) : Type 0 where
-  pub here : c.place < length c.sires.now.parents
-  pub wide : length c.dams.now.parents ≡ length c.sires.now.parents
-  pub closed : (p x : ℕ) → IsParent (corrected c) p x → p < length c.sires.now.parents
+-- one depth for each animal: all but that of the animal whose parents are exchanged are settled, and none is above l
+pub record AreDepthsBefore {A : Type 0} (l : ℕ) (c : Correction A) (depths : List ℕ) : Type 0 where
+  pub long : length depths ≡ length c.sires.now.parents
+  pub settled : IsSettled l (corrected c) (slice_index depths) (c.place ∷ [])
+  pub shallow : (x : ℕ) → x < length depths → slice_index depths x ≤ l

@@ -16,6 +16,11 @@ abbrev pub undone_writes : List (ℕ × ℕ) → List ℕ → List ℕ
 undone_writes [] depths = depths
 undone_writes (write ∷ log) depths = slice_set (undone_writes log depths) write.0 write.1
 
+-- the writes are within the depths, and taking them back leaves those of the past
+pub record TakesBack (log : List (ℕ × ℕ)) (depths past : List ℕ) : Type 0 where
+  pub within : All (λ write. write.0 < length depths) log
+  pub undone : undone_writes log depths ≡ past
+
 -- the book before the last change
 abbrev pub undone_book : Undo → Book → Option Book
 undone_book Nothing book = None

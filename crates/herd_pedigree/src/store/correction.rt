@@ -3,12 +3,13 @@ ghost use Rattle.std.specs.Prelude.{◌≡◌, ℕ, suc, ◌+◌, ◌<◌, ◌�
 ghost use Rattle.herd_pedigree.specs.store.Carry.{AddsCalves, HavePaths, IsSettled};
 ghost use Rattle.herd_frozen.specs.rules.Depths.{IsParent, depth_from};
 ghost use Rattle.herd_frozen.specs.rules.Paths.{has_path};
-ghost use Rattle.herd_pedigree.specs.store.Undo.{undone_writes};
+ghost use Rattle.herd_pedigree.specs.store.Exchange.{IsSound};
+ghost use Rattle.herd_pedigree.specs.store.Undo.{TakesBack};
 ghost use Rattle.herd_frozen.specs.declared.TheConstants.{DEPTH_LIMIT};
 
 use crate::store::depth::{depth_with, undo_writes};
 use crate::store::progeny::{Calves, Progeny};
-use herd_frozen::DEPTH_LIMIT;
+use herd_frozen::{DEPTH_LIMIT, Link};
 use std::alloc::{AllocError, Allocator};
 
 /// The parents of all animals by place, as they would be if one had these.
@@ -19,38 +20,33 @@ pub struct Correction<'a, A: Allocator> {
     pub place: u32,
     pub sire: Option<u32>,
     pub dam: Option<u32>,
+    pub ghost sound: { IsSound sires.now.parents dams.now.parents place sire dam },
 }
 
 impl<A: Allocator> Correction<'_, A> {
-    ghost use Rattle.herd_pedigree.specs.store.Correction.{IsSound, corrected};
+    ghost use Rattle.herd_pedigree.specs.store.Correction.{AreDepthsBefore, corrected};
 
-    fn sire_of(&self, place: u32) -> Option<u32>
-        requires sound { IsSound self.now }
-        requires within { place < length self.now.sires.now.parents }
-        ensures { result ≡ (corrected self.now).sire place }
+    // The parents of an animal.
+    fn parents_of(&self, place: u32) -> Link
+        requires { place < length self.now.sires.now.parents }
+        ensures sire { result.sire ≡ (corrected self.now).sire place }
+        ensures dam { result.dam ≡ (corrected self.now).dam place }
     {
         if place == self.place {
-            self.sire
+            Link {
+                sire: self.sire,
+                dam: self.dam,
+            }
         } else {
-            self.sires.parent(place)
-        }
-    }
-
-    fn dam_of(&self, place: u32) -> Option<u32>
-        requires sound { IsSound self.now }
-        requires within { place < length self.now.sires.now.parents }
-        ensures { result ≡ (corrected self.now).dam place }
-    {
-        if place == self.place {
-            self.dam
-        } else {
-            self.dams.parent(place)
+            Link {
+                sire: self.sires.parent(place),
+                dam: self.dams.parent(place),
+            }
         }
     }
 
     // Whether an animal is one of the new parents.
     fn is_new_parent(&self, place: u32) -> bool
-        requires { IsSound self.now }
         ensures { IsTrue result ↔ IsParent (corrected self.now) place self.now.place }
     {
         self.sire == Some(place) || self.dam == Some(place)
@@ -58,7 +54,6 @@ impl<A: Allocator> Correction<'_, A> {
 
     /// Whether the animal whose parents are exchanged is nobody's parent.
     pub fn has_no_calves(&self) -> bool
-        requires { IsSound self.now }
         ensures { IsTrue result → (x : ℕ) → IsParent (corrected self.now) self.now.place x → ⊥ }
     {
         !self.sires.has_calves(self.place)
@@ -68,13 +63,13 @@ impl<A: Allocator> Correction<'_, A> {
 
     // The depth that its parents give an animal, cut off above the limit.
     fn depth_at(&self, depths: &[u8], place: u32) -> u8
-        requires sound { IsSound self.now }
         requires within { place < length self.now.sires.now.parents }
         requires long { length depths.now ≡ length self.now.sires.now.parents }
         ensures { result ≡ min (DEPTH_LIMIT + 1)
             (depth_from (slice_index depths.now) ((corrected self.now).sire place) ((corrected self.now).dam place)) }
     {
-        let depth = depth_with(depths, self.sire_of(place), self.dam_of(place));
+        let parents = self.parents_of(place);
+        let depth = depth_with(depths, parents.sire, parents.dam);
         depth.min(u16::from(DEPTH_LIMIT) + 1) as u8
     }
 
@@ -84,8 +79,7 @@ impl<A: Allocator> Correction<'_, A> {
         place: u32,
         pending: &mut Vec<u32, B>,
     ) -> Result<(), AllocError>
-        requires sound { IsSound self.now }
-        requires within { place < length self.now.sires.now.parents }
+        requires { place < length self.now.sires.now.parents }
         ensures { OnOk result (AddsCalves (corrected self.now) place pending.old.items pending.new.items) }
     {
         push_others(self.sires.calves(place), self.place, pending)?;
@@ -105,12 +99,10 @@ impl<A: Allocator> Correction<'_, A> {
         log: &mut Vec<(u32, u8), B>,
         pending: &mut Vec<u32, B>,
     ) -> Result<(), AllocError>
-        requires sound { IsSound self.now }
         requires within { place < length self.now.sires.now.parents }
         requires long { length depths.old ≡ length self.now.sires.now.parents }
-        requires logged { All (λ write. write.0 < length depths.old) log.old.items }
-        ensures logged { All (λ write. write.0 < length depths.old) log.new.items }
-        ensures undone { undone_writes log.new.items depths.new ≡ undone_writes log.old.items depths.old }
+        ensures logged { (past : List ℕ) → TakesBack log.old.items depths.old past
+            → TakesBack log.new.items depths.new past }
         ensures settled { OnOk result ((rest : List ℕ) → IsSettled DEPTH_LIMIT (corrected self.now)
             (slice_index depths.old) (place ∷ (rest ++ pending.old.items))
             → IsSettled DEPTH_LIMIT (corrected self.now) (slice_index depths.new) (rest ++ pending.new.items)) }
@@ -136,12 +128,10 @@ impl<A: Allocator> Correction<'_, A> {
         log: &mut Vec<(u32, u8), B>,
         pending: &mut Vec<u32, B>,
     ) -> Result<(), AllocError>
-        requires sound { IsSound self.now }
         requires within { All (λ place. place < length depths.old) places.now }
         requires long { length depths.old ≡ length self.now.sires.now.parents }
-        requires logged { All (λ write. write.0 < length depths.old) log.old.items }
-        ensures logged { All (λ write. write.0 < length depths.old) log.new.items }
-        ensures undone { undone_writes log.new.items depths.new ≡ undone_writes log.old.items depths.old }
+        ensures logged { (past : List ℕ) → TakesBack log.old.items depths.old past
+            → TakesBack log.new.items depths.new past }
         ensures settled { OnOk result (IsSettled DEPTH_LIMIT (corrected self.now) (slice_index depths.old)
             (places.now ++ pending.old.items)
             → IsSettled DEPTH_LIMIT (corrected self.now) (slice_index depths.new) pending.new.items) }
@@ -163,12 +153,10 @@ impl<A: Allocator> Correction<'_, A> {
         depths: &mut [u8],
         log: &mut Vec<(u32, u8), B>,
     ) -> Result<bool, AllocError>
-        requires sound { IsSound self.now }
         requires long { length depths.old ≡ length self.now.sires.now.parents }
-        requires logged { All (λ write. write.0 < length depths.old) log.old.items }
         requires settled { IsSettled DEPTH_LIMIT (corrected self.now) (slice_index depths.old) (self.now.place ∷ []) }
-        ensures logged { All (λ write. write.0 < length depths.old) log.new.items }
-        ensures undone { undone_writes log.new.items depths.new ≡ undone_writes log.old.items depths.old }
+        ensures logged { (past : List ℕ) → TakesBack log.old.items depths.old past
+            → TakesBack log.new.items depths.new past }
         ensures settled { IfOk result
             (λ done. IsTrue done → IsSettled DEPTH_LIMIT (corrected self.now) (slice_index depths.new) []) }
         ensures deep { IfOk result
@@ -191,13 +179,9 @@ impl<A: Allocator> Correction<'_, A> {
         depths: &mut [u8],
         log: &mut Vec<(u32, u8), B>,
     ) -> Result<bool, AllocError>
-        requires sound { IsSound self.now }
-        requires long { length depths.old ≡ length self.now.sires.now.parents }
-        requires settled { IsSettled DEPTH_LIMIT (corrected self.now) (slice_index depths.old) (self.now.place ∷ []) }
-        requires shallow { (x : ℕ) → x < length depths.old → slice_index depths.old x ≤ DEPTH_LIMIT }
+        requires before { AreDepthsBefore DEPTH_LIMIT self.now depths.old }
         requires empty { log.old.items ≡ [] }
-        ensures logged { All (λ write. write.0 < length depths.old) log.new.items }
-        ensures undone { undone_writes log.new.items depths.new ≡ depths.old }
+        ensures logged { TakesBack log.new.items depths.new depths.old }
         ensures settled { IfOk result
             (λ shallow. IsTrue shallow → IsSettled DEPTH_LIMIT (corrected self.now) (slice_index depths.new) []) }
         ensures shallow { IfOk result (λ shallow. IsTrue shallow
@@ -218,14 +202,9 @@ impl<A: Allocator> Correction<'_, A> {
         alloc: B,
         depths: &mut [u8],
     ) -> Result<Option<Vec<(u32, u8), B>>, AllocError>
-        requires sound { IsSound self.now }
-        requires long { length depths.old ≡ length self.now.sires.now.parents }
-        requires settled { IsSettled DEPTH_LIMIT (corrected self.now) (slice_index depths.old) (self.now.place ∷ []) }
-        requires shallow { (x : ℕ) → x < length depths.old → slice_index depths.old x ≤ DEPTH_LIMIT }
+        requires { AreDepthsBefore DEPTH_LIMIT self.now depths.old }
         ensures logged { IfOk result
-            (λ carried. IfSome carried (λ log. All (λ write. write.0 < length depths.old) log.items)) }
-        ensures undone { IfOk result
-            (λ carried. IfSome carried (λ log. undone_writes log.items depths.new ≡ depths.old)) }
+            (λ carried. IfSome carried (λ log. TakesBack log.items depths.new depths.old)) }
         ensures settled { IfOk result
             (λ carried. IfSome carried (λ _. IsSettled DEPTH_LIMIT (corrected self.now) (slice_index depths.new) [])) }
         ensures shallow { IfOk result
@@ -255,10 +234,7 @@ impl<A: Allocator> Correction<'_, A> {
         alloc: B,
         depths: &[u8],
     ) -> Result<bool, AllocError>
-        requires sound { IsSound self.now }
-        requires long { length depths.now ≡ length self.now.sires.now.parents }
-        requires settled { IsSettled DEPTH_LIMIT (corrected self.now) (slice_index depths.now) (self.now.place ∷ []) }
-        requires shallow { (x : ℕ) → x < length depths.now → slice_index depths.now x ≤ DEPTH_LIMIT }
+        requires { AreDepthsBefore DEPTH_LIMIT self.now depths.now }
         ensures deep { IfOk result
             (λ deep. IsTrue deep → (x : ℕ) × IsTrue (has_path (corrected self.now) (DEPTH_LIMIT + 1) x)) }
         ensures shallow { IfOk result

@@ -1,8 +1,8 @@
 -- What a log of writes takes back.
-use Rattle.std.proofs.Common.{ℕ, ◌-◌, ◌≤◌, ◌≡◌, ◌≢◌, ⊎_elim, All, slice_index, arith, refl, sym, ap, ◌∙◌, subst, List, [], ◌∷◌, ◌++◌, Option, Some, length, slice_set}
+use Rattle.std.proofs.Common.{ℕ, ◌-◌, ◌<◌, ◌≤◌, ◌≡◌, ◌≢◌, ⊎_elim, All, slice_index, arith, refl, sym, ap, ◌∙◌, subst, List, [], ◌∷◌, ◌++◌, Option, Some, length, slice_set}
 use Rattle.std.proofs.lemmas.Bool.{cases_eq}
-use Rattle.std.proofs.lemmas.List.{get_or-set_other, length_push, take_at}
-use Rattle.std.proofs.lemmas.List.Elements.{All-rest}
+use Rattle.std.proofs.lemmas.List.{get_or-set_other, length-set, length_push, set-get_or, set-set, take_at}
+use Rattle.std.proofs.lemmas.List.Elements.{All-append, All-cons, All-nil, All-rest}
 use Rattle.std.specs.Map.{keys_of}
 use Rattle.herd_frozen.specs.declared.rules.animal.Animal.{Animal}
 use Rattle.herd_pedigree.specs.declared.store.records.StoredRecord.{StoredRecord}
@@ -11,12 +11,32 @@ use Rattle.herd_pedigree.specs.Pedigree.{Pedigree, changed_to}
 use Rattle.herd_pedigree.specs.store.Records.{animal_of, set_value_at}
 use Rattle.herd_pedigree.specs.declared.store.undo.Undo.{Undo}
 use Rattle.herd_pedigree.specs.declared.store.undo.Undo.TheVariants.{Nothing, Record}
-use Rattle.herd_pedigree.specs.store.Undo.{IsHeld, undone_writes, without_last}
+use Rattle.herd_pedigree.specs.store.Undo.{IsHeld, TakesBack, undone_writes, without_last}
 
 -- the last write is taken back first
 pub undone-last : (log : List (ℕ × ℕ)) (write : ℕ × ℕ) (depths : List ℕ) → undone_writes (log ++ write ∷ []) depths ≡ undone_writes log (slice_set depths write.0 write.1)
 undone-last [] write depths = refl
 undone-last (first ∷ log) write depths = ap (λ ds. slice_set ds first.0 first.1) (undone-last log write depths)
+
+-- an empty log takes nothing back
+pub taken-none : (depths : List ℕ) → TakesBack [] depths depths
+taken-none depths = record { within = All-nil (λ (write : ℕ × ℕ). write.0 < length depths); undone = refl }
+
+-- a write that is logged with what it wrote over is taken back with the others
+pub taken-write : (log : List (ℕ × ℕ)) (depths past : List ℕ) (place depth : ℕ) → place < length depths → TakesBack log depths past →
+    TakesBack (log ++ (place, slice_index depths place) ∷ []) (slice_set depths place depth) past
+taken-write log depths past place depth within taken =
+    let n = length-set depths place depth in
+    let more : All (λ (write : ℕ × ℕ). write.0 < length depths) (log ++ (place, slice_index depths place) ∷ []) =
+    All-append (λ (write : ℕ × ℕ). write.0 < length depths) log ((place, slice_index depths place) ∷ []) taken.within
+    (All-cons (λ (write : ℕ × ℕ). write.0 < length depths) (place, slice_index depths place) [] within (All-nil (λ (write : ℕ × ℕ). write.0 < length depths))) in
+    record {
+      within = subst (λ k. All (λ (write : ℕ × ℕ). write.0 < k) (log ++ (place, slice_index depths place) ∷ [])) (sym n) more;
+      undone =
+          undone-last log (place, slice_index depths place) (slice_set depths place depth)
+          ∙ ap (λ ds. undone_writes log ds) (set-set depths place depth (slice_index depths place) ∙ set-get_or depths place 0)
+          ∙ taken.undone;
+    }
 
 -- a depth that was at most l is, where all that were written are
 pub written-most : (l : ℕ) (log : List (ℕ × ℕ)) (depths : List ℕ) → All (λ write. slice_index depths write.0 ≤ l) log → (x : ℕ) →

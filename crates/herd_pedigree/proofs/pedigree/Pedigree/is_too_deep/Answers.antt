@@ -8,11 +8,10 @@ use Rattle.herd_frozen.specs.rules.Book.{Book, record_of}
 use Rattle.herd_frozen.specs.rules.ParentFault.{is_too_deep}
 use Rattle.herd_frozen.specs.rules.Depths.{depth_from}
 use Rattle.herd_frozen.specs.places.Places.{IsIndexIn, parentage_at}
-use Rattle.herd_pedigree.specs.store.Carry.{IsSettled}
 use Rattle.herd_frozen.specs.declared.TheConstants.{DEPTH_LIMIT, MOST_ANIMALS}
 use Rattle.herd_frozen.proofs.lemmas.rules.BookFacts.{at_position, none_if}
 use Rattle.herd_pedigree.proofs.lemmas.store.CorrectionFacts.{IfOk-both}
-use Rattle.herd_pedigree.proofs.CheckFacts.{too_deep-absent, not_deep-lower, too_deep-leaf, too_deep-told_by, correction-sound, settled-exchange}
+use Rattle.herd_pedigree.proofs.CheckFacts.{too_deep-absent, not_deep-lower, too_deep-leaf, too_deep-told_by, correction-depths, correction-sound}
 use Rattle.herd_pedigree.proofs.pedigree.Pedigree.is_too_deep.Goals as goal
 
 pub returns-in_default : goal.returns-in_default
@@ -48,11 +47,13 @@ returns-then-depth-from g c =
     let told : P book = λ s d si di. sym (not_deep-lower DEPTH_LIMIT MOST_ANIMALS book sires dams depths kept number place at c.args.sire c.args.dam s d si di low) in
     subst (λ p. P p.book) c.self.view_is told
 
-pub has_no_calves-requires : goal.has_no_calves-requires
-has_no_calves-requires g c =
-    correction-sound DEPTH_LIMIT MOST_ANIMALS c.self.inside.records.book c.self.inside.depths.items _ c.self.invariant.kept c.in-Some.ensures.within
-    (subst (λ p. IfSome c.args.sire (λ place. place < length p.book)) (sym c.self.view_is) c.requires.sire)
-    (subst (λ p. IfSome c.args.dam (λ place. place < length p.book)) (sym c.self.view_is) c.requires.dam)
+pub invariant_of-correction : goal.invariant_of-correction
+invariant_of-correction g c =
+    record {
+      sound = correction-sound DEPTH_LIMIT MOST_ANIMALS c.self.inside.records.book c.self.inside.sires.parents c.self.inside.dams.parents c.self.inside.depths.items c.self.invariant.kept c.in-Some.place c.args.sire c.args.dam c.in-Some.ensures.within
+          (subst (λ p. IfSome c.args.sire (λ place. place < length p.book)) (sym c.self.view_is) c.requires.sire)
+          (subst (λ p. IfSome c.args.dam (λ place. place < length p.book)) (sym c.self.view_is) c.requires.dam);
+    }
 
 pub returns-then-has_no_calves : goal.returns-then-has_no_calves
 returns-then-has_no_calves g c =
@@ -69,34 +70,9 @@ returns-then-has_no_calves g c =
     let told : P book = λ s d si di. (λ i. nat_lt (c.from-then-has_no_calves.ensures i) (depth i)) ∙ too_deep-leaf DEPTH_LIMIT MOST_ANIMALS book sires dams depths kept number place at c.args.sire c.args.dam s d si di (c.has_no_calves.ensures c.if-has_no_calves.true) in
     subst (λ p. P p.book) c.self.view_is told
 
-pub is_too_deep-requires-clause-sound : goal.is_too_deep-requires-clause-sound
-is_too_deep-requires-clause-sound g c =
-    correction-sound DEPTH_LIMIT MOST_ANIMALS c.self.inside.records.book c.self.inside.depths.items _ c.self.invariant.kept c.in-Some.ensures.within
-    (subst (λ p. IfSome c.args.sire (λ place. place < length p.book)) (sym c.self.view_is) c.requires.sire)
-    (subst (λ p. IfSome c.args.dam (λ place. place < length p.book)) (sym c.self.view_is) c.requires.dam)
-
-pub is_too_deep-requires-clause-settled : goal.is_too_deep-requires-clause-settled
-is_too_deep-requires-clause-settled g c =
-    let book : Book = c.self.inside.records.book in
-    let number : List ℕ = c.args.number.now in
-    let sires : List (Option ℕ) = c.self.inside.sires.parents in
-    let dams : List (Option ℕ) = c.self.inside.dams.parents in
-    let depths : List ℕ = c.self.inside.depths.items in
-    let kept = c.self.invariant.kept in
-    let place : ℕ = c.in-Some.place in
-    let m = kept.sires_are.long in
-    let here : place < length sires = let w = c.in-Some.ensures.within in omega (arith, w, m) in
-    subst (λ ds. IsSettled DEPTH_LIMIT (parentage_at (slice_set sires place c.args.sire) (slice_set dams place c.args.dam)) (slice_index ds) (place ∷ [])) (sym c.deref-2.ensures.value)
-    (settled-exchange DEPTH_LIMIT MOST_ANIMALS book sires dams depths kept place c.args.sire c.args.dam here)
-
-pub is_too_deep-requires-clause-shallow : goal.is_too_deep-requires-clause-shallow
-is_too_deep-requires-clause-shallow g c =
-    let sires : List (Option ℕ) = c.self.inside.sires.parents in
-    let kept = c.self.invariant.kept in
-    let long = kept.long in
-    let wide = kept.sires_are.long in
-    subst (λ ds. (x : ℕ) → x < length ds → slice_index ds x ≤ DEPTH_LIMIT) (sym c.deref-2.ensures.value)
-    (λ x within. kept.depths_are.most x (lt-ltb x (length sires) (omega (arith, within, long, wide))))
+pub is_too_deep-requires : goal.is_too_deep-requires
+is_too_deep-requires g c =
+    correction-depths DEPTH_LIMIT MOST_ANIMALS c.self.inside.records.book c.self.inside.depths.items _ c.self.invariant.kept _ c.deref-2.ensures.value
 
 pub returns : goal.returns
 returns g c =

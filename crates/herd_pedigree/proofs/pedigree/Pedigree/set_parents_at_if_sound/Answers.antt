@@ -15,12 +15,12 @@ use Rattle.herd_frozen.specs.rules.ParentFault.{is_too_deep, parent_fault}
 use Rattle.herd_frozen.specs.declared.rules.parent_fault.ParentFault.TheVariants.{TooDeep}
 use Rattle.herd_pedigree.specs.store.Carry.{IsSettled}
 use Rattle.herd_pedigree.specs.store.Records.{IsStoredAt, animal_of, set_value_at}
-use Rattle.herd_pedigree.specs.store.Undo.{IsHeld}
+use Rattle.herd_pedigree.specs.store.Undo.{IsHeld, TakesBack}
 use Rattle.herd_frozen.specs.declared.TheConstants.{DEPTH_LIMIT, MOST_ANIMALS}
 use Rattle.herd_frozen.proofs.lemmas.rules.BookFacts.{entry_from_both, lookup_at}
 use Rattle.herd_pedigree.proofs.lemmas.store.RecordsFacts.{animal_of-parents, stored-dam, stored-entry, stored-sire}
 use Rattle.herd_pedigree.proofs.lemmas.store.SetFacts.{record-view}
-use Rattle.herd_pedigree.proofs.CheckFacts.{correction-sound, fault-first, fault-rest, settled-exchange, told-by_records, told-there, too_deep-told_by}
+use Rattle.herd_pedigree.proofs.CheckFacts.{correction-depths, correction-sound, fault-first, fault-rest, told-by_records, told-there, too_deep-told_by}
 use Rattle.herd_pedigree.proofs.HeldFacts.{IsHeld-corrected}
 use Rattle.herd_pedigree.proofs.pedigree.Pedigree.set_parents_at_if_sound.Goals as goal
 
@@ -36,30 +36,15 @@ returns-in-Err-clause-fault g c =
     subst (λ p. IfSome (record_of p.book number) (λ animal. Some c.in-Err.fault ≡ parent_fault DEPTH_LIMIT p.book number animal.birth c.args.sire c.args.dam animal.embryo)) c.self.view_is
     (told-there DEPTH_LIMIT book c.self.invariant.kept.lawful.once place number a entry c.args.sire c.args.dam (Some c.in-Err.fault) (fault-first DEPTH_LIMIT book number a.birth c.args.sire c.args.dam a.embryo c.in-Err.fault c.in-Err.ensures.fault))
 
-pub carry_if_shallow-requires-clause-sound : goal.carry_if_shallow-requires-clause-sound
-carry_if_shallow-requires-clause-sound g c =
-    let its : IsFound c.self.inside.records.book c.args.found.now = subst (λ p. IsFound p.book c.args.found.now) (sym c.self.view_is) c.requires in
-    correction-sound DEPTH_LIMIT MOST_ANIMALS c.self.inside.records.book c.self.inside.depths.items _ c.self.invariant.kept its.within c.in-Ok.ensures.sire_within c.in-Ok.ensures.dam_within
+pub invariant_of-correction : goal.invariant_of-correction
+invariant_of-correction g c =
+    let i = c.self.inside in
+    let its : IsFound i.records.book c.args.found.now = subst (λ p. IsFound p.book c.args.found.now) (sym c.self.view_is) c.requires in
+    record { sound = correction-sound DEPTH_LIMIT MOST_ANIMALS i.records.book i.sires.parents i.dams.parents i.depths.items c.self.invariant.kept c.args.found.now.place c.in-Ok.parents.sire c.in-Ok.parents.dam its.within c.in-Ok.ensures.sire_within c.in-Ok.ensures.dam_within }
 
-pub carry_if_shallow-requires-clause-settled : goal.carry_if_shallow-requires-clause-settled
-carry_if_shallow-requires-clause-settled g c =
-    let book : Book = c.self.inside.records.book in
-    let found = c.args.found.now in
-    let number : List ℕ = found.number in
-    let place : ℕ = found.place in
-    let its : IsFound book found = subst (λ p. IsFound p.book found) (sym c.self.view_is) c.requires in
-    let sires : List (Option ℕ) = c.self.inside.sires.parents in
-    let dams : List (Option ℕ) = c.self.inside.dams.parents in
-    let depths : List ℕ = c.self.inside.depths.items in
-    let kept = c.self.invariant.kept in
-    let sire : Option ℕ = c.in-Ok.parents.sire in
-    let dam : Option ℕ = c.in-Ok.parents.dam in
-    let s : Option (List ℕ) = c.args.sire in
-    let d : Option (List ℕ) = c.args.dam in
-    let m = kept.sires_are.long in
-    let here : place < length sires = let w = its.within in omega (arith, w, m) in
-    subst (λ hs. IsSettled DEPTH_LIMIT (parentage_at (slice_set sires place sire) (slice_set dams place dam)) (slice_index hs) (place ∷ [])) (sym c.deref_mut.ensures.value)
-    (settled-exchange DEPTH_LIMIT MOST_ANIMALS book sires dams depths kept place sire dam here)
+pub carry_if_shallow-requires : goal.carry_if_shallow-requires
+carry_if_shallow-requires g c =
+    correction-depths DEPTH_LIMIT MOST_ANIMALS c.self.inside.records.book c.self.inside.depths.items _ c.self.invariant.kept _ c.deref_mut.ensures.value
 
 pub invariant_of-self-in_default : goal.invariant_of-self-in_default
 invariant_of-self-in_default g c =
@@ -131,10 +116,10 @@ invariant_of-self-2 g c =
     let len : length c.deref_mut.result.now ≡ length depths = ap (λ hs. length hs) c.deref_mut.ensures.value in
     let long : length after ≡ length depths = c.carry_if_shallow.auto.depths ∙ len in
     let settled : IsSettled DEPTH_LIMIT (parentage_at (slice_set sires place sire) (slice_set dams place dam)) (slice_index after) [] = rw c.in-Some.is at c.in_ok-log.ensures.settled in
+    let taken : TakesBack log after c.deref_mut.result.now = rw c.in-Some.is at c.in_ok-log.ensures.logged in
     let held : IsHeld DEPTH_LIMIT MOST_ANIMALS (set_value_at book place becomes) (slice_set sires place sire) (slice_set dams place dam) after log (Record place was) =
     IsHeld-corrected DEPTH_LIMIT MOST_ANIMALS book sires dams depths kept number place its.at was entry_was sire dam s d c.in-Ok.ensures.sire c.in-Ok.ensures.dam asked after long settled log
-    (subst (λ n. All (λ (write : ℕ × ℕ). write.0 < n) log) len (rw c.in-Some.is at c.in_ok-log.ensures.logged))
-    ((rw c.in-Some.is at c.in_ok-log.ensures.undone) ∙ c.deref_mut.ensures.value)
+    (subst (λ n. All (λ (write : ℕ × ℕ). write.0 < n) log) long taken.within) (taken.undone ∙ c.deref_mut.ensures.value)
     (stored-sire book sires kept.lawful.once kept.sires_are place number was entry_was stored) (stored-dam book dams kept.lawful.once kept.dams_are place number was entry_was stored) in
     let back : (with_items c.self.inside.depths after).items ≡ after = with_items_is c.self.inside.depths after (c.carry_if_shallow.auto.depths ∙ c.deref_mut.ensures.len) in
     let Q : Book → List (Option ℕ) → List (Option ℕ) → List ℕ → Type 0 = λ b ss ds hs. IsHeld DEPTH_LIMIT MOST_ANIMALS b ss ds hs log (Record place was) in

@@ -1,4 +1,4 @@
--- `Correction::carry`: what `settle_all` requires, its loop, and its clause `deep`.
+-- `Correction::carry`: what `settle_all` requires, its loop, and its clauses `logged` and `deep`.
 use Rattle.std.proofs.Common.{rules, refl, sym, ap, ◌∙◌, subst, arith, ℕ, suc, List, Option, [], ◌∷◌, ◌++◌, ◌≡◌, ◌+◌, ◌<◌, ◌==◌, All, true, length, slice_index, slice_set}
 use Rattle.std.proofs.lemmas.Bool.{lt-ltb}
 use Rattle.std.proofs.lemmas.List.{append-nil, length-set}
@@ -12,11 +12,10 @@ pub loop-init : goal.loop-init
 loop-init g c =
     let x = c.args.self.now in
     let items : c.push.new.self.items ≡ x.place ∷ [] = c.in_ok-push.ensures.items ∙ ap (λ xs. xs ++ x.place ∷ []) c.new-pending.ensures.items in
-    let there = lt-ltb x.place (length (slice_set x.sires.now.parents x.place x.sire)) (let n = length-set x.sires.now.parents x.place x.sire in let h = c.requires.sound.here in omega (arith, n, h)) in
+    let there = lt-ltb x.place (length (slice_set x.sires.now.parents x.place x.sire)) (let n = length-set x.sires.now.parents x.place x.sire in let h = x.sound.here in omega (arith, n, h)) in
     record {
       long = refl;
-      logged = c.requires.logged;
-      undone = refl;
+      logged = λ past taken. taken;
       settled = subst (λ xs. IsSettled DEPTH_LIMIT (corrected x) (slice_index c.args.depths.now) xs) (sym items) c.requires.settled;
       paths = subst (λ xs. HavePaths (corrected x) 0 xs) (sym items) (first-path (corrected x) x.place there);
     }
@@ -39,8 +38,7 @@ loop-preserved g c =
     let next : suc c.loop.counter ≡ c.loop.counter + 1 = omega arith in
     record {
       long = c.settle_all.auto.depths ∙ old.long;
-      logged = subst (λ n. All (λ (write : ℕ × ℕ). write.0 < n) c.settle_all.new.log.items) old.long c.settle_all.ensures.logged;
-      undone = c.settle_all.ensures.undone ∙ old.undone;
+      logged = λ past taken. c.settle_all.ensures.logged past (old.logged past taken);
       settled = c.in_ok-settle_all.ensures.settled (subst (λ xs. IsSettled DEPTH_LIMIT (corrected x) (slice_index c.loop.depths) xs) (sym lists) old.settled);
       paths =
           subst (λ k. HavePaths (corrected x) k c.settle_all.new.pending.items) next
@@ -48,6 +46,9 @@ loop-preserved g c =
           (subst (λ xs. HavePaths (corrected x) c.loop.counter xs) (sym c.deref.ensures.value) old.paths)
           (subst (λ xs. HavePaths (corrected x) (suc c.loop.counter) xs) (sym c.new-calves.ensures.items) (no-paths (corrected x) (suc c.loop.counter))));
     }
+
+pub returns-in_err-settle_all-clause-logged : goal.returns-in_err-settle_all-clause-logged
+returns-in_err-settle_all-clause-logged g c = λ past taken. c.settle_all.ensures.logged past (c.loop.invariant.logged past taken)
 
 pub returns-clause-deep : goal.returns-clause-deep
 returns-clause-deep g c =

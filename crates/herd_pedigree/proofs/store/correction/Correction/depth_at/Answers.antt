@@ -6,8 +6,8 @@ use Rattle.herd_pedigree.proofs.store.correction.Correction.depth_at.Goals as go
 
 pub depth_with-depth-requires-clause-sire : goal.depth_with-depth-requires-clause-sire
 depth_with-depth-requires-clause-sire g c =
-    if_parent c.sire_of.result (length c.args.depths.now) (λ p e. subst (λ n. p < n) (sym c.requires.long) (c.requires.sound.closed p c.args.place (inl (sym c.sire_of.ensures ∙ e))))
+    if_parent c.parents_of-parents.result.sire (length c.args.depths.now) (λ p e. subst (λ n. p < n) (sym c.requires.long) (c.args.self.now.sound.closed p c.args.place (inl (sym c.parents_of-parents.ensures.sire ∙ e))))
 
 pub depth_with-depth-requires-clause-dam : goal.depth_with-depth-requires-clause-dam
 depth_with-depth-requires-clause-dam g c =
-    if_parent c.dam_of.result (length c.args.depths.now) (λ p e. subst (λ n. p < n) (sym c.requires.long) (c.requires.sound.closed p c.args.place (inr (sym c.dam_of.ensures ∙ e))))
+    if_parent c.parents_of-parents.result.dam (length c.args.depths.now) (λ p e. subst (λ n. p < n) (sym c.requires.long) (c.args.self.now.sound.closed p c.args.place (inr (sym c.parents_of-parents.ensures.dam ∙ e))))

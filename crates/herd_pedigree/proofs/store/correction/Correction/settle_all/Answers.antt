@@ -1,4 +1,4 @@
--- `Correction::settle_all`: its loop and its clause `settled`.
+-- `Correction::settle_all`: its loop and its clauses `logged` and `settled`.
 use Rattle.std.proofs.Common.{rules, subst, ℕ, List, [], ◌++◌, ◌∷◌, ◌≡◌, ◌+◌, ◌<◌, All, IsTrue, get_or, drop, slice_index}
 use Rattle.std.proofs.Common.{◌∙◌}
 use Rattle.std.proofs.lemmas.List.{drop_more, drop_all}
@@ -19,8 +19,7 @@ loop-place-preserved g c =
     let more : drop i places ≡ place ∷ drop (i + 1) places = drop_more places i 0 c.loop-place-test.true in
     record {
       long = c.settle.auto.depths ∙ old.long;
-      logged = subst (λ n. All (λ (write : ℕ × ℕ). write.0 < n) c.settle.new.log.items) old.long c.settle.ensures.logged;
-      undone = c.settle.ensures.undone ∙ old.undone;
+      logged = λ past taken. c.settle.ensures.logged past (old.logged past taken);
       settled = λ s.
           let before : IsSettled DEPTH_LIMIT (corrected x) (slice_index c.loop-place.depths) (place ∷ (drop (i + 1) places ++ c.loop-place.pending.items)) =
           subst (λ xs. IsSettled DEPTH_LIMIT (corrected x) (slice_index c.loop-place.depths) (xs ++ c.loop-place.pending.items)) more (old.settled s) in
@@ -28,6 +27,9 @@ loop-place-preserved g c =
       paths = λ n paths have.
           c.in_ok-settle.ensures.paths n (All-get_or (λ (p : ℕ). IsTrue (has_path (corrected x) n p)) places i 0 c.loop-place-test.true paths) (old.paths n paths have);
     }
+
+pub returns-in_err-settle-clause-logged : goal.returns-in_err-settle-clause-logged
+returns-in_err-settle-clause-logged g c = λ past taken. c.settle.ensures.logged past (c.loop-place.invariant.logged past taken)
 
 pub returns-clause-settled : goal.returns-clause-settled
 returns-clause-settled g c =
