@@ -1,5 +1,5 @@
 -- The calves of each parent, which stand in a chain.
-use Rattle.std.specs.Prelude.{◌≡◌, ℕ, zero, suc, ◌<◌, ◌==◌, cond, List, [], ◌∷◌, length, map, slice_index_or, Option, Some, None}
+use Rattle.std.specs.Prelude.{◌≡◌, ℕ, zero, suc, ◌<◌, ◌^◌, ◌==◌, cond, List, [], ◌∷◌, length, map, slice_index_or, Option, Some, None}
 use Rattle.std.specs.Option.{option_map_or}
 use Rattle.herd_pedigree.specs.declared.store.progeny.Family.{Family}
 
@@ -32,8 +32,9 @@ chain families zero calf = []
 chain families (suc n) None = []
 chain families (suc n) (Some calf) = calf ∷ chain families n (next_of families calf)
 
--- each calf of a parent stands in its chain once: what is next has less seniority
+-- there are fewer animals than places, and each calf of a parent stands in its chain once: what is next has less seniority
 pub record AreChained (families : List Family) : Type 0 where
+  pub few : length families < 2 ^ 32
   pub seniority : ℕ → ℕ
   pub top : ℕ
   pub below : (calf : ℕ) → seniority calf < top

@@ -139,7 +139,8 @@ impl<A: Allocator> Progeny<A> {
 
     // Adds an animal with no known parent.
     fn push_alone(&mut self)
-        requires { 0 < self.old.room }
+        requires few { length self.old.parents + 1 < 2 ^ 32 }
+        requires room { 0 < self.old.room }
         ensures { self.new.parents ≡ self.old.parents ++ None ∷ [] }
     {
         let alone = Family {
@@ -153,7 +154,6 @@ impl<A: Allocator> Progeny<A> {
 
     /// Sets the parent of the animal at a place. It takes no memory.
     pub fn set(&mut self, place: u32, parent: Option<u32>)
-        requires few { length self.old.parents < 2 ^ 32 }
         requires here { place < length self.old.parents }
         requires within { (p : ℕ) → parent ≡ Some p → p < length self.old.parents }
         ensures { self.new.parents ≡ slice_set self.old.parents place parent }
@@ -167,7 +167,6 @@ impl<A: Allocator> Progeny<A> {
     /// Takes the last animal away, which has no calves.
     pub fn pop(&mut self)
         requires some { 0 < length self.old.parents }
-        requires few { length self.old.parents < 2 ^ 32 }
         requires childless { (calf : ℕ) → parent_at self.old.parents calf ≡ Some (length self.old.parents - 1) → ⊥ }
         ensures { self.new.parents ≡ without_last self.old.parents }
     {
@@ -178,7 +177,6 @@ impl<A: Allocator> Progeny<A> {
 
     // Gives a parent to an animal that has none.
     fn link(&mut self, calf: u32, parent: u32)
-        requires few { length self.old.parents < 2 ^ 32 }
         requires here { calf < length self.old.parents }
         requires within { parent < length self.old.parents }
         requires none { parent_at self.old.parents calf ≡ None }
@@ -189,7 +187,6 @@ impl<A: Allocator> Progeny<A> {
 
     // Takes the parent of an animal away.
     fn unlink(&mut self, calf: u32)
-        requires few { length self.old.parents < 2 ^ 32 }
         requires here { calf < length self.old.parents }
         ensures { self.new.parents ≡ slice_set self.old.parents calf None }
     {
@@ -200,7 +197,6 @@ impl<A: Allocator> Progeny<A> {
 // Puts an animal before the other calves of a parent.
 fn join(families: &mut [Family], calf: u32, parent: u32)
     requires chained { AreChained families.old }
-    requires few { length families.old < 2 ^ 32 }
     requires here { calf < length families.old }
     requires within { parent < length families.old }
     requires none { parent_of families.old calf ≡ None }
@@ -219,7 +215,6 @@ fn join(families: &mut [Family], calf: u32, parent: u32)
 // Takes an animal from among the calves of its parent, where it has one.
 fn part(families: &mut [Family], calf: u32)
     requires chained { AreChained families.old }
-    requires few { length families.old < 2 ^ 32 }
     requires here { calf < length families.old }
     ensures chained { AreChained families.new }
     ensures parents { parents_of families.new ≡ slice_set (parents_of families.old) calf None }

@@ -1,5 +1,5 @@
 -- The chains of calves once an animal is linked to a parent.
-use Rattle.std.proofs.Common.{ℕ, ◌+◌, ◌<◌, ◌≡◌, ◌≢◌, ◌==◌, inl, inr, arith, refl, sym, ap, ◌∙◌, subst, cond, List, Option, Some, None, length}
+use Rattle.std.proofs.Common.{ℕ, ◌+◌, ◌<◌, ◌^◌, ◌≡◌, ◌≢◌, ◌==◌, inl, inr, arith, refl, sym, ap, ◌∙◌, subst, cond, List, Option, Some, None, length}
 use Rattle.std.proofs.lemmas.Bool.{cases_eq, eq-eqb, ne_eqb}
 use Rattle.std.proofs.lemmas.Option.{same_Some}
 use Rattle.herd_pedigree.specs.declared.store.progeny.Family.{Family}
@@ -129,7 +129,7 @@ module _ (old new : List Family) (a : AreChained old) (c p : ℕ) (there : p < l
   ]
 
   pub chained-link : AreChained new
-  chained-link = record { seniority = seniority_to; top = a.top + 1; below = below_to; within = within_to; first = first_to; foremost = foremost_to; next = next_to; previous = previous_to; single = single_to }
+  chained-link = record { few = subst (λ n. n < 2 ^ 32) (sym s.long) a.few; seniority = seniority_to; top = a.top + 1; below = below_to; within = within_to; first = first_to; foremost = foremost_to; next = next_to; previous = previous_to; single = single_to }
 
 -- the four writes that join a calf
 pub joined : (old l1 l2 l3 new : List Family) (c p : ℕ) (own shared first : Option ℕ) → own ≡ Some c → shared ≡ Some p → first ≡ first_of old p →

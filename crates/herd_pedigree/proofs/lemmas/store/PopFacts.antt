@@ -1,5 +1,5 @@
 -- The chains of calves once an animal is added at the end, or the last is taken away.
-use Rattle.std.proofs.Common.{take, ℕ, ◌+◌, ◌<◌, ◌≡◌, ◌≢◌, inl, inr, arith, refl, sym, ap, ◌∙◌, subst, List, [], ◌∷◌, ◌++◌, Option, Some, None, length, slice_set, ⊎_elim}
+use Rattle.std.proofs.Common.{take, ℕ, ◌+◌, ◌<◌, ◌^◌, ◌≡◌, ◌≢◌, inl, inr, arith, refl, sym, ap, ◌∙◌, subst, List, [], ◌∷◌, ◌++◌, Option, Some, None, length, slice_set, ⊎_elim}
 use Rattle.std.proofs.lemmas.Bool.{cases_eq, cases_lt}
 use Rattle.std.proofs.lemmas.List.{ext_get_or, get_or-set_same, get_or-set_other, get_or_append_left, get_or_push, get_or_past, get_or-take, length-set, length_push, length-take-le}
 use Rattle.herd_pedigree.specs.declared.store.progeny.Family.{Family}
@@ -8,8 +8,8 @@ use Rattle.herd_pedigree.specs.store.Calves.{AreChained, alone, family_at, first
 use Rattle.herd_pedigree.proofs.lemmas.store.ProgenyFacts.{chained-same}
 
 -- an animal with no parent, at the end
-pub chained-append : (families : List Family) → AreChained families → AreChained (families ++ alone ∷ [])
-chained-append families a =
+pub chained-append : (families : List Family) → AreChained families → length families + 1 < 2 ^ 32 → AreChained (families ++ alone ∷ [])
+chained-append families a few =
     let n = length_push families alone in
     let same : (x : ℕ) → family_at (families ++ alone ∷ []) x ≡ family_at families x = λ x.
     elim (cases_lt x (length families)) [
@@ -19,7 +19,7 @@ chained-append families a =
         | inr past ↦ get_or_past (families ++ alone ∷ []) x alone (omega (arith, n, h, past)) ∙ sym (get_or_past families x alone h)
       ]
     ] in
-    chained-same families (families ++ alone ∷ []) a same (λ c p e. let w = a.within c p e in omega (arith, w, n))
+    chained-same families (families ++ alone ∷ []) a (omega (arith, n, few)) same (λ c p e. let w = a.within c p e in omega (arith, w, n))
 
 -- the last animal, which has neither parent nor calves, is taken away
 pub chained-pop : (families : List Family) → AreChained families → (n : ℕ) → n + 1 ≡ length families → parent_of families n ≡ None → ((c : ℕ) → parent_of families c ≡ Some n → ⊥) → AreChained (take n families)
@@ -36,7 +36,8 @@ chained-pop families a n e none childless =
         | inr past ↦ get_or_past (take n families) x alone (omega (arith, l, h)) ∙ sym (get_or_past families x alone (omega (arith, e, h, past)))
       ]
     ] in
-    chained-same families (take n families) a same
+    let few = a.few in
+    chained-same families (take n families) a (omega (arith, few, l, e)) same
     (λ c p h.
     let w = a.within c p h in
     let not : p ≢ n = λ is. childless c (h ∙ ap Some is) in omega (arith, w, l, e, not))
@@ -48,6 +49,7 @@ chained-pop families a n e none childless =
 -- no animals
 pub chained-empty : AreChained []
 chained-empty = record {
+  few = omega arith;
   seniority = λ c. 0;
   top = 1;
   below = λ c. omega arith;

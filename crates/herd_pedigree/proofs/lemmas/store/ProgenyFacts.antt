@@ -1,5 +1,5 @@
 -- The parents of one sex by place, and their families.
-use Rattle.std.proofs.Common.{ℕ, ◌<◌, ◌≡◌, ◌≢◌, ◌⊎◌, inl, inr, arith, refl, sym, ap, ◌∙◌, cond, true, false, List, Option, Some, None, length, slice_set, get_or, is_some}
+use Rattle.std.proofs.Common.{ℕ, ◌<◌, ◌^◌, ◌≡◌, ◌≢◌, ◌⊎◌, inl, inr, arith, refl, sym, ap, ◌∙◌, cond, true, false, List, Option, Some, None, length, slice_set, get_or, is_some}
 use Rattle.std.proofs.lemmas.Bool.{cases_eq, cases_lt, eq-eqb, ne_eqb}
 use Rattle.std.proofs.lemmas.Option.{same_Some}
 use Rattle.std.proofs.lemmas.List.{ext_get_or, get_or-set_same, get_or-set_other, get_or_past, get_or-map, length-set, length-map}
@@ -39,8 +39,9 @@ pub put_off : (p : ℕ) (value : Option ℕ) (f : ℕ → Option ℕ) (x : ℕ) 
 put_off p value f x n = put_isnt (Some p) value f x (λ e. n (sym (same_Some _ _ e)))
 
 -- what is kept of each stays as it was
-pub chained-same : (old new : List Family) → AreChained old → ((x : ℕ) → family_at new x ≡ family_at old x) → ((c p : ℕ) → parent_of old c ≡ Some p → p < length new) → AreChained new
-chained-same old new a e w = record {
+pub chained-same : (old new : List Family) → AreChained old → length new < 2 ^ 32 → ((x : ℕ) → family_at new x ≡ family_at old x) → ((c p : ℕ) → parent_of old c ≡ Some p → p < length new) → AreChained new
+chained-same old new a few e w = record {
+  few = few;
   seniority = a.seniority;
   top = a.top;
   below = a.below;

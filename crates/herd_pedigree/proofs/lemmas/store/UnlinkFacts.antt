@@ -1,5 +1,5 @@
 -- The chains of calves once an animal is unlinked from its parent.
-use Rattle.std.proofs.Common.{ℕ, ◌<◌, ◌≡◌, ◌≢◌, ◌⊎◌, inl, inr, arith, refl, sym, ap, ◌∙◌, List, Option, Some, None, length}
+use Rattle.std.proofs.Common.{ℕ, ◌<◌, ◌^◌, ◌≡◌, ◌≢◌, ◌⊎◌, inl, inr, arith, refl, sym, ap, ◌∙◌, subst, List, Option, Some, None, length}
 use Rattle.std.proofs.lemmas.Bool.{cases_eq}
 use Rattle.std.proofs.lemmas.Option.{same_Some}
 use Rattle.herd_pedigree.specs.declared.store.progeny.Family.{Family}
@@ -156,7 +156,7 @@ module _ (old new : List Family) (a : AreChained old) (c p : ℕ) (has : parent_
   ]
 
   pub chained-unlink : AreChained new
-  chained-unlink = record { seniority = a.seniority; top = a.top; below = a.below; within = within_from; first = first_from; foremost = foremost_from; next = next_from; previous = previous_from; single = single_from }
+  chained-unlink = record { few = subst (λ n. n < 2 ^ 32) (sym s.long) a.few; seniority = a.seniority; top = a.top; below = a.below; within = within_from; first = first_from; foremost = foremost_from; next = next_from; previous = previous_from; single = single_from }
 
 -- the six that part it from its siblings
 pub parted : (old l1 l2 l3 l4 l5 new : List Family) (c : ℕ) (own none o next previous : Option ℕ) → own ≡ Some c → none ≡ None → next ≡ next_of old c → previous ≡ previous_of old c →
@@ -231,6 +231,6 @@ pub chained-part : (old new : List Family) → AreChained old → (c : ℕ) (o :
     Show new (length old) (put (Some c) None (parent_of old)) (put (Some c) None (put (next_of old c) (previous_of old c) (previous_of old))) (put (Some c) None (put (previous_of old c) (next_of old c) (next_of old))) (put o (next_of old c) (first_of old)) →
     AreChained new
 chained-part old new a c o first later s = elim (known (parent_of old c)) [
-  | inl none ↦ chained-same old new a (part-alone old a c o new none (first (a.single c none).1 ∙ none) s) (λ x p e. let w = a.within x p e in let n = s.long in omega (arith, w, n))
+  | inl none ↦ chained-same old new a (subst (λ n. n < 2 ^ 32) (sym s.long) a.few) (part-alone old a c o new none (first (a.single c none).1 ∙ none) s) (λ x p e. let w = a.within x p e in let n = s.long in omega (arith, w, n))
   | inr some ↦ chained-unlink old new a c some.0 some.1 o (record { first = λ n. first n ∙ some.1; later = later }) s
 ]
