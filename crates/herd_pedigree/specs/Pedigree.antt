@@ -1,11 +1,11 @@
 -- A pedigree as contracts see it, and what a change of one record asks for.
-use Rattle.std.specs.Prelude.{◌≡◌, ℕ, ◌<◌, ◌≤ℤ◌, IsFalse, ℤ, List, length, slice_get, if◌then◌else◌, Option, Some, None}
+use Rattle.std.specs.Prelude.{◌≡◌, ℕ, ◌<◌, ◌≤ℤ◌, IsFalse, ℤ, List, length, slice_get, if◌then◌else◌, IfSome, Option, Some, None}
 use Rattle.std.specs.Map.{keys_of}
 use Rattle.std.specs.Option.{option_map_or}
 use Rattle.herd_frozen.specs.declared.rules.animal.Animal.{Animal}
 use Rattle.herd_frozen.specs.declared.rules.parent_fault.ParentFault.{ParentFault}
 use Rattle.herd_frozen.specs.rules.Book.{Book, is_there, record_of, has_calved_after}
-use Rattle.herd_frozen.specs.rules.ParentFault.{parent_fault}
+use Rattle.herd_frozen.specs.rules.ParentFault.{fault_by_records, parent_fault}
 use Rattle.herd_pedigree.specs.declared.found.Found.{Found}
 use Rattle.herd_pedigree.specs.declared.registration.Registration.{Registration}
 use Rattle.herd_pedigree.specs.declared.registration.Registration.TheVariants.{Added, AlreadyThere, Unsound}
@@ -48,6 +48,16 @@ pub record IsBirth (l most : ℕ) (book : Book) (number : List ℕ) (animal : An
   pub parents : parent_fault l book number animal.birth animal.sire animal.dam animal.embryo ≡ None
   pub since : animal.since ≡ animal.birth
   pub left : animal.left ≡ None
+
+-- of the animal of the number with these parents, this is the first fault, or that it has none
+abbrev pub IsFaultWith : ℕ → Book → List ℕ → Option (List ℕ) → Option (List ℕ) → Option ParentFault → Type 0
+IsFaultWith l book number sire dam fault =
+    IfSome (record_of book number) (λ animal. fault ≡ parent_fault l book number animal.birth sire dam animal.embryo)
+
+-- and this holds of the first fault that the records of these parents show, where they show one
+abbrev pub IfShownWith : Book → List ℕ → Option (List ℕ) → Option (List ℕ) → (ParentFault → Type 0) → Type 0
+IfShownWith book number sire dam Holds =
+    IfSome (record_of book number) (λ animal. IfSome (fault_by_records book animal.birth sire dam animal.embryo) Holds)
 
 -- the animal of the number may have these parents
 pub record IsCorrection (l : ℕ) (book : Book) (number : List ℕ) (sire dam : Option (List ℕ)) : Type 0 where

@@ -5,7 +5,7 @@ ghost use Rattle.herd_frozen.specs.freezing.Frozen.{IsFrozenFrom};
 ghost use Rattle.herd_frozen.specs.rules.Lawful.{IsLawful};
 ghost use Rattle.herd_frozen.specs.rules.ParentFault.{fault_by_records, is_too_deep, parent_fault};
 ghost use Rattle.herd_frozen.specs.places.Places.{IsIndexIn};
-ghost use Rattle.herd_pedigree.specs.Pedigree.{IsBirth, IsCorrection, IsExit, IsFound, IsNewborn, IsPresentOn, changed_to, registration, unsound};
+ghost use Rattle.herd_pedigree.specs.Pedigree.{IfShownWith, IsBirth, IsCorrection, IsExit, IsFaultWith, IsFound, IsNewborn, IsPresentOn, changed_to, registration, unsound};
 ghost use Rattle.herd_pedigree.specs.store.Records.{IsStoredAt, animal_of, set_value_at};
 ghost use Rattle.herd_frozen.specs.declared.TheConstants.{DEPTH_LIMIT, MOST_ANIMALS};
 
@@ -273,11 +273,9 @@ impl<A: Allocator + Copy> Pedigree<A> {
         dam: Option<AnimalNumber>,
     ) -> Result<Option<ParentFault>, AllocError>
         requires { IsSome (record_of self.old.book number) }
-        ensures fault { IfOk result (λ fault. IfSome (record_of self.old.book number)
-            (λ animal. fault ≡ parent_fault DEPTH_LIMIT self.old.book number animal.birth sire dam animal.embryo)) }
+        ensures fault { IfOk result (IsFaultWith DEPTH_LIMIT self.old.book number sire dam) }
         // What the parents' records show needs no memory.
-        ensures by_records { IfSome (record_of self.old.book number) (λ animal. IfSome
-            (fault_by_records self.old.book animal.birth sire dam animal.embryo) (λ fault. result ≡ Ok (Some fault))) }
+        ensures by_records { IfShownWith self.old.book number sire dam (λ fault. result ≡ Ok (Some fault)) }
         ensures set { result ≡ Ok None
             → self.new ≡ changed_to self.old (changed self.old.book number (with_parents sire dam)) }
         ensures refused { IfOk result (λ fault. IsSome fault → self.new ≡ self.old) }
@@ -297,12 +295,9 @@ impl<A: Allocator + Copy> Pedigree<A> {
         dam: Option<AnimalNumber>,
     ) -> Result<Option<ParentFault>, AllocError>
         requires { IsFound self.old.book found.now }
-        ensures fault { IfOk result (λ fault. IfSome (record_of self.old.book found.now.number)
-            (λ animal. fault
-            ≡ parent_fault DEPTH_LIMIT self.old.book found.now.number animal.birth sire dam animal.embryo)) }
+        ensures fault { IfOk result (IsFaultWith DEPTH_LIMIT self.old.book found.now.number sire dam) }
         // What the parents' records show needs no memory.
-        ensures by_records { IfSome (record_of self.old.book found.now.number) (λ animal. IfSome
-            (fault_by_records self.old.book animal.birth sire dam animal.embryo) (λ fault. result ≡ Ok (Some fault))) }
+        ensures by_records { IfShownWith self.old.book found.now.number sire dam (λ fault. result ≡ Ok (Some fault)) }
         ensures set { result ≡ Ok None
             → self.new ≡ changed_to self.old (changed self.old.book found.now.number (with_parents sire dam)) }
         ensures refused { IfOk result (λ fault. IsSome fault → self.new ≡ self.old) }
