@@ -158,18 +158,6 @@ pub newborn-fault : (l most : ℕ) (book : Book) (sires dams : List (Option ℕ)
 newborn-fault l most book sires dams depths k number absent birth s d embryo sire dam told si di deep e =
     fault-rest l book number birth s d embryo deep told (sym e ∙ too_deep-absent l most book sires dams depths k number absent sire dam s d si di)
 
--- the fault that is told of an animal of the book
-pub told-there : (l : ℕ) (book : Book) → IsDistinct bytes_eq (keys_of book) → (place : ℕ) (number : List ℕ) (a : Animal) → slice_get book place ≡ Some (number, a) → (s d : Option (List ℕ)) (told : Option ParentFault) → told ≡ parent_fault l book number a.birth s d a.embryo →
-    IfSome (record_of book number) (λ animal. told ≡ parent_fault l book number animal.birth s d animal.embryo)
-told-there l book once place number a entry s d told is = rw (lookup_at book once place number a entry) is
-
--- what is told of it where the records of its parents show this
-pub told-by_records : (book now : Book) → book ≡ now → IsDistinct bytes_eq (keys_of book) → (place : ℕ) (number : List ℕ) (a : Animal) → slice_get book place ≡ Some (number, a) → (s d : Option (List ℕ)) (shown : Option ParentFault) →
-    fault_by_records book a.birth s d a.embryo ≡ shown → (P : ParentFault → Type 0) → IfSome shown P → IfSome (record_of now number) (λ animal. IfSome (fault_by_records now animal.birth s d animal.embryo) P)
-told-by_records book now same once place number a entry s d shown is P h =
-    subst (λ b. IfSome (record_of b number) (λ animal. IfSome (fault_by_records b animal.birth s d animal.embryo) P)) same
-    (rw (lookup_at book once place number a entry, is) h)
-
 -- a new parent is there, where those that are exchanged are
 closed-exchange : (l most : ℕ) (book : Book) (sires dams : List (Option ℕ)) (depths : List ℕ) → IsKept l most book sires dams depths → (a : ℕ) (sire dam : Option ℕ) → a < length sires →
     ((p : ℕ) → sire ≡ Some p → p < length sires) → ((p : ℕ) → dam ≡ Some p → p < length sires) → (p x : ℕ) → IsParent (parentage_at (slice_set sires a sire) (slice_set dams a dam)) p x → p < length sires

@@ -3,3 +3,4 @@ mod KeptFacts
 mod CheckFacts
 mod HeldFacts
 mod RegistrationFacts
+mod FoundFacts

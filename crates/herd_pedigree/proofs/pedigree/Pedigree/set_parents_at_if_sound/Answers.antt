@@ -10,31 +10,26 @@ use Rattle.herd_pedigree.specs.declared.store.undo.Undo.TheVariants.{Record}
 use Rattle.herd_frozen.specs.rules.Paths.{has_path}
 use Rattle.herd_frozen.specs.rules.Book.{Book, changed, record_of, with_parents}
 use Rattle.herd_pedigree.specs.Pedigree.{IsCorrection, IsFound, changed_to}
-use Rattle.herd_frozen.specs.places.Places.{parentage_at}
-use Rattle.herd_frozen.specs.rules.ParentFault.{is_too_deep, parent_fault}
+use Rattle.herd_frozen.specs.rules.ParentFault.{parent_fault}
 use Rattle.herd_frozen.specs.declared.rules.parent_fault.ParentFault.TheVariants.{TooDeep}
 use Rattle.herd_pedigree.specs.store.Carry.{IsSettled}
+use Rattle.herd_pedigree.specs.store.Exchange.{exchanged}
 use Rattle.herd_pedigree.specs.store.Records.{IsStoredAt, animal_of, set_value_at}
 use Rattle.herd_pedigree.specs.store.Undo.{IsHeld, TakesBack}
 use Rattle.herd_frozen.specs.declared.TheConstants.{DEPTH_LIMIT, MOST_ANIMALS}
 use Rattle.herd_frozen.proofs.lemmas.rules.BookFacts.{entry_from_both, lookup_at}
 use Rattle.herd_pedigree.proofs.lemmas.store.RecordsFacts.{animal_of-parents, stored-dam, stored-entry, stored-sire}
 use Rattle.herd_pedigree.proofs.lemmas.store.SetFacts.{record-view}
-use Rattle.herd_pedigree.proofs.CheckFacts.{correction-depths, correction-sound, fault-first, fault-rest, told-by_records, told-there, too_deep-told_by}
+use Rattle.herd_pedigree.proofs.CheckFacts.{correction-depths, correction-sound, fault-first, fault-rest, too_deep-told_by}
+use Rattle.herd_pedigree.proofs.FoundFacts.{its-number, shown-found, told-found}
 use Rattle.herd_pedigree.proofs.HeldFacts.{IsHeld-corrected}
 use Rattle.herd_pedigree.proofs.pedigree.Pedigree.set_parents_at_if_sound.Goals as goal
 
 pub returns-in-Err-clause-fault : goal.returns-in-Err-clause-fault
 returns-in-Err-clause-fault g c =
-    let book : Book = c.self.inside.records.book in
-    let found = c.args.found.now in
-    let number : List ℕ = found.number in
-    let place : ℕ = found.place in
-    let its : IsFound book found = subst (λ p. IsFound p.book found) (sym c.self.view_is) c.requires in
     let a : Animal = c.animal_at-birth.result in
-    let entry : slice_get book place ≡ Some (number, a) = entry_from_both book place number a its.at c.animal_at-birth.ensures in
-    subst (λ p. IfSome (record_of p.book number) (λ animal. Some c.in-Err.fault ≡ parent_fault DEPTH_LIMIT p.book number animal.birth c.args.sire c.args.dam animal.embryo)) c.self.view_is
-    (told-there DEPTH_LIMIT book c.self.invariant.kept.lawful.once place number a entry c.args.sire c.args.dam (Some c.in-Err.fault) (fault-first DEPTH_LIMIT book number a.birth c.args.sire c.args.dam a.embryo c.in-Err.fault c.in-Err.ensures.fault))
+    told-found c.self.inside.records.book c.args.self.now.book (ap (λ p. p.book) c.self.view_is) c.self.invariant.kept.lawful.once c.args.found.now c.requires c.animal_at-birth.result c.animal_at-birth.ensures DEPTH_LIMIT c.args.sire c.args.dam (Some c.in-Err.fault)
+    (fault-first DEPTH_LIMIT c.self.inside.records.book c.args.found.now.number a.birth c.args.sire c.args.dam a.embryo c.in-Err.fault c.in-Err.ensures.fault)
 
 pub invariant_of-correction : goal.invariant_of-correction
 invariant_of-correction g c =
@@ -55,26 +50,15 @@ invariant_of-self-in_default g c =
 
 pub returns-in_default-clause-fault : goal.returns-in_default-clause-fault
 returns-in_default-clause-fault g c =
-    let book : Book = c.self.inside.records.book in
-    let found = c.args.found.now in
-    let number : List ℕ = found.number in
-    let place : ℕ = found.place in
-    let its : IsFound book found = subst (λ p. IsFound p.book found) (sym c.self.view_is) c.requires in
+    let i = c.self.inside in
     let a : Animal = c.animal_at-birth.result in
-    let entry : slice_get book place ≡ Some (number, a) = entry_from_both book place number a its.at c.animal_at-birth.ensures in
-    let sires : List (Option ℕ) = c.self.inside.sires.parents in
-    let dams : List (Option ℕ) = c.self.inside.dams.parents in
-    let depths : List ℕ = c.self.inside.depths.items in
-    let kept = c.self.invariant.kept in
-    let sire : Option ℕ = c.in-Ok.parents.sire in
-    let dam : Option ℕ = c.in-Ok.parents.dam in
-    let s : Option (List ℕ) = c.args.sire in
-    let d : Option (List ℕ) = c.args.dam in
-    let path : (x : ℕ) × IsTrue (has_path (parentage_at (slice_set sires place sire) (slice_set dams place dam)) (DEPTH_LIMIT + 1) x) = rw c.in_default.is at c.in_ok-log.ensures.deep in
-    let deep : true ≡ is_too_deep DEPTH_LIMIT book number s d =
-    too_deep-told_by DEPTH_LIMIT MOST_ANIMALS book sires dams depths kept number place its.at sire dam s d c.in-Ok.ensures.sire c.in-Ok.ensures.dam true (λ _. path) (λ no. absurd (true≢false no)) in
-    subst (λ p. IfSome (record_of p.book number) (λ animal. Some TooDeep ≡ parent_fault DEPTH_LIMIT p.book number animal.birth c.args.sire c.args.dam animal.embryo)) c.self.view_is
-    (told-there DEPTH_LIMIT book c.self.invariant.kept.lawful.once place number a entry c.args.sire c.args.dam (Some TooDeep) (fault-rest DEPTH_LIMIT book number a.birth s d a.embryo true c.in-Ok.ensures.sound deep))
+    let place : ℕ = c.args.found.now.place in
+    let parents = c.in-Ok.parents in
+    let number_at = its-number c.self.inside.records.book c.args.self.now.book (ap (λ p. p.book) c.self.view_is) c.self.invariant.kept.lawful.once c.args.found.now c.requires in
+    let path : (x : ℕ) × IsTrue (has_path (exchanged i.sires.parents i.dams.parents place parents.sire parents.dam) (DEPTH_LIMIT + 1) x) = rw c.in_default.is at c.in_ok-log.ensures.deep in
+    told-found c.self.inside.records.book c.args.self.now.book (ap (λ p. p.book) c.self.view_is) c.self.invariant.kept.lawful.once c.args.found.now c.requires c.animal_at-birth.result c.animal_at-birth.ensures DEPTH_LIMIT c.args.sire c.args.dam (Some TooDeep)
+    (fault-rest DEPTH_LIMIT i.records.book c.args.found.now.number a.birth c.args.sire c.args.dam a.embryo true c.in-Ok.ensures.sound
+    (too_deep-told_by DEPTH_LIMIT MOST_ANIMALS i.records.book i.sires.parents i.dams.parents i.depths.items c.self.invariant.kept c.args.found.now.number place number_at parents.sire parents.dam c.args.sire c.args.dam c.in-Ok.ensures.sire c.in-Ok.ensures.dam true (λ _. path) (λ no. absurd (true≢false no))))
 
 pub write-requires-clause-sire : goal.write-requires-clause-sire
 write-requires-clause-sire g c = subst (λ (e : StoredRecord). IfSome e.sire (λ p. p < length c.self.inside.records.book)) (sym c.with_parents.ensures) c.in-Ok.ensures.sire_within
@@ -85,129 +69,83 @@ write-requires-clause-dam g c = subst (λ (e : StoredRecord). IfSome e.dam (λ p
 -- Depths were carried on to the end, so that the new parents have no fault: the correction is one that the book may take.
 pub invariant_of-self-2 : goal.invariant_of-self-2
 invariant_of-self-2 g c =
-    let book : Book = c.self.inside.records.book in
-    let found = c.args.found.now in
-    let number : List ℕ = found.number in
-    let place : ℕ = found.place in
-    let its : IsFound book found = subst (λ p. IsFound p.book found) (sym c.self.view_is) c.requires in
+    let i = c.self.inside in
     let a : Animal = c.animal_at-birth.result in
-    let entry : slice_get book place ≡ Some (number, a) = entry_from_both book place number a its.at c.animal_at-birth.ensures in
-    let sires : List (Option ℕ) = c.self.inside.sires.parents in
-    let dams : List (Option ℕ) = c.self.inside.dams.parents in
-    let depths : List ℕ = c.self.inside.depths.items in
+    let place : ℕ = c.args.found.now.place in
+    let parents = c.in-Ok.parents in
+    let number_at = its-number c.self.inside.records.book c.args.self.now.book (ap (λ p. p.book) c.self.view_is) c.self.invariant.kept.lawful.once c.args.found.now c.requires in
+    let shallow : (x : ℕ) → IsFalse (has_path (exchanged i.sires.parents i.dams.parents place parents.sire parents.dam) (DEPTH_LIMIT + 1) x) = rw c.in-Some.is at c.in_ok-log.ensures.shallow in
+    let fine : None ≡ parent_fault DEPTH_LIMIT i.records.book c.args.found.now.number a.birth c.args.sire c.args.dam a.embryo =
+    fault-rest DEPTH_LIMIT i.records.book c.args.found.now.number a.birth c.args.sire c.args.dam a.embryo false c.in-Ok.ensures.sound
+    (too_deep-told_by DEPTH_LIMIT MOST_ANIMALS i.records.book i.sires.parents i.dams.parents i.depths.items c.self.invariant.kept c.args.found.now.number place number_at parents.sire parents.dam c.args.sire c.args.dam c.in-Ok.ensures.sire c.in-Ok.ensures.dam false (λ yes. absurd (false≢true yes)) (λ _. shallow)) in
+    let book : Book = i.records.book in
+    let sires : List (Option ℕ) = i.sires.parents in
+    let dams : List (Option ℕ) = i.dams.parents in
     let kept = c.self.invariant.kept in
-    let sire : Option ℕ = c.in-Ok.parents.sire in
-    let dam : Option ℕ = c.in-Ok.parents.dam in
-    let s : Option (List ℕ) = c.args.sire in
-    let d : Option (List ℕ) = c.args.dam in
-    let shallow : (x : ℕ) → IsFalse (has_path (parentage_at (slice_set sires place sire) (slice_set dams place dam)) (DEPTH_LIMIT + 1) x) = rw c.in-Some.is at c.in_ok-log.ensures.shallow in
-    let fine : false ≡ is_too_deep DEPTH_LIMIT book number s d =
-    too_deep-told_by DEPTH_LIMIT MOST_ANIMALS book sires dams depths kept number place its.at sire dam s d c.in-Ok.ensures.sire c.in-Ok.ensures.dam false (λ yes. absurd (false≢true yes)) (λ _. shallow) in
     let was : StoredRecord = c.stored_at-was.result in
     let stored : IsStoredAt book place was = c.stored_at-was.ensures in
-    let entry_was : slice_get book place ≡ Some (number, animal_of (keys_of book) was) = stored-entry book place number was its.at stored in
-    let becomes : Animal = with_parents s d (animal_of (keys_of book) was) in
+    let entry : slice_get book place ≡ Some (c.args.found.now.number, animal_of (keys_of book) was) = stored-entry book place c.args.found.now.number was number_at stored in
+    let becomes : Animal = with_parents c.args.sire c.args.dam (animal_of (keys_of book) was) in
     let written : c.write.new.self.book ≡ set_value_at book place becomes =
-    c.write.ensures ∙ ap (λ v. set_value_at book place v) (ap (λ e. animal_of (keys_of book) e) c.with_parents.ensures ∙ animal_of-parents (keys_of book) was sire dam s d c.in-Ok.ensures.sire c.in-Ok.ensures.dam) in
-    let there : record_of book number ≡ Some a = lookup_at book kept.lawful.once place number a entry in
-    let asked : IsCorrection DEPTH_LIMIT book number s d = record { animal = a; there = there; parents = sym (fault-rest DEPTH_LIMIT book number a.birth s d a.embryo false c.in-Ok.ensures.sound fine) } in
+    c.write.ensures ∙ ap (λ v. set_value_at book place v) (ap (λ e. animal_of (keys_of book) e) c.with_parents.ensures ∙ animal_of-parents (keys_of book) was parents.sire parents.dam c.args.sire c.args.dam c.in-Ok.ensures.sire c.in-Ok.ensures.dam) in
+    let there : record_of book c.args.found.now.number ≡ Some a = lookup_at book kept.lawful.once place c.args.found.now.number a (entry_from_both book place c.args.found.now.number a number_at c.animal_at-birth.ensures) in
+    let asked : IsCorrection DEPTH_LIMIT book c.args.found.now.number c.args.sire c.args.dam = record { animal = a; there = there; parents = sym fine } in
     let log : List (ℕ × ℕ) = c.in-Some.log.items in
     let after : List ℕ = c.carry_if_shallow.new.depths in
-    let len : length c.deref_mut.result.now ≡ length depths = ap (λ hs. length hs) c.deref_mut.ensures.value in
-    let long : length after ≡ length depths = c.carry_if_shallow.auto.depths ∙ len in
-    let settled : IsSettled DEPTH_LIMIT (parentage_at (slice_set sires place sire) (slice_set dams place dam)) (slice_index after) [] = rw c.in-Some.is at c.in_ok-log.ensures.settled in
+    let long : length after ≡ length i.depths.items = c.carry_if_shallow.auto.depths ∙ ap (λ hs. length hs) c.deref_mut.ensures.value in
+    let settled : IsSettled DEPTH_LIMIT (exchanged sires dams place parents.sire parents.dam) (slice_index after) [] = rw c.in-Some.is at c.in_ok-log.ensures.settled in
     let taken : TakesBack log after c.deref_mut.result.now = rw c.in-Some.is at c.in_ok-log.ensures.logged in
-    let held : IsHeld DEPTH_LIMIT MOST_ANIMALS (set_value_at book place becomes) (slice_set sires place sire) (slice_set dams place dam) after log (Record place was) =
-    IsHeld-corrected DEPTH_LIMIT MOST_ANIMALS book sires dams depths kept number place its.at was entry_was sire dam s d c.in-Ok.ensures.sire c.in-Ok.ensures.dam asked after long settled log
+    let held : IsHeld DEPTH_LIMIT MOST_ANIMALS (set_value_at book place becomes) (slice_set sires place parents.sire) (slice_set dams place parents.dam) after log (Record place was) =
+    IsHeld-corrected DEPTH_LIMIT MOST_ANIMALS book sires dams i.depths.items kept c.args.found.now.number place number_at was entry parents.sire parents.dam c.args.sire c.args.dam c.in-Ok.ensures.sire c.in-Ok.ensures.dam asked after long settled log
     (subst (λ n. All (λ (write : ℕ × ℕ). write.0 < n) log) long taken.within) (taken.undone ∙ c.deref_mut.ensures.value)
-    (stored-sire book sires kept.lawful.once kept.sires_are place number was entry_was stored) (stored-dam book dams kept.lawful.once kept.dams_are place number was entry_was stored) in
-    let back : (with_items c.self.inside.depths after).items ≡ after = with_items_is c.self.inside.depths after (c.carry_if_shallow.auto.depths ∙ c.deref_mut.ensures.len) in
+    (stored-sire book sires kept.lawful.once kept.sires_are place c.args.found.now.number was entry stored) (stored-dam book dams kept.lawful.once kept.dams_are place c.args.found.now.number was entry stored) in
+    let back : (with_items i.depths after).items ≡ after = with_items_is i.depths after (c.carry_if_shallow.auto.depths ∙ c.deref_mut.ensures.len) in
     let Q : Book → List (Option ℕ) → List (Option ℕ) → List ℕ → Type 0 = λ b ss ds hs. IsHeld DEPTH_LIMIT MOST_ANIMALS b ss ds hs log (Record place was) in
-    subst (λ b. Q b c.set.new.self.parents c.set-2.new.self.parents (with_items c.self.inside.depths after).items) (sym written)
-    (subst (λ ss. Q (set_value_at book place becomes) ss c.set-2.new.self.parents (with_items c.self.inside.depths after).items) (sym c.set.ensures)
-    (subst (λ ds. Q (set_value_at book place becomes) (slice_set sires place sire) ds (with_items c.self.inside.depths after).items) (sym c.set-2.ensures)
-    (subst (λ hs. Q (set_value_at book place becomes) (slice_set sires place sire) (slice_set dams place dam) hs) (sym back) held)))
+    subst (λ b. Q b c.set.new.self.parents c.set-2.new.self.parents (with_items i.depths after).items) (sym written)
+    (subst (λ ss. Q (set_value_at book place becomes) ss c.set-2.new.self.parents (with_items i.depths after).items) (sym c.set.ensures)
+    (subst (λ ds. Q (set_value_at book place becomes) (slice_set sires place parents.sire) ds (with_items i.depths after).items) (sym c.set-2.ensures)
+    (subst (λ hs. Q (set_value_at book place becomes) (slice_set sires place parents.sire) (slice_set dams place parents.dam) hs) (sym back) held)))
 
 pub returns-clause-fault : goal.returns-clause-fault
 returns-clause-fault g c =
-    let book : Book = c.self.inside.records.book in
-    let found = c.args.found.now in
-    let number : List ℕ = found.number in
-    let place : ℕ = found.place in
-    let its : IsFound book found = subst (λ p. IsFound p.book found) (sym c.self.view_is) c.requires in
+    let i = c.self.inside in
     let a : Animal = c.animal_at-birth.result in
-    let entry : slice_get book place ≡ Some (number, a) = entry_from_both book place number a its.at c.animal_at-birth.ensures in
-    let sires : List (Option ℕ) = c.self.inside.sires.parents in
-    let dams : List (Option ℕ) = c.self.inside.dams.parents in
-    let depths : List ℕ = c.self.inside.depths.items in
-    let kept = c.self.invariant.kept in
-    let sire : Option ℕ = c.in-Ok.parents.sire in
-    let dam : Option ℕ = c.in-Ok.parents.dam in
-    let s : Option (List ℕ) = c.args.sire in
-    let d : Option (List ℕ) = c.args.dam in
-    let shallow : (x : ℕ) → IsFalse (has_path (parentage_at (slice_set sires place sire) (slice_set dams place dam)) (DEPTH_LIMIT + 1) x) = rw c.in-Some.is at c.in_ok-log.ensures.shallow in
-    let fine : false ≡ is_too_deep DEPTH_LIMIT book number s d =
-    too_deep-told_by DEPTH_LIMIT MOST_ANIMALS book sires dams depths kept number place its.at sire dam s d c.in-Ok.ensures.sire c.in-Ok.ensures.dam false (λ yes. absurd (false≢true yes)) (λ _. shallow) in
-    subst (λ p. IfSome (record_of p.book number) (λ animal. None ≡ parent_fault DEPTH_LIMIT p.book number animal.birth c.args.sire c.args.dam animal.embryo)) c.self.view_is
-    (told-there DEPTH_LIMIT book c.self.invariant.kept.lawful.once place number a entry c.args.sire c.args.dam (None) (fault-rest DEPTH_LIMIT book number a.birth s d a.embryo false c.in-Ok.ensures.sound fine))
+    let place : ℕ = c.args.found.now.place in
+    let parents = c.in-Ok.parents in
+    let number_at = its-number c.self.inside.records.book c.args.self.now.book (ap (λ p. p.book) c.self.view_is) c.self.invariant.kept.lawful.once c.args.found.now c.requires in
+    let shallow : (x : ℕ) → IsFalse (has_path (exchanged i.sires.parents i.dams.parents place parents.sire parents.dam) (DEPTH_LIMIT + 1) x) = rw c.in-Some.is at c.in_ok-log.ensures.shallow in
+    let fine : None ≡ parent_fault DEPTH_LIMIT i.records.book c.args.found.now.number a.birth c.args.sire c.args.dam a.embryo =
+    fault-rest DEPTH_LIMIT i.records.book c.args.found.now.number a.birth c.args.sire c.args.dam a.embryo false c.in-Ok.ensures.sound
+    (too_deep-told_by DEPTH_LIMIT MOST_ANIMALS i.records.book i.sires.parents i.dams.parents i.depths.items c.self.invariant.kept c.args.found.now.number place number_at parents.sire parents.dam c.args.sire c.args.dam c.in-Ok.ensures.sire c.in-Ok.ensures.dam false (λ yes. absurd (false≢true yes)) (λ _. shallow)) in
+    told-found c.self.inside.records.book c.args.self.now.book (ap (λ p. p.book) c.self.view_is) c.self.invariant.kept.lawful.once c.args.found.now c.requires c.animal_at-birth.result c.animal_at-birth.ensures DEPTH_LIMIT c.args.sire c.args.dam None fine
 
 pub returns-clause-set : goal.returns-clause-set
 returns-clause-set g c =
     let book : Book = c.self.inside.records.book in
-    let found = c.args.found.now in
-    let number : List ℕ = found.number in
-    let place : ℕ = found.place in
-    let its : IsFound book found = subst (λ p. IsFound p.book found) (sym c.self.view_is) c.requires in
+    let number : List ℕ = c.args.found.now.number in
+    let place : ℕ = c.args.found.now.place in
     let was : StoredRecord = c.stored_at-was.result in
     let change : Animal → Animal = with_parents c.args.sire c.args.dam in
-    let entry_was : slice_get book place ≡ Some (number, animal_of (keys_of book) was) = stored-entry book place number was its.at c.stored_at-was.ensures in
+    let number_at = its-number c.self.inside.records.book c.args.self.now.book (ap (λ p. p.book) c.self.view_is) c.self.invariant.kept.lawful.once c.args.found.now c.requires in
     let written : c.write.new.self.book ≡ set_value_at book place (change (animal_of (keys_of book) was)) =
     c.write.ensures
     ∙ ap (λ v. set_value_at book place v) (ap (λ e. animal_of (keys_of book) e) c.with_parents.ensures ∙ animal_of-parents (keys_of book) was c.in-Ok.parents.sire c.in-Ok.parents.dam c.args.sire c.args.dam c.in-Ok.ensures.sire c.in-Ok.ensures.dam) in
     λ _.
     subst (λ b. record { book = b; before = Some (set_value_at b place (animal_of (keys_of b) was)) } ≡ changed_to c.args.self.now (changed c.args.self.now.book number change)) (sym written)
-    (record-view c.args.self.now book c.self.invariant.kept.lawful.once place number was change entry_was (ap (λ p. p.book) c.self.view_is))
+    (record-view c.args.self.now book c.self.invariant.kept.lawful.once place number was change (stored-entry book place number was number_at c.stored_at-was.ensures) (ap (λ p. p.book) c.self.view_is))
 
 pub returns-in-Err-clause-by_records : goal.returns-in-Err-clause-by_records
 returns-in-Err-clause-by_records g c =
-    let book : Book = c.self.inside.records.book in
-    let found = c.args.found.now in
-    let number : List ℕ = found.number in
-    let place : ℕ = found.place in
-    let its : IsFound book found = subst (λ p. IsFound p.book found) (sym c.self.view_is) c.requires in
-    let a : Animal = c.animal_at-birth.result in
-    let entry : slice_get book place ≡ Some (number, a) = entry_from_both book place number a its.at c.animal_at-birth.ensures in
-    told-by_records book c.args.self.now.book (ap (λ p. p.book) c.self.view_is) c.self.invariant.kept.lawful.once place number a entry c.args.sire c.args.dam (Some c.in-Err.fault) c.in-Err.ensures.fault _ refl
+    shown-found c.self.inside.records.book c.args.self.now.book (ap (λ p. p.book) c.self.view_is) c.self.invariant.kept.lawful.once c.args.found.now c.requires c.animal_at-birth.result c.animal_at-birth.ensures c.args.sire c.args.dam (Some c.in-Err.fault) c.in-Err.ensures.fault _ refl
 
 pub returns-in_default-clause-by_records : goal.returns-in_default-clause-by_records
 returns-in_default-clause-by_records g c =
-    let book : Book = c.self.inside.records.book in
-    let found = c.args.found.now in
-    let number : List ℕ = found.number in
-    let place : ℕ = found.place in
-    let its : IsFound book found = subst (λ p. IsFound p.book found) (sym c.self.view_is) c.requires in
-    let a : Animal = c.animal_at-birth.result in
-    let entry : slice_get book place ≡ Some (number, a) = entry_from_both book place number a its.at c.animal_at-birth.ensures in
-    told-by_records book c.args.self.now.book (ap (λ p. p.book) c.self.view_is) c.self.invariant.kept.lawful.once place number a entry c.args.sire c.args.dam None c.in-Ok.ensures.sound _ tt
+    shown-found c.self.inside.records.book c.args.self.now.book (ap (λ p. p.book) c.self.view_is) c.self.invariant.kept.lawful.once c.args.found.now c.requires c.animal_at-birth.result c.animal_at-birth.ensures c.args.sire c.args.dam None c.in-Ok.ensures.sound _ tt
 
 pub returns-in_err-log-clause-by_records : goal.returns-in_err-log-clause-by_records
 returns-in_err-log-clause-by_records g c =
-    let book : Book = c.self.inside.records.book in
-    let found = c.args.found.now in
-    let number : List ℕ = found.number in
-    let place : ℕ = found.place in
-    let its : IsFound book found = subst (λ p. IsFound p.book found) (sym c.self.view_is) c.requires in
-    let a : Animal = c.animal_at-birth.result in
-    let entry : slice_get book place ≡ Some (number, a) = entry_from_both book place number a its.at c.animal_at-birth.ensures in
-    told-by_records book c.args.self.now.book (ap (λ p. p.book) c.self.view_is) c.self.invariant.kept.lawful.once place number a entry c.args.sire c.args.dam None c.in-Ok.ensures.sound _ tt
+    shown-found c.self.inside.records.book c.args.self.now.book (ap (λ p. p.book) c.self.view_is) c.self.invariant.kept.lawful.once c.args.found.now c.requires c.animal_at-birth.result c.animal_at-birth.ensures c.args.sire c.args.dam None c.in-Ok.ensures.sound _ tt
 
 pub returns-clause-by_records : goal.returns-clause-by_records
 returns-clause-by_records g c =
-    let book : Book = c.self.inside.records.book in
-    let found = c.args.found.now in
-    let number : List ℕ = found.number in
-    let place : ℕ = found.place in
-    let its : IsFound book found = subst (λ p. IsFound p.book found) (sym c.self.view_is) c.requires in
-    let a : Animal = c.animal_at-birth.result in
-    let entry : slice_get book place ≡ Some (number, a) = entry_from_both book place number a its.at c.animal_at-birth.ensures in
-    told-by_records book c.args.self.now.book (ap (λ p. p.book) c.self.view_is) c.self.invariant.kept.lawful.once place number a entry c.args.sire c.args.dam None c.in-Ok.ensures.sound _ tt
+    shown-found c.self.inside.records.book c.args.self.now.book (ap (λ p. p.book) c.self.view_is) c.self.invariant.kept.lawful.once c.args.found.now c.requires c.animal_at-birth.result c.animal_at-birth.ensures c.args.sire c.args.dam None c.in-Ok.ensures.sound _ tt
