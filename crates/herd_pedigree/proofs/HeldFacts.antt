@@ -4,6 +4,7 @@ use Rattle.std.specs.Map.{keys_of}
 use Rattle.std.proofs.lemmas.Bool.{cases_lt, lt-ltb}
 use Rattle.std.proofs.lemmas.Option.{same_Some, slice_get_within}
 use Rattle.std.proofs.lemmas.List.{get_or-take, get_or-set_same, length-set, length-take-le, set-set, set-get_or}
+use Rattle.herd_frozen.specs.declared.rules.animal.Animal.{Animal}
 use Rattle.herd_pedigree.specs.declared.store.records.StoredRecord.{StoredRecord}
 use Rattle.herd_pedigree.specs.declared.store.undo.Undo.{Undo}
 use Rattle.herd_pedigree.specs.declared.store.undo.Undo.TheVariants.{Nothing, Birth, Record}
@@ -11,7 +12,7 @@ use Rattle.herd_frozen.specs.rules.Paths.{Parentage, has_path}
 use Rattle.herd_frozen.specs.rules.Book.{Book, changed, with_parents}
 use Rattle.herd_pedigree.specs.Pedigree.{IsCorrection}
 use Rattle.herd_frozen.specs.rules.Depths.{IsParent, AreDepths}
-use Rattle.herd_frozen.specs.places.Places.{parent_at, parentage_at, IsIndexIn}
+use Rattle.herd_frozen.specs.places.Places.{AreParents, IsIndexIn, parent_at, parentage_at}
 use Rattle.herd_pedigree.specs.store.Carry.{IsSettled}
 use Rattle.herd_pedigree.specs.store.Kept.{IsKept}
 use Rattle.herd_pedigree.specs.store.Records.{NamesItsOwn, animal_of, set_value_at}
@@ -90,21 +91,20 @@ module _ (l most : ℕ) (book : Book) (sires dams : List (Option ℕ)) (depths :
   before : IsKept l most (set_value_at book place (animal_of (keys_of book) was)) (slice_set sires place was.sire) (slice_set dams place was.dam) (undone_writes log depths)
   before = written.before (set_value_at book place (animal_of (keys_of book) was)) refl
 
-  pub undo-sire : (p : ℕ) → was.sire ≡ Some p → p < length sires
-  undo-sire p e =
-      let m = written.kept.sires_are.long in
+  undo-parent : (parent_of : Animal → Option (List ℕ)) (parents : List (Option ℕ)) (o : Option ℕ) → AreParents book parent_of parents → AreParents (set_value_at book place (animal_of (keys_of book) was)) parent_of (slice_set parents place o) →
+      (p : ℕ) → o ≡ Some p → p < length parents
+  undo-parent parent_of parents o are set p e =
+      let m = are.long in
       let n = length-set-at book place (animal_of (keys_of book) was) in
-      let here : place < length sires = let w = written.within.0 in omega (arith, w, m) in
-      let w = parents-within (set_value_at book place (animal_of (keys_of book) was)) (λ animal. animal.sire) (slice_set sires place was.sire) before.sires_are place p (get_or-set_same sires place was.sire None here ∙ e) in
+      let here : place < length parents = let w = written.within.0 in omega (arith, w, m) in
+      let w = parents-within (set_value_at book place (animal_of (keys_of book) was)) parent_of (slice_set parents place o) set place p (get_or-set_same parents place o None here ∙ e) in
       omega (arith, w, n, m)
 
+  pub undo-sire : (p : ℕ) → was.sire ≡ Some p → p < length sires
+  undo-sire = undo-parent (λ animal. animal.sire) sires was.sire written.kept.sires_are before.sires_are
+
   pub undo-dam : (p : ℕ) → was.dam ≡ Some p → p < length dams
-  undo-dam p e =
-      let m = written.kept.dams_are.long in
-      let n = length-set-at book place (animal_of (keys_of book) was) in
-      let here : place < length dams = let w = written.within.0 in omega (arith, w, m) in
-      let w = parents-within (set_value_at book place (animal_of (keys_of book) was)) (λ animal. animal.dam) (slice_set dams place was.dam) before.dams_are place p (get_or-set_same dams place was.dam None here ∙ e) in
-      omega (arith, w, n, m)
+  undo-dam = undo-parent (λ animal. animal.dam) dams was.dam written.kept.dams_are before.dams_are
 
   pub undo-sire_within : IfSome was.sire (λ p. p < length book)
   undo-sire_within = if_parent was.sire (length book) (λ p e. let w = undo-sire p e in let m = written.kept.sires_are.long in omega (arith, w, m))
@@ -153,9 +153,9 @@ module _ (l most : ℕ) (book : Book) (sires dams : List (Option ℕ)) (depths :
         }
 
     -- what is held once the correction is noted
-    pub IsHeld-corrected : (log : List (ℕ × ℕ)) → All (λ write. write.0 < length depths) log → undone_writes log after ≡ depths → was.sire ≡ parent_at sires a → was.dam ≡ parent_at dams a →
+    pub IsHeld-corrected : (log : List (ℕ × ℕ)) → All (λ write. write.0 < length depths) log → undone_writes log after ≡ depths → (was.sire ≡ parent_at sires a) × (was.dam ≡ parent_at dams a) →
         IsHeld l most (set_value_at book a (with_parents s d (animal_of (keys_of book) was))) (slice_set sires a sire) (slice_set dams a dam) after log (Record a was)
-    IsHeld-corrected log logged undone e f =
+    IsHeld-corrected log logged undone parents =
         let same : set_value_at book a (with_parents s d (animal_of (keys_of book) was)) ≡ changed book number (with_parents s d) = set-changed book k.lawful.once a number (animal_of (keys_of book) was) (with_parents s d) entry in
         let n = length-set-at book a (with_parents s d (animal_of (keys_of book) was)) in
         let w = slice_get_within book a (number, animal_of (keys_of book) was) entry in
@@ -167,7 +167,7 @@ module _ (l most : ℕ) (book : Book) (sires dams : List (Option ℕ)) (depths :
           );
           before = λ old is.
               let back : book ≡ old = sym (stored-back book a number (with_parents s d (animal_of (keys_of book) was)) was entry) ∙ same_Some _ _ is in
-              let sires_same : slice_set (slice_set sires a sire) a was.sire ≡ sires = set-set sires a sire was.sire ∙ ap (λ o. slice_set sires a o) e ∙ set-get_or sires a None in
-              let dams_same : slice_set (slice_set dams a dam) a was.dam ≡ dams = set-set dams a dam was.dam ∙ ap (λ o. slice_set dams a o) f ∙ set-get_or dams a None in
+              let sires_same : slice_set (slice_set sires a sire) a was.sire ≡ sires = set-set sires a sire was.sire ∙ ap (λ o. slice_set sires a o) parents.0 ∙ set-get_or sires a None in
+              let dams_same : slice_set (slice_set dams a dam) a was.dam ≡ dams = set-set dams a dam was.dam ∙ ap (λ o. slice_set dams a o) parents.1 ∙ set-get_or dams a None in
               rw (sires_same, dams_same, undone) (subst (λ old. IsKept l most old sires dams depths) back k);
         }

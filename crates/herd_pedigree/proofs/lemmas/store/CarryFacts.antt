@@ -8,6 +8,7 @@ use Rattle.herd_frozen.specs.rules.Depths.{IsParent, AreDepths, depth_above, dep
 use Rattle.herd_pedigree.specs.store.Carry.{IsSettled, HavePaths, AddsCalves}
 use Rattle.herd_frozen.specs.places.Places.{parentage_at}
 use Rattle.herd_frozen.proofs.lemmas.rules.PathFacts.{Path, path-from_test, test-from_path, path-there, depths-shallow}
+use Rattle.herd_pedigree.proofs.lemmas.store.ListFacts.{contains_cases, contains_none}
 
 -- the animal is the parent, or a write there leaves what the parent gives
 named_or_same : (depths : List ℕ) (place d : ℕ) (o : Option ℕ) → (o ≡ Some place) ⊎ (depth_above (slice_index (slice_set depths place d)) o ≡ depth_above (slice_index depths) o)
@@ -18,23 +19,8 @@ named_or_same depths place d (Some p) =
     (λ (n : p ≢ place). inr (ap (λ v. v + 1) (get_or-set_other depths place p d 0 n)))
     (cases_eq p place)
 
-pub not_empty : {A : Type 0} (c : A) → Contains [] c → ⊥
-not_empty c h = absurd (omega (arith, h.1))
-
 rest_of : (place c : ℕ) (xs : List ℕ) → c ≢ place → Contains (place ∷ xs) c → Contains xs c
-rest_of place c xs n h =
-    ⊎_elim
-    (λ (head : Contains (place ∷ []) c).
-    let e : place ≡ c = one place c head in absurd (n (sym e)))
-    (λ t. t)
-    (Contains-append_cases (place ∷ []) xs c h)
-  where
-    one : (y z : ℕ) → Contains (y ∷ []) z → y ≡ z
-    one y z h = at h.0 h.1 h.2
-      where
-        at : (k : ℕ) → k < 1 → get_or (y ∷ []) k z ≡ z → y ≡ z
-        at zero l e = e
-        at (suc k) l e = absurd (omega (arith, l))
+rest_of place c xs n h = ⊎_elim (λ (e : place ≡ c). absurd (n (sym e))) (λ t. t) (contains_cases place c xs h)
 
 module _ (l : ℕ) (parentage : Parentage ℕ) (depths : List ℕ) (place d : ℕ) (within : place < length depths)
     (now : d ≡ min (l + 1) (depth_from (slice_index depths) (parentage.sire place) (parentage.dam place))) where
@@ -92,7 +78,7 @@ either a b n h = grind (arith, h)
 module _ {A : Type 0} (l : ℕ) (parentage : Parentage A) (g : A → ℕ)
     (closed : (p x : A) → IsTrue (parentage.is_there x) → IsParent parentage p x → IsTrue (parentage.is_there p)) (settled : IsSettled l parentage g []) where
   gives : (x : A) → IsTrue (parentage.is_there x) → g x ≡ min (l + 1) (depth_from g (parentage.sire x) (parentage.dam x))
-  gives x there = ⊎_elim (λ e. absurd (not_empty x e)) (λ k. k) (settled x there)
+  gives x there = ⊎_elim (λ e. absurd (contains_none x e)) (λ k. k) (settled x there)
 
   -- each depth is reached by a path, also one that was cut off
   pub settled-path : (n : ℕ) (x : A) → IsTrue (parentage.is_there x) → n ≤ g x → Path parentage n x

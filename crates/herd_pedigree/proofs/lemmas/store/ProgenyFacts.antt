@@ -98,11 +98,3 @@ animal-within families c p e =
 
 pub everywhere : {f g : ℕ → Option ℕ} → ((x : ℕ) → f x ≡ g x) → f ≡ g
 everywhere h = λ i x. h x i
-
-pub some_if : (o : Option ℕ) → is_some o ≡ true → (x : ℕ) × (o ≡ Some x)
-some_if None e = absurd (cc)
-some_if (Some x) e = (x, refl)
-
-pub none_if_not : (o : Option ℕ) → is_some o ≡ false → o ≡ None
-none_if_not None e = refl
-none_if_not (Some x) e = absurd (cc)

@@ -187,20 +187,20 @@ index-once ks once (Some p) None (Some x) h k = absurd k
 index-once ks once (Some p) (Some q) None h k = absurd h
 index-once ks once (Some p) (Some q) (Some x) h k = ap Some (stands_once ks once p q x h k)
 
--- the places that are kept of the parents are theirs
-pub stored-sire : (book : Book) (sires : List (Option ℕ)) → IsDistinct bytes_eq (keys_of book) → AreParents book (λ animal. animal.sire) sires → (i : ℕ) (x : List ℕ) (was : StoredRecord) →
-    slice_get book i ≡ Some (x, animal_of (keys_of book) was) → IsStoredAt book i was → was.sire ≡ parent_at sires i
-stored-sire book sires once a i x was at stored =
-    index-once (keys_of book) once was.sire (parent_at sires i) (number_at (keys_of book) was.sire)
-    (place-named (keys_of book) was.sire (subst (λ n. IfSome was.sire (λ p. p < n)) (sym (length-keys book)) stored.sire))
-    (a.each i (x, animal_of (keys_of book) was) at)
+-- the place that is kept of a parent is its place
+stored-parent : (book : Book) (parent_of : Animal → Option (List ℕ)) (parents : List (Option ℕ)) → IsDistinct bytes_eq (keys_of book) → AreParents book parent_of parents → (i : ℕ) (x : List ℕ) (a : Animal) → slice_get book i ≡ Some (x, a) →
+    (kept : Option ℕ) → IfSome kept (λ p. p < length book) → number_at (keys_of book) kept ≡ parent_of a → kept ≡ parent_at parents i
+stored-parent book parent_of parents once are i x a at kept within is =
+    index-once (keys_of book) once kept (parent_at parents i) (number_at (keys_of book) kept)
+    (place-named (keys_of book) kept (subst (λ n. IfSome kept (λ p. p < n)) (sym (length-keys book)) within))
+    (subst (λ n. IsIndexIn (keys_of book) (parent_at parents i) n) (sym is) (are.each i (x, a) at))
 
-pub stored-dam : (book : Book) (dams : List (Option ℕ)) → IsDistinct bytes_eq (keys_of book) → AreParents book (λ animal. animal.dam) dams → (i : ℕ) (x : List ℕ) (was : StoredRecord) →
-    slice_get book i ≡ Some (x, animal_of (keys_of book) was) → IsStoredAt book i was → was.dam ≡ parent_at dams i
-stored-dam book dams once a i x was at stored =
-    index-once (keys_of book) once was.dam (parent_at dams i) (number_at (keys_of book) was.dam)
-    (place-named (keys_of book) was.dam (subst (λ n. IfSome was.dam (λ p. p < n)) (sym (length-keys book)) stored.dam))
-    (a.each i (x, animal_of (keys_of book) was) at)
+pub stored-parents : (book : Book) (sires dams : List (Option ℕ)) → IsDistinct bytes_eq (keys_of book) → AreParents book (λ animal. animal.sire) sires → AreParents book (λ animal. animal.dam) dams → (i : ℕ) (x : List ℕ) (was : StoredRecord) →
+    slice_get book i ≡ Some (x, animal_of (keys_of book) was) → IsStoredAt book i was → (was.sire ≡ parent_at sires i) × (was.dam ≡ parent_at dams i)
+stored-parents book sires dams once sires_are dams_are i x was at stored = (
+  stored-parent book (λ animal. animal.sire) sires once sires_are i x (animal_of (keys_of book) was) at was.sire stored.sire refl,
+  stored-parent book (λ animal. animal.dam) dams once dams_are i x (animal_of (keys_of book) was) at was.dam stored.dam refl,
+)
 
 -- what is kept with the places of other parents is the animal with these
 pub animal_of-parents : (numbers : List (List ℕ)) (was : StoredRecord) (sire dam : Option ℕ) (s d : Option (List ℕ)) → IsIndexIn numbers sire s → IsIndexIn numbers dam d →

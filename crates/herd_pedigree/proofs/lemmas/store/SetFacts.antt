@@ -100,8 +100,8 @@ module _ (l most : ℕ) (book : Book) (sires dams : List (Option ℕ)) (depths :
   }
 
   -- and what is held, once the write is noted
-  pub IsHeld-same : (log : List (ℕ × ℕ)) → log ≡ [] → was.sire ≡ parent_at sires i → was.dam ≡ parent_at dams i → IsHeld l most (set_value_at book i b) sires dams depths log (Record i was)
-  IsHeld-same log empty e f = record {
+  pub IsHeld-same : (log : List (ℕ × ℕ)) → log ≡ [] → (was.sire ≡ parent_at sires i) × (was.dam ≡ parent_at dams i) → IsHeld l most (set_value_at book i b) sires dams depths log (Record i was)
+  IsHeld-same log empty parents = record {
     kept = IsKept-same;
     within = (
       let w = slice_get_within book i (x, animal_of (keys_of book) was) at in let n = length-set-at book i b in omega (arith, w, n),
@@ -109,8 +109,8 @@ module _ (l most : ℕ) (book : Book) (sires dams : List (Option ℕ)) (depths :
     );
     before = λ old is.
         let same : book ≡ old = sym (stored-back book i x b was at) ∙ same_Some _ _ is in
-        let sires_same : slice_set sires i was.sire ≡ sires = ap (λ o. slice_set sires i o) e ∙ set-get_or sires i None in
-        let dams_same : slice_set dams i was.dam ≡ dams = ap (λ o. slice_set dams i o) f ∙ set-get_or dams i None in
+        let sires_same : slice_set sires i was.sire ≡ sires = ap (λ o. slice_set sires i o) parents.0 ∙ set-get_or sires i None in
+        let dams_same : slice_set dams i was.dam ≡ dams = ap (λ o. slice_set dams i o) parents.1 ∙ set-get_or dams i None in
         rw (sires_same, dams_same, empty) (subst (λ old. IsKept l most old sires dams depths) same k);
   }
 

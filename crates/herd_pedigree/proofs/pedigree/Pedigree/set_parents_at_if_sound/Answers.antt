@@ -18,7 +18,7 @@ use Rattle.herd_pedigree.specs.store.Records.{IsStoredAt, animal_of, set_value_a
 use Rattle.herd_pedigree.specs.store.Undo.{IsHeld, TakesBack}
 use Rattle.herd_frozen.specs.declared.TheConstants.{DEPTH_LIMIT, MOST_ANIMALS}
 use Rattle.herd_frozen.proofs.lemmas.rules.BookFacts.{entry_from_both, lookup_at}
-use Rattle.herd_pedigree.proofs.lemmas.store.RecordsFacts.{animal_of-parents, stored-dam, stored-entry, stored-sire}
+use Rattle.herd_pedigree.proofs.lemmas.store.RecordsFacts.{animal_of-parents, stored-entry, stored-parents}
 use Rattle.herd_pedigree.proofs.lemmas.store.SetFacts.{record-view}
 use Rattle.herd_pedigree.proofs.CheckFacts.{correction-depths, correction-sound, fault-first, fault-rest, too_deep-told_by}
 use Rattle.herd_pedigree.proofs.FoundFacts.{its-number, shown-found, told-found}
@@ -98,7 +98,7 @@ invariant_of-self-2 g c =
     let held : IsHeld DEPTH_LIMIT MOST_ANIMALS (set_value_at book place becomes) (slice_set sires place parents.sire) (slice_set dams place parents.dam) after log (Record place was) =
     IsHeld-corrected DEPTH_LIMIT MOST_ANIMALS book sires dams i.depths.items kept c.args.found.now.number place number_at was entry parents.sire parents.dam c.args.sire c.args.dam c.in-Ok.ensures.sire c.in-Ok.ensures.dam asked after long settled log
     (subst (λ n. All (λ (write : ℕ × ℕ). write.0 < n) log) long taken.within) (taken.undone ∙ c.deref_mut.ensures.value)
-    (stored-sire book sires kept.lawful.once kept.sires_are place c.args.found.now.number was entry stored) (stored-dam book dams kept.lawful.once kept.dams_are place c.args.found.now.number was entry stored) in
+    (stored-parents book sires dams kept.lawful.once kept.sires_are kept.dams_are place c.args.found.now.number was entry stored) in
     let back : (with_items i.depths after).items ≡ after = with_items_is i.depths after (c.carry_if_shallow.auto.depths ∙ c.deref_mut.ensures.len) in
     let Q : Book → List (Option ℕ) → List (Option ℕ) → List ℕ → Type 0 = λ b ss ds hs. IsHeld DEPTH_LIMIT MOST_ANIMALS b ss ds hs log (Record place was) in
     subst (λ b. Q b c.set.new.self.parents c.set-2.new.self.parents (with_items i.depths after).items) (sym written)

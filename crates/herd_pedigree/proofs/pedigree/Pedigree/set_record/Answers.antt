@@ -11,7 +11,7 @@ use Rattle.herd_pedigree.specs.store.Records.{IsStoredAt, animal_of, set_value_a
 use Rattle.herd_pedigree.specs.store.Undo.{IsHeld}
 use Rattle.herd_frozen.specs.declared.TheConstants.{DEPTH_LIMIT, MOST_ANIMALS}
 use Rattle.herd_frozen.proofs.lemmas.rules.BookFacts.{entry_from_value}
-use Rattle.herd_pedigree.proofs.lemmas.store.RecordsFacts.{stored-dam, stored-sire}
+use Rattle.herd_pedigree.proofs.lemmas.store.RecordsFacts.{stored-parents}
 use Rattle.herd_pedigree.proofs.lemmas.store.SetFacts.{IsHeld-same, set-view}
 use Rattle.herd_pedigree.proofs.pedigree.Pedigree.set_record.Goals as goal
 
@@ -43,7 +43,7 @@ invariant_of-self g c =
     subst (λ b. IsHeld DEPTH_LIMIT MOST_ANIMALS b sires dams depths log (Record place was)) (sym c.write.ensures)
     (IsHeld-same DEPTH_LIMIT MOST_ANIMALS book sires dams depths kept place entry.0 was (animal_of (keys_of book) becomes) entry.1
     (ap (λ o. number_at (keys_of book) o) c.requires.sire) (ap (λ o. number_at (keys_of book) o) c.requires.dam) lawful log c.clear.ensures.items
-    (stored-sire book sires kept.lawful.once kept.sires_are place entry.0 was entry.1 stored) (stored-dam book dams kept.lawful.once kept.dams_are place entry.0 was entry.1 stored))
+    (stored-parents book sires dams kept.lawful.once kept.sires_are kept.dams_are place entry.0 was entry.1 stored))
 
 pub returns : goal.returns
 returns g c =
