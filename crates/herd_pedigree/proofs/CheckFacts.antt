@@ -8,6 +8,7 @@ use Rattle.std.proofs.lemmas.Bool.{false_from_ne_true, cases_eq, cases_lt, lt-lt
 use Rattle.std.proofs.lemmas.Option.{slice_get_within}
 use Rattle.std.proofs.lemmas.List.{get_or-set_same, get_or-set_other, length-set}
 use Rattle.std.proofs.lemmas.List.Folds.{list_any_none}
+use Rattle.herd_pedigree.specs.Pedigree.{TellsTooDeep}
 use Rattle.herd_pedigree.specs.store.Records.{set_value_at}
 use Rattle.herd_frozen.specs.declared.rules.animal.Animal.{Animal}
 use Rattle.herd_frozen.specs.declared.rules.parent_fault.ParentFault.{ParentFault}
@@ -20,7 +21,7 @@ use Rattle.herd_frozen.specs.places.Places.{parent_at, parentage_at, IsIndexIn, 
 use Rattle.herd_pedigree.specs.store.Kept.{IsKept}
 use Rattle.herd_pedigree.specs.declared.store.correction.Correction.{Correction}
 use Rattle.herd_pedigree.specs.store.Correction.{AreDepthsBefore, corrected}
-use Rattle.herd_pedigree.specs.store.Exchange.{IsSound}
+use Rattle.herd_pedigree.specs.store.Exchange.{IsSound, exchanged}
 use Rattle.herd_frozen.proofs.lemmas.rules.PathFacts.{Path, path-from_test, test-from_path, path-at_most, path-there, below_from, depths-fall, depths-path, depths-shallow}
 use Rattle.herd_frozen.proofs.lemmas.rules.BookFacts.{entry_from_key, lookup_at, length-keys, there}
 use Rattle.herd_frozen.proofs.lemmas.rules.FaultFacts.{fault-split}
@@ -62,14 +63,14 @@ module _ (sires dams : List (Option ℕ)) (a : ℕ) (sire dam : Option ℕ) (her
   pub dam-here : parent_at (slice_set dams a dam) a ≡ dam
   dam-here = get_or-set_same dams a dam None (omega (arith, here, wide))
 
-  pub parent-elsewhere : (c p : ℕ) → c ≢ a → IsParent (parentage_at (slice_set sires a sire) (slice_set dams a dam)) p c → IsParent (parentage_at sires dams) p c
+  pub parent-elsewhere : (c p : ℕ) → c ≢ a → IsParent (exchanged sires dams a sire dam) p c → IsParent (parentage_at sires dams) p c
   parent-elsewhere c p n is =
       ⊎_elim
       (λ (e : parent_at (slice_set sires a sire) c ≡ Some p). inl (sym (get_or-set_other sires a c sire None n) ∙ e))
       (λ (e : parent_at (slice_set dams a dam) c ≡ Some p). inr (sym (get_or-set_other dams a c dam None n) ∙ e))
       is
 
-  pub there-same : (c : ℕ) → IsTrue ((parentage_at (slice_set sires a sire) (slice_set dams a dam)).is_there c) → IsTrue ((parentage_at sires dams).is_there c)
+  pub there-same : (c : ℕ) → IsTrue ((exchanged sires dams a sire dam).is_there c) → IsTrue ((parentage_at sires dams).is_there c)
   there-same c h = let w = ltb-true c (length (slice_set sires a sire)) h in lt-ltb c (length sires) (let n = length-set sires a sire in omega (arith, w, n))
 
 module _ (l most : ℕ) (book : Book) (sires dams : List (Option ℕ)) (depths : List ℕ) (k : IsKept l most book sires dams depths)
@@ -103,14 +104,14 @@ module _ (l most : ℕ) (book : Book) (sires dams : List (Option ℕ)) (depths :
 
   -- no path is too long where numbers up to l fall at each step to a parent
   pub not_deep-by : (g : ℕ → ℕ) →
-      ((p c : ℕ) → IsTrue ((parentage_at (slice_set sires a sire) (slice_set dams a dam)).is_there c) → IsParent (parentage_at (slice_set sires a sire) (slice_set dams a dam)) p c → g p < g c) →
-      ((c : ℕ) → IsTrue ((parentage_at (slice_set sires a sire) (slice_set dams a dam)).is_there c) → g c ≤ l) →
+      ((p c : ℕ) → IsTrue ((exchanged sires dams a sire dam).is_there c) → IsParent (exchanged sires dams a sire dam) p c → g p < g c) →
+      ((c : ℕ) → IsTrue ((exchanged sires dams a sire dam).is_there c) → g c ≤ l) →
       is_too_deep l book number s d ≡ false
   not_deep-by g falls bound =
       too_deep-told ∙ list_any_none (has_path (parentage_of (changed book number (with_parents s d))) (l + 1)) (number ∷ keys_of book)
       (λ i x h.
       let y : List ℕ = get_or (number ∷ keys_of book) i x in
-      let after : Parentage ℕ = parentage_at (slice_set sires a sire) (slice_set dams a dam) in
+      let after : Parentage ℕ = exchanged sires dams a sire dam in
       false_from_ne_true (has_path (parentage_of (changed book number (with_parents s d))) (l + 1) y)
       (λ t.
       let path : Path (parentage_of (changed book number (with_parents s d))) (l + 1) y = path-from_test (parentage_of (changed book number (with_parents s d))) (l + 1) y t in
@@ -125,7 +126,7 @@ module _ (l most : ℕ) (book : Book) (sires dams : List (Option ℕ)) (depths :
   not_deep-lower low =
       let wide : length dams ≡ length sires = k.dams_are.long ∙ sym k.sires_are.long in
       let within : a < length sires = let h = here in let n = k.sires_are.long in omega (arith, h, n) in
-      let after : Parentage ℕ = parentage_at (slice_set sires a sire) (slice_set dams a dam) in
+      let after : Parentage ℕ = exchanged sires dams a sire dam in
       not_deep-by (slice_index depths)
       (λ p c there is.
       ⊎_elim
@@ -150,17 +151,25 @@ pub fault-rest : (l : ℕ) (book : Book) (number : List ℕ) (birth : ℤ) (sire
 fault-rest l book number birth sire dam embryo deep e told =
     ap (λ t. if t then Some TooDeep else None) told ∙ sym (fault-split l book number birth sire dam embryo ∙ ap (λ o. option_or o (if is_too_deep l book number sire dam then Some TooDeep else None)) e)
 
--- an animal that isn't in the book, whose parents' records show no fault, has the one that its depth shows, or none
-pub newborn-fault : (l most : ℕ) (book : Book) (sires dams : List (Option ℕ)) (depths : List ℕ) → IsKept l most book sires dams depths → (number : List ℕ) → record_of book number ≡ None →
-    (birth : ℤ) (s d : Option (List ℕ)) (embryo : Bool) (sire dam : Option ℕ) → fault_by_records book birth s d embryo ≡ None →
-    IsIndexIn (keys_of book) sire s → IsIndexIn (keys_of book) dam d → (deep : Bool) → nat_lt l (depth_from (slice_index depths) sire dam) ≡ deep →
+-- where the records of the parents at these places show no fault, what is told of the paths tells the first
+pub fault-told : (l : ℕ) (book now : Book) → book ≡ now → (number : List ℕ) (birth : ℤ) (s d : Option (List ℕ)) (embryo : Bool) (sire dam : Option ℕ) → fault_by_records book birth s d embryo ≡ None →
+    IsIndexIn (keys_of book) sire s → IsIndexIn (keys_of book) dam d → (deep : Bool) → TellsTooDeep l now number sire dam deep → (if deep then Some TooDeep else None) ≡ parent_fault l now number birth s d embryo
+fault-told l book now same number birth s d embryo sire dam shown si di deep told =
+    fault-rest l now number birth s d embryo deep (subst (λ b. fault_by_records b birth s d embryo ≡ None) same shown)
+    (told s d (subst (λ b. IsIndexIn (keys_of b) sire s) same si) (subst (λ b. IsIndexIn (keys_of b) dam d) same di))
+
+-- of an animal that isn't in the book its depth does
+pub newborn-fault : (l most : ℕ) (book now : Book) → book ≡ now → (sires dams : List (Option ℕ)) (depths : List ℕ) → IsKept l most book sires dams depths → (number : List ℕ) → record_of book number ≡ None →
+    (birth : ℤ) (s d : Option (List ℕ)) (embryo : Bool) (sire dam : Option ℕ) → fault_by_records now birth s d embryo ≡ None →
+    IsIndexIn (keys_of now) sire s → IsIndexIn (keys_of now) dam d → (deep : Bool) → nat_lt l (depth_from (slice_index depths) sire dam) ≡ deep →
     (if deep then Some TooDeep else None) ≡ parent_fault l book number birth s d embryo
-newborn-fault l most book sires dams depths k number absent birth s d embryo sire dam told si di deep e =
-    fault-rest l book number birth s d embryo deep told (sym e ∙ too_deep-absent l most book sires dams depths k number absent sire dam s d si di)
+newborn-fault l most book now same sires dams depths k number absent birth s d embryo sire dam shown si di deep e =
+    fault-told l now book (sym same) number birth s d embryo sire dam shown si di deep
+    (λ s d si di. sym e ∙ too_deep-absent l most book sires dams depths k number absent sire dam s d si di)
 
 -- a new parent is there, where those that are exchanged are
 closed-exchange : (l most : ℕ) (book : Book) (sires dams : List (Option ℕ)) (depths : List ℕ) → IsKept l most book sires dams depths → (a : ℕ) (sire dam : Option ℕ) → a < length sires →
-    ((p : ℕ) → sire ≡ Some p → p < length sires) → ((p : ℕ) → dam ≡ Some p → p < length sires) → (p x : ℕ) → IsParent (parentage_at (slice_set sires a sire) (slice_set dams a dam)) p x → p < length sires
+    ((p : ℕ) → sire ≡ Some p → p < length sires) → ((p : ℕ) → dam ≡ Some p → p < length sires) → (p x : ℕ) → IsParent (exchanged sires dams a sire dam) p x → p < length sires
 closed-exchange l most book sires dams depths k a sire dam here sire_in dam_in p x is =
     let wide : length dams ≡ length sires = k.dams_are.long ∙ sym k.sires_are.long in
     let m = k.sires_are.long in
@@ -169,7 +178,7 @@ closed-exchange l most book sires dams depths k a sire dam here sire_in dam_in p
     ⊎_elim
     (λ (h : parent_at (slice_set sires a sire) a ≡ Some p). sire_in p (sym (sire-here sires dams a sire dam here wide) ∙ h))
     (λ (h : parent_at (slice_set dams a dam) a ≡ Some p). dam_in p (sym (dam-here sires dams a sire dam here wide) ∙ h))
-    (subst (λ v. IsParent (parentage_at (slice_set sires a sire) (slice_set dams a dam)) p v) e is))
+    (subst (λ v. IsParent (exchanged sires dams a sire dam) p v) e is))
     (λ (other : x ≢ a).
     ⊎_elim
     (λ (h : parent_at sires x ≡ Some p). let w = parents-within book (λ animal. animal.sire) sires k.sires_are x p h in omega (arith, w, m))
@@ -178,7 +187,7 @@ closed-exchange l most book sires dams depths k a sire dam here sire_in dam_in p
     (cases_eq x a)
 
 closed-within : (l most : ℕ) (book : Book) (sires dams : List (Option ℕ)) (depths : List ℕ) → IsKept l most book sires dams depths → (a : ℕ) (sire dam : Option ℕ) → a < length sires →
-    IfSome sire (λ p. p < length book) → IfSome dam (λ p. p < length book) → (p x : ℕ) → IsParent (parentage_at (slice_set sires a sire) (slice_set dams a dam)) p x → p < length sires
+    IfSome sire (λ p. p < length book) → IfSome dam (λ p. p < length book) → (p x : ℕ) → IsParent (exchanged sires dams a sire dam) p x → p < length sires
 closed-within l most book sires dams depths k a sire dam here sire_in dam_in =
     let m = sym k.sires_are.long in
     closed-exchange l most book sires dams depths k a sire dam here (λ p e. subst (λ n. p < n) m (parent_in sire (length book) p sire_in e)) (λ p e. subst (λ n. p < n) m (parent_in dam (length book) p dam_in e))
@@ -223,11 +232,11 @@ module _ (l most : ℕ) (book : Book) (sires dams : List (Option ℕ)) (depths :
   dams-after = dams-corrected l most book sires dams depths k number a at sire dam s d sire_is dam_is
 
   -- a path that is too long by places is one by numbers
-  pub too_deep-by_place : (c : ℕ) → has_path (parentage_at (slice_set sires a sire) (slice_set dams a dam)) (l + 1) c ≡ true → is_too_deep l book number s d ≡ true
+  pub too_deep-by_place : (c : ℕ) → has_path (exchanged sires dams a sire dam) (l + 1) c ≡ true → is_too_deep l book number s d ≡ true
   too_deep-by_place c t =
-      let exchanged : Parentage ℕ = parentage_at (slice_set sires a sire) (slice_set dams a dam) in
-      let path : Path exchanged (l + 1) c = path-from_test exchanged (l + 1) c t in
-      let x = number_from_there (changed book number (with_parents s d)) (slice_set sires a sire) (slice_set dams a dam) once-after sires-after dams-after c (path-there exchanged (l + 1) c path) in
+      let after : Parentage ℕ = exchanged sires dams a sire dam in
+      let path : Path after (l + 1) c = path-from_test after (l + 1) c t in
+      let x = number_from_there (changed book number (with_parents s d)) (slice_set sires a sire) (slice_set dams a dam) once-after sires-after dams-after c (path-there after (l + 1) c path) in
       let by_number = path_by_number (changed book number (with_parents s d)) (slice_set sires a sire) (slice_set dams a dam) once-after sires-after dams-after (l + 1) c x.0 x.1 path in
       let test : has_path (parentage_of (changed book number (with_parents s d))) (l + 1) x.0 ≡ true = test-from_path (parentage_of (changed book number (with_parents s d))) (l + 1) x.0 by_number in
       let keys : slice_get (number ∷ keys_of book) (suc c) ≡ Some x.0 = ap (λ ks. slice_get ks c) (sym (keys-corrected l most book sires dams depths k number a at sire dam s d sire_is dam_is)) ∙ x.1 in
@@ -235,26 +244,26 @@ module _ (l most : ℕ) (book : Book) (sires dams : List (Option ℕ)) (depths :
       ∙ any_found (has_path (parentage_of (changed book number (with_parents s d))) (l + 1)) (number ∷ keys_of book) (suc c) x.0 keys test
 
   -- and where there is none, no path of the book is too long
-  pub not_deep-by_place : ((c : ℕ) → has_path (parentage_at (slice_set sires a sire) (slice_set dams a dam)) (l + 1) c ≡ false) → is_too_deep l book number s d ≡ false
+  pub not_deep-by_place : ((c : ℕ) → has_path (exchanged sires dams a sire dam) (l + 1) c ≡ false) → is_too_deep l book number s d ≡ false
   not_deep-by_place none =
       too_deep-told l most book sires dams depths k number a at sire dam s d sire_is dam_is
       ∙ list_any_none (has_path (parentage_of (changed book number (with_parents s d))) (l + 1)) (number ∷ keys_of book)
       (λ i x h.
       let y : List ℕ = get_or (number ∷ keys_of book) i x in
-      let exchanged : Parentage ℕ = parentage_at (slice_set sires a sire) (slice_set dams a dam) in
+      let after : Parentage ℕ = exchanged sires dams a sire dam in
       let numbers : Parentage (List ℕ) = parentage_of (changed book number (with_parents s d)) in
       false_from_ne_true (has_path numbers (l + 1) y)
       (λ t.
       let path : Path numbers (l + 1) y = path-from_test numbers (l + 1) y t in
       let place = place_from_there (changed book number (with_parents s d)) (slice_set sires a sire) (slice_set dams a dam) once-after sires-after dams-after y (path-there numbers (l + 1) y path) in
-      let by_place : Path exchanged (l + 1) place.0 = path_by_place (changed book number (with_parents s d)) (slice_set sires a sire) (slice_set dams a dam) once-after sires-after dams-after (l + 1) y place.0 place.1 path in
-      let u : has_path exchanged (l + 1) place.0 ≡ true = test-from_path exchanged (l + 1) place.0 by_place in
-      let v : has_path exchanged (l + 1) place.0 ≡ false = none place.0 in absurd (cc)))
+      let by_place : Path after (l + 1) place.0 = path_by_place (changed book number (with_parents s d)) (slice_set sires a sire) (slice_set dams a dam) once-after sires-after dams-after (l + 1) y place.0 place.1 path in
+      let u : has_path after (l + 1) place.0 ≡ true = test-from_path after (l + 1) place.0 by_place in
+      let v : has_path after (l + 1) place.0 ≡ false = none place.0 in absurd (cc)))
 
   -- a book with no path too long has none by places
-  pub shallow-by_place : is_too_deep l book number s d ≡ false → (c : ℕ) → has_path (parentage_at (slice_set sires a sire) (slice_set dams a dam)) (l + 1) c ≡ false
+  pub shallow-by_place : is_too_deep l book number s d ≡ false → (c : ℕ) → has_path (exchanged sires dams a sire dam) (l + 1) c ≡ false
   shallow-by_place e c =
-      false_from_ne_true (has_path (parentage_at (slice_set sires a sire) (slice_set dams a dam)) (l + 1) c)
+      false_from_ne_true (has_path (exchanged sires dams a sire dam) (l + 1) c)
       (λ t. let u : true ≡ false = sym (too_deep-by_place c t) ∙ e in absurd (cc))
 
   a-within : a < length sires
@@ -264,7 +273,7 @@ module _ (l most : ℕ) (book : Book) (sires dams : List (Option ℕ)) (depths :
   wide-dams = k.dams_are.long ∙ sym k.sires_are.long
 
   -- a new parent is there
-  pub closed-after : (p x : ℕ) → IsParent (parentage_at (slice_set sires a sire) (slice_set dams a dam)) p x → p < length sires
+  pub closed-after : (p x : ℕ) → IsParent (exchanged sires dams a sire dam) p x → p < length sires
   closed-after =
       let n = length-keys book in
       let m = k.sires_are.long in
@@ -273,10 +282,10 @@ module _ (l most : ℕ) (book : Book) (sires dams : List (Option ℕ)) (depths :
       (λ p e. let w = named-within (keys_of book) dam d p dam_is e in omega (arith, w, n, m))
 
   -- parents of an animal with no calves make a path too long exactly where its own depth is too great
-  pub too_deep-leaf : ((x : ℕ) → IsParent (parentage_at (slice_set sires a sire) (slice_set dams a dam)) a x → ⊥) → nat_lt l (depth_from (slice_index depths) sire dam) ≡ is_too_deep l book number s d
+  pub too_deep-leaf : ((x : ℕ) → IsParent (exchanged sires dams a sire dam) a x → ⊥) → nat_lt l (depth_from (slice_index depths) sire dam) ≡ is_too_deep l book number s d
   too_deep-leaf leaf =
       let old : Parentage ℕ = parentage_at sires dams in
-      let new : Parentage ℕ = parentage_at (slice_set sires a sire) (slice_set dams a dam) in
+      let new : Parentage ℕ = exchanged sires dams a sire dam in
       let v : ℕ = depth_from (slice_index depths) sire dam in
       let h : ℕ → ℕ = slice_index (slice_set depths a v) in
       let within : a < length depths = let w = a-within in let n = k.long in let m = k.sires_are.long in omega (arith, w, n, m) in
@@ -319,7 +328,7 @@ module _ (l most : ℕ) (book : Book) (sires dams : List (Option ℕ)) (depths :
       (cases_lt l v)
 
   -- what the rounds over the places tell
-  pub too_deep-told_by : (deep : Bool) → (IsTrue deep → (c : ℕ) × IsTrue (has_path (parentage_at (slice_set sires a sire) (slice_set dams a dam)) (l + 1) c)) → (IsFalse deep → (c : ℕ) → IsFalse (has_path (parentage_at (slice_set sires a sire) (slice_set dams a dam)) (l + 1) c)) →
+  pub too_deep-told_by : (deep : Bool) → (IsTrue deep → (c : ℕ) × IsTrue (has_path (exchanged sires dams a sire dam) (l + 1) c)) → (IsFalse deep → (c : ℕ) → IsFalse (has_path (exchanged sires dams a sire dam) (l + 1) c)) →
       deep ≡ is_too_deep l book number s d
   too_deep-told_by true deep shallow = let path = deep refl in sym (too_deep-by_place path.0 path.1)
   too_deep-told_by false deep shallow = sym (not_deep-by_place (shallow refl))

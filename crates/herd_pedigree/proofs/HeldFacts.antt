@@ -14,6 +14,7 @@ use Rattle.herd_pedigree.specs.Pedigree.{IsCorrection}
 use Rattle.herd_frozen.specs.rules.Depths.{IsParent, AreDepths}
 use Rattle.herd_frozen.specs.places.Places.{AreParents, IsIndexIn, parent_at, parentage_at}
 use Rattle.herd_pedigree.specs.store.Carry.{IsSettled}
+use Rattle.herd_pedigree.specs.store.Exchange.{exchanged}
 use Rattle.herd_pedigree.specs.store.Kept.{IsKept}
 use Rattle.herd_pedigree.specs.store.Records.{NamesItsOwn, animal_of, set_value_at}
 use Rattle.herd_pedigree.specs.store.Undo.{IsHeld, without_last, undone_writes}
@@ -120,13 +121,13 @@ module _ (l most : ℕ) (book : Book) (sires dams : List (Option ℕ)) (depths :
   fine : HasNoFault l book number asked.animal.birth s d asked.animal.embryo
   fine = no_fault l book number asked.animal.birth s d asked.animal.embryo asked.parents
 
-  pub shallow-asked : (c : ℕ) → has_path (parentage_at (slice_set sires a sire) (slice_set dams a dam)) (l + 1) c ≡ false
+  pub shallow-asked : (c : ℕ) → has_path (exchanged sires dams a sire dam) (l + 1) c ≡ false
   shallow-asked = shallow-by_place l most book sires dams depths k number a at sire dam s d sire_is dam_is fine.shallow
 
-  module _ (after : List ℕ) (long : length after ≡ length depths) (settled : IsSettled l (parentage_at (slice_set sires a sire) (slice_set dams a dam)) (slice_index after) []) where
-    depths-asked : AreDepths l (parentage_at (slice_set sires a sire) (slice_set dams a dam)) (slice_index after)
+  module _ (after : List ℕ) (long : length after ≡ length depths) (settled : IsSettled l (exchanged sires dams a sire dam) (slice_index after) []) where
+    depths-asked : AreDepths l (exchanged sires dams a sire dam) (slice_index after)
     depths-asked =
-        let new : Parentage ℕ = parentage_at (slice_set sires a sire) (slice_set dams a dam) in
+        let new : Parentage ℕ = exchanged sires dams a sire dam in
         let closed : (p x : ℕ) → IsTrue (new.is_there x) → IsParent new p x → IsTrue (new.is_there p) = λ p x there is.
         lt-ltb p (length (slice_set sires a sire)) (let w = closed-after l most book sires dams depths k number a at sire dam s d sire_is dam_is p x is in let n = length-set sires a sire in omega (arith, w, n)) in
         settled-depths l new (slice_index after) closed settled

@@ -1,11 +1,12 @@
 -- A pedigree as contracts see it, and what a change of one record asks for.
-use Rattle.std.specs.Prelude.{◌≡◌, ℕ, ◌<◌, ◌≤ℤ◌, IsFalse, ℤ, List, length, slice_get, if◌then◌else◌, IfSome, Option, Some, None}
+use Rattle.std.specs.Prelude.{◌≡◌, ℕ, Bool, ◌<◌, ◌≤ℤ◌, IsFalse, ℤ, List, length, slice_get, if◌then◌else◌, IfSome, Option, Some, None}
 use Rattle.std.specs.Map.{keys_of}
 use Rattle.std.specs.Option.{option_map_or}
 use Rattle.herd_frozen.specs.declared.rules.animal.Animal.{Animal}
 use Rattle.herd_frozen.specs.declared.rules.parent_fault.ParentFault.{ParentFault}
 use Rattle.herd_frozen.specs.rules.Book.{Book, is_there, record_of, has_calved_after}
-use Rattle.herd_frozen.specs.rules.ParentFault.{fault_by_records, parent_fault}
+use Rattle.herd_frozen.specs.rules.ParentFault.{fault_by_records, is_too_deep, parent_fault}
+use Rattle.herd_frozen.specs.places.Places.{IsIndexIn}
 use Rattle.herd_pedigree.specs.declared.found.Found.{Found}
 use Rattle.herd_pedigree.specs.declared.registration.Registration.{Registration}
 use Rattle.herd_pedigree.specs.declared.registration.Registration.TheVariants.{Added, AlreadyThere, Unsound}
@@ -48,6 +49,11 @@ pub record IsBirth (l most : ℕ) (book : Book) (number : List ℕ) (animal : An
   pub parents : parent_fault l book number animal.birth animal.sire animal.dam animal.embryo ≡ None
   pub since : animal.since ≡ animal.birth
   pub left : animal.left ≡ None
+
+-- this tells whether some path would be too long, once the animal of the number has the parents at these places
+abbrev pub TellsTooDeep : ℕ → Book → List ℕ → Option ℕ → Option ℕ → Bool → Type 0
+TellsTooDeep l book number sire dam deep =
+    (s d : Option (List ℕ)) → IsIndexIn (keys_of book) sire s → IsIndexIn (keys_of book) dam d → deep ≡ is_too_deep l book number s d
 
 -- of the animal of the number with these parents, this is the first fault, or that it has none
 abbrev pub IsFaultWith : ℕ → Book → List ℕ → Option (List ℕ) → Option (List ℕ) → Option ParentFault → Type 0

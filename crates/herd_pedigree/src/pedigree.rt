@@ -3,9 +3,9 @@ ghost use Rattle.std.specs.Map.{keys_of};
 ghost use Rattle.herd_frozen.specs.rules.Book.{IsDepthOf, changed, has_calved_after, is_there, record_of, with_left, with_owner, with_parents};
 ghost use Rattle.herd_frozen.specs.freezing.Frozen.{IsFrozenFrom};
 ghost use Rattle.herd_frozen.specs.rules.Lawful.{IsLawful};
-ghost use Rattle.herd_frozen.specs.rules.ParentFault.{fault_by_records, is_too_deep, parent_fault};
+ghost use Rattle.herd_frozen.specs.rules.ParentFault.{fault_by_records, parent_fault};
 ghost use Rattle.herd_frozen.specs.places.Places.{IsIndexIn};
-ghost use Rattle.herd_pedigree.specs.Pedigree.{IfShownWith, IsBirth, IsCorrection, IsExit, IsFaultWith, IsFound, IsNewborn, IsPresentOn, changed_to, registration, unsound};
+ghost use Rattle.herd_pedigree.specs.Pedigree.{IfShownWith, IsBirth, IsCorrection, IsExit, IsFaultWith, IsFound, IsNewborn, IsPresentOn, TellsTooDeep, changed_to, registration, unsound};
 ghost use Rattle.herd_pedigree.specs.store.Records.{IsStoredAt, animal_of, set_value_at};
 ghost use Rattle.herd_frozen.specs.declared.TheConstants.{DEPTH_LIMIT, MOST_ANIMALS};
 
@@ -100,8 +100,7 @@ impl<A: Allocator + Copy> Pedigree<A> {
     ) -> Result<bool, AllocError>
         requires sire { IfSome sire (λ place. place < length self.now.book) }
         requires dam { IfSome dam (λ place. place < length self.now.book) }
-        ensures { IfOk result (λ deep. (s d : Option (List ℕ)) → IsIndexIn (keys_of self.now.book) sire s
-            → IsIndexIn (keys_of self.now.book) dam d → deep ≡ is_too_deep DEPTH_LIMIT self.now.book number.now s d) }
+        ensures { IfOk result (TellsTooDeep DEPTH_LIMIT self.now.book number.now sire dam) }
     {
         let depth = depth_with(&self.depths, sire, dam);
         let Some(place) = self.records.place_of(number) else {

@@ -6,8 +6,16 @@ use Rattle.std.proofs.lemmas.List.Elements.{Contains-append_left, Contains-appen
 use Rattle.herd_frozen.specs.rules.Depths.{IsParent}
 use Rattle.herd_frozen.specs.places.Places.{parent_at, parentage_at}
 use Rattle.herd_pedigree.specs.store.Carry.{AddsCalves}
+use Rattle.herd_pedigree.specs.store.Exchange.{IsSound, exchanged}
 use Rattle.herd_pedigree.proofs.lemmas.store.ListFacts.{contains_here, contains_cases, contains_none, filter-keeps, filter-only}
 use Rattle.herd_pedigree.proofs.lemmas.store.ProgenyFacts.{parent-within}
+
+-- a parent of an animal that is there is there too
+pub sound-closed : (sires dams : List (Option ℕ)) (a : ℕ) (sire dam : Option ℕ) → IsSound sires dams a sire dam → (p x : ℕ) → IsTrue ((exchanged sires dams a sire dam).is_there x) → IsParent (exchanged sires dams a sire dam) p x →
+    IsTrue ((exchanged sires dams a sire dam).is_there p)
+sound-closed sires dams a sire dam sound p x there is =
+    let n = length-set sires a sire in
+    let w = sound.closed p x is in lt-ltb p (length (slice_set sires a sire)) (omega (arith, w, n))
 
 -- a parent that is there, or none
 pub if_parent : (o : Option ℕ) (n : ℕ) → ((p : ℕ) → o ≡ Some p → p < n) → IfSome o (λ p. p < n)
@@ -25,10 +33,10 @@ module _ (sires dams : List (Option ℕ)) (a : ℕ) (sire dam : Option ℕ) (her
   is_other : (c : ℕ) → not (c == a) ≡ true → c ≢ a
   is_other c t = eqb-false c a (not-true (c == a) t)
 
-  there_at : (c : ℕ) → c < length sires → IsTrue ((parentage_at (slice_set sires a sire) (slice_set dams a dam)).is_there c)
+  there_at : (c : ℕ) → c < length sires → IsTrue ((exchanged sires dams a sire dam).is_there c)
   there_at c h = lt-ltb c (length (slice_set sires a sire)) (let n = length-set sires a sire in omega (arith, h, n))
 
-  others_all : (c : ℕ) → c ≢ a → IsParent (parentage_at (slice_set sires a sire) (slice_set dams a dam)) p c → Contains (filter (λ c. not (c == a)) xs ++ filter (λ c. not (c == a)) ys) c
+  others_all : (c : ℕ) → c ≢ a → IsParent (exchanged sires dams a sire dam) p c → Contains (filter (λ c. not (c == a)) xs ++ filter (λ c. not (c == a)) ys) c
   others_all c n is =
       let fx : List ℕ = filter (λ c. not (c == a)) xs in
       let fy : List ℕ = filter (λ c. not (c == a)) ys in
@@ -39,7 +47,7 @@ module _ (sires dams : List (Option ℕ)) (a : ℕ) (sire dam : Option ℕ) (her
       Contains-append_right fx fy c (filter-keeps (λ c. not (c == a)) ys c ((ys_are c).1 (sym (get_or-set_other dams a c dam None n) ∙ e)) (passes c n)))
       is
 
-  others_only : (c : ℕ) → Contains (filter (λ c. not (c == a)) xs ++ filter (λ c. not (c == a)) ys) c → IsTrue ((parentage_at (slice_set sires a sire) (slice_set dams a dam)).is_there c) × IsParent (parentage_at (slice_set sires a sire) (slice_set dams a dam)) p c
+  others_only : (c : ℕ) → Contains (filter (λ c. not (c == a)) xs ++ filter (λ c. not (c == a)) ys) c → IsTrue ((exchanged sires dams a sire dam).is_there c) × IsParent (exchanged sires dams a sire dam) p c
   others_only c h =
       ⊎_elim
       (λ l.
@@ -54,22 +62,22 @@ module _ (sires dams : List (Option ℕ)) (a : ℕ) (sire dam : Option ℕ) (her
       (Contains-append_cases (filter (λ c. not (c == a)) xs) (filter (λ c. not (c == a)) ys) c h)
 
   -- the animal itself isn't one of them
-  pub adds-others : (old new : List ℕ) → (IsParent (parentage_at (slice_set sires a sire) (slice_set dams a dam)) p a → ⊥) → new ≡ (old ++ filter (λ c. not (c == a)) xs) ++ filter (λ c. not (c == a)) ys →
-      AddsCalves (parentage_at (slice_set sires a sire) (slice_set dams a dam)) p old new
+  pub adds-others : (old new : List ℕ) → (IsParent (exchanged sires dams a sire dam) p a → ⊥) → new ≡ (old ++ filter (λ c. not (c == a)) xs) ++ filter (λ c. not (c == a)) ys →
+      AddsCalves (exchanged sires dams a sire dam) p old new
   adds-others old new none e = record {
     added = filter (λ c. not (c == a)) xs ++ filter (λ c. not (c == a)) ys;
     is = e ∙ append_assoc old (filter (λ c. not (c == a)) xs) (filter (λ c. not (c == a)) ys);
     all = λ c there is.
         ⊎_elim
-        (λ (s : c ≡ a). absurd (none (subst (λ v. IsParent (parentage_at (slice_set sires a sire) (slice_set dams a dam)) p v) s is)))
+        (λ (s : c ≡ a). absurd (none (subst (λ v. IsParent (exchanged sires dams a sire dam) p v) s is)))
         (λ (n : c ≢ a). others_all c n is)
         (cases_eq c a);
     only = others_only;
   }
 
   -- or it is
-  pub adds-named : (old new : List ℕ) → IsParent (parentage_at (slice_set sires a sire) (slice_set dams a dam)) p a → new ≡ ((old ++ filter (λ c. not (c == a)) xs) ++ filter (λ c. not (c == a)) ys) ++ a ∷ [] →
-      AddsCalves (parentage_at (slice_set sires a sire) (slice_set dams a dam)) p old new
+  pub adds-named : (old new : List ℕ) → IsParent (exchanged sires dams a sire dam) p a → new ≡ ((old ++ filter (λ c. not (c == a)) xs) ++ filter (λ c. not (c == a)) ys) ++ a ∷ [] →
+      AddsCalves (exchanged sires dams a sire dam) p old new
   adds-named old new named e =
       let others : List ℕ = filter (λ c. not (c == a)) xs ++ filter (λ c. not (c == a)) ys in
       record {
@@ -85,7 +93,7 @@ module _ (sires dams : List (Option ℕ)) (a : ℕ) (sire dam : Option ℕ) (her
             (λ l. others_only c l)
             (λ r.
             ⊎_elim
-            (λ (s : a ≡ c). subst (λ v. IsTrue ((parentage_at (slice_set sires a sire) (slice_set dams a dam)).is_there v) × IsParent (parentage_at (slice_set sires a sire) (slice_set dams a dam)) p v) s (there_at a here, named))
+            (λ (s : a ≡ c). subst (λ v. IsTrue ((exchanged sires dams a sire dam).is_there v) × IsParent (exchanged sires dams a sire dam) p v) s (there_at a here, named))
             (λ none. absurd (contains_none c none))
             (contains_cases a c [] r))
             (Contains-append_cases others (a ∷ []) c h);

@@ -74,6 +74,10 @@ parents-seen families x =
       | inr h ↦ get_or_past (parents_of families) x None (omega (arith, h, n)) ∙ sym (ap (λ (f : Family). f.parent) (get_or_past families x alone h))
     ]
 
+-- as many as there are parents
+pub length-families : (families : List Family) (parents : List (Option ℕ)) → parents_of families ≡ parents → length families ≡ length parents
+length-families families parents e = sym (length-map families (λ (family : Family). family.parent)) ∙ ap (λ ps. length ps) e
+
 -- by the parent of each
 pub parents-set : (old new : List Family) (c : ℕ) (o : Option ℕ) → c < length old → length new ≡ length old → ((x : ℕ) → parent_of new x ≡ put (Some c) o (parent_of old) x) → parents_of new ≡ slice_set (parents_of old) c o
 parents-set old new c o here n e =

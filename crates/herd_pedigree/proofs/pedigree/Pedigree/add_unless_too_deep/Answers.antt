@@ -28,9 +28,6 @@ returns-then-depth-from-clause-outcome g c =
     let depths : List ℕ = c.self.inside.depths.items in
     let sire : Option ℕ = c.args.sire in
     let dam : Option ℕ = c.args.dam in
-    let sound : fault_by_records book a.birth a.sire a.dam a.embryo ≡ None = subst (λ p. fault_by_records p.book a.birth a.sire a.dam a.embryo ≡ None) (sym c.self.view_is) c.requires.sound in
-    let sire_is : IsIndexIn (keys_of book) sire a.sire = subst (λ p. IsIndexIn (keys_of p.book) sire a.sire) (sym c.self.view_is) c.requires.sire in
-    let dam_is : IsIndexIn (keys_of book) dam a.dam = subst (λ p. IsIndexIn (keys_of p.book) dam a.dam) (sym c.self.view_is) c.requires.dam in
     let depth : c.depth_with-depth.result ≡ depth_from (slice_index depths) sire dam = c.depth_with-depth.ensures.depth ∙ ap (λ ds. depth_from (slice_index ds) sire dam) c.deref.ensures.value in
     let limit = c.from.ensures in
     let asked = c.if-depth-from.true in
@@ -38,7 +35,7 @@ returns-then-depth-from-clause-outcome g c =
     ∙ subst (λ p. unsound p.book number TooDeep ≡ registration DEPTH_LIMIT p.book number a) c.self.view_is
     (registration-told DEPTH_LIMIT book number a (Some TooDeep)
     (λ absent.
-    newborn-fault DEPTH_LIMIT MOST_ANIMALS book sires dams depths c.self.invariant.kept number absent a.birth a.sire a.dam a.embryo sire dam sound sire_is dam_is true
+    newborn-fault DEPTH_LIMIT MOST_ANIMALS book c.args.self.now.book (ap (λ p. p.book) c.self.view_is) sires dams depths c.self.invariant.kept number absent a.birth a.sire a.dam a.embryo sire dam c.requires.sound c.requires.sire c.requires.dam true
     (lt-ltb DEPTH_LIMIT (depth_from (slice_index depths) sire dam) (omega (arith, asked, limit, depth)))))
 
 pub push-requires-clause-within : goal.push-requires-clause-within
@@ -71,7 +68,6 @@ invariant_of-self-2 g c =
     let depths : List ℕ = c.self.inside.depths.items in
     let sire : Option ℕ = c.args.sire in
     let dam : Option ℕ = c.args.dam in
-    let sound : fault_by_records book a.birth a.sire a.dam a.embryo ≡ None = subst (λ p. fault_by_records p.book a.birth a.sire a.dam a.embryo ≡ None) (sym c.self.view_is) c.requires.sound in
     let sire_is : IsIndexIn (keys_of book) sire a.sire = subst (λ p. IsIndexIn (keys_of p.book) sire a.sire) (sym c.self.view_is) c.requires.sire in
     let dam_is : IsIndexIn (keys_of book) dam a.dam = subst (λ p. IsIndexIn (keys_of p.book) dam a.dam) (sym c.self.view_is) c.requires.dam in
     let depth : c.depth_with-depth.result ≡ depth_from (slice_index depths) sire dam = c.depth_with-depth.ensures.depth ∙ ap (λ ds. depth_from (slice_index ds) sire dam) c.deref.ensures.value in
@@ -80,7 +76,7 @@ invariant_of-self-2 g c =
     let absent : record_of book number ≡ None = none_if (record_of book number) new in
     let asked = c.if-depth-from.false in
     let fine : None ≡ parent_fault DEPTH_LIMIT book number a.birth a.sire a.dam a.embryo =
-    newborn-fault DEPTH_LIMIT MOST_ANIMALS book sires dams depths c.self.invariant.kept number absent a.birth a.sire a.dam a.embryo sire dam sound sire_is dam_is false
+    newborn-fault DEPTH_LIMIT MOST_ANIMALS book c.args.self.now.book (ap (λ p. p.book) c.self.view_is) sires dams depths c.self.invariant.kept number absent a.birth a.sire a.dam a.embryo sire dam c.requires.sound c.requires.sire c.requires.dam false
     (le-ltb DEPTH_LIMIT (depth_from (slice_index depths) sire dam) (omega (arith, asked, limit, depth))) in
     let birth : IsBirth DEPTH_LIMIT MOST_ANIMALS book number a = record {
       absent = absent;
@@ -105,15 +101,12 @@ returns-clause-outcome g c =
     let depths : List ℕ = c.self.inside.depths.items in
     let sire : Option ℕ = c.args.sire in
     let dam : Option ℕ = c.args.dam in
-    let sound : fault_by_records book a.birth a.sire a.dam a.embryo ≡ None = subst (λ p. fault_by_records p.book a.birth a.sire a.dam a.embryo ≡ None) (sym c.self.view_is) c.requires.sound in
-    let sire_is : IsIndexIn (keys_of book) sire a.sire = subst (λ p. IsIndexIn (keys_of p.book) sire a.sire) (sym c.self.view_is) c.requires.sire in
-    let dam_is : IsIndexIn (keys_of book) dam a.dam = subst (λ p. IsIndexIn (keys_of p.book) dam a.dam) (sym c.self.view_is) c.requires.dam in
     let depth : c.depth_with-depth.result ≡ depth_from (slice_index depths) sire dam = c.depth_with-depth.ensures.depth ∙ ap (λ ds. depth_from (slice_index ds) sire dam) c.deref.ensures.value in
     let limit = c.from.ensures in
     let new : is_there book number ≡ false = not-true (is_there book number) (sym c.in_ok-push_if_new.ensures.new ∙ c.if-not-branch.false) in
     let absent : record_of book number ≡ None = none_if (record_of book number) new in
     let asked = c.if-depth-from.false in
     let fine : None ≡ parent_fault DEPTH_LIMIT book number a.birth a.sire a.dam a.embryo =
-    newborn-fault DEPTH_LIMIT MOST_ANIMALS book sires dams depths c.self.invariant.kept number absent a.birth a.sire a.dam a.embryo sire dam sound sire_is dam_is false
+    newborn-fault DEPTH_LIMIT MOST_ANIMALS book c.args.self.now.book (ap (λ p. p.book) c.self.view_is) sires dams depths c.self.invariant.kept number absent a.birth a.sire a.dam a.embryo sire dam c.requires.sound c.requires.sire c.requires.dam false
     (le-ltb DEPTH_LIMIT (depth_from (slice_index depths) sire dam) (omega (arith, asked, limit, depth))) in
     subst (λ p. Added ≡ registration DEPTH_LIMIT p.book number a) c.self.view_is (registration-added DEPTH_LIMIT book number a absent fine)

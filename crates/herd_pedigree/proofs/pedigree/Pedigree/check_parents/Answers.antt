@@ -3,9 +3,9 @@ use Rattle.std.proofs.Common.{refl, sym, ap, ◌∙◌, subst, ◌≡◌, Some, 
 use Rattle.std.specs.Map.{keys_of}
 use Rattle.herd_frozen.specs.rules.Book.{Book}
 use Rattle.herd_frozen.specs.rules.ParentFault.{fault_by_records, is_too_deep, parent_fault}
-use Rattle.herd_frozen.specs.places.Places.{IsIndexIn}
+use Rattle.herd_pedigree.specs.Pedigree.{TellsTooDeep}
 use Rattle.herd_frozen.specs.declared.TheConstants.{DEPTH_LIMIT}
-use Rattle.herd_pedigree.proofs.CheckFacts.{fault-first, fault-rest}
+use Rattle.herd_pedigree.proofs.CheckFacts.{fault-first, fault-told}
 use Rattle.herd_pedigree.proofs.pedigree.Pedigree.check_parents.Goals as goal
 
 pub returns-in-Err-clause-fault : goal.returns-in-Err-clause-fault
@@ -15,23 +15,13 @@ returns-in-Err-clause-fault g c =
 
 pub returns-then-branch-clause-fault : goal.returns-then-branch-clause-fault
 returns-then-branch-clause-fault g c =
-    let now : Book = c.args.self.now.book in
-    let same : c.self.inside.records.book ≡ now = ap (λ p. p.book) c.self.view_is in
-    let sire_is : IsIndexIn (keys_of now) c.in-Ok.parents.sire c.args.sire = subst (λ b. IsIndexIn (keys_of b) c.in-Ok.parents.sire c.args.sire) same c.in-Ok.ensures.sire in
-    let dam_is : IsIndexIn (keys_of now) c.in-Ok.parents.dam c.args.dam = subst (λ b. IsIndexIn (keys_of b) c.in-Ok.parents.dam c.args.dam) same c.in-Ok.ensures.dam in
-    let deep : true ≡ is_too_deep DEPTH_LIMIT now c.args.number c.args.sire c.args.dam = sym c.if-branch.true ∙ c.in_ok-is_too_deep.ensures c.args.sire c.args.dam sire_is dam_is in
-    fault-rest DEPTH_LIMIT now c.args.number c.args.birth c.args.sire c.args.dam c.args.embryo true
-    (subst (λ b. fault_by_records b c.args.birth c.args.sire c.args.dam c.args.embryo ≡ None) same c.in-Ok.ensures.sound) deep
+    fault-told DEPTH_LIMIT c.self.inside.records.book c.args.self.now.book (ap (λ p. p.book) c.self.view_is) c.args.number c.args.birth c.args.sire c.args.dam c.args.embryo c.in-Ok.parents.sire c.in-Ok.parents.dam c.in-Ok.ensures.sound c.in-Ok.ensures.sire c.in-Ok.ensures.dam true
+    (subst (λ deep. TellsTooDeep DEPTH_LIMIT c.args.self.now.book c.args.number c.in-Ok.parents.sire c.in-Ok.parents.dam deep) c.if-branch.true c.in_ok-is_too_deep.ensures)
 
 pub returns-else-branch-clause-fault : goal.returns-else-branch-clause-fault
 returns-else-branch-clause-fault g c =
-    let now : Book = c.args.self.now.book in
-    let same : c.self.inside.records.book ≡ now = ap (λ p. p.book) c.self.view_is in
-    let sire_is : IsIndexIn (keys_of now) c.in-Ok.parents.sire c.args.sire = subst (λ b. IsIndexIn (keys_of b) c.in-Ok.parents.sire c.args.sire) same c.in-Ok.ensures.sire in
-    let dam_is : IsIndexIn (keys_of now) c.in-Ok.parents.dam c.args.dam = subst (λ b. IsIndexIn (keys_of b) c.in-Ok.parents.dam c.args.dam) same c.in-Ok.ensures.dam in
-    let deep : false ≡ is_too_deep DEPTH_LIMIT now c.args.number c.args.sire c.args.dam = sym c.if-branch.false ∙ c.in_ok-is_too_deep.ensures c.args.sire c.args.dam sire_is dam_is in
-    fault-rest DEPTH_LIMIT now c.args.number c.args.birth c.args.sire c.args.dam c.args.embryo false
-    (subst (λ b. fault_by_records b c.args.birth c.args.sire c.args.dam c.args.embryo ≡ None) same c.in-Ok.ensures.sound) deep
+    fault-told DEPTH_LIMIT c.self.inside.records.book c.args.self.now.book (ap (λ p. p.book) c.self.view_is) c.args.number c.args.birth c.args.sire c.args.dam c.args.embryo c.in-Ok.parents.sire c.in-Ok.parents.dam c.in-Ok.ensures.sound c.in-Ok.ensures.sire c.in-Ok.ensures.dam false
+    (subst (λ deep. TellsTooDeep DEPTH_LIMIT c.args.self.now.book c.args.number c.in-Ok.parents.sire c.in-Ok.parents.dam deep) c.if-branch.false c.in_ok-is_too_deep.ensures)
 
 pub returns-in-Err-clause-by_records : goal.returns-in-Err-clause-by_records
 returns-in-Err-clause-by_records g c =

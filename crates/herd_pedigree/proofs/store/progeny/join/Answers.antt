@@ -1,4 +1,4 @@
--- `join`: what `set_previous` requires and its clauses `chained` and `parents`.
+-- `join`: what `set_previous` requires and its result.
 use Rattle.std.proofs.Common.{arith, ap, sym, ◌∙◌, List}
 use Rattle.herd_pedigree.specs.declared.store.progeny.Family.{Family}
 use Rattle.herd_pedigree.proofs.lemmas.store.LinkFacts.{chained-link, joined}
@@ -12,16 +12,12 @@ set_previous-requires c =
     let n = c.set_first.ensures.long in
     omega (arith, w, n)
 
-pub returns-clause-chained : goal.returns-clause-chained
-returns-clause-chained c =
+pub returns : goal.returns
+returns c =
     let old : List Family = c.args.families.now in
     let s = joined old c.set_first.new.families c.set_previous.new.families c.set_next.new.families c.set_parent.new.families c.args.calf c.args.parent c.at-own.result c.at-shared.result c.family_at-first.result.first
     c.at-own.ensures c.at-shared.ensures (ap (λ (f : Family). f.first) c.family_at-first.ensures) c.set_first.ensures c.set_previous.ensures c.set_next.ensures c.set_parent.ensures in
-    chained-link old c.set_parent.new.families c.requires.chained c.args.calf c.args.parent c.requires.within c.requires.none s
-
-pub returns-clause-parents : goal.returns-clause-parents
-returns-clause-parents c =
-    let old : List Family = c.args.families.now in
-    let s = joined old c.set_first.new.families c.set_previous.new.families c.set_next.new.families c.set_parent.new.families c.args.calf c.args.parent c.at-own.result c.at-shared.result c.family_at-first.result.first
-    c.at-own.ensures c.at-shared.ensures (ap (λ (f : Family). f.first) c.family_at-first.ensures) c.set_first.ensures c.set_previous.ensures c.set_next.ensures c.set_parent.ensures in
-    parents-set old c.set_parent.new.families c.args.calf _ c.requires.here s.long s.parents
+    record {
+      chained = chained-link old c.set_parent.new.families c.requires.chained c.args.calf c.args.parent c.requires.within c.requires.none s;
+      parents = parents-set old c.set_parent.new.families c.args.calf _ c.requires.here s.long s.parents;
+    }

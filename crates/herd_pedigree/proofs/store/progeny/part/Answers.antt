@@ -1,4 +1,4 @@
--- `part`: what `set_first`, `set_next` and `set_previous` require and its clauses `chained` and `parents`.
+-- `part`: what `set_first`, `set_next` and `set_previous` require and its result.
 use Rattle.std.proofs.Common.{arith, ap, sym, ◌∙◌, List, None}
 use Rattle.herd_pedigree.specs.declared.store.progeny.Family.{Family}
 use Rattle.herd_pedigree.proofs.lemmas.store.ProgenyFacts.{parents-set}
@@ -28,24 +28,17 @@ set_previous-requires c =
     let m = c.set_next.ensures.long in
     omega (arith, w, n, m)
 
-pub returns-clause-chained : goal.returns-clause-chained
-returns-clause-chained c =
+pub returns : goal.returns
+returns c =
     let old : List Family = c.args.families.now in
     let is = c.family_at-family.ensures in
     let s = parted old c.set_first.new.families c.set_next.new.families c.set_previous.new.families c.set_next-2.new.families c.set_previous-2.new.families c.set_parent.new.families c.args.calf
     c.at-own.result c.none-none.result c.led_by.result c.family_at-family.result.next c.family_at-family.result.previous
     c.at-own.ensures c.none-none.ensures (ap (λ (f : Family). f.next) is) (ap (λ (f : Family). f.previous) is)
     c.set_first.ensures c.set_next.ensures c.set_previous.ensures c.set_next-2.ensures c.set_previous-2.ensures c.set_parent.ensures in
-    chained-part old c.set_parent.new.families c.requires.chained c.args.calf c.led_by.result
-    (λ none. c.led_by.ensures.first (ap (λ (f : Family). f.previous) is ∙ none) ∙ ap (λ (f : Family). f.parent) is)
-    (λ q e. c.led_by.ensures.later q (ap (λ (f : Family). f.previous) is ∙ e)) s
-
-pub returns-clause-parents : goal.returns-clause-parents
-returns-clause-parents c =
-    let old : List Family = c.args.families.now in
-    let is = c.family_at-family.ensures in
-    let s = parted old c.set_first.new.families c.set_next.new.families c.set_previous.new.families c.set_next-2.new.families c.set_previous-2.new.families c.set_parent.new.families c.args.calf
-    c.at-own.result c.none-none.result c.led_by.result c.family_at-family.result.next c.family_at-family.result.previous
-    c.at-own.ensures c.none-none.ensures (ap (λ (f : Family). f.next) is) (ap (λ (f : Family). f.previous) is)
-    c.set_first.ensures c.set_next.ensures c.set_previous.ensures c.set_next-2.ensures c.set_previous-2.ensures c.set_parent.ensures in
-    parents-set old c.set_parent.new.families c.args.calf None c.requires.here s.long s.parents
+    record {
+      chained = chained-part old c.set_parent.new.families c.requires.chained c.args.calf c.led_by.result
+          (λ none. c.led_by.ensures.first (ap (λ (f : Family). f.previous) is ∙ none) ∙ ap (λ (f : Family). f.parent) is)
+          (λ q e. c.led_by.ensures.later q (ap (λ (f : Family). f.previous) is ∙ e)) s;
+      parents = parents-set old c.set_parent.new.families c.args.calf None c.requires.here s.long s.parents;
+    }

@@ -3,11 +3,11 @@ use Rattle.std.proofs.Common.{All, sym, ap, ◌∙◌, subst, arith, ℕ, List, 
 use Rattle.std.proofs.lemmas.Bool.{lt-ltb, ltb-true, not-false, not-true}
 use Rattle.std.proofs.lemmas.List.{length-set}
 use Rattle.herd_pedigree.specs.store.Correction.{corrected}
-use Rattle.herd_frozen.specs.rules.Depths.{IsParent}
 use Rattle.herd_pedigree.specs.store.Carry.{IsSettled}
 use Rattle.herd_pedigree.specs.store.Undo.{TakesBack}
 use Rattle.herd_frozen.specs.declared.TheConstants.{DEPTH_LIMIT}
 use Rattle.herd_pedigree.proofs.lemmas.store.CarryFacts.{settled-deep, settled-shallow}
+use Rattle.herd_pedigree.proofs.lemmas.store.CorrectionFacts.{sound-closed}
 use Rattle.herd_pedigree.proofs.lemmas.store.UndoFacts.{taken-none, written-most}
 use Rattle.herd_pedigree.proofs.store.correction.Correction.stays_shallow.Goals as goal
 
@@ -18,10 +18,8 @@ returns-clause-shallow g c =
     let sires : List (Option ℕ) = slice_set x.sires.now.parents x.place x.sire in
     let n : length sires ≡ length x.sires.now.parents = length-set x.sires.now.parents x.place x.sire in
     let depths : List ℕ = c.carry.new.depths in
-    let closed : (p y : ℕ) → IsTrue ((corrected x).is_there y) → IsParent (corrected x) p y → IsTrue ((corrected x).is_there p) =
-    λ p y there is. lt-ltb p (length sires) (let w = x.sound.closed p y is in omega (arith, w, n)) in
     let settled : IsSettled DEPTH_LIMIT (corrected x) (slice_index depths) [] = c.in_ok-carry.ensures.settled c.if-not-branch.false in
-    settled-shallow DEPTH_LIMIT (corrected x) (slice_index depths) closed settled
+    settled-shallow DEPTH_LIMIT (corrected x) (slice_index depths) (sound-closed x.sires.now.parents x.dams.now.parents x.place x.sire x.dam x.sound) settled
     (λ y there.
     let written : All (λ write. slice_index depths write.0 ≤ DEPTH_LIMIT) c.carry.new.log.items =
     subst (λ log. All (λ write. slice_index depths write.0 ≤ DEPTH_LIMIT) log) c.deref.ensures.value (c.has_greater.ensures.most (not-true c.has_greater.result shallow)) in
@@ -38,8 +36,6 @@ returns-clause-deep g c =
     let n : length sires ≡ length x.sires.now.parents = length-set x.sires.now.parents x.place x.sire in
     let depths : List ℕ = c.carry.new.depths in
     let long : length depths ≡ length sires = c.carry.auto.depths ∙ c.requires.before.long ∙ sym n in
-    let closed : (p y : ℕ) → IsTrue ((corrected x).is_there y) → IsParent (corrected x) p y → IsTrue ((corrected x).is_there p) =
-    λ p y there is. lt-ltb p (length sires) (let w = x.sound.closed p y is in omega (arith, w, n)) in
     let settled : IsSettled DEPTH_LIMIT (corrected x) (slice_index depths) [] = c.in_ok-carry.ensures.settled c.if-not-branch.false in
     let high = c.has_greater.ensures.greater (not-false c.has_greater.result deep) in
-    (high.0, settled-deep DEPTH_LIMIT (corrected x) (slice_index depths) closed settled high.0 (lt-ltb high.0 (length sires) (let w = high.1 in omega (arith, w, long))) high.2)
+    (high.0, settled-deep DEPTH_LIMIT (corrected x) (slice_index depths) (sound-closed x.sires.now.parents x.dams.now.parents x.place x.sire x.dam x.sound) settled high.0 (lt-ltb high.0 (length sires) (let w = high.1 in omega (arith, w, long))) high.2)

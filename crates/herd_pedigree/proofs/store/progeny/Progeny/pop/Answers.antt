@@ -5,7 +5,7 @@ use Rattle.herd_pedigree.specs.declared.store.progeny.Family.{Family}
 use Rattle.herd_pedigree.specs.store.Calves.{parent_of, parents_of}
 use Rattle.herd_frozen.specs.places.Places.{parent_at}
 use Rattle.herd_pedigree.proofs.lemmas.store.PopFacts.{chained-pop, still_childless, take-set}
-use Rattle.herd_pedigree.proofs.lemmas.store.ProgenyFacts.{parents-seen}
+use Rattle.herd_pedigree.proofs.lemmas.store.ProgenyFacts.{length-families, parents-seen}
 use Rattle.herd_pedigree.proofs.store.progeny.Progeny.pop.Goals as goal
 
 pub invariant_of-self : goal.invariant_of-self
@@ -13,9 +13,7 @@ invariant_of-self g c =
     let families : List Family = c.self-2.inside.families.items in
     let parents : List (Option ℕ) = c.args.self.now.parents in
     let n : ℕ = c.len-last.result - 1 in
-    let seen = ap (λ p. length p.parents) c.self.view_is in
-    let long = length-map c.self.inside.families.items (λ (family : Family). family.parent) in
-    let len : c.len-last.result ≡ length parents = c.len-last.ensures ∙ c.self.inside.families.ok.0 ∙ sym long ∙ seen in
+    let len : c.len-last.result ≡ length parents = c.len-last.ensures ∙ c.self.inside.families.ok.0 ∙ length-families c.self.inside.families.items parents (ap (λ p. p.parents) c.self.view_is) in
     let some = c.requires.some in
     let here : n < length parents = omega (arith, len, some) in
     let same : slice_set parents n None ≡ parents_of families = sym c.unlink.ensures ∙ sym (ap (λ p. p.parents) c.self-2.view_is) in
@@ -33,9 +31,7 @@ returns g c =
     let families : List Family = c.self-2.inside.families.items in
     let parents : List (Option ℕ) = c.args.self.now.parents in
     let n : ℕ = c.len-last.result - 1 in
-    let seen = ap (λ p. length p.parents) c.self.view_is in
-    let long = length-map c.self.inside.families.items (λ (family : Family). family.parent) in
-    let len : c.len-last.result ≡ length parents = c.len-last.ensures ∙ c.self.inside.families.ok.0 ∙ sym long ∙ seen in
+    let len : c.len-last.result ≡ length parents = c.len-last.ensures ∙ c.self.inside.families.ok.0 ∙ length-families c.self.inside.families.items parents (ap (λ p. p.parents) c.self.view_is) in
     let some = c.requires.some in
     let here : n < length parents = omega (arith, len, some) in
     let same : parents_of families ≡ slice_set parents n None = ap (λ p. p.parents) c.self-2.view_is ∙ c.unlink.ensures in
