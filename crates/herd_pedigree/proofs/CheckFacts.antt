@@ -36,7 +36,7 @@ use Rattle.herd_frozen.proofs.lemmas.rules.WrittenFacts.{written-changed, too_de
 use Rattle.herd_pedigree.proofs.lemmas.store.SetFacts.{keys-set, set-changed, AreParents-set}
 
 -- a named parent's place is within the book
-named-within : (numbers : List (List ℕ)) (o : Option ℕ) (n : Option (List ℕ)) (p : ℕ) → IsIndexIn numbers o n → o ≡ Some p → p < length numbers
+pub named-within : (numbers : List (List ℕ)) (o : Option ℕ) (n : Option (List ℕ)) (p : ℕ) → IsIndexIn numbers o n → o ≡ Some p → p < length numbers
 named-within numbers o n p is e = let f = number_from_place numbers o n p is e in slice_get_within numbers p f.0 f.2
 
 -- and so is each parent's

@@ -12,7 +12,7 @@ use Rattle.herd_frozen.specs.places.Places.{IsIndexIn}
 use Rattle.herd_frozen.specs.declared.TheConstants.{DEPTH_LIMIT, MOST_ANIMALS}
 use Rattle.herd_frozen.proofs.lemmas.places.NumberFacts.{place-within}
 use Rattle.herd_frozen.proofs.lemmas.rules.BookFacts.{length-keys, none_if}
-use Rattle.herd_pedigree.proofs.CheckFacts.{newborn-fault}
+use Rattle.herd_pedigree.proofs.CheckFacts.{named-within, newborn-fault}
 use Rattle.herd_pedigree.proofs.KeptFacts.{IsHeld-push}
 use Rattle.herd_pedigree.proofs.RegistrationFacts.{registration-added, registration-told}
 use Rattle.herd_pedigree.proofs.lemmas.store.CorrectionFacts.{parent_in}
@@ -40,23 +40,21 @@ returns-then-depth-from-clause-outcome g c =
 
 pub push-requires-clause-within : goal.push-requires-clause-within
 push-requires-clause-within g c =
-    let a = c.args.animal in
-    let book : Book = c.self.inside.records.book in
-    let is : IsIndexIn (keys_of book) c.args.sire a.sire = subst (λ p. IsIndexIn (keys_of p.book) c.args.sire a.sire) (sym c.self.view_is) c.requires.sire in
-    let n = length-keys book in
+    let now : Book = c.args.self.now.book in
+    let n = length-keys now in
+    let b = ap (λ p. length p.book) c.self.view_is in
     let m = c.self.invariant.kept.sires_are.long in
     let s = ap (λ ps. length ps) c.make_room.ensures.sires in
-    λ p e. let w = parent_in c.args.sire (length (keys_of book)) p (place-within (keys_of book) c.args.sire a.sire is) e in omega (arith, w, n, m, s)
+    λ p e. let w = named-within (keys_of now) c.args.sire c.args.animal.sire p c.requires.sire e in omega (arith, w, n, b, m, s)
 
 pub push-requires-2-clause-within : goal.push-requires-2-clause-within
 push-requires-2-clause-within g c =
-    let a = c.args.animal in
-    let book : Book = c.self.inside.records.book in
-    let is : IsIndexIn (keys_of book) c.args.dam a.dam = subst (λ p. IsIndexIn (keys_of p.book) c.args.dam a.dam) (sym c.self.view_is) c.requires.dam in
-    let n = length-keys book in
+    let now : Book = c.args.self.now.book in
+    let n = length-keys now in
+    let b = ap (λ p. length p.book) c.self.view_is in
     let m = c.self.invariant.kept.dams_are.long in
     let s = ap (λ ps. length ps) c.make_room.ensures.dams in
-    λ p e. let w = parent_in c.args.dam (length (keys_of book)) p (place-within (keys_of book) c.args.dam a.dam is) e in omega (arith, w, n, m, s)
+    λ p e. let w = named-within (keys_of now) c.args.dam c.args.animal.dam p c.requires.dam e in omega (arith, w, n, b, m, s)
 
 pub invariant_of-self-2 : goal.invariant_of-self-2
 invariant_of-self-2 g c =
