@@ -1,5 +1,5 @@
 -- The first fault, and when it is that a path is too long.
-use Rattle.std.proofs.Common.{ℕ, suc, ℤ, pos, ◌+◌, ◌<◌, ◌≤◌, ◌≡◌, ◌≢◌, ⊎_elim, inl, inr, arith, refl, sym, ap, ◌∙◌, subst, Bool, true, false, nat_lt, if◌then◌else◌, IsTrue, IsFalse, List, [], ◌∷◌, Option, Some, None, IfSome, length, slice_get, slice_index, slice_set, get_or}
+use Rattle.std.proofs.Common.{ℕ, suc, ℤ, pos, ◌+◌, ◌<◌, ◌≤◌, ◌≡◌, ◌≢◌, ⊎_elim, inl, inr, arith, refl, sym, ap, ◌∙◌, subst, Bool, true, false, nat_lt, if◌then◌else◌, IsTrue, IsFalse, List, ◌∷◌, Option, Some, None, IfSome, length, slice_get, slice_index, slice_set, get_or}
 use Rattle.std.specs.Str.{bytes_eq}
 use Rattle.std.specs.List.{IsDistinct, list_any}
 use Rattle.std.specs.Map.{keys_of}

@@ -4,7 +4,7 @@ use Rattle.std.proofs.lemmas.Bool.{cases_eq, lt-ltb, eqb-false, ne_eqb, not-true
 use Rattle.std.proofs.lemmas.List.{append_assoc, get_or-set_other, length-set}
 use Rattle.std.proofs.lemmas.List.Elements.{Contains-append_left, Contains-append_right, Contains-append_cases}
 use Rattle.herd_frozen.specs.rules.Depths.{IsParent}
-use Rattle.herd_frozen.specs.places.Places.{parent_at, parentage_at}
+use Rattle.herd_frozen.specs.places.Places.{parent_at}
 use Rattle.herd_pedigree.specs.store.Carry.{AddsCalves}
 use Rattle.herd_pedigree.specs.store.Exchange.{IsSound, exchanged}
 use Rattle.herd_pedigree.proofs.lemmas.store.ListFacts.{contains_here, contains_cases, contains_none, filter-keeps, filter-only}

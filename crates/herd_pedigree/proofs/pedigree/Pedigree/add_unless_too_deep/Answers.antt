@@ -5,17 +5,15 @@ use Rattle.std.proofs.lemmas.Bool.{le-ltb, lt-ltb, not-true}
 use Rattle.herd_frozen.specs.declared.rules.parent_fault.ParentFault.TheVariants.{TooDeep}
 use Rattle.herd_frozen.specs.rules.Book.{Book, is_there, record_of}
 use Rattle.herd_frozen.specs.rules.Depths.{depth_from}
-use Rattle.herd_frozen.specs.rules.ParentFault.{fault_by_records, parent_fault}
+use Rattle.herd_frozen.specs.rules.ParentFault.{parent_fault}
 use Rattle.herd_pedigree.specs.declared.registration.Registration.TheVariants.{Added}
 use Rattle.herd_pedigree.specs.Pedigree.{IsBirth, registration, unsound}
 use Rattle.herd_frozen.specs.places.Places.{IsIndexIn}
 use Rattle.herd_frozen.specs.declared.TheConstants.{DEPTH_LIMIT, MOST_ANIMALS}
-use Rattle.herd_frozen.proofs.lemmas.places.NumberFacts.{place-within}
 use Rattle.herd_frozen.proofs.lemmas.rules.BookFacts.{length-keys, none_if}
 use Rattle.herd_pedigree.proofs.CheckFacts.{named-within, newborn-fault}
 use Rattle.herd_pedigree.proofs.KeptFacts.{IsHeld-push}
 use Rattle.herd_pedigree.proofs.RegistrationFacts.{registration-added, registration-told}
-use Rattle.herd_pedigree.proofs.lemmas.store.CorrectionFacts.{parent_in}
 use Rattle.herd_pedigree.proofs.pedigree.Pedigree.add_unless_too_deep.Goals as goal
 
 pub returns-then-depth-from-clause-outcome : goal.returns-then-depth-from-clause-outcome

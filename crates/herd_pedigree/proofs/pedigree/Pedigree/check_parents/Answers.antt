@@ -1,8 +1,6 @@
 -- `Pedigree::check_parents`: its clauses `fault` and `by_records`.
-use Rattle.std.proofs.Common.{refl, sym, ap, ◌∙◌, subst, ◌≡◌, Some, None, true, false}
-use Rattle.std.specs.Map.{keys_of}
-use Rattle.herd_frozen.specs.rules.Book.{Book}
-use Rattle.herd_frozen.specs.rules.ParentFault.{fault_by_records, is_too_deep, parent_fault}
+use Rattle.std.proofs.Common.{refl, ap, subst, ◌≡◌, Some, None, true, false}
+use Rattle.herd_frozen.specs.rules.ParentFault.{fault_by_records, parent_fault}
 use Rattle.herd_pedigree.specs.Pedigree.{TellsTooDeep}
 use Rattle.herd_frozen.specs.declared.TheConstants.{DEPTH_LIMIT}
 use Rattle.herd_pedigree.proofs.CheckFacts.{fault-first, fault-told}

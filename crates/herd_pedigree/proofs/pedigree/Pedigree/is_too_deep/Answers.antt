@@ -1,10 +1,9 @@
 -- `Pedigree::is_too_deep`: what `has_no_calves` and `is_too_deep` require and its result.
-use Rattle.std.proofs.Common.{◌+◌, sym, ap, ◌∙◌, subst, arith, ◌≡◌, ◌<◌, ◌≤◌, ℕ, List, [], ◌∷◌, Option, Some, None, IfSome, Bool, false, nat_lt, IsTrue, IsFalse, length, slice_index, slice_get, slice_set}
-use Rattle.std.proofs.lemmas.Bool.{lt-ltb}
+use Rattle.std.proofs.Common.{◌+◌, sym, ap, ◌∙◌, subst, arith, ◌≡◌, ◌<◌, ◌≤◌, ℕ, List, Some, None, IfSome, false, nat_lt, IsTrue, IsFalse, length, slice_index, slice_get}
 use Rattle.std.proofs.lemmas.List.{get_or_default}
 use Rattle.std.specs.Map.{keys_of}
 use Rattle.herd_frozen.specs.rules.Paths.{Parentage, has_path}
-use Rattle.herd_frozen.specs.rules.Book.{Book, record_of}
+use Rattle.herd_frozen.specs.rules.Book.{record_of}
 use Rattle.herd_pedigree.specs.Pedigree.{TellsTooDeep}
 use Rattle.herd_frozen.specs.rules.Depths.{depth_from}
 use Rattle.herd_pedigree.specs.store.Exchange.{exchanged}

@@ -1,5 +1,5 @@
 -- `Pedigree::set_parents_at_if_sound`: what `carry_if_shallow` and `write` require, the invariant, and its clauses `fault`, `set` and `by_records`.
-use Rattle.std.proofs.Common.{◌+◌, refl, sym, ap, ◌∙◌, subst, arith, ◌≡◌, ◌<◌, ℕ, List, [], ◌∷◌, Option, Some, None, IfSome, IsFalse, IsTrue, true, false, All, length, slice_index, slice_get, slice_set}
+use Rattle.std.proofs.Common.{◌+◌, refl, sym, ap, ◌∙◌, subst, ◌≡◌, ◌<◌, ℕ, List, [], Option, Some, None, IfSome, IsFalse, IsTrue, true, false, All, length, slice_index, slice_get, slice_set}
 use Rattle.std.specs.Map.{keys_of}
 use Rattle.std.specs.Vec.{with_items}
 use Rattle.std.proofs.lemmas.List.{with_items_is}

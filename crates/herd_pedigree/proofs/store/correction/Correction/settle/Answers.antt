@@ -1,5 +1,5 @@
 -- `Correction::settle`: its clauses `settled`, `logged` and `paths`.
-use Rattle.std.proofs.Common.{rules, sym, ap, ◌∙◌, subst, ◌≡◌, ◌<◌, ℕ, List, [], ◌∷◌, ◌++◌, length, slice_index, slice_set}
+use Rattle.std.proofs.Common.{rules, sym, subst, ◌≡◌, ◌<◌, ℕ, List, [], ◌∷◌, ◌++◌, length, slice_index, slice_set}
 use Rattle.std.proofs.lemmas.Result.{on_ok_weaker}
 use Rattle.herd_pedigree.specs.store.Correction.{corrected}
 use Rattle.herd_pedigree.specs.store.Undo.{TakesBack}

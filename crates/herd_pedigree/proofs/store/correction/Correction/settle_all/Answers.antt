@@ -1,5 +1,5 @@
 -- `Correction::settle_all`: its loop and its clauses `logged` and `settled`.
-use Rattle.std.proofs.Common.{rules, subst, ℕ, List, [], ◌++◌, ◌∷◌, ◌≡◌, ◌+◌, ◌<◌, All, IsTrue, get_or, drop, slice_index}
+use Rattle.std.proofs.Common.{rules, subst, ℕ, List, [], ◌++◌, ◌∷◌, ◌≡◌, ◌+◌, IsTrue, get_or, drop, slice_index}
 use Rattle.std.proofs.Common.{◌∙◌}
 use Rattle.std.proofs.lemmas.List.{drop_more, drop_all}
 use Rattle.std.proofs.lemmas.List.Elements.{All-get_or}

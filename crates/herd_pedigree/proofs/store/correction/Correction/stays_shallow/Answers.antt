@@ -1,5 +1,5 @@
 -- `Correction::stays_shallow`: its clauses `logged`, `shallow` and `deep`.
-use Rattle.std.proofs.Common.{All, sym, ap, ◌∙◌, subst, arith, ℕ, List, Option, [], ◌≡◌, ◌<◌, ◌≤◌, IsTrue, length, slice_index, slice_set}
+use Rattle.std.proofs.Common.{All, sym, ◌∙◌, subst, arith, ℕ, List, Option, [], ◌≡◌, ◌<◌, ◌≤◌, length, slice_index, slice_set}
 use Rattle.std.proofs.lemmas.Bool.{lt-ltb, ltb-true, not-false, not-true}
 use Rattle.std.proofs.lemmas.List.{length-set}
 use Rattle.herd_pedigree.specs.store.Correction.{corrected}

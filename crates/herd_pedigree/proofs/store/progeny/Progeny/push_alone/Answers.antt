@@ -1,5 +1,5 @@
 -- `Progeny::push_alone`: the invariant.
-use Rattle.std.proofs.Common.{rules, arith, ap, ◌≡◌, [], ◌∷◌, ◌++◌, length}
+use Rattle.std.proofs.Common.{rules, arith, ap, ◌≡◌, [], ◌∷◌, ◌++◌}
 use Rattle.herd_pedigree.specs.store.Calves.{alone}
 use Rattle.herd_pedigree.proofs.lemmas.store.PopFacts.{chained-append}
 use Rattle.herd_pedigree.proofs.lemmas.store.ProgenyFacts.{length-families}
