@@ -1,5 +1,5 @@
 //! The parents by place, with those of one animal exchanged, and the depths that follow.
-ghost use Rattle.std.specs.Prelude.{◌≡◌, ℕ, suc, ◌+◌, ◌<◌, ◌≤◌, ◌==◌, ◌++◌, ◌∷◌, [], List, All, IsTrue, IsFalse, ◌↔◌, IfNone, IfOk, IfSome, OnOk, OnErr, Some, filter, length, min, not, slice_index};
+ghost use Rattle.std.specs.Prelude.{◌≡◌, ◌⊎◌, ℕ, suc, ◌+◌, ◌<◌, ◌≤◌, ◌==◌, ◌++◌, ◌∷◌, [], List, All, IsTrue, IsFalse, ◌↔◌, IfNone, IfOk, IfSome, OnOk, OnErr, Some, filter, length, min, not, slice_index};
 ghost use Rattle.herd_pedigree.specs.store.Carry.{AddsCalves, HavePaths, IsSettled};
 ghost use Rattle.herd_frozen.specs.rules.Depths.{IsParent, depth_from};
 ghost use Rattle.herd_frozen.specs.rules.Paths.{has_path};
@@ -24,7 +24,7 @@ pub struct Correction<'a, A: Allocator> {
 }
 
 impl<A: Allocator> Correction<'_, A> {
-    ghost use Rattle.herd_pedigree.specs.store.Correction.{AreDepthsBefore, corrected};
+    ghost use Rattle.herd_pedigree.specs.store.Correction.{AreDepthsBefore, corrected, uncorrected};
 
     // The parents of an animal.
     fn parents_of(&self, place: u32) -> Link
@@ -52,9 +52,11 @@ impl<A: Allocator> Correction<'_, A> {
         self.sire == Some(place) || self.dam == Some(place)
     }
 
-    /// Whether the animal whose parents are exchanged is nobody's parent.
+    /// Whether the animal whose parents are exchanged is nobody's parent, with the old parents and with the new.
     pub fn has_no_calves(&self) -> bool
-        ensures { IsTrue result → (x : ℕ) → IsParent (corrected self.now) self.now.place x → ⊥ }
+        ensures none { IsTrue result → (x : ℕ) → IsParent (corrected self.now) self.now.place x → ⊥ }
+        ensures some { IsFalse result → (x : ℕ) × (IsParent (corrected self.now) self.now.place x
+            ⊎ IsParent (uncorrected self.now) self.now.place x) }
     {
         !self.sires.has_calves(self.place)
             && !self.dams.has_calves(self.place)

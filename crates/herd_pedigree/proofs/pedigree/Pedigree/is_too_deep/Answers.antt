@@ -49,7 +49,7 @@ returns-then-has_no_calves g c =
     let depth : c.depth_with-depth.result ≡ depth_from (slice_index i.depths.items) c.args.sire c.args.dam = c.depth_with-depth.ensures.depth ∙ ap (λ ds. depth_from (slice_index ds) c.args.sire c.args.dam) c.deref.ensures.value in
     let at : slice_get (keys_of i.records.book) c.in-Some.place ≡ Some c.args.number.now = at_position i.records.book c.args.number.now c.in-Some.place (sym c.in-Some.ensures.index) in
     subst (λ p. TellsTooDeep DEPTH_LIMIT p.book c.args.number.now c.args.sire c.args.dam (nat_lt c.from-then-has_no_calves.result c.depth_with-depth.result)) c.self.view_is
-    (λ s d si di. (λ j. nat_lt (c.from-then-has_no_calves.ensures j) (depth j)) ∙ too_deep-leaf DEPTH_LIMIT MOST_ANIMALS i.records.book i.sires.parents i.dams.parents i.depths.items c.self.invariant.kept c.args.number.now c.in-Some.place at c.args.sire c.args.dam s d si di (c.has_no_calves.ensures c.if-has_no_calves.true))
+    (λ s d si di. (λ j. nat_lt (c.from-then-has_no_calves.ensures j) (depth j)) ∙ too_deep-leaf DEPTH_LIMIT MOST_ANIMALS i.records.book i.sires.parents i.dams.parents i.depths.items c.self.invariant.kept c.args.number.now c.in-Some.place at c.args.sire c.args.dam s d si di (c.has_no_calves.ensures.none c.if-has_no_calves.true))
 
 pub is_too_deep-requires : goal.is_too_deep-requires
 is_too_deep-requires g c =
