@@ -159,8 +159,8 @@ impl<A: Allocator + Copy> Pedigree<A> {
         }
     }
 
-    /// Adds an animal, unless its number is in the book, or its parents have a fault. Its number is looked up once. The
-    /// only error is a growth of memory that is refused; then all is as it was.
+    /// Adds an animal, unless its number is in the book, or its parents have a fault. Its number is looked up once.
+    /// The only error is a growth of memory that is refused; then all is as it was.
     pub fn add_if_new(
         &mut self,
         number: AnimalNumber,
