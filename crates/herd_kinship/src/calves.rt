@@ -2,7 +2,6 @@ ghost use Rattle.std.specs.Prelude.{◌≡◌, ◌==◌, ℕ, ◌<◌, ◌⊎◌
 ghost use Rattle.std.specs.Iterator.{YieldsFirst, item_count};
 ghost use Rattle.herd_kinship.specs.CalfLinks.{AreCalvesOf, IsCalf, calf_count, calves_of_sire};
 
-use crate::tracing::parents_at;
 use herd_frozen::{Frozen, PackedIndex, Parents};
 use std::alloc::{AllocError, Allocator};
 use std::marker::Model;
@@ -81,7 +80,7 @@ pub(crate) fn has_calves<F: Allocator>(frozen: &Frozen<F>) -> bool
     ensures no { IsFalse result → (sire calf : ℕ) → IsCalf frozen.now sire calf → ⊥ }
 {
     for calf in 0..frozen.len() {
-        if sire_of_pair(parents_at(frozen, calf)).is_some() {
+        if sire_of_pair(frozen.parents(calf)).is_some() {
             return true;
         }
     }
@@ -97,7 +96,7 @@ impl<A: Allocator + Clone> Calves<A> {
         let mut latest = vec![in alloc.clone()?; PackedIndex::none(); animals]?;
         let mut earlier = vec![in alloc; PackedIndex::none(); animals]?;
         for calf in 0..frozen.len() {
-            if let Some(sire) = sire_of_pair(parents_at(frozen, calf)) {
+            if let Some(sire) = sire_of_pair(frozen.parents(calf)) {
                 earlier[calf as usize] = latest[sire as usize];
                 latest[sire as usize] = PackedIndex::at(calf);
             }

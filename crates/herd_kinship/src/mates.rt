@@ -12,7 +12,7 @@ use crate::calf_coefficients::CalfCoefficient;
 use crate::calves::{Calves, SireCalves};
 use crate::columns::{collect, mark_parent, relate, with_parent};
 use crate::pending::Pending;
-use crate::tracing::{Tracing, parents_at};
+use crate::tracing::Tracing;
 use herd_frozen::Frozen;
 use std::alloc::{AllocError, Allocator};
 
@@ -121,7 +121,7 @@ fn mark_mates<F: Allocator, P: Allocator>(
         → mark marked.new.chunks.items (last - dam) ≡ 1) calves.entry }
 {
     for calf in calves {
-        mark_parent(marked, last, parents_at(frozen, calf).dam);
+        mark_parent(marked, last, frozen.parents(calf).dam);
     }
 }
 
@@ -138,7 +138,7 @@ fn append_halves<F: Allocator, L: Allocator>(
         (λ _. list.new.items ≡ list.old.items ++ map (with_half frozen.now column.now) calves.entry) }
 {
     for rank in calves {
-        let numerator = with_parent(column, parents_at(frozen, rank).dam) / 2;
+        let numerator = with_parent(column, frozen.parents(rank).dam) / 2;
         list.push(CalfCoefficient { rank, numerator })?;
     }
     Ok(())

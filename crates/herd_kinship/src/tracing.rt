@@ -91,7 +91,7 @@ impl<A: Allocator> Tracing<A> {
             return None;
         };
         let rank = self.rank - distance as u32;
-        let parents = parents_at(frozen, rank);
+        let parents = frozen.parents(rank);
         let share = self.shares[distance];
         let met = Met {
             rank,
@@ -118,22 +118,13 @@ impl<A: Allocator> Tracing<A> {
         ensures marks { GivesMark self.old.rank self.old.pending.chunks.items self.new.pending.chunks.items parent }
     {
         if let Some(rank) = parent {
-            let steps = met.parents.depth - parents_at(frozen, rank).depth;
+            let steps = met.parents.depth - frozen.parents(rank).depth;
             let distance = (self.rank - rank) as usize;
             let gift = met.share << (steps - 1);
             self.shares[distance] += gift;
             self.pending.insert(distance);
         }
     }
-}
-
-/// The parents and the depth of the animal at a rank.
-pub fn parents_at<F: Allocator>(frozen: &Frozen<F>, rank: u32) -> Parents
-    requires { rank < length frozen.now }
-    ensures parents { AreParentsAt frozen.now rank result }
-    ensures frozen { IsFrozen DEPTH_LIMIT MOST_ANIMALS frozen.now }
-{
-    frozen.parents(rank)
 }
 
 /// A quarter of a parent's relationship with itself.
@@ -170,7 +161,7 @@ pub fn mendelian<F: Allocator>(frozen: &Frozen<F>, known: &[u128], rank: u32) ->
     ensures positive { 0 < result }
     ensures at_most_one { result ≤ 2 ^ (2 * DEPTH_LIMIT) }
 {
-    variance_by(known, parents_at(frozen, rank))
+    variance_by(known, frozen.parents(rank))
 }
 
 /// What an ancestor adds to a relationship: its Mendelian sampling variance times the two shares, which are in units
@@ -200,7 +191,7 @@ fn trace_ancestors<F: Allocator, A: Allocator + Clone>(
     requires known { KnowsAncestors DEPTH_LIMIT frozen.now known.now rank }
     ensures { IfOk result (λ value. value ≡ own_relationship DEPTH_LIMIT frozen.now rank) }
 {
-    let depth = parents_at(frozen, rank).depth;
+    let depth = frozen.parents(rank).depth;
     let mut tracing = Tracing::with_room(alloc, rank + 1)?;
     tracing.start(frozen, rank);
     let mut sum = 0;

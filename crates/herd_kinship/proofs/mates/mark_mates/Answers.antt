@@ -12,8 +12,8 @@ use Rattle.herd_kinship.proofs.mates.mark_mates.Goals as goal
 
 pub mark_parent-requires-clause-older : goal.mark_parent-requires-clause-older
 mark_parent-requires-clause-older g c = λ d e.
-    let lower = dam-older DEPTH_LIMIT MOST_ANIMALS c.args.frozen.now c.in-Some.calf c.parents_at.result c.parents_at.ensures.frozen c.parents_at.ensures.parents d e in
-    let here = parents-within c.args.frozen.now c.in-Some.calf c.parents_at.result c.parents_at.ensures.parents in
+    let lower = dam-older DEPTH_LIMIT MOST_ANIMALS c.args.frozen.now c.in-Some.calf c.parents.result c.parents.ensures.frozen c.parents.ensures.parents d e in
+    let here = parents-within c.args.frozen.now c.in-Some.calf c.parents.result c.parents.ensures.parents in
     let last = c.requires.last in
     omega arith
 
@@ -24,7 +24,7 @@ loop-calf-preserved g c =
     let last : ℕ = c.args.last in
     let chunks : List ℕ = c.loop-calf.marked.chunks.items in
     let chunks' : List ℕ = c.mark_parent.new.pending.chunks.items in
-    let dam = c.parents_at.result.dam in
+    let dam = c.parents.result.dam in
     let gives : GivesMark last chunks chunks' dam = c.mark_parent.ensures in
     let long = gives-room last chunks chunks' dam gives in
     let room : last < 64 * length chunks = c.loop-calf.invariant.room in
@@ -38,5 +38,5 @@ loop-calf-preserved g c =
           (gives-from last chunks chunks' dam gives e m);
       mates = All-push (IsMated chunks') c.loop-calf.yielded calf
           (All-weaker (IsMated chunks) (IsMated chunks') (λ x marked d e. gives-kept last chunks chunks' dam gives (last - d) (marked d e)) c.loop-calf.yielded c.loop-calf.invariant.mates)
-          (λ d e. gives-it last chunks chunks' dam gives d (sym (parents-dam rows calf c.parents_at.result c.parents_at.ensures.parents) ∙ e));
+          (λ d e. gives-it last chunks chunks' dam gives d (sym (parents-dam rows calf c.parents.result c.parents.ensures.parents) ∙ e));
     }

@@ -21,18 +21,18 @@ loop-met-init g c =
 
 pub overflow_mul-steps : goal.overflow_mul-steps
 overflow_mul-steps g c =
-    let shallow = parents-shallow DEPTH_LIMIT MOST_ANIMALS c.args.frozen.now c.parents_at-depth.ensures.frozen c.args.rank c.parents_at-depth.result c.parents_at-depth.ensures.parents in
+    let shallow = parents-shallow DEPTH_LIMIT MOST_ANIMALS c.args.frozen.now c.parents-depth.ensures.frozen c.args.rank c.parents-depth.result c.parents-depth.ensures.parents in
     omega arith
 
 pub overflow_mul-steps-in-Some : goal.overflow_mul-steps-in-Some
 overflow_mul-steps-in-Some g c =
-    let shallow = parents-shallow DEPTH_LIMIT MOST_ANIMALS c.args.frozen.now c.parents_at-depth.ensures.frozen c.in-Some.met.rank c.in-Some.met.parents c.in-Some.ensures.parents in
+    let shallow = parents-shallow DEPTH_LIMIT MOST_ANIMALS c.args.frozen.now c.parents-depth.ensures.frozen c.in-Some.met.rank c.in-Some.met.parents c.in-Some.ensures.parents in
     omega arith
 
 pub overflow_sub-steps : goal.overflow_sub-steps
 overflow_sub-steps g c =
     let rows = c.args.frozen.now in
-    let dx = parents-depth rows c.loop-met.tracing.rank c.parents_at-depth.result (rw c.loop-met.invariant.same c.parents_at-depth.ensures.parents) in
+    let dx = parents-depth rows c.loop-met.tracing.rank c.parents-depth.result (rw c.loop-met.invariant.same c.parents-depth.ensures.parents) in
     let dy = parents-depth rows c.in-Some.met.rank c.in-Some.met.parents c.in-Some.ensures.parents in
     let less = c.in-Some.ensures.next.share_is.less_deep in
     omega (arith, dx, dy, less)
@@ -40,7 +40,7 @@ overflow_sub-steps g c =
 -- the parents of the ancestor that is met are known
 known : (g : Over) (c : In-Some g) → AreKnownParents DEPTH_LIMIT c.args.frozen.now c.args.known.now c.in-Some.met.rank c.in-Some.met.parents
 known g c =
-    parents-known_next DEPTH_LIMIT MOST_ANIMALS c.args.frozen.now c.parents_at-depth.ensures.frozen c.args.known.now c.loop-met.tracing.rank c.loop-met.tracing.border c.in-Some.met.rank c.in-Some.met.share c.in-Some.met.parents
+    parents-known_next DEPTH_LIMIT MOST_ANIMALS c.args.frozen.now c.parents-depth.ensures.frozen c.args.known.now c.loop-met.tracing.rank c.loop-met.tracing.border c.in-Some.met.rank c.in-Some.met.share c.in-Some.met.parents
     c.loop-met.invariant.tracing.tracing.rank (rw c.loop-met.invariant.same c.requires.known) c.in-Some.ensures.next c.in-Some.ensures.parents
 
 pub variance_by-variance-requires-clause-sire : goal.variance_by-variance-requires-clause-sire
@@ -52,12 +52,12 @@ variance_by-variance-requires-clause-dam g c = (known g (goal.at.variance_by-var
 -- what is added for the ancestor that is met
 met : (g : Over) (c : After-variance_by-variance g) → c.variance_by-variance.result ≡ mendelian (ancestry_of c.args.frozen.now) DEPTH_LIMIT (number_of_row c.args.frozen.now c.in-Some.met.rank) →
     IsAdded DEPTH_LIMIT c.args.frozen.now c.loop-met.tracing.rank c.in-Some.met.rank c.variance_by-variance.result c.in-Some.met.share c.loop-met.sum
-    c.parents_at-depth.result.depth c.in-Some.met.parents.depth
+    c.parents-depth.result.depth c.in-Some.met.parents.depth
 met g c variance =
     let rows = c.args.frozen.now in
     let x : ℕ = c.loop-met.tracing.rank in
-    added DEPTH_LIMIT MOST_ANIMALS rows c.parents_at-depth.ensures.frozen x c.loop-met.invariant.tracing.tracing.rank c.loop-met.tracing.border c.in-Some.met.rank c.variance_by-variance.result c.in-Some.met.share c.loop-met.sum
-    c.parents_at-depth.result c.in-Some.met.parents (lit< tt) (lit< tt) (rw c.loop-met.invariant.same c.parents_at-depth.ensures.parents) c.in-Some.ensures.parents c.in-Some.ensures.next variance c.loop-met.invariant.summed
+    added DEPTH_LIMIT MOST_ANIMALS rows c.parents-depth.ensures.frozen x c.loop-met.invariant.tracing.tracing.rank c.loop-met.tracing.border c.in-Some.met.rank c.variance_by-variance.result c.in-Some.met.share c.loop-met.sum
+    c.parents-depth.result c.in-Some.met.parents (lit< tt) (lit< tt) (rw c.loop-met.invariant.same c.parents-depth.ensures.parents) c.in-Some.ensures.parents c.in-Some.ensures.next variance c.loop-met.invariant.summed
 
 pub term-sum-requires-clause-shift : goal.term-sum-requires-clause-shift
 term-sum-requires-clause-shift g c = (met g (goal.at.term-sum-requires-clause-shift g c).After-variance_by-variance (c.variance_by-variance.ensures ∙ (known g (goal.at.term-sum-requires-clause-shift g c).In-Some).variance)).shift
@@ -83,5 +83,5 @@ pub returns : goal.returns
 returns g c =
     let x : ℕ = c.loop-met.tracing.rank in
     rw (← c.loop-met.invariant.same)
-    (summed-end DEPTH_LIMIT MOST_ANIMALS c.args.frozen.now c.parents_at-depth.ensures.frozen x c.loop-met.invariant.tracing.tracing.rank c.loop-met.tracing.border c.loop-met.sum
+    (summed-end DEPTH_LIMIT MOST_ANIMALS c.args.frozen.now c.parents-depth.ensures.frozen x c.loop-met.invariant.tracing.tracing.rank c.loop-met.tracing.border c.loop-met.sum
     c.in_default.ensures.all c.loop-met.invariant.summed)

@@ -23,7 +23,7 @@ returns-in_default-clause-all g c =
 -- what is met at the distance that is taken
 met : (g : Over) (c : After-index-share g) →
     IsMet DEPTH_LIMIT c.args.frozen.now c.args.self.now.rank c.args.self.now.border c.args.self.now.shares.items c.take_nearest.new.self.chunks.items c.in-Some.distance
-    c.index-share.result.now c.parents_at-parents.result
+    c.index-share.result.now c.parents-parents.result
 met g c =
     let d : ℕ = c.in-Some.distance in
     let shares = c.args.self.now.shares.items in
@@ -35,7 +35,7 @@ met g c =
       distance = record { found = c.in-Some.ensures.found; nearest = c.in-Some.ensures.nearest; taken = c.in-Some.ensures.taken };
       own_is = get_or_read shares d c.index-share.result.now (omega (arith, near, long)) c.index-share.ensures 0;
     })
-    c.parents_at-parents.result c.parents_at-parents.ensures.parents
+    c.parents-parents.result c.parents-parents.ensures.parents
 
 pub give-requires-clause-room : goal.give-requires-clause-room
 give-requires-clause-room g c = (met g (goal.at.give-requires-clause-room g c).After-index-share).room_sire
@@ -51,9 +51,9 @@ returns-clause-shares g c =
     let shares = c.args.self.now.shares.items in
     let d : ℕ = c.in-Some.distance in
     let own : ℕ = c.index-share.result.now in
-    let sire = c.parents_at-parents.result.sire in
+    let sire = c.parents-parents.result.sire in
     ap length c.give-2.ensures.shares
-    ∙ (length-given rows c.give.new.self.rank c.give.new.self.shares.items (x - d) own c.parents_at-parents.result.dam
+    ∙ (length-given rows c.give.new.self.rank c.give.new.self.shares.items (x - d) own c.parents-parents.result.dam
     ∙ (ap length c.give.ensures.shares ∙ (length-given rows x (set shares d 0) (x - d) own sire ∙ length-set shares d 0)))
 
 pub returns-clause-tracing : goal.returns-clause-tracing
@@ -63,7 +63,7 @@ returns-clause-tracing g c =
     let shares = c.args.self.now.shares.items in
     let d : ℕ = c.in-Some.distance in
     let own : ℕ = c.index-share.result.now in
-    let parents = c.parents_at-parents.result in
+    let parents = c.parents-parents.result in
     let first = c.give.new.self.pending.chunks.items in
     let last = c.give-2.new.self.pending.chunks.items in
     let rank : c.give-2.new.self.rank ≡ x = c.give-2.ensures.rank ∙ c.give.ensures.rank in
