@@ -14,10 +14,10 @@ parents-requires g c =
 
 -- what the parent gets
 gift : (g : Over) (c : After-parents g) →
-    IsGift DEPTH_LIMIT c.args.frozen.now c.args.self.now.rank c.args.self.now.shares.items c.args.met.rank c.args.met.share c.in-Some.rank c.args.met.parents.depth c.parents.result.depth
+    IsGift DEPTH_LIMIT c.args.frozen.now c.args.self.now.rank c.args.self.now.shares.items c.args.met.rank c.args.met.share c.in-Some.rank c.args.met.depth c.parents.result.depth
 gift g c =
-    gift-is DEPTH_LIMIT c.args.frozen.now c.args.self.now.rank c.args.self.now.shares.items c.args.met.rank c.args.met.share c.in-Some.rank c.args.met.parents c.parents.result
-    (lit< tt) (lit< tt) (c.requires.room c.in-Some.rank c.in-Some.is) c.requires.row c.parents.ensures.parents
+    gift-is DEPTH_LIMIT c.args.frozen.now c.args.self.now.rank c.args.self.now.shares.items c.args.met.rank c.args.met.share c.in-Some.rank c.args.met.depth c.parents.result
+    (lit< tt) (lit< tt) (c.requires.room c.in-Some.rank c.in-Some.is) c.requires.depth c.parents.ensures.parents
 
 pub overflow_sub-steps : goal.overflow_sub-steps
 overflow_sub-steps g c = let less = (gift g (goal.at.overflow_sub-steps g c).After-parents).less_deep in omega (arith, less)
