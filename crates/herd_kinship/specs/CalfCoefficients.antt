@@ -1,8 +1,14 @@
 -- The calves of some sires and of known dams, each by its rank with a numerator.
-use Rattle.std.specs.Prelude.{◌≡◌, ℕ, ◌⊎◌, ◌++◌, All, Any, List, slice_index}
+use Rattle.std.specs.Prelude.{◌≡◌, ℕ, ◌/◌, ◌⊎◌, ◌++◌, All, Any, List, slice_index}
 use Rattle.herd_frozen.specs.declared.freezing.frozen.Row.{Row}
 use Rattle.herd_kinship.specs.CalfLinks.{IsCalf}
+use Rattle.herd_kinship.specs.Columns.{at_parent}
+use Rattle.herd_kinship.specs.Ranks.{dam_rank}
 use Rattle.herd_kinship.specs.declared.calf_coefficients.CalfCoefficient.{CalfCoefficient}
+
+-- a calf with half the number that its dam has in the column, and 0 where the dam is unknown
+abbrev pub with_half : List Row → List ℕ → ℕ → CalfCoefficient
+with_half rows column calf = record { rank = calf; numerator = at_parent column (dam_rank rows calf) / 2 }
 
 -- a calf of one of these sires, with f of its rank
 pub record IsCalfWith (rows : List Row) (sires : ℕ → Type 0) (f : ℕ → ℕ) (calf : CalfCoefficient) : Type 0 where

@@ -1,5 +1,5 @@
 -- The ancestry of a frozen book, its animals named by their ranks.
-use Rattle.std.specs.Prelude.{◌≡◌, ℕ, ◌⊎◌, List, length, nat_eq, nat_lt, slice_get, Option, None, Some}
+use Rattle.std.specs.Prelude.{◌≡◌, ℕ, ◌⊎◌, List, length, map, nat_eq, nat_lt, slice_get, Option, None, Some}
 use Rattle.std.specs.List.{range_with_len}
 use Rattle.std.specs.Option.{option_and_then}
 use Rattle.herd_frozen.specs.declared.freezing.frozen.Parents.{Parents}
@@ -19,10 +19,8 @@ abbrev pub HasUnknownParent : List Row → ℕ → Type 0
 HasUnknownParent rows rank = (sire_rank rows rank ≡ None) ⊎ (dam_rank rows rank ≡ None)
 
 -- the parents and the depth are those of the row at a rank
-pub record AreParentsAt (rows : List Row) (rank : ℕ) (parents : Parents) : Type 0 where
-  pub row : Row
-  pub there : slice_get rows rank ≡ Some row
-  pub same : parents ≡ parents_of row
+abbrev pub AreParentsAt : List Row → ℕ → Parents → Type 0
+AreParentsAt rows rank parents = slice_get (map parents_of rows) rank ≡ Some parents
 
 -- n animals, of which rank i has its known parents at the ranks sire i and dam i
 abbrev pub ranks : ℕ → (ℕ → Option ℕ) → (ℕ → Option ℕ) → Ancestry ℕ

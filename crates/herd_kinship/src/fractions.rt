@@ -2,6 +2,8 @@ ghost use Rattle.std.specs.Prelude.{◌≡◌, ◌<◌, ◌⊎◌};
 ghost use Rattle.std.specs.Int.{IsPowerOfTwo};
 ghost use Rattle.herd_kinship.specs.Fraction.{halved, IsLowest};
 
+use std::fmt;
+
 /// A number in lowest terms; zero isn't negative and has the denominator 1. Of the two terms one is a power of two.
 #[derive(Clone, Copy, Debug, PartialEq, Eq)]
 pub struct Fraction {
@@ -11,6 +13,25 @@ pub struct Fraction {
     pub numerator: u128,
     /// What stands below the line, never 0; 1 for a whole number.
     pub denominator: u128,
+}
+
+/// As in `-3/8`, and without the line where the denominator is 1.
+impl fmt::Display for Fraction {
+    ghost use Rattle.std.specs.Prelude.{Some};
+    ghost use Rattle.herd_kinship.specs.Fraction.{fraction_text};
+
+    ghost output = { λ fraction. Some (fraction_text fraction) };
+
+    fn fmt<W: fmt::Write>(&self, f: &mut fmt::Formatter<W>) -> fmt::Result {
+        if self.negative {
+            f.write_str("-")?;
+        }
+        write!(f, "{}", self.numerator)?;
+        if self.denominator != 1 {
+            write!(f, "/{}", self.denominator)?;
+        }
+        Ok(())
+    }
 }
 
 /// The fraction of two numbers of which one is a power of two.

@@ -23,7 +23,7 @@
 //! | a frozen book as an ancestry | `FrozenAncestry`, `Ranks` | | `BookFacts`, `BookPaths`, `FrozenFacts`, `Renamed` |
 //! | columns of A | `Columns` | `columns` | `PassedOn`, `Collecting` |
 //! | sire by sire | `Mates`, `CalfCoefficients` | `coefficients`, `mates` | `BySires` |
-//! | a sire's calves | `CalfLinks` | `calves` | `CalfFacts`, `CalfListFacts` |
+//! | a sire's calves | `CalfLinks` | `calves` | `CalfFacts`, `CalvesBelow`, `CalfListFacts` |
 //! | animal by animal | `Tracing`, `Pending` | `tracing`, `pending` | `TermSums`, `TracingFacts`, `UnderWayFacts` |
 //! | one animal's relationships | `Columns` | `relationships` | `RelationshipFacts` |
 //! | mating advice | `Mating` | `mating_advice` | `MatingFacts` |

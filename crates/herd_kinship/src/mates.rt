@@ -1,15 +1,16 @@
-ghost use Rattle.std.specs.Prelude.{◌≡◌, ℕ, ◌<◌, length, slice_index, IfOk, Some};
+ghost use Rattle.std.specs.Prelude.{◌≡◌, ℕ, ◌+◌, ◌-◌, ◌*◌, ◌/◌, ◌<◌, ◌≤◌, ◌++◌, All, length, map, slice_index, IfOk, Some};
 ghost use Rattle.herd_frozen.specs.declared.TheConstants.{DEPTH_LIMIT};
-ghost use Rattle.herd_kinship.specs.CalfCoefficients.{GoesOnWith};
-ghost use Rattle.herd_kinship.specs.CalfLinks.{AreCalvesOf};
+ghost use Rattle.herd_kinship.specs.CalfCoefficients.{GoesOnWith, with_half};
+ghost use Rattle.herd_kinship.specs.CalfLinks.{AreCalvesOf, IsCalf, calves_of_sire};
 ghost use Rattle.herd_kinship.specs.Coefficients.{KnowsAncestors, coefficient_at};
-ghost use Rattle.herd_kinship.specs.Columns.{related};
+ghost use Rattle.herd_kinship.specs.Columns.{at_parent};
 ghost use Rattle.herd_kinship.specs.Mates.{IsReady};
-ghost use Rattle.herd_kinship.specs.Ranks.{sire_rank, dam_rank};
+ghost use Rattle.herd_kinship.specs.Pending.{mark};
+ghost use Rattle.herd_kinship.specs.Ranks.{dam_rank};
 
 use crate::calf_coefficients::CalfCoefficient;
-use crate::calves::Calves;
-use crate::columns::{collect, relate};
+use crate::calves::{Calves, SireCalves};
+use crate::columns::{collect, mark_parent, relate, with_parent};
 use crate::pending::Pending;
 use crate::tracing::Tracing;
 use herd_frozen::Frozen;
@@ -43,25 +44,25 @@ impl<A: Allocator + Clone> Mates<A> {
 }
 
 impl<A: Allocator> Mates<A> {
-    /// Makes the relationships of a sire with its mates, by the coefficients of its ancestors.
-    pub(crate) fn relate_to<F: Allocator, C: Allocator>(
+    // Makes the relationships of a sire with its mates, by the coefficients of its ancestors. Half of that with its
+    // dam is a calf's coefficient.
+    fn relate_to<F: Allocator>(
         &mut self,
         frozen: &Frozen<F>,
-        calves: &Calves<C>,
+        calves: SireCalves<'_>,
         known: &[u128],
         sire: u32,
     ) -> Result<(), AllocError>
         requires ready { IsReady (length frozen.now) self.old }
-        requires calves { AreCalvesOf frozen.now calves.now }
+        requires calves { calves ≡ calves_of_sire frozen.now sire }
         requires known { KnowsAncestors DEPTH_LIMIT frozen.now known.now sire }
         requires sire { sire < length frozen.now }
         ensures ready { IfOk result (λ _. IsReady (length frozen.now) self.new) }
-        ensures related { IfOk result (λ _. (calf dam : ℕ) → sire_rank frozen.now calf ≡ Some sire
-            → dam_rank frozen.now calf ≡ Some dam
-            → slice_index self.new.column.items dam ≡ related DEPTH_LIMIT frozen.now sire (Some dam)) }
+        ensures halves { IfOk result (λ _. (calf : ℕ) → IsCalf frozen.now sire calf
+            → at_parent self.new.column.items (dam_rank frozen.now calf) / 2 ≡ coefficient_at DEPTH_LIMIT frozen.now calf) }
     {
         let last = frozen.len() - 1;
-        calves.mark_mates(frozen, sire, last, &mut self.marked);
+        mark_mates(frozen, calves, last, &mut self.marked);
         collect(frozen, last, &mut self.marked, &mut self.collected)?;
         relate(
             &mut self.tracing,
@@ -95,12 +96,50 @@ impl<A: Allocator> Mates<A> {
         ensures calves { IfOk result (λ _. GoesOnWith frozen.now (λ s. s ≡ sire)
             (coefficient_at DEPTH_LIMIT frozen.now) list.old.items list.new.items) }
     {
-        prove!(sire < frozen.len());
-        if calves.has_calves(frozen, sire) {
-            self.relate_to(frozen, calves, known, sire)?;
-            calves.append_halves(frozen, sire, &self.column, list)
-        } else {
-            Ok(())
+        if calves.of_sire(frozen, sire).is_empty() {
+            return Ok(());
         }
+        self.relate_to(frozen, calves.of_sire(frozen, sire), known, sire)?;
+        append_halves(frozen, calves.of_sire(frozen, sire), &self.column, list)
     }
+}
+
+// Marks the dams of calves by their distances from the last rank.
+fn mark_mates<F: Allocator, P: Allocator>(
+    frozen: &Frozen<F>,
+    calves: SireCalves<'_>,
+    last: u32,
+    marked: &mut Pending<P>,
+)
+    requires calves { All (λ calf. calf < length frozen.now) calves }
+    requires last { last + 1 ≡ length frozen.now }
+    requires room { last < 64 * length marked.old.chunks.items }
+    requires empty { (distance : ℕ) → mark marked.old.chunks.items distance ≡ 0 }
+    ensures room { last < 64 * length marked.new.chunks.items }
+    ensures near { (distance : ℕ) → mark marked.new.chunks.items distance ≡ 1 → distance ≤ last }
+    ensures mates { All (λ calf. (dam : ℕ) → dam_rank frozen.now calf ≡ Some dam
+        → mark marked.new.chunks.items (last - dam) ≡ 1) calves.entry }
+{
+    for calf in calves {
+        mark_parent(marked, last, frozen.parents(calf).dam);
+    }
+}
+
+// Appends calves, each with half the number that its dam has in the column.
+fn append_halves<F: Allocator, L: Allocator>(
+    frozen: &Frozen<F>,
+    calves: SireCalves<'_>,
+    column: &[u128],
+    list: &mut Vec<CalfCoefficient, L>,
+) -> Result<(), AllocError>
+    requires calves { All (λ calf. calf < length frozen.now) calves }
+    requires column { length column.now ≡ length frozen.now }
+    ensures { IfOk result
+        (λ _. list.new.items ≡ list.old.items ++ map (with_half frozen.now column.now) calves.entry) }
+{
+    for rank in calves {
+        let numerator = with_parent(column, frozen.parents(rank).dam) / 2;
+        list.push(CalfCoefficient { rank, numerator })?;
+    }
+    Ok(())
 }

@@ -119,9 +119,9 @@ pub fn mating<F: Allocator, C: Allocator, A: Allocator + Clone>(
     ensures memory { IfErr result
         (λ fault. mating_fault DEPTH_LIMIT (book_of frozen.now) sire.now dam.now ≡ None → fault ≡ MatingFault.Memory) }
 {
-    pair_of(frozen, sire, dam)?;
-    match Relationships::of_number(alloc, frozen, coefficients, dam) {
-        Ok(relationships) => mating_by(frozen, &relationships, sire, dam),
+    let pair = pair_of(frozen, sire, dam)?;
+    match Relationships::of(alloc, frozen, coefficients, pair.dam) {
+        Ok(dams) => Ok(dams.with(pair.sire) / 2),
         Err(AllocError) => Err(MatingFault::Memory),
     }
 }

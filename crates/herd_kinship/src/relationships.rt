@@ -9,7 +9,7 @@ ghost use Rattle.herd_kinship.specs.Tracing.{IsIdle};
 
 use crate::coefficients::Coefficients;
 use crate::columns::{pass_to, write_parts};
-use crate::tracing::{Tracing, parents_at};
+use crate::tracing::Tracing;
 use herd_animal::AnimalNumber;
 use herd_frozen::Frozen;
 use std::alloc::{AllocError, Allocator};
@@ -114,6 +114,6 @@ fn pass_on<F: Allocator>(frozen: &Frozen<F>, rank: u32, column: &mut [u128])
         → slice_index column.new j ≡ related DEPTH_LIMIT frozen.now rank (Some j) }
 {
     for j in 0..frozen.len() {
-        pass_to(column, parents_at(frozen, j), j);
+        pass_to(column, frozen.parents(j), j);
     }
 }

@@ -1,13 +1,13 @@
 ghost use Rattle.std.specs.Prelude.{◌≡◌, ℕ, ◌+◌, ◌*◌, ◌-◌, ◌/◌, ◌^◌, ◌<◌, ◌≤◌, ◌&&◌, is_some, length, min, slice_get, slice_index, IfOk, IfSome, IfNone, Some};
 ghost use Rattle.std.specs.Option.{ForSome};
-ghost use Rattle.herd_frozen.specs.declared.TheConstants.{DEPTH_LIMIT, MOST_ANIMALS};
-ghost use Rattle.herd_frozen.specs.freezing.Frozen.{IsFrozen};
+ghost use Rattle.herd_frozen.specs.declared.TheConstants.{DEPTH_LIMIT};
+ghost use Rattle.herd_frozen.specs.freezing.Frozen.{depth_at};
 ghost use Rattle.herd_kinship.specs.Coefficients.{IsKnownParent, KnowsAncestors, own_relationship, quarter_of};
 ghost use Rattle.herd_kinship.specs.FrozenAncestry.{ancestry_of, number_of_row};
-ghost use Rattle.herd_kinship.specs.Ranks.{AreParentsAt, HasUnknownParent, ranked};
+ghost use Rattle.herd_kinship.specs.Ranks.{HasUnknownParent, ranked};
 ghost use Rattle.herd_kinship.specs.Shares.{share};
 ghost use Rattle.herd_kinship.specs.Table.{mendelian as mendelian_variance};
-ghost use Rattle.herd_kinship.specs.Tracing.{given, GivesMark, HasRoom, IsIdle, IsNext, IsUnderWay};
+ghost use Rattle.herd_kinship.specs.Tracing.{given, GivesMark, HasRoom, IsIdle, IsMetAs, IsNext, IsUnderWay};
 
 use crate::ONE;
 use crate::pending::Pending;
@@ -18,8 +18,9 @@ use std::alloc::{AllocError, Allocator};
 #[derive(Clone, Copy)]
 pub struct Met {
     pub rank: u32,
-    /// The ancestor's own parents and depth.
-    pub parents: Parents,
+    pub depth: u8,
+    /// Its Mendelian sampling variance in units of 2^-120.
+    pub variance: u128,
     pub share: u64,
 }
 
@@ -70,9 +71,10 @@ impl<A: Allocator> Tracing<A> {
     }
 
     /// Meets the next ancestor, and passes its share on to its parents.
-    pub fn meet_next<F: Allocator>(&mut self, frozen: &Frozen<F>) -> Option<Met>
-        requires { IsUnderWay DEPTH_LIMIT frozen.now self.old.rank self.old.border self.old.shares.items
+    pub fn meet_next<F: Allocator>(&mut self, frozen: &Frozen<F>, known: &[u128]) -> Option<Met>
+        requires tracing { IsUnderWay DEPTH_LIMIT frozen.now self.old.rank self.old.border self.old.shares.items
             self.old.pending.chunks.items }
+        requires known { KnowsAncestors DEPTH_LIMIT frozen.now known.now self.old.rank }
         ensures same { self.new.rank ≡ self.old.rank }
         ensures shares { length self.new.shares.items ≡ length self.old.shares.items }
         ensures marks { length self.new.pending.chunks.items ≡ length self.old.pending.chunks.items }
@@ -80,7 +82,7 @@ impl<A: Allocator> Tracing<A> {
             self.new.pending.chunks.items }
         ensures next { IfSome result
             (λ met. IsNext DEPTH_LIMIT frozen.now self.old.rank self.old.border met.rank met.share) }
-        ensures parents { IfSome result (λ met. AreParentsAt frozen.now met.rank met.parents) }
+        ensures met { IfSome result (IsMetAs DEPTH_LIMIT frozen.now) }
         ensures border { IfSome result (λ met. self.new.border ≡ met.rank) }
         ensures ended { IfNone result (self.new.border ≡ 0) }
         ensures all { IfNone result
@@ -91,11 +93,12 @@ impl<A: Allocator> Tracing<A> {
             return None;
         };
         let rank = self.rank - distance as u32;
-        let parents = parents_at(frozen, rank);
+        let parents = frozen.parents(rank);
         let share = self.shares[distance];
         let met = Met {
             rank,
-            parents,
+            depth: parents.depth,
+            variance: variance_by(known, parents),
             share,
         };
         self.shares[distance] = 0;
@@ -107,7 +110,7 @@ impl<A: Allocator> Tracing<A> {
 
     /// Gives half of an animal's share to its parent, in the parent's unit.
     fn give<F: Allocator>(&mut self, frozen: &Frozen<F>, met: Met, parent: Option<u32>)
-        requires row { AreParentsAt frozen.now met.rank met.parents }
+        requires depth { met.depth ≡ depth_at frozen.now met.rank }
         requires room { ForSome parent
             (HasRoom DEPTH_LIMIT frozen.now self.old.rank self.old.shares.items met.rank met.share) }
         requires marks { self.old.rank < 64 * length self.old.pending.chunks.items }
@@ -118,22 +121,13 @@ impl<A: Allocator> Tracing<A> {
         ensures marks { GivesMark self.old.rank self.old.pending.chunks.items self.new.pending.chunks.items parent }
     {
         if let Some(rank) = parent {
-            let steps = met.parents.depth - parents_at(frozen, rank).depth;
+            let steps = met.depth - frozen.parents(rank).depth;
             let distance = (self.rank - rank) as usize;
             let gift = met.share << (steps - 1);
             self.shares[distance] += gift;
             self.pending.insert(distance);
         }
     }
-}
-
-/// The parents and the depth of the animal at a rank.
-pub fn parents_at<F: Allocator>(frozen: &Frozen<F>, rank: u32) -> Parents
-    requires { rank < length frozen.now }
-    ensures parents { AreParentsAt frozen.now rank result }
-    ensures frozen { IsFrozen DEPTH_LIMIT MOST_ANIMALS frozen.now }
-{
-    frozen.parents(rank)
 }
 
 /// A quarter of a parent's relationship with itself.
@@ -170,7 +164,7 @@ pub fn mendelian<F: Allocator>(frozen: &Frozen<F>, known: &[u128], rank: u32) ->
     ensures positive { 0 < result }
     ensures at_most_one { result ≤ 2 ^ (2 * DEPTH_LIMIT) }
 {
-    variance_by(known, parents_at(frozen, rank))
+    variance_by(known, frozen.parents(rank))
 }
 
 /// What an ancestor adds to a relationship: its Mendelian sampling variance times the two shares, which are in units
@@ -200,14 +194,13 @@ fn trace_ancestors<F: Allocator, A: Allocator + Clone>(
     requires known { KnowsAncestors DEPTH_LIMIT frozen.now known.now rank }
     ensures { IfOk result (λ value. value ≡ own_relationship DEPTH_LIMIT frozen.now rank) }
 {
-    let depth = parents_at(frozen, rank).depth;
+    let depth = frozen.parents(rank).depth;
     let mut tracing = Tracing::with_room(alloc, rank + 1)?;
     tracing.start(frozen, rank);
     let mut sum = 0;
-    while let Some(met) = tracing.meet_next(frozen) {
-        let steps = 2 * depth - 2 * met.parents.depth;
-        let variance = variance_by(known, met.parents);
-        sum += term(variance, steps, met.share, met.share);
+    while let Some(met) = tracing.meet_next(frozen, known) {
+        let steps = 2 * depth - 2 * met.depth;
+        sum += term(met.variance, steps, met.share, met.share);
     }
     Ok(sum)
 }

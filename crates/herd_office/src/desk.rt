@@ -1,11 +1,11 @@
 //! The desks, and what they hold.
-ghost use Rattle.std.specs.Prelude.{map, ◌≡◌, ℕ, ◌+◌, ◌<◌, ◌≤◌, ◌^◌, ◌↔◌, IsTrue, [], length, vec_len, Some, slice_get, IfOk, IfErr, OnErr};
+ghost use Rattle.std.specs.Prelude.{count_by, map, ◌≡◌, ◌==◌, ℕ, ◌+◌, ◌<◌, ◌≤◌, ◌^◌, ◌↔◌, IsTrue, [], length, vec_len, Some, slice_get, IfOk, IfErr, OnErr};
 ghost use Rattle.std.specs.List.{sum_by};
 ghost use mathlib.Core.List.{IsPrefix};
 ghost use Rattle.herd_register.specs.Run.{IsLegal};
 ghost use Rattle.herd_office.specs.Closing.{BeginsWithAll};
 ghost use Rattle.herd_office.specs.Filing.{EndsWith};
-ghost use Rattle.herd_office.specs.Histories.{Apart, of_desk, times};
+ghost use Rattle.herd_office.specs.Histories.{Apart, of_desk};
 
 use crate::faults::OpenFault;
 use crate::filing::file_on;
@@ -177,7 +177,7 @@ pub(crate) fn all_apart<N: OfficeName>(desks: &[Desk<N>]) -> bool
 }
 
 fn has_none<N: OfficeName>(desks: &[Desk<N>], number: u16) -> bool
-    ensures { IsTrue result ↔ (times number (map (λ d. d.number) desks.now) ≡ 0) }
+    ensures { IsTrue result ↔ (count_by (λ n. number == n) (map (λ d. d.number) desks.now) ≡ 0) }
 {
     match desks {
         [] => true,

@@ -9,7 +9,8 @@ use Rattle.herd_frozen.specs.declared.TheConstants.{DEPTH_LIMIT, MOST_ANIMALS}
 use Rattle.herd_frozen.specs.declared.freezing.frozen.Row.{Row}
 use Rattle.herd_frozen.specs.freezing.Frozen.{IsFrozen, level_of}
 use Rattle.herd_kinship.specs.CalfLinks.{calf_count}
-use Rattle.herd_kinship.proofs.lemmas.sires.CalfCounts.{calf_count-few, count-more, range-more}
+use Rattle.herd_kinship.proofs.lemmas.numbers.Sums.{count-more, range-more}
+use Rattle.herd_kinship.proofs.lemmas.sires.CalvesBelow.{calf_count-few}
 use Rattle.herd_kinship.proofs.lemmas.books.FrozenFacts.{length-book_of}
 use Rattle.herd_pool.specs.Levels.{block_of}
 use Rattle.herd_pool.specs.Sires.{busy_among, calves_among, calves_of}
@@ -39,7 +40,7 @@ module _ (rows : List Row) (frozen : IsFrozen DEPTH_LIMIT MOST_ANIMALS rows) (de
 -- one block more
 pub calves_among-more : (rows : List Row) (depth len n : ℕ) → calves_among rows depth len (n + 1) ≡ calves_among rows depth len n + calves_of rows depth len n
 calves_among-more rows depth len n =
-    ap (sum_by (calves_of rows depth len)) (range-more 0 n n (omega arith)) ∙ sum_by_push (calves_of rows depth len) (range_with_len 0 n) n
+    ap (sum_by (calves_of rows depth len)) (range-more n) ∙ sum_by_push (calves_of rows depth len) (range_with_len 0 n) n
 
 pub busy_among-yes : (rows : List Row) (depth len n : ℕ) → 0 < calves_of rows depth len n → busy_among rows depth len (n + 1) ≡ busy_among rows depth len n + 1
 busy_among-yes rows depth len n some =

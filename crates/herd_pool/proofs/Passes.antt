@@ -1,24 +1,25 @@
 -- Each step of the pool keeps the rule.
-use Rattle.std.proofs.Common.{◌≡◌, ◌≢◌, ℕ, zero, suc, ◌+◌, ◌-◌, ◌<◌, ◌≤◌, ◌⊎◌, List, [], ◌∷◌, ◌++◌, set, sym, refl, ap, ◌∙◌, subst, ⊎_elim, arith}
+use Rattle.std.proofs.Common.{◌≡◌, ◌≢◌, ◌==◌, cond, ℕ, zero, suc, ◌+◌, ◌-◌, ◌<◌, ◌≤◌, ◌⊎◌, List, [], ◌∷◌, ◌++◌, set, sym, refl, ap, ◌∙◌, subst, ⊎_elim, arith}
+use Rattle.std.specs.List.{count_by}
 use Rattle.std.proofs.lemmas.Bool.Decides.{nat_tests}
 use Rattle.std.proofs.lemmas.List.{map-append}
+use Rattle.std.proofs.lemmas.List.Sums.{sum_by-append}
 use mathlib.Core.Option.{some, some-ne-none}
 use lib.ListN.{get_elem?}
 use Rattle.crossbeam_deque.proofs.Lists.{at_set, at_snoc}
 use Rattle.crossbeam_deque.specs.Tasks.{Pushes, Takes, Finds, Forks, Merges}
 use Rattle.herd_pool.specs.declared.queue.PassView.{PassView}
 use Rattle.herd_pool.specs.declared.work.ComputedBlock.{ComputedBlock}
-use Rattle.herd_pool.specs.Blocks.{pass_view, times, once_below, total, EachOnce}
+use Rattle.herd_pool.specs.Blocks.{pass_view, once_below, total, EachOnce}
 use Rattle.herd_pool.specs.Workers.{numbers}
 
 same_some : {A : Type 0} (x y : A) → some x ≡ some y → x ≡ y
 same_some x y e = cc
 
-times-append : (x : ℕ) (xs ys : List ℕ) → times x (xs ++ ys) ≡ times x xs + times x ys
-times-append x [] ys = omega arith
-times-append x (z ∷ zs) ys = let e = times-append x zs ys in omega arith
+count-append : (x : ℕ) (xs ys : List ℕ) → count_by (λ n. n == x) (xs ++ ys) ≡ count_by (λ n. n == x) xs + count_by (λ n. n == x) ys
+count-append x xs ys = sum_by-append (λ n. cond (n == x) 1 0) xs ys
 
-once_below-more : (x n : ℕ) → once_below x (n + 1) ≡ once_below x n + times x (n ∷ [])
+once_below-more : (x n : ℕ) → once_below x (n + 1) ≡ once_below x n + count_by (λ n. n == x) (n ∷ [])
 once_below-more x n = grind (arith, nat_tests)
 
 total-append : (f : PassView → ℕ) (vs ws : List PassView) → total f (vs ++ ws) ≡ total f vs + total f ws
@@ -64,8 +65,8 @@ pushes_first v block next items (s ∷ others) before at =
         rule.0,
         (λ x.
             let b = rule.1 x in
-            let n : times x (block ∷ []) ≡ times x (v.pushed ∷ []) = ap (λ y. times x (y ∷ [])) next in
-            omega (arith, times-append x items (block ∷ []), once_below-more x v.pushed)),
+            let n : count_by (λ n. n == x) (block ∷ []) ≡ count_by (λ n. n == x) (v.pushed ∷ []) = ap (λ y. count_by (λ n. n == x) (y ∷ [])) next in
+            omega (arith, count-append x items (block ∷ []), once_below-more x v.pushed)),
         rule.2,
       ),
       refl,
@@ -85,7 +86,7 @@ takes zero v may xs items (s ∷ others) some_task one before at =
         rule.0,
         (λ x.
             let b = rule.1 x in
-            omega (arith, times-append x xs items, times-append x v.taken xs)),
+            omega (arith, count-append x xs items, count-append x v.taken xs)),
         rule.2,
       ),
       refl,
@@ -98,28 +99,28 @@ takes (suc port) v may xs items (s ∷ others) some_task one rule at =
         (let t = total_set (λ u. u.out) others port v w at in let r = rule.0 in omega arith),
         (λ x.
             let b = rule.1 x in
-            let t = total_set (λ u. times x u.taken) others port v w at in
-            omega (arith, times-append x xs items, times-append x v.taken xs)),
+            let t = total_set (λ u. count_by (λ n. n == x) u.taken) others port v w at in
+            omega (arith, count-append x xs items, count-append x v.taken xs)),
         spent_set others port w (λ none. absurd (omega arith)) rule.2,
       ),
       refl,
     )
 
-finds_first : (v : PassView) → Finds EachOnce 0 v (v.out ≡ 0 → (x : ℕ) → times x v.taken ≡ once_below x v.pushed)
+finds_first : (v : PassView) → Finds EachOnce 0 v (v.out ≡ 0 → (x : ℕ) → count_by (λ n. n == x) v.taken ≡ once_below x v.pushed)
 finds_first v [] rule at = absurd rule
 finds_first v (s ∷ others) before at = λ all_back x.
     let rule = starter_first v s [] others at before in
     let b = rule.1 x in
-    let none = total-none (λ u. times x u.taken) others (λ port u there.
+    let none = total-none (λ u. count_by (λ n. n == x) u.taken) others (λ port u there.
     let o = total-at (λ y. y.out) others port u there in
     let r = rule.0 in
     let empty = rule.2 port u there (omega arith) in
-    ap (times x) empty) in
+    ap (count_by (λ n. n == x)) empty) in
     omega arith
 
 -- where no pass is out and the queue is empty, the starter has taken each block once
-pub finds : (port : ℕ) (v : PassView) → port ≡ 0 → Finds EachOnce port v (v.out ≡ 0 → (x : ℕ) → times x v.taken ≡ once_below x v.pushed)
-finds port v first = subst (λ p. Finds EachOnce p v (v.out ≡ 0 → (x : ℕ) → times x v.taken ≡ once_below x v.pushed)) (sym first) (finds_first v)
+pub finds : (port : ℕ) (v : PassView) → port ≡ 0 → Finds EachOnce port v (v.out ≡ 0 → (x : ℕ) → count_by (λ n. n == x) v.taken ≡ once_below x v.pushed)
+finds port v first = subst (λ p. Finds EachOnce p v (v.out ≡ 0 → (x : ℕ) → count_by (λ n. n == x) v.taken ≡ once_below x v.pushed)) (sym first) (finds_first v)
 
 forks_first : (v : PassView) → Forks EachOnce 0 v (pass_view (v.out + 1) v.pushed v.taken) (pass_view 1 0 [])
 forks_first v items [] rule at = absurd rule
@@ -129,7 +130,7 @@ forks_first v items (s ∷ others) before at =
       (let r = rule.0 in omega (arith, total-append (λ u. u.out) others (right ∷ []))),
       (λ x.
           let b = rule.1 x in
-          omega (arith, total-append (λ u. times x u.taken) others (right ∷ []))),
+          omega (arith, total-append (λ u. count_by (λ n. n == x) u.taken) others (right ∷ []))),
       (λ j u there none. ⊎_elim (λ (old : get_elem? others j ≡ some u). rule.2 j u old none)
           (λ (is : right ≡ u). ap (λ (y : PassView). y.taken) (sym is)) (at_snoc others right u j there)),
     )
@@ -147,8 +148,8 @@ merges_first v (suc other) w one items (s ∷ others) before at two there =
       (let r = rule.0 in let t = total_set (λ u. u.out) others other w spent there in omega arith),
       (λ x.
           let b = rule.1 x in
-          let m = total_set (λ u. times x u.taken) others other w spent there in
-          omega (arith, times-append x v.taken w.taken)),
+          let m = total_set (λ u. count_by (λ n. n == x) u.taken) others other w spent there in
+          omega (arith, count-append x v.taken w.taken)),
       spent_set others other spent (λ none. refl) rule.2,
     )
 
@@ -173,9 +174,9 @@ one_more {O = O} n p number v u blocks more block is_v is_u is joined =
     ∙ ap (pass_view n p) (sym (map-append (λ (b : ComputedBlock O). b.number) blocks (block ∷ [])) ∙ ap numbers (sym joined))
 
 -- what the starter knows at the end, where a pop finds nothing
-pub all_taken : (v : PassView) (out pushed : ℕ) (taken : List ℕ) → v ≡ pass_view out pushed taken → (v.out ≡ 0 → (x : ℕ) → times x v.taken ≡ once_below x v.pushed) → out ≡ 0 → (x : ℕ) → times x taken ≡ once_below x pushed
+pub all_taken : (v : PassView) (out pushed : ℕ) (taken : List ℕ) → v ≡ pass_view out pushed taken → (v.out ≡ 0 → (x : ℕ) → count_by (λ n. n == x) v.taken ≡ once_below x v.pushed) → out ≡ 0 → (x : ℕ) → count_by (λ n. n == x) taken ≡ once_below x pushed
 all_taken v out pushed taken is once none x =
     let all = once (ap (λ (h : PassView). h.out) is ∙ none) x in
-    let t : times x v.taken ≡ times x taken = ap (λ (h : PassView). times x h.taken) is in
+    let t : count_by (λ n. n == x) v.taken ≡ count_by (λ n. n == x) taken = ap (λ (h : PassView). count_by (λ n. n == x) h.taken) is in
     let p : once_below x v.pushed ≡ once_below x pushed = ap (λ (h : PassView). once_below x h.pushed) is in
     sym t ∙ all ∙ p

@@ -1,7 +1,7 @@
 -- The calves of a level's sires: how they are collected, block by block, and what is known once they are written.
-use Rattle.std.proofs.Common.{◌≡◌, ℕ, ◌+◌, ◌<◌, ◌≤◌, List, [], length, get_or, slice_index, take, Vec, sym, ap, subst, inl, inr, ◌∙◌, ⊎_elim, arith}
+use Rattle.std.proofs.Common.{◌≡◌, ◌==◌, ℕ, ◌+◌, ◌<◌, ◌≤◌, List, [], length, get_or, slice_index, take, Vec, sym, ap, subst, inl, inr, ◌∙◌, ⊎_elim, arith}
 use Rattle.std.specs.Int.{div_ceil}
-use Rattle.std.specs.List.{All}
+use Rattle.std.specs.List.{All, count_by}
 use Rattle.std.proofs.lemmas.Bool.{cases_lt}
 use Rattle.std.proofs.lemmas.List.Elements.{All-more, All-weaker}
 use Rattle.herd_frozen.specs.declared.freezing.frozen.Row.{Row}
@@ -15,7 +15,7 @@ use Rattle.herd_kinship.proofs.lemmas.sires.BySires.{less_deep-next, reached-mor
 use Rattle.herd_kinship.proofs.lemmas.sires.CalfFacts.{calf-within}
 use Rattle.herd_kinship.proofs.lemmas.sires.CalfListFacts.{calves-more, calves-none, calves-values, calves-within, calves-written}
 use Rattle.herd_kinship.proofs.lemmas.books.FrozenFacts.{frozen-ranked}
-use Rattle.herd_pool.specs.Blocks.{once_below, times}
+use Rattle.herd_pool.specs.Blocks.{once_below}
 use Rattle.herd_pool.specs.Levels.{Keeps, block_of}
 use Rattle.herd_pool.specs.Sires.{AreCalvesAmong, AreWritten, HasCalvesOf, HaveValues, IsAmong, KnowsCalvesBelow}
 use Rattle.herd_pool.specs.Workers.{numbers}
@@ -74,7 +74,7 @@ blocks_values {A = A} l rows depth len blocks all =
 
 -- where each block of a level is written, the calves of its sires are known too
 pub calves_known : {A C : Type 0} (l most : ℕ) (rows : List Row) (calves : Calves C) (known new : List ℕ) (depth len : ℕ) (blocks : List (ComputedBlock (Vec CalfCoefficient A))) → 0 < len → length new ≡ length known → KnowsCalvesBelow l most rows calves known depth
-    → ((number : ℕ) → times number (numbers blocks) ≡ once_below number (div_ceil (length (level_of depth rows)) len))
+    → ((number : ℕ) → count_by (λ n. n == number) (numbers blocks) ≡ once_below number (div_ceil (length (level_of depth rows)) len))
     → All (λ block. HasCalvesOf l rows depth len block.number block.output.items) blocks
     → Keeps (coefficient_at l rows) known new → All (λ block. AreWritten (coefficient_at l rows) new block.output.items) blocks
     → KnowsCalvesBelow l most rows calves new (depth + 1)

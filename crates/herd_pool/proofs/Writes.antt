@@ -1,7 +1,7 @@
 -- What the list of numerators has once ranks, blocks and levels are written.
-use Rattle.std.proofs.Common.{◌≡◌, ℕ, suc, ◌+◌, ◌*◌, ◌/◌, ◌%◌, ◌^◌, ◌<◌, ◌≤◌, List, [], ◌∷◌, length, drop, Vec, get_or, map, set, slice_index, take, sym, ap, subst, inl, inr, ◌∙◌, ⊎_elim, arith}
+use Rattle.std.proofs.Common.{◌≡◌, ◌==◌, ℕ, suc, ◌+◌, ◌*◌, ◌/◌, ◌%◌, ◌^◌, ◌<◌, ◌≤◌, List, [], ◌∷◌, length, drop, Vec, get_or, map, set, slice_index, take, sym, ap, subst, inl, inr, ◌∙◌, ⊎_elim, arith}
 use Rattle.std.specs.Int.{div_ceil}
-use Rattle.std.specs.List.{All, Contains}
+use Rattle.std.specs.List.{All, Contains, count_by}
 use Rattle.std.proofs.lemmas.Bool.{cases_eq, cases_lt}
 use Rattle.std.proofs.lemmas.Bool.Decides.{nat_tests}
 use Rattle.std.proofs.lemmas.Grind.{div_ceil_times}
@@ -13,7 +13,7 @@ use Rattle.herd_frozen.specs.freezing.Frozen.{IsFrozen, depth_at, level_of}
 use Rattle.herd_kinship.specs.Coefficients.{AreCoefficients, coefficient_at}
 use Rattle.herd_kinship.proofs.lemmas.books.FrozenDepths.{depth-at_most}
 use Rattle.herd_kinship.proofs.lemmas.tracing.KnownFacts.{frozen-coefficient_bound}
-use Rattle.herd_pool.specs.Blocks.{once_below, times}
+use Rattle.herd_pool.specs.Blocks.{once_below}
 use Rattle.herd_pool.specs.Levels.{HasAt, Keeps, KnowsBelow, block_of}
 use Rattle.herd_pool.specs.Sires.{IsAmong}
 use Rattle.herd_pool.specs.Workers.{numbers}
@@ -81,23 +81,23 @@ block_written {A = A} f len level blocks n block old known new ranks numerators 
       written = All-more New blocks n block below (All-weaker Old New (λ b h i low. stays f known new now.0 (slice_index (block_of len b.number level) i) (h i low)) (take n blocks) was.written) mine;
     }
 
-times_tail : {O : Type 0} (x : ℕ) (b : ComputedBlock O) (bs : List (ComputedBlock O)) → (b.number ≡ x → ⊥) → 0 < times x (numbers (b ∷ bs)) → 0 < times x (numbers bs)
-times_tail x b bs ne some = grind (arith, nat_tests)
+counted_tail : {O : Type 0} (x : ℕ) (b : ComputedBlock O) (bs : List (ComputedBlock O)) → (b.number ≡ x → ⊥) → 0 < count_by (λ n. n == x) (numbers (b ∷ bs)) → 0 < count_by (λ n. n == x) (numbers bs)
+counted_tail x b bs ne some = grind (arith, nat_tests)
 
 -- the number of a block that stands in the list stands at some place
-times_has : {O : Type 0} (x : ℕ) (blocks : List (ComputedBlock O)) → 0 < times x (numbers blocks) → (k : ℕ) × (k < length blocks) × ((d : ComputedBlock O) → (get_or blocks k d).number ≡ x)
-times_has x [] some = absurd (omega arith)
-times_has x (b ∷ bs) some =
+counted_has : {O : Type 0} (x : ℕ) (blocks : List (ComputedBlock O)) → 0 < count_by (λ n. n == x) (numbers blocks) → (k : ℕ) × (k < length blocks) × ((d : ComputedBlock O) → (get_or blocks k d).number ≡ x)
+counted_has x [] some = absurd (omega arith)
+counted_has x (b ∷ bs) some =
     ⊎_elim (λ (e : b.number ≡ x). (0, omega arith, λ d. e))
     (λ (ne : b.number ≡ x → ⊥).
-    let rest = times_has x bs (times_tail x b bs ne some) in
+    let rest = counted_has x bs (counted_tail x b bs ne some) in
     (suc rest.0, omega (arith, rest.1), rest.2)) (cases_eq b.number x)
 
 -- what holds of each block holds of the one with this number
-pub with_number : {O : Type 0} (P : ℕ → Type 0) (x : ℕ) (blocks : List (ComputedBlock O)) → 0 < times x (numbers blocks) → All (λ b. P b.number) blocks → P x
+pub with_number : {O : Type 0} (P : ℕ → Type 0) (x : ℕ) (blocks : List (ComputedBlock O)) → 0 < count_by (λ n. n == x) (numbers blocks) → All (λ b. P b.number) blocks → P x
 with_number P x [] some all = absurd (omega arith)
 with_number P x (b ∷ bs) some all =
-    let found = times_has x (b ∷ bs) some in
+    let found = counted_has x (b ∷ bs) some in
     subst P (found.2 b) (all found.0 b found.1)
 
 -- a rank of a level stands in its block
@@ -116,7 +116,7 @@ once_within x n below = grind (arith, nat_tests)
 
 -- what holds of the ranks of each block, where each comes once, holds of all animals of the level
 pub in_level : {O : Type 0} (P : ℕ → Type 0) (rows : List Row) (depth len : ℕ) (blocks : List (ComputedBlock O)) → 0 < len
-    → ((number : ℕ) → times number (numbers blocks) ≡ once_below number (div_ceil (length (level_of depth rows)) len))
+    → ((number : ℕ) → count_by (λ n. n == number) (numbers blocks) ≡ once_below number (div_ceil (length (level_of depth rows)) len))
     → All (λ block. let ranks = block_of len block.number (level_of depth rows) in (p : ℕ) → IsAmong ranks (length ranks) p → P p) blocks
     → (p : ℕ) → p < length rows → depth_at rows p ≡ depth → P p
 in_level P rows depth len blocks some each_once all p low is =
@@ -126,12 +126,12 @@ in_level P rows depth len blocks some each_once all p low is =
     let i = found.0 in
     let cover = div_ceil_times (length level) len some in
     let inside : i / len < count = div_below i len count some (omega (arith, found.1, cover)) in
-    let once : times (i / len) (numbers blocks) ≡ 1 = each_once (i / len) ∙ once_within (i / len) count inside in
+    let once : count_by (λ n. n == i / len) (numbers blocks) ≡ 1 = each_once (i / len) ∙ once_within (i / len) count inside in
     with_number (λ n. (q : ℕ) → IsAmong (block_of len n level) (length (block_of len n level)) q → P q) (i / len) blocks (omega arith) all p (in_block level len i p some found.1 found.2)
 
 -- where each block of a level is written, the level is known
 pub level_known : {O : Type 0} (l most : ℕ) (rows : List Row) (known new : List ℕ) (depth len : ℕ) (blocks : List (ComputedBlock O)) → 0 < len → length new ≡ length known → KnowsBelow l most rows known depth
-    → ((number : ℕ) → times number (numbers blocks) ≡ once_below number (div_ceil (length (level_of depth rows)) len))
+    → ((number : ℕ) → count_by (λ n. n == number) (numbers blocks) ≡ once_below number (div_ceil (length (level_of depth rows)) len))
     → Keeps (coefficient_at l rows) known new → HasBlocks (coefficient_at l rows) len (level_of depth rows) new blocks
     → KnowsBelow l most rows new (depth + 1)
 level_known {O = O} l most rows known new depth len blocks some same knows each_once kept written =

@@ -1,9 +1,9 @@
 -- What the starter and the workers of a level know of its queue, and what a worker brings back.
-use Rattle.std.specs.Prelude.{◌≡◌, ℕ, List, map}
+use Rattle.std.specs.Prelude.{◌≡◌, ◌==◌, ℕ, List, map, count_by}
 use Rattle.std.specs.List.{All}
 use Rattle.crossbeam_deque.specs.Handles.{Pass, view, IsPassOf, stealer_deque, worker_flavor, worker_port, worker_view}
 use Rattle.crossbeam_deque.specs.declared.handles.Stealer.{Stealer}
-use Rattle.herd_pool.specs.Blocks.{once_below, pass_view, times}
+use Rattle.herd_pool.specs.Blocks.{once_below, pass_view}
 use Rattle.herd_pool.specs.declared.queue.PassView.{PassView}
 use Rattle.herd_pool.specs.declared.starter.Starter.{Starter}
 use Rattle.herd_pool.specs.declared.work.ComputedBlock.{ComputedBlock}
@@ -14,7 +14,7 @@ numbers blocks = map (λ block. block.number) blocks
 
 -- these are the first blocks of a level, each once and computed
 pub record AreBlocks {O : Type 0} (IsComputed : ComputedBlock O → Type 0) (count : ℕ) (blocks : List (ComputedBlock O)) : Type 0 where
-  pub each_once : (number : ℕ) → times number (numbers blocks) ≡ once_below number count
+  pub each_once : (number : ℕ) → count_by (λ n. n == number) (numbers blocks) ≡ once_below number count
   pub computed : All IsComputed blocks
 
 -- The starter's end of the queue is the first, first in first out. It knows how many passes are out and how many blocks were

@@ -67,7 +67,8 @@ pub fn compute_blocks<R: Threads + Wait + Sync, A: Allocator + Copy + Send + Syn
 }
 
 // Shares the blocks of the queue with one worker less than these, which is the starter itself. All are back when it
-// returns.
+// returns. Closures, here and in `start_one`, take the references one by one: nothing is known of one that takes a
+// struct of references.
 fn share<R: Threads + Wait + Sync, A: Allocator + Copy + Send + Sync, W: Work<A>>(
     rt: &R,
     alloc: A,
@@ -87,7 +88,6 @@ fn share<R: Threads + Wait + Sync, A: Allocator + Copy + Send + Sync, W: Work<A>
         return Ok(starter);
     }
     let threads = workers as usize - 1;
-    // The closures take the references one by one: nothing is known of one that takes a struct of references.
     let Task { work: on, stealer } = task;
     thread::scope(
         thread::scope_env(),
@@ -103,22 +103,21 @@ fn share<R: Threads + Wait + Sync, A: Allocator + Copy + Send + Sync, W: Work<A>
                 (worker_view starter.queue).pushed) }
         {
             let task = Task { work: on, stealer };
-            let room = Vec::with_capacity(alloc, threads)?;
-            let (starter, started) = start_all(scope, rt, alloc, task, starter, room)?;
+            let (starter, started) = start_all(scope, rt, alloc, task, starter, threads)?;
             let starter = take_blocks(rt, alloc, on, starter)?;
             Ok(join_all(rt, task, started, starter)?)
         },
     )
 }
 
-// Starts as many workers as there is room for, each with a pass of the queue's.
+// Starts workers, as many as get room where it is asked for so many, each with a pass of the queue's.
 fn start_all<'s, E, R: Wait + Sync, A: Allocator + Copy + Send + Sync, W: Work<A>>(
     scope: &'s Scope<'s, E>,
     rt: &'s R,
     alloc: A,
     task: Task<'s, W, A>,
     mut starter: Starter<W::Scratch, W::Output, A>,
-    mut workers: Vec<WorkerThread<'s, W, W::Scratch, W::Output, A>, A>,
+    threads: usize,
 ) -> Result<
     (
         Starter<W::Scratch, W::Output, A>,
@@ -130,13 +129,13 @@ fn start_all<'s, E, R: Wait + Sync, A: Allocator + Copy + Send + Sync, W: Work<A
     requires deque { worker_deque starter.queue ≡ stealer_deque task.stealer.now }
     requires starter { IsStarter (W.is_ready task.work.now) (W.is_computed task.work.now) 0
         (worker_view starter.queue).pushed starter }
-    requires none { vec_len workers ≡ 0 }
     ensures deque { IfOk result (λ r. worker_deque r.0.queue ≡ worker_deque starter.queue) }
     ensures starter { IfOk result (λ r. IsStarter (W.is_ready task.entry.work.now) (W.is_computed task.entry.work.now)
         (vec_len r.1) (worker_view starter.queue).pushed r.0) }
     ensures task { IfOk result
         (λ r. (k : ℕ) (d : _) → k < vec_len r.1 → (get_or (vec_items r.1) k d).promise ≡ task.entry) }
 {
+    let mut workers = Vec::with_capacity(alloc, threads)?;
     for _ in 0..workers.capacity() {
         let scratch = hire(alloc, task.work, &mut starter.idle)?;
         let pass = starter.queue.another::<ForWorker>();

@@ -1,7 +1,7 @@
 //! The queue of a level's blocks, and what each thread knows of it.
-ghost use Rattle.std.specs.Prelude.{◌≡◌, ℕ, ◌+◌, ◌-◌, ◌<◌, ◌≤◌, ◌^◌, [], ◌++◌, IfOk};
+ghost use Rattle.std.specs.Prelude.{◌≡◌, ◌==◌, ℕ, ◌+◌, ◌-◌, ◌<◌, ◌≤◌, ◌^◌, [], ◌++◌, IfOk, count_by};
 ghost use Rattle.crossbeam_deque.specs.Handles.{SameWorker, worker_capacity, worker_flavor, worker_index, worker_port, worker_view};
-ghost use Rattle.herd_pool.specs.Blocks.{pass_view, times, once_below, EachOnce};
+ghost use Rattle.herd_pool.specs.Blocks.{pass_view, once_below, EachOnce};
 
 use crossbeam_deque::protocol::{Join, Outcome, Protocol, Split};
 use crossbeam_deque::{Pass, Stealer, Worker};
@@ -50,7 +50,7 @@ pub struct Popped;
 impl Outcome<u32, PassView> for Popped {
     ghost then = { λ v xs w. w ≡ pass_view v.out v.pushed (v.taken ++ xs) };
 
-    ghost empty = { λ v. v.out ≡ 0 → (x : ℕ) → times x v.taken ≡ once_below x v.pushed };
+    ghost empty = { λ v. v.out ≡ 0 → (x : ℕ) → count_by (λ n. n == x) v.taken ≡ once_below x v.pushed };
 }
 
 /// A pass goes out to a worker, and comes back.

@@ -1,7 +1,7 @@
 //! The thread that starts the others of a level, and works beside them.
-ghost use Rattle.std.specs.Prelude.{◌≡◌, ℕ, All, IfOk};
+ghost use Rattle.std.specs.Prelude.{◌≡◌, ◌==◌, ℕ, All, IfOk, count_by};
 ghost use Rattle.crossbeam_deque.specs.Handles.{worker_deque, worker_view};
-ghost use Rattle.herd_pool.specs.Blocks.{once_below, times};
+ghost use Rattle.herd_pool.specs.Blocks.{once_below};
 ghost use Rattle.herd_pool.specs.Workers.{IsStarter, numbers};
 
 use crate::queue::{BlockQueue, Popped};
@@ -49,7 +49,7 @@ pub fn take_blocks<R: Wait, A: Allocator + Copy, W: Work<A>>(
     ensures starter { IfOk result (IsStarter (W.is_ready on.now) (W.is_computed on.now) (worker_view starter.queue).out
         (worker_view starter.queue).pushed) }
     ensures each_once { IfOk result (λ r. (worker_view starter.queue).out ≡ 0 → (number : ℕ)
-        → times number (numbers r.blocks.items) ≡ once_below number (worker_view starter.queue).pushed) }
+        → count_by (λ n. n == number) (numbers r.blocks.items) ≡ once_below number (worker_view starter.queue).pushed) }
 {
     let Starter {
         mut queue,

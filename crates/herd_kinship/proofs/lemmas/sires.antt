@@ -4,6 +4,6 @@ pub mod PassedOn
 pub mod RelationshipFacts
 pub mod Collecting
 pub mod CalfFacts
-pub mod CalfCounts
+pub mod CalvesBelow
 pub mod CalfListFacts
 pub mod BySires

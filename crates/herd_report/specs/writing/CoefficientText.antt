@@ -1,15 +1,8 @@
 -- Fractions and percentages as text.
-use Rattle.std.specs.Prelude.{ℕ, ◌*◌, ◌/◌, ◌%◌, ◌^◌, ◌==◌, false, List, [], ◌++◌, if◌then◌else◌, codes, decimal}
+use Rattle.std.specs.Prelude.{ℕ, ◌*◌, ◌/◌, ◌%◌, ◌^◌, false, List, ◌++◌, codes, decimal}
 use Rattle.herd_animal.specs.Day.{two_digits_of}
 use Rattle.herd_frozen.specs.declared.TheConstants.{DEPTH_LIMIT}
-use Rattle.herd_kinship.specs.declared.fractions.Fraction.{Fraction}
-use Rattle.herd_kinship.specs.Fraction.{halved, hundredths_of}
-
--- a minus sign where it is negative, the numerator, and where it isn't 1 the denominator after a slash
-abbrev pub fraction_text : Fraction → List ℕ
-fraction_text fraction =
-    (if fraction.negative then codes "-" else []) ++ decimal fraction.numerator
-    ++ (if fraction.denominator == 1 then [] else codes "/" ++ decimal fraction.denominator)
+use Rattle.herd_kinship.specs.Fraction.{fraction_text, halved, hundredths_of}
 
 -- so many hundredths of a percent, with two digits after the point
 abbrev pub percentage_text : ℕ → List ℕ

@@ -6,7 +6,7 @@ use Rattle.herd_frozen.specs.declared.freezing.frozen.Row.{Row}
 use Rattle.herd_kinship.specs.declared.contribution.Contribution.{Contribution}
 use Rattle.herd_kinship.specs.Contributions.{contributions_of}
 use Rattle.herd_kinship.specs.FrozenAncestry.{number_of_row}
-use Rattle.herd_report.specs.writing.CoefficientText.{fraction_text}
+use Rattle.herd_kinship.specs.Fraction.{fraction_text}
 
 -- the line of one element: the animal at the rank, those of the row and of the column, and the value
 abbrev pub contribution_line : List Row → ℕ → Contribution → List ℕ

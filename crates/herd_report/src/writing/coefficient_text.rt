@@ -1,6 +1,7 @@
 ghost use Rattle.std.specs.Prelude.{◌≡◌, ◌<◌, ◌*◌, ◌^◌, ◌++◌, codes, OnOk};
 ghost use Rattle.herd_frozen.specs.declared.TheConstants.{DEPTH_LIMIT};
-ghost use Rattle.herd_report.specs.writing.CoefficientText.{coefficient_line, coefficient_line_end, coefficient_text, fraction_text, percentage_text};
+ghost use Rattle.herd_kinship.specs.Fraction.{fraction_text};
+ghost use Rattle.herd_report.specs.writing.CoefficientText.{coefficient_line, coefficient_line_end, coefficient_text, percentage_text};
 
 use crate::writing::output::Text;
 use herd_animal::AnimalNumber;

@@ -5,7 +5,7 @@ ghost use Rattle.herd_frozen.specs.declared.TheConstants.{DEPTH_LIMIT, MOST_ANIM
 ghost use Rattle.herd_frozen.specs.freezing.Frozen.{IsFrozen};
 ghost use Rattle.herd_kinship.specs.Coefficients.{AreCoefficients};
 ghost use Rattle.herd_kinship.specs.FrozenAncestry.{number_of_row};
-ghost use Rattle.herd_report.specs.writing.CoefficientText.{fraction_text};
+ghost use Rattle.herd_kinship.specs.Fraction.{fraction_text};
 ghost use Rattle.herd_report.specs.writing.InverseList.{contribution_line, contributions_text, inverse_text, IsWithin};
 ghost use Rattle.herd_report.specs.writing.Output.{AppendsFront};
 

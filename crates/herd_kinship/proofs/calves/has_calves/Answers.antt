@@ -20,13 +20,13 @@ loop-calf-preserved g c =
     let rows = c.args.frozen.now in
     let i : ℕ = c.loop-calf.calf in
     let none : is_some c.sire_of_pair.result ≡ false = cc in
-    let unknown : (c.parents_at.result.sire ≡ None) ⊎ (c.parents_at.result.dam ≡ None) = if-none c.sire_of_pair.result none c.sire_of_pair.ensures.unknown in
+    let unknown : (c.parents.result.sire ≡ None) ⊎ (c.parents.result.dam ≡ None) = if-none c.sire_of_pair.result none c.sire_of_pair.ensures.unknown in
     λ s x low calf.
     ⊎_elim
     (λ (below : x < i). c.loop-calf.invariant s x below calf)
     (λ (at : i ≤ x).
     let same : x ≡ i = omega arith in
-    no-calf rows i c.parents_at.result c.parents_at.ensures.parents unknown s (subst (λ v. IsCalf rows s v) same calf))
+    no-calf rows i c.parents.result c.parents.ensures.parents unknown s (subst (λ v. IsCalf rows s v) same calf))
     (cases_lt x i)
 
 pub returns-clause-no : goal.returns-clause-no
@@ -39,6 +39,6 @@ returns-clause-no g c = λ _ s x calf.
 pub returns-then-is_some-clause-yes : goal.returns-then-is_some-clause-yes
 returns-then-is_some-clause-yes g c = λ _.
     let some : is_some c.sire_of_pair.result ≡ true = cc in
-    let sire = if-some (λ s. c.parents_at.result.sire ≡ Some s) c.sire_of_pair.result some c.sire_of_pair.ensures.sire in
-    let dam = if-some (λ s. is_some c.parents_at.result.dam ≡ true) c.sire_of_pair.result some c.sire_of_pair.ensures.dam in
-    (sire.0, c.loop-calf.calf, calf-pair c.args.frozen.now c.loop-calf.calf sire.0 c.parents_at.result c.parents_at.ensures.parents sire.1 dam.1)
+    let sire = if-some (λ s. c.parents.result.sire ≡ Some s) c.sire_of_pair.result some c.sire_of_pair.ensures.sire in
+    let dam = if-some (λ s. is_some c.parents.result.dam ≡ true) c.sire_of_pair.result some c.sire_of_pair.ensures.dam in
+    (sire.0, c.loop-calf.calf, calf-pair c.args.frozen.now c.loop-calf.calf sire.0 c.parents.result c.parents.ensures.parents sire.1 dam.1)

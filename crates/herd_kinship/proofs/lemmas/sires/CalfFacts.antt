@@ -1,4 +1,4 @@
--- The links from calf to calf: how they are made, and what is done for each calf while they are followed.
+-- The links from calf to calf: how they are made and read.
 use Rattle.std.proofs.Common.{ℕ, ◌+◌, ◌<◌, ◌≤◌, ◌≡◌, ◌⊎◌, inr, ⊎_elim, true, false, is_some, List, length, get_or, set, slice_get, Option, Some, None, arith, refl, sym, ◌∙◌, ap, subst}
 use Rattle.std.proofs.lemmas.Bool.{cases_lt, cases_eq}
 use Rattle.std.proofs.lemmas.List.{get_or-set_same, get_or-set_other, length-set, get_or_read}
@@ -10,7 +10,7 @@ use Rattle.herd_kinship.specs.CalfLinks.{IsCalf, IsLink, AreLinked}
 use Rattle.herd_kinship.specs.Ranks.{AreParentsAt, sire_rank}
 use Rattle.herd_kinship.proofs.lemmas.tracing.Brought.{option_cases}
 use Rattle.herd_kinship.proofs.lemmas.books.FrozenFacts.{frozen-ranked}
-use Rattle.herd_kinship.proofs.lemmas.books.ParentsFacts.{parents-sire, parents-dam}
+use Rattle.herd_kinship.proofs.lemmas.books.ParentsFacts.{parents-sire, parents-dam, parents-within}
 
 -- a border that passes an animal that is no calf of s
 link-kept : (rows : List Row) (s i : ℕ) (link : Option ℕ) → (IsCalf rows s i → ⊥) → IsLink rows s i link → IsLink rows s (i + 1) link
@@ -42,6 +42,7 @@ linked-other rows i latest earlier none are = record {
       (λ (low : x < i). are.earlier_is s x low c)
       (λ (high : i ≤ x). let same : x ≡ i = omega arith in absurd (none s (subst (λ v. IsCalf rows s v) same c)))
       (cases_lt x i);
+  older = are.older;
 }
 
 -- a calf of p
@@ -74,17 +75,16 @@ linked-calf rows i p latest earlier li lp c are =
           (subst (λ o. IsLink rows s i o) (sym (get_or-set_same earlier i (get_or latest p None) None (omega arith)))
           (subst (λ v. IsLink rows v i (get_or latest p None)) sire (are.latest_is p lp))))
           (cases_lt x i);
+      older = λ x y e.
+          ⊎_elim
+          (λ (same : x ≡ i).
+          let at : get_or (set earlier i (get_or latest p None)) x None ≡ get_or latest p None =
+          ap (λ v. get_or (set earlier i (get_or latest p None)) v None) same ∙ get_or-set_same earlier i (get_or latest p None) None (omega arith) in
+          let low : y < i = ((are.latest_is p lp).calf y (sym at ∙ e)).0 in
+          omega arith)
+          (λ (other : x ≡ i → ⊥). are.older x y (sym (get_or-set_other earlier i x (get_or latest p None) None other) ∙ e))
+          (cases_eq x i);
     }
-
--- how many ranks a link may still lead through
-abbrev pub left_from : Option ℕ → ℕ
-left_from None = 0
-left_from (Some y) = y + 1
-
--- the property holds of all calves of s that a link to the next one has passed by
-pub record IsWalked (rows : List Row) (s : ℕ) (link : Option ℕ) (P : ℕ → Type 0) : Type 0 where
-  pub next : (y : ℕ) → link ≡ Some y → IsCalf rows s y
-  pub done : (x : ℕ) → IsCalf rows s x → ((y : ℕ) → link ≡ Some y → y < x) → P x
 
 pub calf-within : (rows : List Row) (s x : ℕ) → IsCalf rows s x → x < length rows
 calf-within rows s x c =
@@ -92,41 +92,6 @@ calf-within rows s x c =
     (λ none. let unknown : sire_rank rows x ≡ None = rw none refl in let known = c.0 in absurd (cc))
     (λ there. slice_get_within rows x there.0 there.1)
     (option_cases (slice_get rows x))
-
-pub walked-start : (rows : List Row) (s : ℕ) (link : Option ℕ) (P : ℕ → Type 0) → IsLink rows s (length rows) link → IsWalked rows s link P
-walked-start rows s link P is = record {
-  next = λ y e. (is.calf y e).1;
-  done = λ x c past.
-      let at = is.youngest x (calf-within rows s x c) c in
-      let low : at.0 < x = past at.0 at.1 in
-      let high : x ≤ at.0 = at.2 in
-      absurd (omega arith);
-}
-
--- one link further; what held of the others still holds
-pub walked-next : (rows : List Row) (s z : ℕ) (link : Option ℕ) (P Q : ℕ → Type 0) → IsLink rows s z link → ((x : ℕ) → z < x → P x → Q x) → Q z →
-    IsWalked rows s (Some z) P → IsWalked rows s link Q
-walked-next rows s z link P Q is kept here so_far = record {
-  next = λ y e. (is.calf y e).1;
-  done = λ x c past.
-      ⊎_elim
-      (λ (low : x < z).
-      let at = is.youngest x low c in
-      let lower : at.0 < x = past at.0 at.1 in
-      let high : x ≤ at.0 = at.2 in
-      absurd (omega arith))
-      (λ (high : z ≤ x).
-      ⊎_elim
-      (λ (same : z ≡ x). subst Q same here)
-      (λ (other : z ≡ x → ⊥). kept x (omega arith) (so_far.done x c (λ y e. let same : z ≡ y = cc in omega arith)))
-      (cases_eq z x))
-      (cases_lt x z);
-}
-
--- fewer ranks are left behind the next link
-pub left-smaller : (rows : List Row) (s z : ℕ) (link : Option ℕ) → IsLink rows s z link → left_from link < z + 1
-left-smaller rows s z None is = omega arith
-left-smaller rows s z (Some y) is = let at = is.calf y refl in let low : y < z = at.0 in omega arith
 
 -- what the parents of a row say
 pub calf-pair : (rows : List Row) (i p : ℕ) (parents : Parents) → AreParentsAt rows i parents → parents.sire ≡ Some p → is_some parents.dam ≡ true → IsCalf rows p i
@@ -136,9 +101,9 @@ calf-pair rows i p parents at sire dam =
     (λ there. (parents-sire rows i parents at ∙ sire, there.0, parents-dam rows i parents at ∙ there.1))
     (option_cases parents.dam)
 
--- the known dam of a calf stands before it
-pub dam-older : (l most : ℕ) (rows : List Row) (s x : ℕ) (parents : Parents) → IsFrozen l most rows → IsCalf rows s x → AreParentsAt rows x parents → (d : ℕ) → parents.dam ≡ Some d → d < x
-dam-older l most rows s x parents frozen calf at d is = (frozen-ranked l most rows frozen).below x d (calf-within rows s x calf) (inr (parents-dam rows x parents at ∙ is))
+-- a known dam stands before its calf
+pub dam-older : (l most : ℕ) (rows : List Row) (x : ℕ) (parents : Parents) → IsFrozen l most rows → AreParentsAt rows x parents → (d : ℕ) → parents.dam ≡ Some d → d < x
+dam-older l most rows x parents frozen at d is = (frozen-ranked l most rows frozen).below x d (parents-within rows x parents at) (inr (parents-dam rows x parents at ∙ is))
 
 pub no-calf : (rows : List Row) (i : ℕ) (parents : Parents) → AreParentsAt rows i parents → (parents.sire ≡ None) ⊎ (parents.dam ≡ None) → (s : ℕ) → IsCalf rows s i → ⊥
 no-calf rows i parents at unknown s calf =
@@ -148,22 +113,9 @@ no-calf rows i parents at unknown s calf =
     let known' = calf.2 in
     ⊎_elim (λ (none : parents.sire ≡ None). absurd (cc)) (λ (none : parents.dam ≡ None). absurd (cc)) unknown
 
--- the link that is read at a calf
-pub next-link : (rows : List Row) (s z : ℕ) (latest earlier : List (Option ℕ)) (link : Option ℕ) → AreLinked rows (length rows) latest earlier → IsCalf rows s z →
-    link ≡ get_or earlier z link → IsLink rows s z link
-next-link rows s z latest earlier link are calf read =
-    let lz : z < length rows = calf-within rows s z calf in
-    let each : length earlier ≡ length rows = are.each_calf in
-    rw (get_or_read earlier z link (omega arith) read None) (are.earlier_is s z lz calf)
-
 -- the link that is read at a sire
 pub latest-link : (rows : List Row) (s : ℕ) (latest earlier : List (Option ℕ)) (link : Option ℕ) → s < length rows → AreLinked rows (length rows) latest earlier →
     link ≡ get_or latest s link → IsLink rows s (length rows) link
 latest-link rows s latest earlier link ls are read =
     let each : length latest ≡ length rows = are.each_sire in
     rw (get_or_read latest s link (omega arith) read None) (are.latest_is s ls)
-
--- where there is no link there is no calf
-pub link-none : (rows : List Row) (s : ℕ) (link : Option ℕ) → is_some link ≡ false → IsLink rows s (length rows) link → (x : ℕ) → IsCalf rows s x → ⊥
-link-none rows s None none is x calf = let at = is.youngest x (calf-within rows s x calf) calf in let e = at.1 in absurd (cc)
-link-none rows s (Some y) none is x calf = absurd (cc)

@@ -1,15 +1,15 @@
 -- Lists of calves with their coefficients: how they grow, and what stands in a list of numerators once they are written.
-use Rattle.std.proofs.Common.{ℕ, ◌+◌, ◌<◌, ◌≡◌, ◌++◌, [], ◌∷◌, ◌⊎◌, inl, inr, ⊎_elim, List, length, get_or, set, take, Option, Some, None, arith, refl, sym, ◌∙◌, ap, subst}
+use Rattle.std.proofs.Common.{ℕ, ◌+◌, ◌<◌, ◌≡◌, ◌++◌, [], ◌⊎◌, inl, inr, ⊎_elim, List, length, get_or, map, set, take, arith, refl, sym, ◌∙◌, ap, subst}
 use Rattle.std.specs.List.{All, Any}
 use Rattle.std.proofs.lemmas.Bool.{cases_eq}
-use Rattle.std.proofs.lemmas.List.{append_assoc, append-nil, get_or-append-add, get_or-set_other, get_or-set_same, get_or_append_left, length-append}
-use Rattle.std.proofs.lemmas.List.Elements.{All-append, All-more, All-nil, All-push, All-same, All-weaker}
-use Rattle.std.proofs.lemmas.List.Quantifiers.{Any-push}
+use Rattle.std.proofs.lemmas.List.{get_or-append-add, get_or-map, get_or-set_other, get_or-set_same, get_or_append_left, length-append, length-map}
+use Rattle.std.proofs.lemmas.List.Elements.{All-append, All-contains, All-map, All-more, All-nil, All-same, All-weaker}
 use Rattle.herd_frozen.specs.declared.freezing.frozen.Row.{Row}
 use Rattle.herd_kinship.specs.CalfCoefficients.{AreCalvesWith, GoesOnWith, HasWritten, IsCalfWith}
-use Rattle.herd_kinship.specs.CalfLinks.{IsCalf, IsLink}
+use Rattle.herd_kinship.specs.CalfLinks.{calves_of_sire, IsCalf}
 use Rattle.herd_kinship.specs.declared.calf_coefficients.CalfCoefficient.{CalfCoefficient}
-use Rattle.herd_kinship.proofs.lemmas.sires.CalfFacts.{calf-within, IsWalked, walked-next, walked-start}
+use Rattle.herd_kinship.proofs.lemmas.sires.CalfFacts.{calf-within}
+use Rattle.herd_kinship.proofs.lemmas.sires.CalvesBelow.{below-all, below-each}
 
 any-left : {X : Type 0} (P : X → Type 0) (xs ys : List X) → Any P xs → Any P (xs ++ ys)
 any-left P xs ys (k, x, low, at, is) = (k, x, let n = length-append xs ys in omega (arith, low), get_or_append_left xs ys x k low ∙ at, is)
@@ -49,19 +49,6 @@ module _ (rows : List Row) where
   pub calves-alone : (N : ℕ → Type 0) (f : ℕ → ℕ) (old new : List CalfCoefficient) → old ≡ [] → GoesOnWith rows N f old new → AreCalvesWith rows N f new
   calves-alone N f old new none on = subst (λ xs. AreCalvesWith rows N f xs) (sym (on.appended ∙ ap (λ (xs : List CalfCoefficient). xs ++ on.more) none)) on.calves
 
-  -- the same number in other words
-  pub goes-on-values : (N : ℕ → Type 0) (f g : ℕ → ℕ) (old new : List CalfCoefficient) → ((s x : ℕ) → N s → IsCalf rows s x → f x ≡ g x) → GoesOnWith rows N f old new → GoesOnWith rows N g old new
-  goes-on-values N f g old new same on = record {
-    more = on.more;
-    appended = on.appended;
-    calves = record {
-      each =
-          All-weaker (IsCalfWith rows N f) (IsCalfWith rows N g)
-          (λ calf is. record { sire = is.sire; of_these = is.of_these; is_calf = is.is_calf; value = is.value ∙ same is.sire calf.rank is.of_these is.is_calf }) on.more on.calves.each;
-      all = on.calves.all;
-    };
-  }
-
   -- each stands at a rank of the book
   pub calves-within : (P : ℕ → Type 0) (f : ℕ → ℕ) (calves : List CalfCoefficient) → AreCalvesWith rows P f calves → All (λ calf. calf.rank < length rows) calves
   calves-within P f calves are = All-weaker (IsCalfWith rows P f) (λ calf. calf.rank < length rows) (λ calf is. calf-within rows is.sire calf.rank is.is_calf) calves are.each
@@ -77,40 +64,26 @@ module _ (rows : List Row) where
       let at = are.all s x is calf in
       subst (λ v. get_or new v 0 ≡ f v) at.4 (subst (λ (c : CalfCoefficient). get_or new c.rank 0 ≡ f c.rank) at.3 (has.written at.0 at.1 at.2))
 
--- the list goes on with calves of s, among them those that a link to the next one has passed by
-pub record IsGrowing (rows : List Row) (s : ℕ) (f : ℕ → ℕ) (link : Option ℕ) (old new : List CalfCoefficient) : Type 0 where
-  pub more : List CalfCoefficient
-  pub appended : new ≡ old ++ more
-  pub each : All (IsCalfWith rows (λ t. t ≡ s) f) more
-  pub walked : IsWalked rows s link (λ x. Any (λ calf. calf.rank ≡ x) more)
-
-pub growing-start : (rows : List Row) (s : ℕ) (f : ℕ → ℕ) (link : Option ℕ) (old : List CalfCoefficient) → IsLink rows s (length rows) link → IsGrowing rows s f link old old
-growing-start rows s f link old is = record {
-  more = [];
-  appended = sym (append-nil old);
-  each = All-nil (IsCalfWith rows (λ t. t ≡ s) f);
-  walked = walked-start rows s link (λ x. Any (λ calf. calf.rank ≡ x) []) is;
-}
-
--- one calf further
-pub growing-next : (rows : List Row) (s : ℕ) (f : ℕ → ℕ) (calf : CalfCoefficient) (link : Option ℕ) (old new pushed : List CalfCoefficient) → IsCalf rows s calf.rank → calf.numerator ≡ f calf.rank →
-    IsLink rows s calf.rank link → pushed ≡ new ++ calf ∷ [] → IsGrowing rows s f (Some calf.rank) old new → IsGrowing rows s f link old pushed
-growing-next rows s f calf link old new pushed is value next push was = record {
-  more = was.more ++ calf ∷ [];
-  appended = push ∙ ap (λ (xs : List CalfCoefficient). xs ++ calf ∷ []) was.appended ∙ append_assoc old was.more (calf ∷ []);
-  each = All-push (IsCalfWith rows (λ t. t ≡ s) f) was.more calf was.each (record { sire = s; of_these = refl; is_calf = is; value = value });
-  walked = walked-next rows s calf.rank link (λ x. Any (λ c. c.rank ≡ x) was.more) (λ x. Any (λ c. c.rank ≡ x) (was.more ++ calf ∷ [])) next
-      (λ x above there. any-left (λ c. c.rank ≡ x) was.more (calf ∷ []) there)
-      (Any-push (λ c. c.rank ≡ calf.rank) was.more calf refl)
-      was.walked;
-}
-
-pub growing-end : (rows : List Row) (s : ℕ) (f : ℕ → ℕ) (link : Option ℕ) (old new : List CalfCoefficient) → link ≡ None → IsGrowing rows s f link old new → GoesOnWith rows (λ t. t ≡ s) f old new
-growing-end rows s f link old new none was = record {
-  more = was.more;
-  appended = was.appended;
-  calves = record { each = was.each; all = λ t x is calf. was.walked.done x (subst (λ v. IsCalf rows v x) is calf) (λ y e. absurd (cc)) };
-}
+-- all calves of s, each made of its rank, go on a list
+pub goes-on : (rows : List Row) (s : ℕ) (f : ℕ → ℕ) (make : ℕ → CalfCoefficient) (old new : List CalfCoefficient) → ((x : ℕ) → (make x).rank ≡ x) → ((x : ℕ) → IsCalf rows s x → (make x).numerator ≡ f x) →
+    new ≡ old ++ map make (calves_of_sire rows s) → GoesOnWith rows (λ t. t ≡ s) f old new
+goes-on rows s f make old new rank value push =
+    let calves = calves_of_sire rows s in
+    let made : All (λ x. Any (λ c. c.rank ≡ x) (map make calves)) calves = λ k d low.
+    (k, make (get_or calves k d), let long = length-map calves make in omega (arith, low), get_or-map make calves k d (make (get_or calves k d)) low, rank (get_or calves k d)) in
+    record {
+      more = map make calves;
+      appended = push;
+      calves = record {
+        each =
+            All-map (IsCalfWith rows (λ t. t ≡ s) f) make calves
+            (All-weaker (IsCalf rows s) (λ x. IsCalfWith rows (λ t. t ≡ s) f (make x))
+            (λ x calf. record { sire = s; of_these = refl; is_calf = subst (IsCalf rows s) (sym (rank x)) calf; value = value x calf ∙ ap f (sym (rank x)) }) calves (below-each rows s (length rows)));
+        all = λ t x is calf.
+            let mine : IsCalf rows s x = subst (λ v. IsCalf rows v x) is calf in
+            All-contains (λ v. Any (λ c. c.rank ≡ v) (map make calves)) calves x made (below-all rows s (length rows) x (calf-within rows s x mine) mine);
+      };
+    }
 
 -- nothing is written yet
 pub written-start : (f : ℕ → ℕ) (old : List ℕ) → HasWritten f [] old old

@@ -5,7 +5,7 @@ use Rattle.std.proofs.lemmas.List.{get_or-set_same, get_or-set_other, length-set
 use Rattle.std.proofs.lemmas.Option.{get_or_from_slice_get, slice_get-get_or}
 use Rattle.herd_frozen.specs.declared.freezing.frozen.Parents.{Parents}
 use Rattle.herd_frozen.specs.declared.freezing.frozen.Row.{Row}
-use Rattle.herd_frozen.specs.freezing.Frozen.{IsFrozen}
+use Rattle.herd_frozen.specs.freezing.Frozen.{IsFrozen, depth_at}
 use Rattle.herd_kinship.specs.Ancestry.{IsParentIn}
 use Rattle.herd_kinship.specs.Columns.{at_parent, related, inherited, passed_to, CanPassTo, HasAll, IsCollection}
 use Rattle.herd_kinship.specs.FrozenAncestry.{ancestry_of, number_of_row}
@@ -65,16 +65,15 @@ pub record IsPart (l : ℕ) (rows : List Row) (s j part own deep depth : ℕ) : 
   pub value : part / 2 ^ (deep - depth) * (own * 1) ≡ inherited l rows s j
 
 module _ (l most : ℕ) (rows : List Row) (f : IsFrozen l most rows) (s : ℕ) (ls : s < length rows) where
-  pub part-is : (b j part own : ℕ) (deep ancestor : Parents) → l < 128 → 2 ^ suc (2 * l) < 2 ^ 128 → AreParentsAt rows s deep → AreParentsAt rows j ancestor → IsNext l rows s b j own →
-      part ≡ mendelian (ancestry_of rows) l (number_of_row rows j) → IsPart l rows s j part own deep.depth ancestor.depth
-  part-is b j part own deep ancestor small room at there next part_is =
+  pub part-is : (b j part own : ℕ) (deep : Parents) (depth : ℕ) → l < 128 → 2 ^ suc (2 * l) < 2 ^ 128 → AreParentsAt rows s deep → j < length rows → depth ≡ depth_at rows j → IsNext l rows s b j own →
+      part ≡ mendelian (ancestry_of rows) l (number_of_row rows j) → IsPart l rows s j part own deep.depth depth
+  part-is b j part own deep depth small room at lj there next part_is =
       let ds = parents-depth rows s deep at in
-      let dj = parents-depth rows j ancestor there in
-      let lj = parents-within rows j ancestor there in
+      let dj : depth_at rows j ≡ depth = sym there in
       let limit = depth-at_most l most rows f s ls in
       let below = inherited-bound l most rows f s ls j lj in
       let one : own * 1 ≡ own = omega arith in
-      let is : part / 2 ^ (deep.depth - ancestor.depth) * (own * 1) ≡ inherited l rows s j =
+      let is : part / 2 ^ (deep.depth - depth) * (own * 1) ≡ inherited l rows s j =
       rw (← ds, ← dj, one) (inherited-term l most rows f s ls j own part lj next.share_is part_is) in
       record {
         shift = omega (arith, ds, limit);

@@ -11,6 +11,7 @@ use Rattle.herd_kinship.specs.FrozenAncestry.{ancestry_of, number_of_row}
 use Rattle.herd_kinship.specs.Coefficients.{IsKnownParent, KnowsAncestors, own_relationship, quarter_of}
 use Rattle.herd_kinship.specs.Ranks.{AreParentsAt, HasUnknownParent, sire_rank, dam_rank, ranked}
 use Rattle.herd_kinship.specs.Tracing.{IsNext}
+use Rattle.herd_kinship.proofs.lemmas.books.ParentsFacts.{parents-within, row-at}
 use Rattle.herd_kinship.proofs.lemmas.ancestry.Ancestors.{share-reached, ancestor-before, path-joined}
 use Rattle.herd_kinship.proofs.lemmas.ancestry.Bounds.{entry-itself, coefficient-bound, inbred-is, quarter-is, coefficient-none}
 use Rattle.herd_kinship.proofs.lemmas.ancestry.Depth.{Below, Below-shallow, Below-sire, Below-dam, known_some}
@@ -136,17 +137,19 @@ module _ (l most : ℕ) (rows : List Row) (f : IsFrozen l most rows) where
 
   -- the same of parents that are read by themselves
   pub parents-known : (known : List ℕ) (x : ℕ) (parents : Parents) → x < length rows → KnowsAncestors l rows known x → AreParentsAt rows x parents → AreKnownParents l rows known x parents
-  parents-known known x parents lx k at = record {
-    sire = rw at.same (sire-known known x at.row lx k at.there);
-    dam = rw at.same (dam-known known x at.row lx k at.there);
-    variance = rw at.same (mendelian-row known x at.row lx k at.there);
-  }
+  parents-known known x parents lx k is =
+      let at = row-at rows x parents is in
+      record {
+        sire = rw at.same (sire-known known x at.row lx k at.there);
+        dam = rw at.same (dam-known known x at.row lx k at.there);
+        variance = rw at.same (mendelian-row known x at.row lx k at.there);
+      }
 
   -- and of those of the ancestor that a tracing meets
   pub parents-known_next : (known : List ℕ) (x b y own : ℕ) (parents : Parents) → x < length rows → KnowsAncestors l rows known x → IsNext l rows x b y own → AreParentsAt rows y parents →
       AreKnownParents l rows known y parents
   parents-known_next known x b y own parents lx k next at =
-      parents-known known y parents (slice_get_within rows y at.row at.there) (known-next known x b y own lx k next) at
+      parents-known known y parents (parents-within rows y parents at) (known-next known x b y own lx k next) at
 
   -- the Mendelian sampling variance of a rank is that of its number
   pub mendelian-rank : (x : ℕ) → x < length rows → mendelian (ranked rows) l x ≡ mendelian (ancestry_of rows) l (number_of_row rows x)

@@ -22,7 +22,7 @@ use Rattle.herd_kinship.proofs.lemmas.ancestry.Exact.{term-exact}
 use Rattle.herd_kinship.proofs.lemmas.books.FrozenDepths.{ranked-depth, ranked-below_depth, depth-at_most}
 use Rattle.herd_kinship.proofs.lemmas.books.FrozenFacts.{frozen-ranked, ranked-lawful, ranked-shallow}
 use Rattle.herd_kinship.proofs.lemmas.tracing.KnownFacts.{entry-rank, mendelian-rank}
-use Rattle.herd_kinship.proofs.lemmas.books.ParentsFacts.{parents-depth, parents-within}
+use Rattle.herd_kinship.proofs.lemmas.books.ParentsFacts.{parents-depth}
 use Rattle.herd_kinship.proofs.lemmas.books.Ranks.{rank-in}
 use Rattle.herd_kinship.proofs.lemmas.ancestry.Table.{entry-bound}
 
@@ -87,21 +87,20 @@ module _ (l most : ℕ) (rows : List Row) (f : IsFrozen l most rows) (x : ℕ) (
       (cases_lt sum (2 ^ suc (2 * l)))
 
   -- the term of the next ancestor is added
-  pub added : (b j part own sum : ℕ) (deep ancestor : Parents) → 2 * l < 128 → 2 ^ suc (2 * l) < 2 ^ 128 → AreParentsAt rows x deep → AreParentsAt rows j ancestor →
+  pub added : (b j part own sum : ℕ) (deep : Parents) (depth : ℕ) → 2 * l < 128 → 2 ^ suc (2 * l) < 2 ^ 128 → AreParentsAt rows x deep → j < length rows → depth ≡ depth_at rows j →
       IsNext l rows x b j own → part ≡ mendelian (ancestry_of rows) l (number_of_row rows j) → IsSummed l rows x b sum →
-      IsAdded l rows x j part own sum deep.depth ancestor.depth
-  added b j part own sum deep ancestor small room at there next part_is so_far =
+      IsAdded l rows x j part own sum deep.depth depth
+  added b j part own sum deep depth small room at lj there next part_is so_far =
       let dx = parents-depth rows x deep at in
-      let dj = parents-depth rows j ancestor there in
-      let lj = parents-within rows j ancestor there in
+      let dj : depth_at rows j ≡ depth = sym there in
       let limit = depth-at_most l most rows f x lx in
-      let steps : 2 * deep.depth - 2 * ancestor.depth ≡ depth_at rows x + depth_at rows x - 2 * depth_at rows j = omega (arith, dx, dj) in
-      let term : part / 2 ^ (2 * deep.depth - 2 * ancestor.depth) * (own * own)
+      let steps : 2 * deep.depth - 2 * depth ≡ depth_at rows x + depth_at rows x - 2 * depth_at rows j = omega (arith, dx, dj) in
+      let term : part / 2 ^ (2 * deep.depth - 2 * depth) * (own * own)
       ≡ own * own * (mendelian (ranked rows) l j / 2 ^ (depth_at rows x + depth_at rows x - 2 * depth_at rows j)) =
       rw (steps, part_is, ← mendelian-rank l most rows f j lj) (omega arith) in
-      let summed : IsSummed l rows x j (sum + part / 2 ^ (2 * deep.depth - 2 * ancestor.depth) * (own * own)) =
+      let summed : IsSummed l rows x j (sum + part / 2 ^ (2 * deep.depth - 2 * depth) * (own * own)) =
       rw term (summed-next b j own sum lj next so_far) in
-      let below = summed-bound j (sum + part / 2 ^ (2 * deep.depth - 2 * ancestor.depth) * (own * own)) summed in
+      let below = summed-bound j (sum + part / 2 ^ (2 * deep.depth - 2 * depth) * (own * own)) summed in
       record {
         shift = omega (arith, dx, limit);
         fits = omega (arith, below, room);

@@ -32,10 +32,10 @@ pub record IsGift (l : ℕ) (rows : List Row) (x : ℕ) (shares : List ℕ) (y o
   pub exact : own * 2 ^ (deep - depth - 1) % 2 ^ 64 ≡ own * 2 ^ (depth_at rows y - depth_at rows p - 1)
   pub fits : get_or shares (x - p) 0 + own * 2 ^ (deep - depth - 1) % 2 ^ 64 < 2 ^ 64
 
-pub gift-is : (l : ℕ) (rows : List Row) (x : ℕ) (shares : List ℕ) (y own p : ℕ) (parents older : Parents) → l < 64 → 2 ^ l < 2 ^ 64 → HasRoom l rows x shares y own p →
-    AreParentsAt rows y parents → AreParentsAt rows p older → IsGift l rows x shares y own p parents.depth older.depth
-gift-is l rows x shares y own p parents older small power h at there =
-    let dy = parents-depth rows y parents at in
+pub gift-is : (l : ℕ) (rows : List Row) (x : ℕ) (shares : List ℕ) (y own p : ℕ) (deep : ℕ) (older : Parents) → l < 64 → 2 ^ l < 2 ^ 64 → HasRoom l rows x shares y own p →
+    deep ≡ depth_at rows y → AreParentsAt rows p older → IsGift l rows x shares y own p deep older.depth
+gift-is l rows x shares y own p deep older small power h at there =
+    let dy : depth_at rows y ≡ deep = sym at in
     let dp = parents-depth rows p older there in
     let lower : p < y = h.lower in
     let met : y ≤ x = h.met in
@@ -44,7 +44,7 @@ gift-is l rows x shares y own p parents older small power h at there =
     let room = h.room in
     let more : ℕ = own * 2 ^ (depth_at rows y - depth_at rows p - 1) in
     let fits : more < 2 ^ 64 = omega arith in
-    let exact : own * 2 ^ (parents.depth - older.depth - 1) % 2 ^ 64 ≡ more = rw (← dy, ← dp) (mod-eq_of_lt fits) in
+    let exact : own * 2 ^ (deep - older.depth - 1) % 2 ^ 64 ≡ more = rw (← dy, ← dp) (mod-eq_of_lt fits) in
     record {
       distance = omega arith;
       less_deep = omega (arith, dy, dp);

@@ -14,6 +14,7 @@ use Rattle.herd_kinship.specs.Ranks.{AreParentsAt, ranked}
 use Rattle.herd_kinship.specs.Shares.{share}
 use Rattle.herd_kinship.specs.Tracing.{given, GivesMark, HasRoom, IsIdle, IsMarked, IsNext, IsPendingAt, IsTracing, IsUnderWay}
 use Rattle.herd_kinship.proofs.lemmas.numbers.PendingFacts.{IsNearest}
+use Rattle.herd_kinship.proofs.lemmas.books.ParentsFacts.{row-at}
 use Rattle.herd_kinship.proofs.lemmas.tracing.TracingFacts.{IsLower, IsStep, length-given, lowered-to, share-none_kept, step-is, step-room_sire, step-room_dam, step-lower_sire, step-lower_dam, step-next, tracing-start}
 
 -- the animal itself alone is pending at first
@@ -200,7 +201,8 @@ module _ (l : ℕ) (rows : List Row) (x b : ℕ) (shares chunks : List ℕ) (way
         (omega (arith, given_long, long)) (step-lower_dam l rows x (x - d) shares own taken-step row e) second
 
     pub taken-met : (parents : Parents) → AreParentsAt rows (x - d) parents → IsMet l rows x b shares chunks' d own parents
-    taken-met parents at =
+    taken-met parents is =
+        let at = row-at rows (x - d) parents is in
         let row : Row = at.row in
         let met : IsMet l rows x b shares chunks' d own (parents_of row) = record {
           next = taken-next;

@@ -25,12 +25,7 @@ returns-clause-value g c =
 
 pub returns-clause-below_one : goal.returns-clause-below_one
 returns-clause-below_one g c =
-    let rows = c.args.frozen.now in
-    let pair = c.in_ok-pair.ensures.pair in
-    rw
-    (mating-by DEPTH_LIMIT rows c.args.sire.now c.args.dam.now c.args.relationships.now c.in_ok-pair.pair.sire c.in_ok-pair.pair.dam c.with.result (lit< tt) pair
-    (c.requires c.in_ok-pair.pair.dam pair.dam_in pair.dam_is) c.with.ensures)
-    (entry-bound (ancestry_of rows) (2 * DEPTH_LIMIT - 1) (Some c.args.sire.now) (Some c.args.dam.now))
+    rw (returns-clause-value g c) (entry-bound (ancestry_of c.args.frozen.now) (2 * DEPTH_LIMIT - 1) (Some c.args.sire.now) (Some c.args.dam.now))
 
 pub returns-clause-allowed : goal.returns-clause-allowed
 returns-clause-allowed g c = c.in_ok-pair.ensures.pair.allowed

@@ -11,7 +11,7 @@ use Rattle.herd_kinship.specs.Contributions.{contribution_at, contributions_of, 
 use Rattle.herd_kinship.specs.Ranks.{sire_rank, dam_rank}
 use Rattle.herd_kinship.proofs.lemmas.books.FrozenFacts.{sire_at, dam_at}
 use Rattle.herd_kinship.specs.FrozenAncestry.{number_of_row}
-use Rattle.herd_report.specs.writing.CoefficientText.{fraction_text}
+use Rattle.herd_kinship.specs.Fraction.{fraction_text}
 use Rattle.herd_report.proofs.lemmas.writing.OutputFacts.{some_after, some_before}
 use Rattle.herd_report.specs.writing.InverseList.{IsWithin, contribution_line, contributions_text}
 

@@ -1,34 +1,24 @@
--- `Calves::count`: what `link` requires, its loop, that nothing overflows, and its result.
-use Rattle.std.proofs.Common.{◌<◌, arith, sym, subst}
-use Rattle.herd_kinship.proofs.lemmas.sires.CalfCounts.{counted-end, counted-few, counted-next, counted-start, IsCounted}
-use Rattle.herd_kinship.proofs.lemmas.sires.CalfFacts.{calf-within, left_from, left-smaller}
+-- `Calves::count`: that its calves are few.
+use Rattle.std.proofs.Common.{◌≤◌, inl, length, arith, ap}
 use Rattle.herd_kinship.proofs.lemmas.books.FrozenFacts.{length-book_of}
+use Rattle.herd_kinship.proofs.lemmas.sires.CalvesBelow.{calf_count-few}
+use Rattle.herd_kinship.proofs.calves.Calves.count.Given.{Over}
+use Rattle.herd_kinship.proofs.calves.Calves.count.Goals.{After-of_sire}
 use Rattle.herd_kinship.proofs.calves.Calves.count.Goals as goal
 
-pub loop-link-init : goal.loop-link-init
-loop-link-init g c = counted-start c.args.frozen.now c.args.sire c.youngest-link.result c.youngest-link.ensures
-
-pub overflow_add-count : goal.overflow_add-count
-overflow_add-count g c =
-    let few = counted-few c.args.frozen.now c.args.sire c.loop-link.count c.loop-link.link c.loop-link.invariant in
+few : (g : Over) (c : After-of_sire g) → length c.of_sire.result ≤ 60000
+few g c =
+    let all = ap length c.of_sire.ensures in
+    let few = calf_count-few c.args.frozen.now c.args.sire in
     let most = c.len.ensures.frozen.lawful.few in
     let book = length-book_of c.args.frozen.now in
     omega arith
 
-pub older-link-requires-clause-calf : goal.older-link-requires-clause-calf
-older-link-requires-clause-calf g c = calf-within c.args.frozen.now c.args.sire c.in-Some.calf (c.loop-link.invariant.next c.in-Some.calf c.in-Some.is)
+pub count-requires-clause-fits : goal.count-requires-clause-fits
+count-requires-clause-fits g c = let few = few g c in inl (omega arith)
 
-pub loop-link-smaller : goal.loop-link-smaller
-loop-link-smaller g c =
-    subst (λ o. left_from c.older-link.result < left_from o) (sym c.in-Some.is)
-    (left-smaller c.args.frozen.now c.args.sire c.in-Some.calf c.older-link.result (c.older-link.ensures c.args.sire (c.loop-link.invariant.next c.in-Some.calf c.in-Some.is)))
-
-pub loop-link-preserved : goal.loop-link-preserved
-loop-link-preserved g c =
-    let rows = c.args.frozen.now in
-    counted-next rows c.args.sire c.in-Some.calf c.loop-link.count c.older-link.result
-    (c.older-link.ensures c.args.sire (c.loop-link.invariant.next c.in-Some.calf c.in-Some.is))
-    (subst (λ o. IsCounted rows c.args.sire o c.loop-link.count) c.in-Some.is c.loop-link.invariant)
-
-pub returns : goal.returns
-returns g c = counted-end c.args.frozen.now c.args.sire c.loop-link.count c.loop-link.link c.in_default.is c.loop-link.invariant
+pub overflow_cast-result : goal.overflow_cast-result
+overflow_cast-result g c =
+    let few = few g (goal.at.overflow_cast-result g c).After-of_sire in
+    let bound = c.count.ensures.bound in
+    omega arith

@@ -16,8 +16,8 @@ within : (g : Over) (c : In-Some g) → c.in-Some.sire < length c.loop-calf.late
 within g c =
     let rows = c.args.frozen.now in
     let i : ℕ = c.loop-calf.calf in
-    let is : sire_rank rows i ≡ Some c.in-Some.sire = parents-sire rows i c.parents_at.result c.parents_at.ensures.parents ∙ c.in-Some.ensures.sire in
-    let li = parents-within rows i c.parents_at.result c.parents_at.ensures.parents in
+    let is : sire_rank rows i ≡ Some c.in-Some.sire = parents-sire rows i c.parents.result c.parents.ensures.parents ∙ c.in-Some.ensures.sire in
+    let li = parents-within rows i c.parents.result c.parents.ensures.parents in
     let lower : c.in-Some.sire < i = (frozen-ranked DEPTH_LIMIT MOST_ANIMALS rows c.len-animals.ensures.frozen).below i c.in-Some.sire li (inl is) in
     let each : length c.loop-calf.latest.items ≡ length rows = c.loop-calf.invariant.each_sire in
     omega arith
@@ -34,17 +34,17 @@ loop-calf-preserved g c =
     let i : ℕ = c.loop-calf.calf in
     let latest : List (Option ℕ) = c.loop-calf.latest.items in
     let earlier : List (Option ℕ) = c.loop-calf.earlier.items in
-    let li : i < length rows = parents-within rows i c.parents_at.result c.parents_at.ensures.parents in
+    let li : i < length rows = parents-within rows i c.parents.result c.parents.ensures.parents in
     elim c.match-sire_of_pair.branch [
       | in-Some w ↦
           (let p : ℕ = w.in-Some.sire in
-          let calf : IsCalf rows p i = calf-pair rows i p c.parents_at.result c.parents_at.ensures.parents w.in-Some.ensures.sire w.in-Some.ensures.dam in
+          let calf : IsCalf rows p i = calf-pair rows i p c.parents.result c.parents.ensures.parents w.in-Some.ensures.sire w.in-Some.ensures.dam in
           let lower : p < i = (frozen-ranked DEPTH_LIMIT MOST_ANIMALS rows c.len-animals.ensures.frozen).below i p li (inl calf.0) in
           let each : length latest ≡ length rows = c.loop-calf.invariant.each_sire in
           let read = get_or_read latest p w.index.result.now (omega arith) w.index.ensures None in
           rw (w.latest-is, w.earlier-is, w.at.ensures, read) (linked-calf rows i p latest earlier li (omega arith) calf c.loop-calf.invariant))
       | in_default w ↦
-          rw (w.latest-is, w.earlier-is) (linked-other rows i latest earlier (no-calf rows i c.parents_at.result c.parents_at.ensures.parents w.in_default.ensures.unknown) c.loop-calf.invariant)
+          rw (w.latest-is, w.earlier-is) (linked-other rows i latest earlier (no-calf rows i c.parents.result c.parents.ensures.parents w.in_default.ensures.unknown) c.loop-calf.invariant)
     ]
 
 pub returns : goal.returns

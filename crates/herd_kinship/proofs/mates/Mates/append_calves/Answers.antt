@@ -1,40 +1,36 @@
--- `Mates::append_calves`: its clause `calves`.
-use Rattle.std.proofs.Common.{◌≡◌, ℕ, ◌/◌, [], sym, ◌∙◌, ap, subst}
-use Rattle.std.proofs.lemmas.List.{append-nil}
+-- `Mates::append_calves`: what `append_halves` requires and its clause `calves`.
+use Rattle.std.proofs.Common.{◌≡◌, ℕ, ◌<◌, ◌++◌, All, length, map, refl, sym, ◌∙◌, ap, subst}
+use Rattle.std.proofs.lemmas.Bool.{eqb-true}
+use Rattle.std.proofs.lemmas.List.{append-nil, nil_from_length}
 use Rattle.std.proofs.lemmas.Result.{IfOk-weaker}
-use Rattle.herd_frozen.specs.declared.TheConstants.{DEPTH_LIMIT, MOST_ANIMALS}
-use Rattle.herd_kinship.specs.CalfCoefficients.{GoesOnWith}
-use Rattle.herd_kinship.specs.CalfLinks.{IsCalf}
+use Rattle.herd_frozen.specs.declared.TheConstants.{DEPTH_LIMIT}
+use Rattle.herd_kinship.specs.CalfCoefficients.{GoesOnWith, with_half}
 use Rattle.herd_kinship.specs.Coefficients.{coefficient_at}
-use Rattle.herd_kinship.specs.Columns.{at_parent}
-use Rattle.herd_kinship.specs.Ranks.{dam_rank}
-use Rattle.herd_kinship.proofs.lemmas.sires.CalfFacts.{calf-within}
-use Rattle.herd_kinship.proofs.lemmas.sires.CalfListFacts.{calves-none, goes-on-values}
-use Rattle.herd_kinship.proofs.lemmas.sires.ColumnFacts.{coefficient-related}
+use Rattle.herd_kinship.specs.declared.calf_coefficients.CalfCoefficient.{CalfCoefficient}
+use Rattle.herd_kinship.proofs.lemmas.sires.CalvesBelow.{below-within}
+use Rattle.herd_kinship.proofs.lemmas.sires.CalfListFacts.{goes-on}
 use Rattle.herd_kinship.proofs.mates.Mates.append_calves.Goals as goal
 
-pub returns-in_ok-relate_to-clause-calves : goal.returns-in_ok-relate_to-clause-calves
-returns-in_ok-relate_to-clause-calves g c =
+pub append_halves-requires-clause-calves : goal.append_halves-requires-clause-calves
+append_halves-requires-clause-calves g c =
     let rows = c.args.frozen.now in
-    let s : ℕ = c.args.sire in
-    let half : ℕ → ℕ = λ x. at_parent c.deref.result.now (dam_rank rows x) / 2 in
-    let column = c.deref.ensures.value in
+    subst (λ xs. All (λ calf. calf < length rows) xs) (sym c.of_sire-3.ensures) (below-within rows c.args.sire (length rows))
+
+pub returns-clause-calves : goal.returns-clause-calves
+returns-clause-calves g c =
+    let rows = c.args.frozen.now in
+    let make = with_half rows c.deref.result.now in
     let old = c.args.list.now.items in
     let new = c.append_halves.new.list.items in
-    let same : (t x : ℕ) → t ≡ s → IsCalf rows t x → half x ≡ coefficient_at DEPTH_LIMIT rows x = λ t x is calf.
-    let mine : IsCalf rows s x = subst (λ v. IsCalf rows v x) is calf in
-    ap (λ o. at_parent c.deref.result.now o / 2) mine.2
-    ∙ ap (λ v. v / 2) (rw column (c.in_ok-relate_to.ensures.related x mine.1 mine.0 mine.2))
-    ∙ coefficient-related DEPTH_LIMIT MOST_ANIMALS rows c.len.ensures.frozen s c.requires.sire mine.1 x (calf-within rows s x mine) mine.0 mine.2 in
-    IfOk-weaker c.append_halves.result (λ _. GoesOnWith rows (λ t. t ≡ s) half old new) (λ _. GoesOnWith rows (λ t. t ≡ s) (coefficient_at DEPTH_LIMIT rows) old new)
-    (λ _. goes-on-values rows (λ t. t ≡ s) half (coefficient_at DEPTH_LIMIT rows) old new same) c.append_halves.ensures
+    let values = c.in_ok-relate_to.ensures.halves in
+    IfOk-weaker c.append_halves.result (λ _. new ≡ old ++ map make c.of_sire-3.result) (λ _. GoesOnWith rows (λ s. s ≡ c.args.sire) (coefficient_at DEPTH_LIMIT rows) old new)
+    (λ _ push. goes-on rows c.args.sire (coefficient_at DEPTH_LIMIT rows) make old new (λ x. refl) (λ x calf. rw c.deref.ensures.value (values x calf)) (push ∙ ap (λ xs. old ++ map make xs) c.of_sire-3.ensures))
+    c.append_halves.ensures
 
-pub returns-else-has_calves-clause-calves : goal.returns-else-has_calves-clause-calves
-returns-else-has_calves-clause-calves g c =
+pub returns-then-is_empty-clause-calves : goal.returns-then-is_empty-clause-calves
+returns-then-is_empty-clause-calves g c =
     let rows = c.args.frozen.now in
-    record {
-      more = [];
-      appended = sym (append-nil c.args.list.now.items);
-      calves = calves-none rows (λ s. s ≡ c.args.sire) (coefficient_at DEPTH_LIMIT rows)
-          (λ s x is calf. c.has_calves.ensures.no c.if-has_calves.false x (subst (λ (v : ℕ). IsCalf rows v x) is calf));
-    }
+    let make : ℕ → CalfCoefficient = λ x. record { rank = x; numerator = coefficient_at DEPTH_LIMIT rows x } in
+    let none = nil_from_length c.of_sire.result (eqb-true _ _ (sym c.is_empty.ensures ∙ c.if-is_empty.true)) in
+    goes-on rows c.args.sire (coefficient_at DEPTH_LIMIT rows) make c.args.list.now.items c.args.list.now.items (λ x. refl) (λ x _. refl)
+    (sym (append-nil c.args.list.now.items) ∙ ap (λ xs. c.args.list.now.items ++ map make xs) (sym none ∙ c.of_sire.ensures))

@@ -1,8 +1,10 @@
--- `Tracing::meet_next`: what `give` requires and its clauses `tracing`, `all`, `shares` and `next`.
-use Rattle.std.proofs.Common.{◌≡◌, ℕ, ◌-◌, length, set, arith, refl, ◌∙◌, ap, subst}
+-- `Tracing::meet_next`: what `variance_by` and `give` require and its clauses `tracing`, `all`, `shares`, `next` and `met`.
+use Rattle.std.proofs.Common.{◌≡◌, ℕ, ◌-◌, length, set, arith, refl, sym, ◌∙◌, ap, subst}
 use Rattle.std.proofs.lemmas.List.{get_or_read, length-set}
-use Rattle.herd_frozen.specs.declared.TheConstants.{DEPTH_LIMIT}
+use Rattle.herd_frozen.specs.declared.TheConstants.{DEPTH_LIMIT, MOST_ANIMALS}
 use Rattle.herd_kinship.specs.Tracing.{given, GivesMark}
+use Rattle.herd_kinship.proofs.lemmas.books.ParentsFacts.{parents-depth, parents-within}
+use Rattle.herd_kinship.proofs.lemmas.tracing.KnownFacts.{AreKnownParents, parents-known_next}
 use Rattle.herd_kinship.proofs.lemmas.tracing.TracingFacts.{length-given}
 use Rattle.herd_kinship.proofs.lemmas.tracing.UnderWayFacts.{IsMet, none-left, taken-met, under_way-end}
 use Rattle.herd_kinship.proofs.tracing.Tracing.meet_next.Given.{Over}
@@ -13,29 +15,49 @@ pub returns-in_default-clause-tracing : goal.returns-in_default-clause-tracing
 returns-in_default-clause-tracing g c =
     rw c.in_default.ensures.same
     (under_way-end DEPTH_LIMIT c.args.frozen.now c.args.self.now.rank c.args.self.now.border c.args.self.now.shares.items c.args.self.now.pending.chunks.items
-    c.requires c.in_default.ensures.empty)
+    c.requires.tracing c.in_default.ensures.empty)
 
 pub returns-in_default-clause-all : goal.returns-in_default-clause-all
 returns-in_default-clause-all g c =
     none-left DEPTH_LIMIT c.args.frozen.now c.args.self.now.rank c.args.self.now.border c.args.self.now.shares.items c.args.self.now.pending.chunks.items
-    c.requires c.in_default.ensures.empty
+    c.requires.tracing c.in_default.ensures.empty
 
 -- what is met at the distance that is taken
 met : (g : Over) (c : After-index-share g) →
     IsMet DEPTH_LIMIT c.args.frozen.now c.args.self.now.rank c.args.self.now.border c.args.self.now.shares.items c.take_nearest.new.self.chunks.items c.in-Some.distance
-    c.index-share.result.now c.parents_at-parents.result
+    c.index-share.result.now c.parents-parents.result
 met g c =
     let d : ℕ = c.in-Some.distance in
     let shares = c.args.self.now.shares.items in
     let chunks = c.args.self.now.pending.chunks.items in
-    let near = (c.requires.marks.pending d c.in-Some.ensures.found).near in
-    let long = c.requires.tracing.long in
-    taken-met DEPTH_LIMIT c.args.frozen.now c.args.self.now.rank c.args.self.now.border shares chunks c.requires c.take_nearest.new.self.chunks.items d c.index-share.result.now
+    let near = (c.requires.tracing.marks.pending d c.in-Some.ensures.found).near in
+    let long = c.requires.tracing.tracing.long in
+    taken-met DEPTH_LIMIT c.args.frozen.now c.args.self.now.rank c.args.self.now.border shares chunks c.requires.tracing c.take_nearest.new.self.chunks.items d c.index-share.result.now
     (record {
       distance = record { found = c.in-Some.ensures.found; nearest = c.in-Some.ensures.nearest; taken = c.in-Some.ensures.taken };
       own_is = get_or_read shares d c.index-share.result.now (omega (arith, near, long)) c.index-share.ensures 0;
     })
-    c.parents_at-parents.result c.parents_at-parents.ensures.parents
+    c.parents-parents.result c.parents-parents.ensures.parents
+
+-- its parents are known
+known : (g : Over) (c : After-index-share g) →
+    AreKnownParents DEPTH_LIMIT c.args.frozen.now c.args.known.now (c.args.self.now.rank - c.in-Some.distance) c.parents-parents.result
+known g c =
+    let is = c.requires.tracing.tracing in
+    parents-known_next DEPTH_LIMIT MOST_ANIMALS c.args.frozen.now is.book c.args.known.now c.args.self.now.rank c.args.self.now.border (c.args.self.now.rank - c.in-Some.distance) c.index-share.result.now c.parents-parents.result
+    is.rank c.requires.known (met g c).next c.parents-parents.ensures.parents
+
+pub variance_by-requires-clause-sire : goal.variance_by-requires-clause-sire
+variance_by-requires-clause-sire g c = (known g (goal.at.variance_by-requires-clause-sire g c).After-index-share).sire
+
+pub variance_by-requires-clause-dam : goal.variance_by-requires-clause-dam
+variance_by-requires-clause-dam g c = (known g (goal.at.variance_by-requires-clause-dam g c).After-index-share).dam
+
+pub give-requires-clause-depth : goal.give-requires-clause-depth
+give-requires-clause-depth g c = sym (parents-depth c.args.frozen.now (c.args.self.now.rank - c.in-Some.distance) c.parents-parents.result c.parents-parents.ensures.parents)
+
+pub give-requires-2-clause-depth : goal.give-requires-2-clause-depth
+give-requires-2-clause-depth g c = sym (parents-depth c.args.frozen.now (c.args.self.now.rank - c.in-Some.distance) c.parents-parents.result c.parents-parents.ensures.parents)
 
 pub give-requires-clause-room : goal.give-requires-clause-room
 give-requires-clause-room g c = (met g (goal.at.give-requires-clause-room g c).After-index-share).room_sire
@@ -51,9 +73,9 @@ returns-clause-shares g c =
     let shares = c.args.self.now.shares.items in
     let d : ℕ = c.in-Some.distance in
     let own : ℕ = c.index-share.result.now in
-    let sire = c.parents_at-parents.result.sire in
+    let sire = c.parents-parents.result.sire in
     ap length c.give-2.ensures.shares
-    ∙ (length-given rows c.give.new.self.rank c.give.new.self.shares.items (x - d) own c.parents_at-parents.result.dam
+    ∙ (length-given rows c.give.new.self.rank c.give.new.self.shares.items (x - d) own c.parents-parents.result.dam
     ∙ (ap length c.give.ensures.shares ∙ (length-given rows x (set shares d 0) (x - d) own sire ∙ length-set shares d 0)))
 
 pub returns-clause-tracing : goal.returns-clause-tracing
@@ -63,7 +85,7 @@ returns-clause-tracing g c =
     let shares = c.args.self.now.shares.items in
     let d : ℕ = c.in-Some.distance in
     let own : ℕ = c.index-share.result.now in
-    let parents = c.parents_at-parents.result in
+    let parents = c.parents-parents.result in
     let first = c.give.new.self.pending.chunks.items in
     let last = c.give-2.new.self.pending.chunks.items in
     let rank : c.give-2.new.self.rank ≡ x = c.give-2.ensures.rank ∙ c.give.ensures.rank in
@@ -75,3 +97,14 @@ returns-clause-tracing g c =
 
 pub returns-clause-next : goal.returns-clause-next
 returns-clause-next g c = (met g (goal.at.returns-clause-next g c).After-index-share).next
+
+pub returns-clause-met : goal.returns-clause-met
+returns-clause-met g c =
+    let rows = c.args.frozen.now in
+    let y : ℕ = c.args.self.now.rank - c.in-Some.distance in
+    let at = c.parents-parents.ensures.parents in
+    record {
+      within = parents-within rows y c.parents-parents.result at;
+      depth = sym (parents-depth rows y c.parents-parents.result at);
+      variance = c.variance_by.ensures ∙ (known g (goal.at.returns-clause-met g c).After-index-share).variance;
+    }

@@ -1,7 +1,7 @@
 use Rattle.std.proofs.Common.{◌≡◌, ◌++◌, IfSome, take}
 use Rattle.std.specs.List.{flat_map}
 use Rattle.std.specs.Prelude.{codes}
-use Rattle.herd_report.specs.writing.CoefficientText.{fraction_text}
+use Rattle.herd_kinship.specs.Fraction.{fraction_text}
 use Rattle.herd_report.specs.writing.InverseList.{contribution_line}
 use Rattle.herd_report.proofs.writing.inverse_list.push_elements.Given as goal
 
