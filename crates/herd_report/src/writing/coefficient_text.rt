@@ -7,29 +7,34 @@ use herd_animal::AnimalNumber;
 use herd_kinship::{Fraction, fraction, hundredths};
 use std::alloc::{AllocError, Allocator};
 
+/// A coefficient in units of 2^-120.
+#[derive(Clone, Copy, PartialEq, Eq)]
+pub(crate) struct Coefficient {
+    pub(crate) numerator: u128,
+    ghost below_one: { numerator < 2 ^ (2 * DEPTH_LIMIT) },
+}
+
 /// Adds the line of an animal and its coefficient.
 pub(crate) fn push_coefficient_line<A: Allocator>(
     output: &mut Text<A>,
     number: AnimalNumber,
-    numerator: u128,
+    coefficient: Coefficient,
 ) -> Result<(), AllocError>
-    requires { numerator < 2 ^ (2 * DEPTH_LIMIT) }
-    ensures { OnOk result (output.new ≡ output.old ++ coefficient_line number numerator) }
+    ensures { OnOk result (output.new ≡ output.old ++ coefficient_line number coefficient.numerator) }
 {
     output.push(&number.bytes())?;
-    push_line_end(output, numerator)
+    push_line_end(output, coefficient)
 }
 
 /// Adds what follows the number in the line of an animal.
 pub(crate) fn push_line_end<A: Allocator>(
     output: &mut Text<A>,
-    numerator: u128,
+    coefficient: Coefficient,
 ) -> Result<(), AllocError>
-    requires { numerator < 2 ^ (2 * DEPTH_LIMIT) }
-    ensures { OnOk result (output.new ≡ output.old ++ coefficient_line_end numerator) }
+    ensures { OnOk result (output.new ≡ output.old ++ coefficient_line_end coefficient.numerator) }
 {
     output.push(b",")?;
-    push_coefficient(output, numerator, b",")?;
+    push_coefficient(output, coefficient, b",")?;
     output.push(b"\n")
 }
 
@@ -37,15 +42,14 @@ pub(crate) fn push_line_end<A: Allocator>(
 #[tactic(auto, unfolding(crate::specs::writing::CoefficientText::coefficient_text))]
 pub(crate) fn push_coefficient<A: Allocator>(
     output: &mut Text<A>,
-    numerator: u128,
+    coefficient: Coefficient,
     separator: &[u8],
 ) -> Result<(), AllocError>
-    requires { numerator < 2 ^ (2 * DEPTH_LIMIT) }
-    ensures { OnOk result (output.new ≡ output.old ++ coefficient_text separator.now numerator) }
+    ensures { OnOk result (output.new ≡ output.old ++ coefficient_text separator.now coefficient.numerator) }
 {
-    push_fraction(output, fraction(numerator))?;
+    push_fraction(output, fraction(coefficient.numerator))?;
     output.push(separator)?;
-    push_percentage(output, hundredths(numerator))
+    push_percentage(output, hundredths(coefficient.numerator))
 }
 
 /// Adds a fraction that is in lowest terms.

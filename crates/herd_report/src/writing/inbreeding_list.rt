@@ -1,4 +1,4 @@
-ghost use Rattle.std.specs.Prelude.{◌≡◌, ◌<◌, ◌*◌, ◌^◌, ◌++◌, IfSome, OnErr, OnOk};
+ghost use Rattle.std.specs.Prelude.{◌≡◌, ◌++◌, IfSome, OnErr, OnOk};
 ghost use Rattle.std.specs.Io.KnownBytes.{Appends};
 ghost use Rattle.herd_frozen.specs.declared.TheConstants.{DEPTH_LIMIT};
 ghost use Rattle.herd_kinship.specs.Coefficients.{AreCoefficients};
@@ -8,7 +8,7 @@ ghost use Rattle.herd_report.specs.writing.CoefficientText.{coefficient_line, co
 ghost use Rattle.herd_report.specs.writing.InbreedingList.{inbreeding_text};
 ghost use Rattle.herd_report.specs.writing.Output.{AppendsFront};
 
-use crate::writing::coefficient_text::push_line_end;
+use crate::writing::coefficient_text::{Coefficient, push_line_end};
 use crate::writing::output::Text;
 use crate::writing::report_fault::ReportFault;
 use herd_animal::AnimalNumber;
@@ -35,15 +35,17 @@ pub fn write_inbreeding<W: Write, A: Allocator, F: Allocator, C: Allocator>(
     let mut made = None;
     for rank in 0..frozen.len() {
         output.pass_on(writer)?;
-        let numerator = coefficients.numerator(rank);
+        let coefficient = Coefficient {
+            numerator: coefficients.numerator(rank),
+        };
         push_line(
             &mut output,
             &mut end,
             made,
             frozen.row(rank).number,
-            numerator,
+            coefficient,
         )?;
-        made = Some(numerator);
+        made = Some(coefficient);
     }
     output.finish(writer)
 }
@@ -52,16 +54,15 @@ pub fn write_inbreeding<W: Write, A: Allocator, F: Allocator, C: Allocator>(
 fn push_line<A: Allocator>(
     output: &mut Text<A>,
     end: &mut Text<A>,
-    made: Option<u128>,
+    made: Option<Coefficient>,
     number: AnimalNumber,
-    numerator: u128,
+    coefficient: Coefficient,
 ) -> Result<(), AllocError>
-    requires numerator { numerator < 2 ^ (2 * DEPTH_LIMIT) }
-    requires made { IfSome made (λ last. end.old ≡ coefficient_line_end last) }
-    ensures line { OnOk result (output.new ≡ output.old ++ coefficient_line number numerator) }
-    ensures made { OnOk result (end.new ≡ coefficient_line_end numerator) }
+    requires { IfSome made (λ last. end.old ≡ coefficient_line_end last.numerator) }
+    ensures line { OnOk result (output.new ≡ output.old ++ coefficient_line number coefficient.numerator) }
+    ensures made { OnOk result (end.new ≡ coefficient_line_end coefficient.numerator) }
 {
-    make_end(end, made, numerator)?;
+    make_end(end, made, coefficient)?;
     output.push(&number.bytes())?;
     output.push(end.bytes())
 }
@@ -69,16 +70,15 @@ fn push_line<A: Allocator>(
 // Makes the end of the line of an animal, where the end that is there isn't of an equal coefficient.
 fn make_end<A: Allocator>(
     end: &mut Text<A>,
-    made: Option<u128>,
-    numerator: u128,
+    made: Option<Coefficient>,
+    coefficient: Coefficient,
 ) -> Result<(), AllocError>
-    requires numerator { numerator < 2 ^ (2 * DEPTH_LIMIT) }
-    requires made { IfSome made (λ last. end.old ≡ coefficient_line_end last) }
-    ensures { OnOk result (end.new ≡ coefficient_line_end numerator) }
+    requires { IfSome made (λ last. end.old ≡ coefficient_line_end last.numerator) }
+    ensures { OnOk result (end.new ≡ coefficient_line_end coefficient.numerator) }
 {
-    if made == Some(numerator) {
+    if made == Some(coefficient) {
         return Ok(());
     }
     end.clear();
-    push_line_end(end, numerator)
+    push_line_end(end, coefficient)
 }

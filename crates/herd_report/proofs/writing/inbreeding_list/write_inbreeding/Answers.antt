@@ -31,7 +31,7 @@ loop-rank-preserved g c =
     let rows = c.args.frozen.now in
     let rank = c.loop-rank.rank in
     let line = λ (r : Row). coefficient_line r.number (coefficient (ancestry_of rows) DEPTH_LIMIT r.number) in
-    let numerator = c.numerator-numerator.ensures.value ∙ numerator_is DEPTH_LIMIT rows c.args.coefficients.now c.requires rank row c.row.ensures.row in
+    let numerator = c.numerator.ensures.value ∙ numerator_is DEPTH_LIMIT rows c.args.coefficients.now c.requires rank row c.row.ensures.row in
     let joined = c.in_ok-push_line.ensures.line ∙ ap (λ n. c.pass_on.new.self ++ coefficient_line row.number n) numerator in
     record {
       text = holds_element line rows rank row (holds_passed c.loop-rank.invariant.text c.in_ok-pass_on.ensures.ok) c.row.ensures.row joined;

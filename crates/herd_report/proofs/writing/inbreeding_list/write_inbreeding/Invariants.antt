@@ -13,5 +13,5 @@ invariant-loop-rank g l =
     record {
       text : Holds (g.W.Write.contents l.fn.writer) (g.W.Write.contents l.writer) (inbreeding_text numerator_of l.frozen) l.output
           (inbreeding_text numerator_of (drop l.rank l.frozen));
-      made : IfSome l.made (λ last. l.end ≡ coefficient_line_end last);
+      made : IfSome l.made (λ last. l.end ≡ coefficient_line_end last.numerator);
     }
