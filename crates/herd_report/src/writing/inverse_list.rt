@@ -1,8 +1,7 @@
 ghost use Rattle.std.specs.Prelude.{◌≡◌, ◌<◌, ◌++◌, All, codes, length, IfSome, OnErr, OnOk};
 ghost use Rattle.std.specs.Io.KnownBytes.{Appends};
 ghost use Rattle.std.specs.List.{flat_map};
-ghost use Rattle.herd_frozen.specs.declared.TheConstants.{DEPTH_LIMIT, MOST_ANIMALS};
-ghost use Rattle.herd_frozen.specs.freezing.Frozen.{IsFrozen};
+ghost use Rattle.herd_frozen.specs.declared.TheConstants.{DEPTH_LIMIT};
 ghost use Rattle.herd_kinship.specs.Coefficients.{AreCoefficients};
 ghost use Rattle.herd_kinship.specs.FrozenAncestry.{number_of_row};
 ghost use Rattle.herd_report.specs.writing.CoefficientText.{fraction_text};
@@ -47,34 +46,33 @@ fn push_contributions<A: Allocator, F: Allocator, C: Allocator>(
     coefficients: &Coefficients<C>,
     rank: u32,
 ) -> Result<(), AllocError>
-    requires frozen { IsFrozen DEPTH_LIMIT MOST_ANIMALS frozen.now }
     requires rank { rank < length frozen.now }
     requires coefficients { AreCoefficients DEPTH_LIMIT frozen.now coefficients.now }
     ensures { OnOk result (output.new ≡ output.old ++ contributions_text frozen.now rank) }
 {
+    let number = frozen.number(rank);
     let listed = contributions(frozen, coefficients, rank);
     let elements = &listed.list[..listed.count as usize];
-    push_elements(output, end, frozen, rank, elements)
+    push_elements(output, end, frozen, number, elements)
 }
 
-// Adds the lines of some elements of the animal at a rank. Of equal values that follow one another the end of the line
-// is made once.
+// Adds the lines of some elements of an animal. Of equal values that follow one another the end of the line is made
+// once.
 fn push_elements<A: Allocator, F: Allocator>(
     output: &mut Text<A>,
     end: &mut Text<A>,
     frozen: &Frozen<F>,
-    rank: u32,
+    number: AnimalNumber,
     elements: &[Contribution],
 ) -> Result<(), AllocError>
-    requires rank { rank < length frozen.now }
-    requires elements { All (IsWithin frozen.now) elements.now }
-    ensures { OnOk result (output.new ≡ output.old ++ flat_map (contribution_line frozen.now rank) elements.now) }
+    requires { All (IsWithin frozen.now) elements.now }
+    ensures { OnOk result (output.new ≡ output.old ++ flat_map (contribution_line frozen.now number) elements.now) }
 {
     let mut made = None;
     for element in elements {
         make_end(end, made, element.value)?;
         made = Some(element.value);
-        push_element(output, frozen, rank, *element, end.bytes())?;
+        push_element(output, frozen, number, *element, end.bytes())?;
     }
     Ok(())
 }
@@ -99,16 +97,15 @@ fn make_end<A: Allocator>(
 fn push_element<A: Allocator, F: Allocator>(
     output: &mut Text<A>,
     frozen: &Frozen<F>,
-    rank: u32,
+    number: AnimalNumber,
     element: Contribution,
     end: &[u8],
 ) -> Result<(), AllocError>
-    requires rank { rank < length frozen.now }
     requires element { IsWithin frozen.now element }
     requires end { end.now ≡ fraction_text element.value ++ codes "\n" }
-    ensures { OnOk result (output.new ≡ output.old ++ contribution_line frozen.now rank element) }
+    ensures { OnOk result (output.new ≡ output.old ++ contribution_line frozen.now number element) }
 {
-    push_number_at(output, frozen, rank)?;
+    output.push(&with_comma(number))?;
     push_number_at(output, frozen, element.row)?;
     push_number_at(output, frozen, element.column)?;
     output.push(end)
@@ -123,7 +120,7 @@ fn push_number_at<A: Allocator, F: Allocator>(
     requires { rank < length frozen.now }
     ensures { OnOk result (output.new ≡ output.old ++ number_of_row frozen.now rank ++ codes ",") }
 {
-    output.push(&with_comma(frozen.row(rank).number))
+    output.push(&with_comma(frozen.number(rank)))
 }
 
 // A number and a comma.

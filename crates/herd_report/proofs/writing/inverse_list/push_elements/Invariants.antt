@@ -8,6 +8,6 @@ use Rattle.herd_report.proofs.writing.inverse_list.push_elements.Given as goal
 abbrev pub invariant-loop-element : goal.invariant-loop-element
 invariant-loop-element g l =
     record {
-      text : l.output ≡ l.fn.output ++ flat_map (contribution_line l.frozen l.rank) (take l.element-index l.elements);
+      text : l.output ≡ l.fn.output ++ flat_map (contribution_line l.frozen l.number) (take l.element-index l.elements);
       made : IfSome l.made (λ last. l.end ≡ fraction_text last ++ codes "\n");
     }
