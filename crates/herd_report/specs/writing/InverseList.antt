@@ -4,15 +4,20 @@ use Rattle.std.specs.List.{flat_map, range_with_len}
 use Rattle.herd_frozen.specs.declared.TheConstants.{DEPTH_LIMIT}
 use Rattle.herd_frozen.specs.declared.freezing.frozen.Row.{Row}
 use Rattle.herd_kinship.specs.declared.contribution.Contribution.{Contribution}
+use Rattle.herd_kinship.specs.declared.fractions.Fraction.{Fraction}
 use Rattle.herd_kinship.specs.Contributions.{contributions_of}
 use Rattle.herd_kinship.specs.FrozenAncestry.{number_of_row}
 use Rattle.herd_report.specs.writing.CoefficientText.{fraction_text}
 
--- the line of one element: the animal, those of the row and of the column, and the value
+-- what stands in the line of an element after the numbers: its value
+abbrev pub value_line_end : Fraction → List ℕ
+value_line_end value = fraction_text value ++ codes "\n"
+
+-- the line of an element: the animal, those of the row and of the column, and the value
 abbrev pub contribution_line : List Row → List ℕ → Contribution → List ℕ
 contribution_line rows number element =
     number ++ codes "," ++ number_of_row rows element.row ++ codes "," ++ number_of_row rows element.column ++ codes ","
-    ++ fraction_text element.value ++ codes "\n"
+    ++ value_line_end element.value
 
 -- the lines of what the animal at a rank contributes
 abbrev pub contributions_text : List Row → ℕ → List ℕ

@@ -1,7 +1,8 @@
 ghost use Rattle.std.specs.Prelude.{◌≡◌, ◌<◌, ◌*◌, ◌^◌, ◌++◌, codes, OnOk};
 ghost use Rattle.herd_frozen.specs.declared.TheConstants.{DEPTH_LIMIT};
-ghost use Rattle.herd_report.specs.writing.CoefficientText.{coefficient_line, coefficient_line_end, coefficient_text, fraction_text, percentage_text};
+ghost use Rattle.herd_report.specs.writing.CoefficientText.{coefficient_line, coefficient_text, fraction_text, percentage_text};
 
+use crate::writing::line_end::LastValue;
 use crate::writing::output::Text;
 use herd_animal::AnimalNumber;
 use herd_kinship::{Fraction, fraction, hundredths};
@@ -14,6 +15,21 @@ pub(crate) struct Coefficient {
     ghost below_one: { numerator < 2 ^ (2 * DEPTH_LIMIT) },
 }
 
+impl LastValue for Coefficient {
+    ghost use Rattle.std.proofs.Common.{rules};
+    ghost use Rattle.herd_report.specs.writing.CoefficientText.{coefficient_line_end};
+
+    ghost line_end = { λ coefficient. coefficient_line_end coefficient.numerator };
+
+    ghost alike = { Prim.search rules };
+
+    fn push_line_end<A: Allocator>(self, output: &mut Text<A>) -> Result<(), AllocError> {
+        output.push(b",")?;
+        push_coefficient(output, self, b",")?;
+        output.push(b"\n")
+    }
+}
+
 /// Adds the line of an animal and its coefficient.
 pub(crate) fn push_coefficient_line<A: Allocator>(
     output: &mut Text<A>,
@@ -23,19 +39,7 @@ pub(crate) fn push_coefficient_line<A: Allocator>(
     ensures { OnOk result (output.new ≡ output.old ++ coefficient_line number coefficient.numerator) }
 {
     output.push(&number.bytes())?;
-    push_line_end(output, coefficient)
-}
-
-/// Adds what follows the number in the line of an animal.
-pub(crate) fn push_line_end<A: Allocator>(
-    output: &mut Text<A>,
-    coefficient: Coefficient,
-) -> Result<(), AllocError>
-    ensures { OnOk result (output.new ≡ output.old ++ coefficient_line_end coefficient.numerator) }
-{
-    output.push(b",")?;
-    push_coefficient(output, coefficient, b",")?;
-    output.push(b"\n")
+    coefficient.push_line_end(output)
 }
 
 /// Adds a coefficient: the fraction, a separator, and the percentage.

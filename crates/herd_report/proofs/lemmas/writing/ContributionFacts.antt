@@ -14,7 +14,7 @@ use Rattle.herd_kinship.proofs.lemmas.books.FrozenFacts.{sire_at, dam_at}
 use Rattle.herd_kinship.specs.FrozenAncestry.{number_of_row}
 use Rattle.herd_report.specs.writing.CoefficientText.{fraction_text}
 use Rattle.herd_report.proofs.lemmas.writing.OutputFacts.{some_after, some_before}
-use Rattle.herd_report.specs.writing.InverseList.{IsWithin, contribution_line, contributions_text}
+use Rattle.herd_report.specs.writing.InverseList.{IsWithin, contribution_line, contributions_text, value_line_end}
 
 -- of the six elements the first ones are those that count
 take-filled : (f : ℕ × ℕ → Contribution) (i : ℕ) (s d : Option ℕ)
@@ -91,8 +91,9 @@ contributions_within rows frozen rank within =
 some_line : (rows : List Row) (number : List ℕ) (element : Contribution) → 0 < length (contribution_line rows number element)
 some_line rows number element =
     some_after
-    (number ++ codes "," ++ number_of_row rows element.row ++ codes "," ++ number_of_row rows element.column ++ codes "," ++ fraction_text element.value)
-    (codes "\n") (omega arith)
+    (number ++ codes "," ++ number_of_row rows element.row ++ codes "," ++ number_of_row rows element.column ++ codes ",")
+    (value_line_end element.value)
+    (some_after (fraction_text element.value) (codes "\n") (omega arith))
 
 some_lines : (rows : List Row) (number : List ℕ) (rank : ℕ) (f : ℕ × ℕ → Contribution) (s d : Option ℕ)
     → 0 < length (flat_map (contribution_line rows number) (map f (pairs_of rank s d)))
