@@ -58,13 +58,27 @@ fn write_certificate_at<W: Write, A: Allocator, F: Allocator, C: Allocator>(
     ensures err { OnErr result (AppendsFront (W.contents writer.old) (W.contents writer.new)
         (certificate_of frozen.now (number_of_row frozen.now rank))) }
 {
+    let mut output = Text::new(alloc);
+    push_certificate(&mut output, frozen, coefficients, rank)?;
+    output.finish(writer)
+}
+
+// Adds the certificate of the animal at a rank.
+fn push_certificate<A: Allocator, F: Allocator, C: Allocator>(
+    output: &mut Text<A>,
+    frozen: &Frozen<F>,
+    coefficients: &Coefficients<C>,
+    rank: u32,
+) -> Result<(), AllocError>
+    requires rank { rank < length frozen.now }
+    requires coefficients { AreCoefficients DEPTH_LIMIT frozen.now coefficients.now }
+    ensures { OnOk result (output.new ≡ output.old ++ certificate_of frozen.now (number_of_row frozen.now rank)) }
+{
     let coefficient = Coefficient {
         numerator: coefficients.numerator(rank),
     };
-    let mut output = Text::new(alloc);
-    push_animal(&mut output, &frozen.row(rank), coefficient)?;
-    push_ancestors(&mut output, frozen, rank)?;
-    output.finish(writer)
+    push_animal(output, &frozen.row(rank), coefficient)?;
+    push_ancestors(output, frozen, rank)
 }
 
 // Adds the lines on the animal itself.

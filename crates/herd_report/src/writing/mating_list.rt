@@ -34,9 +34,9 @@ pub fn write_mating<W: Write, A: Allocator + Clone, F: Allocator, C: Allocator>(
     ensures err { OnErr result (AppendsFront (W.contents writer.old) (W.contents writer.new)
         (mating_text (book_of frozen.now) dam sires.now)) }
 {
-    let Some(_first) = sires.first() else {
+    if sires.is_empty() {
         return Ok(());
-    };
+    }
     let relationships = Relationships::of_number(alloc.clone()?, frozen, coefficients, &dam)?;
     let mut output = Text::new(&alloc);
     for sire in sires {
