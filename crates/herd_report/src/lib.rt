@@ -28,6 +28,7 @@
 //! | replies | `Replies` | `replies` | `ReplyLines` |
 //! | refusals, in replies and in advice | `RefusedText` | `refused_text` | |
 //! | fractions and percentages | `CoefficientText` | `coefficient_text` | `CoefficientFacts` |
+//! | the ends of lines, made once for equal values | | `line_end` | |
 //! | the list of coefficients | `InbreedingList` | `inbreeding_list` | `CoefficientFacts` |
 //! | certificates | `Certificate`, `Ancestors` | `certificate`, `ancestors` | `CertificateFacts`, `AncestorFacts` |
 //! | mating advice | `MatingList` | `mating_list` | `MatingFacts` |

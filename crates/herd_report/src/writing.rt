@@ -6,6 +6,7 @@ pub(crate) mod certificate_fault;
 pub(crate) mod coefficient_text;
 pub(crate) mod inbreeding_list;
 pub(crate) mod inverse_list;
+pub(crate) mod line_end;
 pub(crate) mod mating_list;
 pub(crate) mod output;
 pub(crate) mod refused_text;

@@ -13,10 +13,10 @@ unfoldable pub coefficient_text : List ℕ → ℕ → List ℕ
 coefficient_text separator numerator =
     fraction_text (halved false numerator (2 ^ (2 * DEPTH_LIMIT))) ++ separator ++ percentage_text (hundredths_of DEPTH_LIMIT numerator)
 
--- the line of an animal in a list: its number, and the coefficient as a fraction and as a percentage
-abbrev pub coefficient_line : List ℕ → ℕ → List ℕ
-coefficient_line number numerator = number ++ codes "," ++ coefficient_text (codes ",") numerator ++ codes "\n"
-
--- what stands in it after the number
+-- what stands in the line of an animal after its number: the coefficient as a fraction and as a percentage
 abbrev pub coefficient_line_end : ℕ → List ℕ
 coefficient_line_end numerator = codes "," ++ coefficient_text (codes ",") numerator ++ codes "\n"
+
+-- the line of an animal in a list: its number and its coefficient
+abbrev pub coefficient_line : List ℕ → ℕ → List ℕ
+coefficient_line number numerator = number ++ coefficient_line_end numerator

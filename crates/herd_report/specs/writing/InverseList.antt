@@ -4,19 +4,24 @@ use Rattle.std.specs.List.{flat_map, range_with_len}
 use Rattle.herd_frozen.specs.declared.TheConstants.{DEPTH_LIMIT}
 use Rattle.herd_frozen.specs.declared.freezing.frozen.Row.{Row}
 use Rattle.herd_kinship.specs.declared.contribution.Contribution.{Contribution}
+use Rattle.herd_kinship.specs.declared.fractions.Fraction.{Fraction}
 use Rattle.herd_kinship.specs.Contributions.{contributions_of}
 use Rattle.herd_kinship.specs.FrozenAncestry.{number_of_row}
 use Rattle.herd_kinship.specs.Fraction.{fraction_text}
 
--- the line of one element: the animal at the rank, those of the row and of the column, and the value
-abbrev pub contribution_line : List Row → ℕ → Contribution → List ℕ
-contribution_line rows rank element =
-    number_of_row rows rank ++ codes "," ++ number_of_row rows element.row ++ codes "," ++ number_of_row rows element.column ++ codes ","
-    ++ fraction_text element.value ++ codes "\n"
+-- what stands in the line of an element after the numbers: its value
+abbrev pub value_line_end : Fraction → List ℕ
+value_line_end value = fraction_text value ++ codes "\n"
+
+-- the line of an element: the animal, those of the row and of the column, and the value
+abbrev pub contribution_line : List Row → List ℕ → Contribution → List ℕ
+contribution_line rows number element =
+    number ++ codes "," ++ number_of_row rows element.row ++ codes "," ++ number_of_row rows element.column ++ codes ","
+    ++ value_line_end element.value
 
 -- the lines of what the animal at a rank contributes
 abbrev pub contributions_text : List Row → ℕ → List ℕ
-contributions_text rows rank = flat_map (contribution_line rows rank) (contributions_of DEPTH_LIMIT rows rank)
+contributions_text rows rank = flat_map (contribution_line rows (number_of_row rows rank)) (contributions_of DEPTH_LIMIT rows rank)
 
 -- the lines of the animals of a frozen book in age order
 abbrev pub inverse_text : List Row → List ℕ

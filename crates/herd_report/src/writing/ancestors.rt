@@ -1,7 +1,6 @@
 ghost use Rattle.std.specs.Prelude.{◌≡◌, ◌<◌, ◌++◌, length, map, OnOk};
 ghost use Rattle.std.specs.List.{flat_map};
-ghost use Rattle.herd_frozen.specs.freezing.Frozen.{IsFrozen, book_of};
-ghost use Rattle.herd_frozen.specs.declared.TheConstants.{DEPTH_LIMIT, MOST_ANIMALS};
+ghost use Rattle.herd_frozen.specs.freezing.Frozen.{book_of};
 ghost use Rattle.herd_kinship.specs.FrozenAncestry.{number_of_row};
 ghost use Rattle.herd_report.specs.writing.Ancestors.{ancestor_of, letter_of, parent_rank};
 ghost use Rattle.herd_report.specs.writing.Certificate.{ancestor_line, ancestors_text};
@@ -66,8 +65,7 @@ pub(crate) fn push_ancestors<A: Allocator, F: Allocator>(
     frozen: &Frozen<F>,
     rank: u32,
 ) -> Result<(), AllocError>
-    requires frozen { IsFrozen DEPTH_LIMIT MOST_ANIMALS frozen.now }
-    requires rank { rank < length frozen.now }
+    requires { rank < length frozen.now }
     ensures { OnOk result
         (output.new ≡ output.old ++ ancestors_text (book_of frozen.now) (number_of_row frozen.now rank)) }
 {
@@ -81,8 +79,7 @@ fn push_lines<A: Allocator, F: Allocator>(
     rank: u32,
     paths: &[&[Parent]],
 ) -> Result<(), AllocError>
-    requires frozen { IsFrozen DEPTH_LIMIT MOST_ANIMALS frozen.now }
-    requires rank { rank < length frozen.now }
+    requires { rank < length frozen.now }
     ensures { OnOk result (output.new ≡ output.old
         ++ flat_map (λ path. ancestor_line (book_of frozen.now) (number_of_row frozen.now rank) path.now) paths.now) }
 {
@@ -99,8 +96,7 @@ fn push_ancestor<A: Allocator, F: Allocator>(
     rank: u32,
     path: &[Parent],
 ) -> Result<(), AllocError>
-    requires frozen { IsFrozen DEPTH_LIMIT MOST_ANIMALS frozen.now }
-    requires rank { rank < length frozen.now }
+    requires { rank < length frozen.now }
     ensures { OnOk result
         (output.new ≡ output.old ++ ancestor_line (book_of frozen.now) (number_of_row frozen.now rank) path.now) }
 {
@@ -124,8 +120,7 @@ fn push_letters<A: Allocator>(output: &mut Text<A>, path: &[Parent]) -> Result<(
 
 // The ancestor to which a path leads from a rank.
 fn ancestor<F: Allocator>(frozen: &Frozen<F>, start: u32, path: &[Parent]) -> Option<AnimalNumber>
-    requires frozen { IsFrozen DEPTH_LIMIT MOST_ANIMALS frozen.now }
-    requires rank { start < length frozen.now }
+    requires { start < length frozen.now }
     ensures { result ≡ ancestor_of (book_of frozen.now) (number_of_row frozen.now start) path.now }
 {
     let mut rank = start;

@@ -1,4 +1,4 @@
-ghost use Rattle.std.specs.Prelude.{◌≡◌, ◌↔◌, ◌<◌, ◌*◌, ◌^◌, ◌++◌, false, true, codes, length, Err, OnErr, OnOk};
+ghost use Rattle.std.specs.Prelude.{◌≡◌, ◌↔◌, ◌<◌, ◌++◌, false, true, codes, length, Err, OnErr, OnOk};
 ghost use Rattle.std.specs.Io.KnownBytes.{Appends};
 ghost use Rattle.herd_frozen.specs.rules.Book.{is_there};
 ghost use Rattle.herd_frozen.specs.freezing.Frozen.{book_of};
@@ -11,7 +11,7 @@ ghost use Rattle.herd_report.specs.writing.Output.{AppendsFront};
 
 use crate::writing::ancestors::push_ancestors;
 use crate::writing::certificate_fault::CertificateFault;
-use crate::writing::coefficient_text::push_coefficient;
+use crate::writing::coefficient_text::{Coefficient, push_coefficient};
 use crate::writing::output::Text;
 use crate::writing::report_fault::ReportFault;
 use herd_animal::{AnimalNumber, Day, Sex};
@@ -59,9 +59,26 @@ fn write_certificate_at<W: Write, A: Allocator, F: Allocator, C: Allocator>(
         (certificate_of frozen.now (number_of_row frozen.now rank))) }
 {
     let mut output = Text::new(alloc);
-    push_animal(&mut output, &frozen.row(rank), coefficients.numerator(rank))?;
-    push_ancestors(&mut output, frozen, rank)?;
+    push_certificate(&mut output, frozen, coefficients, rank)?;
     output.finish(writer)
+}
+
+// Adds the certificate of the animal at a rank.
+fn push_certificate<A: Allocator, F: Allocator, C: Allocator>(
+    output: &mut Text<A>,
+    frozen: &Frozen<F>,
+    coefficients: &Coefficients<C>,
+    rank: u32,
+) -> Result<(), AllocError>
+    requires rank { rank < length frozen.now }
+    requires coefficients { AreCoefficients DEPTH_LIMIT frozen.now coefficients.now }
+    ensures { OnOk result (output.new ≡ output.old ++ certificate_of frozen.now (number_of_row frozen.now rank)) }
+{
+    let coefficient = Coefficient {
+        numerator: coefficients.numerator(rank),
+    };
+    push_animal(output, &frozen.row(rank), coefficient)?;
+    push_ancestors(output, frozen, rank)
 }
 
 // Adds the lines on the animal itself.
@@ -69,10 +86,10 @@ fn write_certificate_at<W: Write, A: Allocator, F: Allocator, C: Allocator>(
 fn push_animal<A: Allocator>(
     output: &mut Text<A>,
     row: &Row,
-    numerator: u128,
+    coefficient: Coefficient,
 ) -> Result<(), AllocError>
-    requires { numerator < 2 ^ (2 * DEPTH_LIMIT) }
-    ensures { OnOk result (output.new ≡ output.old ++ animal_text row.now.number row.now.animal numerator) }
+    ensures { OnOk result
+        (output.new ≡ output.old ++ animal_text row.now.number row.now.animal coefficient.numerator) }
 {
     let animal = row.animal;
     push_entry(output, b"animal", &row.number.bytes())?;
@@ -85,7 +102,7 @@ fn push_animal<A: Allocator>(
     )?;
     push_entry(output, b"since", &animal.since.text())?;
     push_left(output, animal.left)?;
-    push_inbreeding(output, numerator)
+    push_inbreeding(output, coefficient)
 }
 
 fn push_left<A: Allocator>(output: &mut Text<A>, left: Option<Day>) -> Result<(), AllocError>
@@ -97,13 +114,15 @@ fn push_left<A: Allocator>(output: &mut Text<A>, left: Option<Day>) -> Result<()
     }
 }
 
-fn push_inbreeding<A: Allocator>(output: &mut Text<A>, numerator: u128) -> Result<(), AllocError>
-    requires { numerator < 2 ^ (2 * DEPTH_LIMIT) }
-    ensures { OnOk result
-        (output.new ≡ output.old ++ labelled_line (codes "inbreeding") (coefficient_text (codes " ") numerator)) }
+fn push_inbreeding<A: Allocator>(
+    output: &mut Text<A>,
+    coefficient: Coefficient,
+) -> Result<(), AllocError>
+    ensures { let text = coefficient_text (codes " ") coefficient.numerator in
+        OnOk result (output.new ≡ output.old ++ labelled_line (codes "inbreeding") text) }
 {
     output.push(b"inbreeding ")?;
-    push_coefficient(output, numerator, b" ")?;
+    push_coefficient(output, coefficient, b" ")?;
     output.push(b"\n")
 }
 

@@ -1,52 +1,60 @@
 ghost use Rattle.std.specs.Prelude.{◌≡◌, ◌<◌, ◌*◌, ◌^◌, ◌++◌, codes, OnOk};
 ghost use Rattle.herd_frozen.specs.declared.TheConstants.{DEPTH_LIMIT};
 ghost use Rattle.herd_kinship.specs.Fraction.{fraction_text};
-ghost use Rattle.herd_report.specs.writing.CoefficientText.{coefficient_line, coefficient_line_end, coefficient_text, percentage_text};
+ghost use Rattle.herd_report.specs.writing.CoefficientText.{coefficient_line, coefficient_text, percentage_text};
 
+use crate::writing::line_end::LastValue;
 use crate::writing::output::Text;
 use herd_animal::AnimalNumber;
 use herd_kinship::{Fraction, fraction, hundredths};
 use std::alloc::{AllocError, Allocator};
 
+/// A coefficient in units of 2^-120.
+#[derive(Clone, Copy, PartialEq, Eq)]
+pub(crate) struct Coefficient {
+    pub(crate) numerator: u128,
+    ghost below_one: { numerator < 2 ^ (2 * DEPTH_LIMIT) },
+}
+
+impl LastValue for Coefficient {
+    ghost use Rattle.std.proofs.Common.{rules};
+    ghost use Rattle.herd_report.specs.writing.CoefficientText.{coefficient_line_end};
+
+    ghost line_end = { λ coefficient. coefficient_line_end coefficient.numerator };
+
+    ghost alike = { Prim.search rules };
+
+    fn push_line_end<A: Allocator>(self, output: &mut Text<A>) -> Result<(), AllocError> {
+        output.push(b",")?;
+        push_coefficient(output, self, b",")?;
+        output.push(b"\n")
+    }
+}
+
 /// Adds the line of an animal and its coefficient.
 pub(crate) fn push_coefficient_line<A: Allocator>(
     output: &mut Text<A>,
     number: AnimalNumber,
-    numerator: u128,
+    coefficient: Coefficient,
 ) -> Result<(), AllocError>
-    requires { numerator < 2 ^ (2 * DEPTH_LIMIT) }
-    ensures { OnOk result (output.new ≡ output.old ++ coefficient_line number numerator) }
+    ensures { OnOk result (output.new ≡ output.old ++ coefficient_line number coefficient.numerator) }
 {
     output.push(&number.bytes())?;
-    push_line_end(output, numerator)
-}
-
-/// Adds what follows the number in the line of an animal.
-pub(crate) fn push_line_end<A: Allocator>(
-    output: &mut Text<A>,
-    numerator: u128,
-) -> Result<(), AllocError>
-    requires { numerator < 2 ^ (2 * DEPTH_LIMIT) }
-    ensures { OnOk result (output.new ≡ output.old ++ coefficient_line_end numerator) }
-{
-    output.push(b",")?;
-    push_coefficient(output, numerator, b",")?;
-    output.push(b"\n")
+    coefficient.push_line_end(output)
 }
 
 /// Adds a coefficient: the fraction, a separator, and the percentage.
 #[tactic(auto, unfolding(crate::specs::writing::CoefficientText::coefficient_text))]
 pub(crate) fn push_coefficient<A: Allocator>(
     output: &mut Text<A>,
-    numerator: u128,
+    coefficient: Coefficient,
     separator: &[u8],
 ) -> Result<(), AllocError>
-    requires { numerator < 2 ^ (2 * DEPTH_LIMIT) }
-    ensures { OnOk result (output.new ≡ output.old ++ coefficient_text separator.now numerator) }
+    ensures { OnOk result (output.new ≡ output.old ++ coefficient_text separator.now coefficient.numerator) }
 {
-    push_fraction(output, fraction(numerator))?;
+    push_fraction(output, fraction(coefficient.numerator))?;
     output.push(separator)?;
-    push_percentage(output, hundredths(numerator))
+    push_percentage(output, hundredths(coefficient.numerator))
 }
 
 /// Adds a fraction that is in lowest terms.

@@ -1,14 +1,15 @@
-ghost use Rattle.std.specs.Prelude.{◌≡◌, ◌<◌, ◌*◌, ◌^◌, ◌++◌, IfSome, OnErr, OnOk};
+ghost use Rattle.std.specs.Prelude.{◌≡◌, ◌++◌, OnErr, OnOk};
 ghost use Rattle.std.specs.Io.KnownBytes.{Appends};
 ghost use Rattle.herd_frozen.specs.declared.TheConstants.{DEPTH_LIMIT};
 ghost use Rattle.herd_kinship.specs.Coefficients.{AreCoefficients};
 ghost use Rattle.herd_kinship.specs.FrozenAncestry.{ancestry_of};
 ghost use Rattle.herd_kinship.specs.Table.{coefficient};
-ghost use Rattle.herd_report.specs.writing.CoefficientText.{coefficient_line, coefficient_line_end};
+ghost use Rattle.herd_report.specs.writing.CoefficientText.{coefficient_line};
 ghost use Rattle.herd_report.specs.writing.InbreedingList.{inbreeding_text};
 ghost use Rattle.herd_report.specs.writing.Output.{AppendsFront};
 
-use crate::writing::coefficient_text::push_line_end;
+use crate::writing::coefficient_text::Coefficient;
+use crate::writing::line_end::LineEnd;
 use crate::writing::output::Text;
 use crate::writing::report_fault::ReportFault;
 use herd_animal::AnimalNumber;
@@ -31,54 +32,26 @@ pub fn write_inbreeding<W: Write, A: Allocator, F: Allocator, C: Allocator>(
         (inbreeding_text (coefficient (ancestry_of frozen.now) DEPTH_LIMIT) frozen.now)) }
 {
     let mut output = Text::new(&alloc);
-    let mut end = Text::new(&alloc);
-    let mut made = None;
+    let mut end = LineEnd::new(&alloc);
     for rank in 0..frozen.len() {
         output.pass_on(writer)?;
-        let numerator = coefficients.numerator(rank);
-        push_line(
-            &mut output,
-            &mut end,
-            made,
-            frozen.row(rank).number,
-            numerator,
-        )?;
-        made = Some(numerator);
+        let coefficient = Coefficient {
+            numerator: coefficients.numerator(rank),
+        };
+        push_line(&mut output, &mut end, frozen.row(rank).number, coefficient)?;
     }
     output.finish(writer)
 }
 
-// Adds the line of an animal. Of equal coefficients that follow one another the end of the line is made once.
+// Adds the line of an animal.
 fn push_line<A: Allocator>(
     output: &mut Text<A>,
-    end: &mut Text<A>,
-    made: Option<u128>,
+    end: &mut LineEnd<Coefficient, A>,
     number: AnimalNumber,
-    numerator: u128,
+    coefficient: Coefficient,
 ) -> Result<(), AllocError>
-    requires numerator { numerator < 2 ^ (2 * DEPTH_LIMIT) }
-    requires made { IfSome made (λ last. end.old ≡ coefficient_line_end last) }
-    ensures line { OnOk result (output.new ≡ output.old ++ coefficient_line number numerator) }
-    ensures made { OnOk result (end.new ≡ coefficient_line_end numerator) }
+    ensures { OnOk result (output.new ≡ output.old ++ coefficient_line number coefficient.numerator) }
 {
-    make_end(end, made, numerator)?;
     output.push(&number.bytes())?;
-    output.push(end.bytes())
-}
-
-// Makes the end of the line of an animal, where the end that is there isn't of an equal coefficient.
-fn make_end<A: Allocator>(
-    end: &mut Text<A>,
-    made: Option<u128>,
-    numerator: u128,
-) -> Result<(), AllocError>
-    requires numerator { numerator < 2 ^ (2 * DEPTH_LIMIT) }
-    requires made { IfSome made (λ last. end.old ≡ coefficient_line_end last) }
-    ensures { OnOk result (end.new ≡ coefficient_line_end numerator) }
-{
-    if made == Some(numerator) {
-        return Ok(());
-    }
-    end.clear();
-    push_line_end(end, numerator)
+    end.push_to(output, coefficient)
 }

@@ -1,15 +1,14 @@
-ghost use Rattle.std.specs.Prelude.{◌≡◌, ◌<◌, ◌++◌, All, codes, length, IfSome, OnErr, OnOk};
+ghost use Rattle.std.specs.Prelude.{◌≡◌, ◌<◌, ◌++◌, All, codes, length, OnErr, OnOk};
 ghost use Rattle.std.specs.Io.KnownBytes.{Appends};
 ghost use Rattle.std.specs.List.{flat_map};
-ghost use Rattle.herd_frozen.specs.declared.TheConstants.{DEPTH_LIMIT, MOST_ANIMALS};
-ghost use Rattle.herd_frozen.specs.freezing.Frozen.{IsFrozen};
+ghost use Rattle.herd_frozen.specs.declared.TheConstants.{DEPTH_LIMIT};
 ghost use Rattle.herd_kinship.specs.Coefficients.{AreCoefficients};
 ghost use Rattle.herd_kinship.specs.FrozenAncestry.{number_of_row};
-ghost use Rattle.herd_kinship.specs.Fraction.{fraction_text};
 ghost use Rattle.herd_report.specs.writing.InverseList.{contribution_line, contributions_text, inverse_text, IsWithin};
 ghost use Rattle.herd_report.specs.writing.Output.{AppendsFront};
 
 use crate::writing::coefficient_text::push_fraction;
+use crate::writing::line_end::{LastValue, LineEnd};
 use crate::writing::output::Text;
 use crate::writing::report_fault::ReportFault;
 use herd_animal::AnimalNumber;
@@ -31,7 +30,7 @@ pub fn write_inverse<W: Write, A: Allocator, F: Allocator, C: Allocator>(
         (AppendsFront (W.contents writer.old) (W.contents writer.new) (inverse_text frozen.now)) }
 {
     let mut output = Text::new(&alloc);
-    let mut end = Text::new(&alloc);
+    let mut end = LineEnd::new(&alloc);
     for rank in 0..frozen.len() {
         output.pass_on(writer)?;
         push_contributions(&mut output, &mut end, frozen, coefficients, rank)?;
@@ -42,76 +41,66 @@ pub fn write_inverse<W: Write, A: Allocator, F: Allocator, C: Allocator>(
 // Adds the lines of what the animal at a rank contributes.
 fn push_contributions<A: Allocator, F: Allocator, C: Allocator>(
     output: &mut Text<A>,
-    end: &mut Text<A>,
+    end: &mut LineEnd<Fraction, A>,
     frozen: &Frozen<F>,
     coefficients: &Coefficients<C>,
     rank: u32,
 ) -> Result<(), AllocError>
-    requires frozen { IsFrozen DEPTH_LIMIT MOST_ANIMALS frozen.now }
     requires rank { rank < length frozen.now }
     requires coefficients { AreCoefficients DEPTH_LIMIT frozen.now coefficients.now }
     ensures { OnOk result (output.new ≡ output.old ++ contributions_text frozen.now rank) }
 {
+    let number = frozen.number(rank);
     let listed = contributions(frozen, coefficients, rank);
     let elements = &listed.list[..listed.count as usize];
-    push_elements(output, end, frozen, rank, elements)
+    push_elements(output, end, frozen, number, elements)
 }
 
-// Adds the lines of some elements of the animal at a rank. Of equal values that follow one another the end of the line
-// is made once.
+// Adds the lines of some elements of an animal.
 fn push_elements<A: Allocator, F: Allocator>(
     output: &mut Text<A>,
-    end: &mut Text<A>,
+    end: &mut LineEnd<Fraction, A>,
     frozen: &Frozen<F>,
-    rank: u32,
+    number: AnimalNumber,
     elements: &[Contribution],
 ) -> Result<(), AllocError>
-    requires rank { rank < length frozen.now }
-    requires elements { All (IsWithin frozen.now) elements.now }
-    ensures { OnOk result (output.new ≡ output.old ++ flat_map (contribution_line frozen.now rank) elements.now) }
+    requires { All (IsWithin frozen.now) elements.now }
+    ensures { OnOk result (output.new ≡ output.old ++ flat_map (contribution_line frozen.now number) elements.now) }
 {
-    let mut made = None;
     for element in elements {
-        make_end(end, made, element.value)?;
-        made = Some(element.value);
-        push_element(output, frozen, rank, *element, end.bytes())?;
+        push_element(output, end, frozen, number, *element)?;
     }
     Ok(())
 }
 
-// Makes the end of the line of an element, where the end that is there isn't of an equal value.
-fn make_end<A: Allocator>(
-    end: &mut Text<A>,
-    made: Option<Fraction>,
-    value: Fraction,
-) -> Result<(), AllocError>
-    requires { IfSome made (λ last. end.old ≡ fraction_text last ++ codes "\n") }
-    ensures { OnOk result (end.new ≡ fraction_text value ++ codes "\n") }
-{
-    if made == Some(value) {
-        return Ok(());
-    }
-    end.clear();
-    push_fraction(end, value)?;
-    end.push(b"\n")
-}
-
 fn push_element<A: Allocator, F: Allocator>(
     output: &mut Text<A>,
+    end: &mut LineEnd<Fraction, A>,
     frozen: &Frozen<F>,
-    rank: u32,
+    number: AnimalNumber,
     element: Contribution,
-    end: &[u8],
 ) -> Result<(), AllocError>
-    requires rank { rank < length frozen.now }
-    requires element { IsWithin frozen.now element }
-    requires end { end.now ≡ fraction_text element.value ++ codes "\n" }
-    ensures { OnOk result (output.new ≡ output.old ++ contribution_line frozen.now rank element) }
+    requires { IsWithin frozen.now element }
+    ensures { OnOk result (output.new ≡ output.old ++ contribution_line frozen.now number element) }
 {
-    push_number_at(output, frozen, rank)?;
+    output.push(&with_comma(number))?;
     push_number_at(output, frozen, element.row)?;
     push_number_at(output, frozen, element.column)?;
-    output.push(end)
+    end.push_to(output, element.value)
+}
+
+impl LastValue for Fraction {
+    ghost use Rattle.std.proofs.Common.{rules};
+    ghost use Rattle.herd_report.specs.writing.InverseList.{value_line_end};
+
+    ghost line_end = { value_line_end };
+
+    ghost alike = { Prim.search rules };
+
+    fn push_line_end<A: Allocator>(self, output: &mut Text<A>) -> Result<(), AllocError> {
+        push_fraction(output, self)?;
+        output.push(b"\n")
+    }
 }
 
 // Adds the number of the animal at a rank, and a comma.
@@ -123,7 +112,7 @@ fn push_number_at<A: Allocator, F: Allocator>(
     requires { rank < length frozen.now }
     ensures { OnOk result (output.new ≡ output.old ++ number_of_row frozen.now rank ++ codes ",") }
 {
-    output.push(&with_comma(frozen.row(rank).number))
+    output.push(&with_comma(frozen.number(rank)))
 }
 
 // A number and a comma.

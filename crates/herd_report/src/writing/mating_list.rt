@@ -7,7 +7,7 @@ ghost use Rattle.herd_kinship.specs.Mating.{AreRelationshipsOf};
 ghost use Rattle.herd_report.specs.writing.MatingList.{mating_line, mating_text, refused_line};
 ghost use Rattle.herd_report.specs.writing.Output.{AppendsFront};
 
-use crate::writing::coefficient_text::push_coefficient_line;
+use crate::writing::coefficient_text::{Coefficient, push_coefficient_line};
 use crate::writing::output::Text;
 use crate::writing::refused_text::push_refused_line_end;
 use crate::writing::report_fault::ReportFault;
@@ -34,9 +34,9 @@ pub fn write_mating<W: Write, A: Allocator + Clone, F: Allocator, C: Allocator>(
     ensures err { OnErr result (AppendsFront (W.contents writer.old) (W.contents writer.new)
         (mating_text (book_of frozen.now) dam sires.now)) }
 {
-    let Some(_first) = sires.first() else {
+    if sires.is_empty() {
         return Ok(());
-    };
+    }
     let relationships = Relationships::of_number(alloc.clone()?, frozen, coefficients, &dam)?;
     let mut output = Text::new(&alloc);
     for sire in sires {
@@ -58,7 +58,7 @@ fn push_advice<A: Allocator, F: Allocator, R: Allocator>(
     ensures { OnOk result (output.new ≡ output.old ++ mating_line (book_of frozen.now) dam sire) }
 {
     match mating_by(frozen, relationships, &sire, &dam) {
-        Ok(numerator) => push_coefficient_line(output, sire, numerator),
+        Ok(numerator) => push_coefficient_line(output, sire, Coefficient { numerator }),
         Err(fault) => push_refused(output, sire, fault),
     }
 }

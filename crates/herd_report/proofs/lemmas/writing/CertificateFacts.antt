@@ -1,12 +1,13 @@
 -- The certificate of an animal that stands at a rank of a frozen book.
-use Rattle.std.proofs.Common.{◌≡◌, ◌∙◌, ℕ, ◌<◌, List, [], ◌++◌, length, slice_get, slice_index, Option, Some, None, false, true, Contains, ap, refl, sym, arith}
+use Rattle.std.proofs.Common.{◌≡◌, ◌∙◌, ℕ, ◌<◌, List, [], ◌++◌, length, slice_get, slice_index, Option, Some, None, false, true, Contains, ap, sym, arith}
 use Rattle.std.proofs.lemmas.Bool.{false≢true}
 use Rattle.std.specs.Map.{keys_of}
 use Rattle.std.specs.Option.{is_some, option_map_or}
 use Rattle.std.proofs.lemmas.List.Elements.{Contains-get_or}
-use Rattle.std.proofs.lemmas.Option.{get_or_from_slice_get, slice_get_within}
+use Rattle.std.proofs.lemmas.Option.{get_or_from_slice_get, slice_get-get_or, slice_get_within}
 use Rattle.herd_frozen.specs.declared.rules.animal.Animal.{Animal}
 use Rattle.herd_frozen.specs.declared.freezing.frozen.Row.{Row}
+use Rattle.herd_frozen.specs.declared.TheConstants.{DEPTH_LIMIT, MOST_ANIMALS}
 use Rattle.herd_frozen.specs.rules.Book.{Book, is_there, record_of}
 use Rattle.herd_frozen.specs.freezing.Frozen.{IsFrozen, book_of, numbers_of}
 use Rattle.herd_kinship.specs.Coefficients.{AreCoefficients}
@@ -14,22 +15,24 @@ use Rattle.herd_kinship.specs.FrozenAncestry.{ancestry_of, number_of_row}
 use Rattle.herd_kinship.specs.Table.{coefficient}
 use Rattle.herd_kinship.proofs.lemmas.books.BookFacts.{record_there}
 use Rattle.herd_kinship.proofs.lemmas.books.FrozenFacts.{length-numbers_of, number_of_row-is, numbers_are_keys, record_at-row}
-use Rattle.herd_report.specs.writing.Certificate.{ancestors_text, animal_text, certificate_text, labelled_line}
+use Rattle.herd_report.proofs.lemmas.writing.CoefficientFacts.{numerator_is}
+use Rattle.herd_report.specs.writing.Certificate.{ancestors_text, animal_text, certificate_of, labelled_line}
 
 -- the lines on the animal of the row there, and then those of its ancestors, are the certificate
-pub certificate_made : (l most : ℕ) (rows : List Row) → IsFrozen l most rows → (rank : ℕ) (row : Row) → slice_get rows rank ≡ Some row
-    → (numerator : ℕ) (none first whole : List ℕ) → none ≡ [] → first ≡ none ++ animal_text row.number row.animal numerator
-    → whole ≡ first ++ ancestors_text (book_of rows) (number_of_row rows rank)
-    → whole ≡ certificate_text (book_of rows) numerator (number_of_row rows rank)
-certificate_made l most rows frozen rank row there numerator none first whole empty begun ended =
+pub certificate_made : (rows : List Row) (numerators : List ℕ) → IsFrozen DEPTH_LIMIT MOST_ANIMALS rows
+    → AreCoefficients DEPTH_LIMIT rows numerators → (rank : ℕ) (row : Row) → slice_get rows rank ≡ Some row
+    → (numerator : ℕ) → numerator ≡ slice_index numerators rank
+    → animal_text row.number row.animal numerator ++ ancestors_text (book_of rows) (number_of_row rows rank)
+    ≡ certificate_of rows (number_of_row rows rank)
+certificate_made rows numerators frozen are rank row there numerator read =
     let book = book_of rows in
-    let text : certificate_text book numerator row.number ≡ animal_text row.number row.animal numerator ++ ancestors_text book row.number =
-    ap (λ found. option_map_or (λ (animal : Animal). animal_text row.number animal numerator ++ ancestors_text book row.number) found [])
-    (record_at-row l most rows frozen rank row there) in
-    let start : first ≡ animal_text row.number row.animal numerator = begun ∙ ap (λ l. l ++ animal_text row.number row.animal numerator) empty in
-    let end : whole ≡ animal_text row.number row.animal numerator ++ ancestors_text book row.number =
-    (rw (number_of_row-is rows rank row there) at ended) ∙ ap (λ l. l ++ ancestors_text book row.number) start in
-    rw (number_of_row-is rows rank row there) (end ∙ sym text)
+    let own = coefficient (ancestry_of rows) DEPTH_LIMIT row.number in
+    let text : certificate_of rows row.number ≡ animal_text row.number row.animal own ++ ancestors_text book row.number =
+    ap (λ found. option_map_or (λ (animal : Animal). animal_text row.number animal own ++ ancestors_text book row.number) found [])
+    (record_at-row DEPTH_LIMIT MOST_ANIMALS rows frozen rank row there) in
+    rw (number_of_row-is rows rank row there)
+    (ap (λ n. animal_text row.number row.animal n ++ ancestors_text book row.number) (read ∙ numerator_is DEPTH_LIMIT rows numerators are rank row there)
+    ∙ sym text)
 
 -- the number that stands at a rank is there
 number_is_there : (rows : List Row) (rank : ℕ) (number : List ℕ) → slice_get (numbers_of rows) rank ≡ Some number
@@ -50,14 +53,6 @@ pub number_at_rank : (rows : List Row) (rank : ℕ) (number : List ℕ) → slic
     → number_of_row rows rank ≡ number
 number_at_rank rows rank number there = get_or_from_slice_get (numbers_of rows) rank number [] there
 
--- the certificate with the numerator at a rank is that with the coefficient of the animal there
-pub certificate_with_coefficient : (l : ℕ) (rows : List Row) (numerators : List ℕ) → AreCoefficients l rows numerators
-    → (rank : ℕ) → rank < length rows → (numerator : ℕ) → numerator ≡ slice_index numerators rank
-    → certificate_text (book_of rows) numerator (number_of_row rows rank)
-    ≡ certificate_text (book_of rows) (coefficient (ancestry_of rows) l (number_of_row rows rank)) (number_of_row rows rank)
-certificate_with_coefficient l rows numerators are rank within numerator read =
-    ap (λ n. certificate_text (book_of rows) n (number_of_row rows rank)) (read ∙ are.right rank within)
-
 some_text : (book : Book) (numerator : ℕ) (number : List ℕ) (found : Option Animal) → is_some found ≡ true
     → 0 < length (option_map_or (λ (animal : Animal). animal_text number animal numerator ++ ancestors_text book number) found [])
 unfolding labelled_line
@@ -65,13 +60,12 @@ some_text book numerator number None there = absurd (false≢true there)
 some_text book numerator number (Some animal) there = omega arith
 
 -- the certificate of an animal that is there isn't empty
-pub some_certificate_text : (book : Book) (numerator : ℕ) (number : List ℕ) → is_there book number ≡ true
-    → 0 < length (certificate_text book numerator number)
-some_certificate_text book numerator number there = some_text book numerator number (record_of book number) there
+pub some_certificate : (rows : List Row) (number : List ℕ) → is_there (book_of rows) number ≡ true → 0 < length (certificate_of rows number)
+some_certificate rows number there =
+    some_text (book_of rows) (coefficient (ancestry_of rows) DEPTH_LIMIT number) number (record_of (book_of rows) number) there
 
 -- nor is that of the animal at a rank
-pub some_certificate_at : (l most : ℕ) (rows : List Row) → IsFrozen l most rows → (rank : ℕ) (row : Row) → slice_get rows rank ≡ Some row
-    → (numerator : ℕ) → 0 < length (certificate_text (book_of rows) numerator (number_of_row rows rank))
-some_certificate_at l most rows frozen rank row there numerator =
-    rw (number_of_row-is rows rank row there)
-    (some_certificate_text (book_of rows) numerator row.number (ap is_some (record_at-row l most rows frozen rank row there)))
+pub some_certificate_at : (rows : List Row) (rank : ℕ) → rank < length rows → 0 < length (certificate_of rows (number_of_row rows rank))
+some_certificate_at rows rank within =
+    let there = slice_get-get_or (numbers_of rows) rank [] (rw (length-numbers_of rows) within) in
+    some_certificate rows (number_of_row rows rank) (number_is_there rows rank (number_of_row rows rank) there)

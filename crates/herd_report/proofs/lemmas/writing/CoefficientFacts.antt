@@ -1,6 +1,5 @@
 -- The numerators of a frozen book's coefficients.
-use Rattle.std.proofs.Common.{◌≡◌, ◌∙◌, ℕ, ◌<◌, List, ◌++◌, length, slice_index, slice_get, Some, ap, arith}
-use Rattle.std.specs.Prelude.{codes}
+use Rattle.std.proofs.Common.{◌≡◌, ◌∙◌, ℕ, ◌<◌, List, length, slice_index, slice_get, Some, ap, arith}
 use Rattle.std.proofs.lemmas.Option.{slice_get_within}
 use Rattle.herd_frozen.specs.declared.freezing.frozen.Row.{Row}
 use Rattle.herd_kinship.specs.Coefficients.{AreCoefficients}
@@ -8,7 +7,7 @@ use Rattle.herd_kinship.specs.FrozenAncestry.{ancestry_of}
 use Rattle.herd_kinship.specs.Table.{coefficient}
 use Rattle.herd_kinship.proofs.lemmas.books.FrozenFacts.{number_of_row-is}
 use Rattle.herd_report.proofs.lemmas.writing.OutputFacts.{some_after}
-use Rattle.herd_report.specs.writing.CoefficientText.{coefficient_line, coefficient_text}
+use Rattle.herd_report.specs.writing.CoefficientText.{coefficient_line, coefficient_line_end}
 
 -- the numerator at a rank is the coefficient of the row there
 pub numerator_is : (l : ℕ) (rows : List Row) (numerators : List ℕ) → AreCoefficients l rows numerators
@@ -20,5 +19,4 @@ numerator_is l rows numerators are rank row there =
 
 -- a line isn't empty
 pub some_coefficient_line : (number : List ℕ) (numerator : ℕ) → 0 < length (coefficient_line number numerator)
-some_coefficient_line number numerator =
-    some_after (number ++ codes "," ++ coefficient_text (codes ",") numerator) (codes "\n") (omega arith)
+some_coefficient_line number numerator = some_after number (coefficient_line_end numerator) (omega arith)

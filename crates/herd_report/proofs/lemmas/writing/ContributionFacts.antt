@@ -7,13 +7,14 @@ use Rattle.herd_frozen.specs.declared.TheConstants.{DEPTH_LIMIT, MOST_ANIMALS}
 use Rattle.herd_frozen.specs.declared.freezing.frozen.Row.{Row}
 use Rattle.herd_frozen.specs.freezing.Frozen.{IsFrozen}
 use Rattle.herd_kinship.specs.declared.contribution.Contribution.{Contribution}
+use Rattle.herd_kinship.specs.declared.contribution.Contributions.{Contributions}
 use Rattle.herd_kinship.specs.Contributions.{contribution_at, contributions_of, filled, pairs_of}
 use Rattle.herd_kinship.specs.Ranks.{sire_rank, dam_rank}
 use Rattle.herd_kinship.proofs.lemmas.books.FrozenFacts.{sire_at, dam_at}
 use Rattle.herd_kinship.specs.FrozenAncestry.{number_of_row}
 use Rattle.herd_kinship.specs.Fraction.{fraction_text}
 use Rattle.herd_report.proofs.lemmas.writing.OutputFacts.{some_after, some_before}
-use Rattle.herd_report.specs.writing.InverseList.{IsWithin, contribution_line, contributions_text}
+use Rattle.herd_report.specs.writing.InverseList.{IsWithin, contribution_line, contributions_text, value_line_end}
 
 -- of the six elements the first ones are those that count
 take-filled : (f : ℕ × ℕ → Contribution) (i : ℕ) (s d : Option ℕ)
@@ -23,10 +24,12 @@ take-filled f i (Some s) None = refl
 take-filled f i None (Some d) = refl
 take-filled f i (Some s) (Some d) = refl
 
-pub take-filled-contributions : (rows : List Row) (rank : ℕ)
-    → take (length (contributions_of DEPTH_LIMIT rows rank)) (filled (contributions_of DEPTH_LIMIT rows rank)) ≡ contributions_of DEPTH_LIMIT rows rank
+-- of those that are listed too
+pub listed_part : (rows : List Row) (rank : ℕ) (listed : Contributions) → listed.count ≡ length (contributions_of DEPTH_LIMIT rows rank)
+    → listed.list ≡ filled (contributions_of DEPTH_LIMIT rows rank) → take listed.count listed.list ≡ contributions_of DEPTH_LIMIT rows rank
 unfolding contributions_of
-take-filled-contributions rows rank = take-filled (contribution_at DEPTH_LIMIT rows rank) rank (sire_rank rows rank) (dam_rank rows rank)
+listed_part rows rank listed count list =
+    rw (count, list) (take-filled (contribution_at DEPTH_LIMIT rows rank) rank (sire_rank rows rank) (dam_rank rows rank))
 
 -- there are at most six
 at_most_six : (f : ℕ × ℕ → Contribution) (i : ℕ) (s d : Option ℕ) → length (map f (pairs_of i s d)) ≤ 6
@@ -85,20 +88,22 @@ contributions_within rows frozen rank within =
     (sire_at DEPTH_LIMIT MOST_ANIMALS rows frozen rank within).within
     (dam_at DEPTH_LIMIT MOST_ANIMALS rows frozen rank within).within
 
-some_line : (rows : List Row) (rank : ℕ) (element : Contribution) → 0 < length (contribution_line rows rank element)
-some_line rows rank element =
+some_line : (rows : List Row) (number : List ℕ) (element : Contribution) → 0 < length (contribution_line rows number element)
+some_line rows number element =
     some_after
-    (number_of_row rows rank ++ codes "," ++ number_of_row rows element.row ++ codes "," ++ number_of_row rows element.column ++ codes "," ++ fraction_text element.value)
-    (codes "\n") (omega arith)
+    (number ++ codes "," ++ number_of_row rows element.row ++ codes "," ++ number_of_row rows element.column ++ codes ",")
+    (value_line_end element.value)
+    (some_after (fraction_text element.value) (codes "\n") (omega arith))
 
-some_lines : (rows : List Row) (rank : ℕ) (f : ℕ × ℕ → Contribution) (s d : Option ℕ)
-    → 0 < length (flat_map (contribution_line rows rank) (map f (pairs_of rank s d)))
-some_lines rows rank f None None = some_before (contribution_line rows rank (f (rank, rank))) _ (some_line rows rank (f (rank, rank)))
-some_lines rows rank f (Some s) None = some_before (contribution_line rows rank (f (rank, rank))) _ (some_line rows rank (f (rank, rank)))
-some_lines rows rank f None (Some d) = some_before (contribution_line rows rank (f (rank, rank))) _ (some_line rows rank (f (rank, rank)))
-some_lines rows rank f (Some s) (Some d) = some_before (contribution_line rows rank (f (rank, rank))) _ (some_line rows rank (f (rank, rank)))
+some_lines : (rows : List Row) (number : List ℕ) (rank : ℕ) (f : ℕ × ℕ → Contribution) (s d : Option ℕ)
+    → 0 < length (flat_map (contribution_line rows number) (map f (pairs_of rank s d)))
+some_lines rows number rank f None None = some_before (contribution_line rows number (f (rank, rank))) _ (some_line rows number (f (rank, rank)))
+some_lines rows number rank f (Some s) None = some_before (contribution_line rows number (f (rank, rank))) _ (some_line rows number (f (rank, rank)))
+some_lines rows number rank f None (Some d) = some_before (contribution_line rows number (f (rank, rank))) _ (some_line rows number (f (rank, rank)))
+some_lines rows number rank f (Some s) (Some d) = some_before (contribution_line rows number (f (rank, rank))) _ (some_line rows number (f (rank, rank)))
 
 -- an animal contributes some lines
 pub some_contributions_text : (rows : List Row) (rank : ℕ) → 0 < length (contributions_text rows rank)
 unfolding contributions_of
-some_contributions_text rows rank = some_lines rows rank (contribution_at DEPTH_LIMIT rows rank) (sire_rank rows rank) (dam_rank rows rank)
+some_contributions_text rows rank =
+    some_lines rows (number_of_row rows rank) rank (contribution_at DEPTH_LIMIT rows rank) (sire_rank rows rank) (dam_rank rows rank)

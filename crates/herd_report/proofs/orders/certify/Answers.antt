@@ -1,17 +1,13 @@
 -- Where there are no coefficients, nothing is written, and the animal is in the book.
 use Rattle.std.proofs.lemmas.Result.{err_from_is_err_and}
-use Rattle.herd_frozen.specs.freezing.Frozen.{book_of}
-use Rattle.herd_frozen.specs.declared.TheConstants.{DEPTH_LIMIT}
-use Rattle.herd_kinship.specs.FrozenAncestry.{ancestry_of}
-use Rattle.herd_kinship.specs.Table.{coefficient}
-use Rattle.herd_report.proofs.lemmas.writing.CertificateFacts.{not_absent, some_certificate_text}
+use Rattle.herd_report.proofs.lemmas.writing.CertificateFacts.{not_absent, some_certificate}
 use Rattle.herd_report.proofs.lemmas.writing.OutputFacts.{front_nothing}
 use Rattle.herd_report.proofs.orders.certify.Goals as goal
 
 pub returns-in_err-coefficients-clause-err : goal.returns-in_err-coefficients-clause-err
 returns-in_err-coefficients-clause-err g c =
     let exit = err_from_is_err_and c.from_residual.result c.from_residual.ensures.1 in
-    rw exit.1 (λ there. front_nothing _ _ (some_certificate_text (book_of c.args.frozen.now) (coefficient (ancestry_of c.args.frozen.now) DEPTH_LIMIT c.args.number) c.args.number there))
+    rw exit.1 (λ there. front_nothing _ _ (some_certificate c.args.frozen.now c.args.number there))
 
 pub returns-in_err-coefficients-clause-absent : goal.returns-in_err-coefficients-clause-absent
 returns-in_err-coefficients-clause-absent g c =

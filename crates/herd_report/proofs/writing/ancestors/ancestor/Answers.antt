@@ -12,14 +12,14 @@ returns-in_err-rank g c =
     let i = c.loop-parent.parent-index in
     let leads = subst (LeadsFrom c.args.frozen.now c.args.start path c.loop-parent.rank) (drop_more path i Sire c.loop-parent-test.true) c.loop-parent.invariant in
     c.from_residual.ensures
-    ∙ sym (leads_nowhere (get_or path i Sire) (drop (i + 1) path) c.row.result c.requires.frozen leads c.row.ensures.row (sym c.rank_in.ensures ∙ c.in_err-rank.was))
+    ∙ sym (leads_nowhere (get_or path i Sire) (drop (i + 1) path) c.row.result c.row.ensures.frozen leads c.row.ensures.row (sym c.rank_in.ensures ∙ c.in_err-rank.was))
 
 pub loop-parent-preserved : goal.loop-parent-preserved
 loop-parent-preserved g c =
     let path = c.args.path.now in
     let i = c.loop-parent.parent-index in
     let leads = subst (LeadsFrom c.args.frozen.now c.args.start path c.loop-parent.rank) (drop_more path i Sire c.loop-parent-test.true) c.loop-parent.invariant in
-    leads_on (get_or path i Sire) (drop (i + 1) path) c.row.result c.in_ok-rank.rank c.requires.frozen leads c.row.ensures.row (sym c.rank_in.ensures ∙ c.in_ok-rank.was)
+    leads_on (get_or path i Sire) (drop (i + 1) path) c.row.result c.in_ok-rank.rank c.row.ensures.frozen leads c.row.ensures.row (sym c.rank_in.ensures ∙ c.in_ok-rank.was)
 
 pub returns : goal.returns
 returns g c =

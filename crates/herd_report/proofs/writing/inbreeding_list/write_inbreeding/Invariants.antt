@@ -1,17 +1,13 @@
-use Rattle.std.proofs.Common.{◌≡◌, IfSome, drop}
+use Rattle.std.proofs.Common.{drop}
 use Rattle.herd_frozen.specs.declared.TheConstants.{DEPTH_LIMIT}
 use Rattle.herd_kinship.specs.FrozenAncestry.{ancestry_of}
 use Rattle.herd_kinship.specs.Table.{coefficient}
 use Rattle.herd_report.proofs.lemmas.writing.OutputFacts.{Holds}
-use Rattle.herd_report.specs.writing.CoefficientText.{coefficient_line_end}
 use Rattle.herd_report.specs.writing.InbreedingList.{inbreeding_text}
 use Rattle.herd_report.proofs.writing.inbreeding_list.write_inbreeding.Given as goal
 
 abbrev pub invariant-loop-rank : goal.invariant-loop-rank
 invariant-loop-rank g l =
     let numerator_of = coefficient (ancestry_of l.frozen) DEPTH_LIMIT in
-    record {
-      text : Holds (g.W.Write.contents l.fn.writer) (g.W.Write.contents l.writer) (inbreeding_text numerator_of l.frozen) l.output
-          (inbreeding_text numerator_of (drop l.rank l.frozen));
-      made : IfSome l.made (λ last. l.end ≡ coefficient_line_end last);
-    }
+    Holds (g.W.Write.contents l.fn.writer) (g.W.Write.contents l.writer) (inbreeding_text numerator_of l.frozen) l.output
+    (inbreeding_text numerator_of (drop l.rank l.frozen))

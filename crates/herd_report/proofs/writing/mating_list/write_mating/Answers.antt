@@ -1,11 +1,11 @@
 -- `write_mating`: its loop and its clause `err`.
-use Rattle.std.proofs.Common.{◌≡◌, Some, rules, slice_get}
+use Rattle.std.proofs.Common.{arith}
 use Rattle.std.proofs.lemmas.Result.{err_from_is_err_and, on_err_weaker}
 use Rattle.herd_frozen.specs.freezing.Frozen.{book_of}
 use Rattle.herd_report.proofs.lemmas.writing.OutputFacts.{front_nothing, front_passed, front_waiting, holds_passed}
 use Rattle.herd_report.proofs.lemmas.writing.Pieces.{holds_element, slice_get-item, some_left}
-use Rattle.herd_report.proofs.lemmas.writing.MatingFacts.{some_mating_line}
-use Rattle.herd_report.specs.writing.MatingList.{mating_line, mating_text}
+use Rattle.herd_report.proofs.lemmas.writing.MatingFacts.{some_mating_line, some_mating_text}
+use Rattle.herd_report.specs.writing.MatingList.{mating_line}
 use Rattle.herd_report.proofs.writing.mating_list.write_mating.Goals as goal
 
 pub returns-in_err-pass_on-clause-err : goal.returns-in_err-pass_on-clause-err
@@ -36,19 +36,9 @@ returns-clause-err g c = on_err_weaker c.finish.result (front_waiting c.loop-sir
 pub returns-in_err-clone-clause-err : goal.returns-in_err-clone-clause-err
 returns-in_err-clone-clause-err g c =
     let exit = err_from_is_err_and c.from_residual.result c.from_residual.ensures.1 in
-    let book = book_of c.args.frozen.now in
-    let sires = c.args.sires.now in
-    let first = c.in-Some._first.now in
-    let there : slice_get sires 0 ≡ Some first = search rules in
-    let some = some_left (mating_line book c.args.dam) sires 0 first there (some_mating_line book c.args.dam first) in
-    rw exit.1 (front_nothing (g.W.Write.contents c.args.writer.now) (mating_text book c.args.dam sires) some)
+    rw exit.1 (front_nothing _ _ (some_mating_text (book_of c.args.frozen.now) c.args.dam c.args.sires.now (grind arith)))
 
 pub returns-in_err-relationships-clause-err : goal.returns-in_err-relationships-clause-err
 returns-in_err-relationships-clause-err g c =
     let exit = err_from_is_err_and c.from_residual-in_err-relationships.result c.from_residual-in_err-relationships.ensures.1 in
-    let book = book_of c.args.frozen.now in
-    let sires = c.args.sires.now in
-    let first = c.in-Some._first.now in
-    let there : slice_get sires 0 ≡ Some first = search rules in
-    let some = some_left (mating_line book c.args.dam) sires 0 first there (some_mating_line book c.args.dam first) in
-    rw exit.1 (front_nothing (g.W.Write.contents c.args.writer.now) (mating_text book c.args.dam sires) some)
+    rw exit.1 (front_nothing _ _ (some_mating_text (book_of c.args.frozen.now) c.args.dam c.args.sires.now (grind arith)))

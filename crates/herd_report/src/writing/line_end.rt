@@ -1,0 +1,60 @@
+ghost use Rattle.std.specs.Prelude.{◌≡◌, ◌++◌, OnOk};
+ghost use Rattle.std.specs.Option.{ForSome};
+
+use crate::writing::output::Text;
+use std::alloc::{AllocError, Allocator};
+
+/// A value that the lines of a list end with.
+pub(crate) trait LastValue: Copy + PartialEq {
+    ghost use Rattle.std.specs.Prelude.{◌≡◌, ◌++◌, ℕ, List, true, OnOk};
+
+    /// The end of a line with it.
+    ghost line_end: { Self → List ℕ };
+
+    /// Adds the end of a line with it.
+    fn push_line_end<A: Allocator>(self, output: &mut Text<A>) -> Result<(), AllocError>
+        ensures { OnOk result (output.new ≡ output.old ++ line_end self) };
+
+    /// Lines with equal values end alike.
+    ghost alike: { (a b : Self) → Self.eq a b ≡ true → line_end a ≡ line_end b };
+}
+
+/// The end of a line, made once for equal values that follow one another.
+#[derive(Drop)]
+pub(crate) struct LineEnd<V: LastValue, A: Allocator> {
+    value: Option<V>,
+    text: Text<A>,
+    ghost made: { ForSome value (λ value. text ≡ V.line_end value) },
+}
+
+impl<V: LastValue, A: Allocator> LineEnd<V, A> {
+    /// None is made yet.
+    pub(crate) fn new(alloc: A) -> Self {
+        LineEnd {
+            value: None,
+            text: Text::new(alloc),
+        }
+    }
+
+    /// Adds the end of a line with this value.
+    pub(crate) fn push_to(&mut self, output: &mut Text<A>, value: V) -> Result<(), AllocError>
+        ensures { OnOk result (output.new ≡ output.old ++ V.line_end value) }
+    {
+        self.make(value)?;
+        output.push(self.text.bytes())
+    }
+
+    // Makes the end of a line with this value, where the one that is there isn't of an equal value.
+    fn make(&mut self, value: V) -> Result<(), AllocError>
+        ensures { OnOk result (self.new.text ≡ V.line_end value) }
+    {
+        if self.value == Some(value) {
+            return Ok(());
+        }
+        self.value = None;
+        self.text.clear();
+        value.push_line_end(&mut self.text)?;
+        self.value = Some(value);
+        Ok(())
+    }
+}
