@@ -16,6 +16,8 @@ use std::alloc::{AllocError, Allocator};
 
 impl Command {
     /// Answers the command, and sets the record of its animal where nothing refuses it.
+    // Not inlined: a command that is lent stays where it is, and isn't moved in pieces.
+    #[inline(never)]
     pub(crate) fn carry_out<A: Allocator + Copy>(
         &self,
         limits: Limits,
