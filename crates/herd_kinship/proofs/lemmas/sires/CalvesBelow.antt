@@ -31,8 +31,10 @@ unfolding calves_below
 step-by rows s x true is =
     inl (test-is s (sire_rank rows x) (dam_rank rows x) is, ap (λ (b : Bool). cond b (x ∷ calves_below rows s x) (calves_below rows s x)) is)
 step-by rows s x false is =
-    inr (λ calf. (let yes = test-yes s calf.1 (sire_rank rows x) (dam_rank rows x) calf.0 calf.2 in absurd (cc)),
-    ap (λ (b : Bool). cond b (x ∷ calves_below rows s x) (calves_below rows s x)) is)
+    inr (
+      λ calf. (let yes = test-yes s calf.1 (sire_rank rows x) (dam_rank rows x) calf.0 calf.2 in absurd (cc)),
+      ap (λ (b : Bool). cond b (x ∷ calves_below rows s x) (calves_below rows s x)) is,
+    )
 
 step : (rows : List Row) (s x : ℕ) → Step rows s x
 step rows s x = step-by rows s x (is_calf rows s x) refl
