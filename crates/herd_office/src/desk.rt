@@ -125,6 +125,15 @@ impl<N: OfficeName> Desk<N> {
         self.answered
     }
 
+    /// A slip of its history: the one of the last call that was answered, and an empty one before the first.
+    pub fn slip(&self) -> Slip<N>
+        ensures { result.history ≡ self.now.history }
+    {
+        Slip {
+            history: self.history.again(),
+        }
+    }
+
     /// Files a command. After a fault the desk is as it was.
     ///
     /// `JournalFull` is told where the journal has as many steps as the limits allow, `Memory` where a growth of memory

@@ -7,7 +7,7 @@ ghost use Rattle.herd_office.specs.Standing.{standing};
 
 use crate::copies::{Copies, show};
 use crate::copy_update::CopyUpdate;
-use crate::desk::{Desk, Filed, Slip};
+use crate::desk::{Desk, Filed};
 use crate::name::OfficeName;
 use crate::office::Inside;
 use herd_register::{Command, FileFault, MOST_STEPS, Register, Step};
@@ -63,9 +63,7 @@ pub fn file_on<N: OfficeName, W: Wait, R: Wait + Drop, A: Allocator + Copy>(
     Ok(Filed {
         serial: steps as u32 + 1,
         reply: step.reply,
-        slip: Slip {
-            history: keeper.history.again(),
-        },
+        slip: desk.slip(),
     })
 }
 

@@ -32,6 +32,10 @@ pub record HasFiled {N : Type 0} {O : office_name.Ghosts N} (desk : Desk N O) (c
   pub counted : desk.answered ≡ length commands
   pub known : of_desk desk.number desk.history ≡ desk.answered → commands_at desk.number desk.history ≡ commands
 
+-- the numbers of desks
+abbrev pub numbers_of : {N : Type 0} {O : office_name.Ghosts N} → List (Desk N O) → List ℕ
+numbers_of desks = map (λ d. d.number) desks
+
 -- a desk has filed what falls to it of a deal before the desks take turns
 abbrev pub HasBegun : {N : Type 0} {O : office_name.Ghosts N} → Deal → Desk N O → Type 0
 HasBegun deal desk = HasFiled desk (dealt_first deal.first.now desk.number)
