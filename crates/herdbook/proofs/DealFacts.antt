@@ -11,12 +11,13 @@ use Rattle.herd_register.specs.declared.command.Command.{Command}
 use Rattle.herd_register.specs.declared.reply.Reply.{Reply}
 use Rattle.herd_register.specs.declared.step.Step.{Step}
 use Rattle.herd_register.specs.Run.{step_of}
-use Rattle.herd_office.specs.Closing.{BeginsWithAll}
+use Rattle.herd_office.specs.Beginnings.{BeginsWithAll}
 use Rattle.herd_office.specs.Filing.{EndsWith}
 use Rattle.herd_office.specs.Histories.{of_desk}
+use Rattle.herd_office.specs.Opening.{AreFresh}
 use Rattle.herd_office.specs.declared.desk.Desk.{Desk}
 use Rattle.herd_office.specs.declared.name.OfficeName as office_name
-use Rattle.herdbook.specs.Deal.{AreFresh, HasBegun, HasFiled, commands_at, dealt, dealt_first, every}
+use Rattle.herdbook.specs.Deal.{HasBegun, HasFiled, commands_at, dealt, dealt_first, every}
 use Rattle.herdbook.specs.Summary.{count_of}
 use Rattle.herdbook.specs.declared.deal.Deal.{Deal}
 use Rattle.herdbook.specs.declared.summary.DeskCount.{DeskCount}

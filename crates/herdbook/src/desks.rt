@@ -6,10 +6,11 @@ ghost use Rattle.herd_register.specs.Register.{AreLimits};
 ghost use Rattle.herd_register.specs.Run.{IsLegal};
 ghost use Rattle.herd_register.specs.declared.limits.TheConstants.{MOST_STEPS};
 ghost use Rattle.herd_report.specs.reading.CommandFile.{CommandFile, IsRead, commands};
-ghost use Rattle.herd_office.specs.Closing.{BeginsWithAll};
+ghost use Rattle.herd_office.specs.Beginnings.{BeginsWithAll};
+ghost use Rattle.herd_office.specs.Opening.{AreFresh};
 ghost use Rattle.herd_office.specs.Parts.{AreNamed};
 ghost use Rattle.herdbook.specs.Clerks.{CanEndClerks, EndsClerks, IsFiledBy, office_limits};
-ghost use Rattle.herdbook.specs.Deal.{AreFresh, HasDone, numbers_of};
+ghost use Rattle.herdbook.specs.Deal.{HasDone, numbers_of};
 ghost use Rattle.herdbook.specs.Summary.{CountsOf, EndsTelling, IsSummaryOf, IsSummaryOfDeal, count_of, summary_text};
 ghost use Rattle.herdbook.specs.declared.deal.Deal.{Deal};
 

@@ -18,7 +18,7 @@ returns-in-Ok g c = λ deal dealt filed.
     let numbers : numbers_of desks ≡ range_with_len 1 deal.desks = c.requires ∙ ap (range_with_len 1) dealt in
     IfOk-weaker c.counted.result _ _
     (λ summary counts.
-    summed_up desks g.N.OfficeName.limits deal register summary numbers (all_at (HasDone deal) desks filed) c.in-Ok.ensures.limits
-    c.counted.ensures.legal c.in-Ok.ensures.sum c.in-Ok.ensures.each c.in-Ok.ensures.desks
+    summed_up desks g.N.OfficeName.limits deal register summary numbers (all_at (HasDone deal) desks filed) c.in-Ok.ensures.closed.limits_are
+    c.counted.ensures.legal c.in-Ok.ensures.closed.sum c.in-Ok.ensures.closed.each c.in-Ok.ensures.closed.desks_begin
     (subst (λ (l : List DeskCount). CountsOf register l summary) counted counts))
     c.counted.ensures.counts
