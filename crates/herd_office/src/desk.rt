@@ -1,11 +1,10 @@
 //! The desks, and what they hold.
-ghost use Rattle.std.specs.Prelude.{count_by, map, ◌≡◌, ◌==◌, ℕ, ◌+◌, ◌<◌, ◌≤◌, ◌^◌, ◌↔◌, IsTrue, [], length, vec_len, Some, slice_get, IfOk, IfErr, OnErr};
+ghost use Rattle.std.specs.Prelude.{map, ◌≡◌, ℕ, ◌+◌, ◌<◌, ◌≤◌, ◌^◌, ◌↔◌, IsTrue, [], length, vec_len, Some, slice_get, IfOk, IfErr, OnErr};
 ghost use Rattle.std.specs.List.{sum_by};
 ghost use mathlib.Core.List.{IsPrefix};
 ghost use Rattle.herd_register.specs.Run.{IsLegal};
-ghost use Rattle.herd_office.specs.Closing.{BeginsWithAll};
 ghost use Rattle.herd_office.specs.Filing.{EndsWith};
-ghost use Rattle.herd_office.specs.Histories.{Apart, of_desk};
+ghost use Rattle.herd_office.specs.Histories.{of_desk};
 
 use crate::faults::OpenFault;
 use crate::filing::file_on;
@@ -56,40 +55,6 @@ pub struct Desk<N: OfficeName> {
     pub ghost stored: { answered ≤ of_desk number history },
 }
 
-pub(crate) fn make_desks<N: OfficeName, A: Allocator>(
-    alloc: A,
-    count: u16,
-    rest: &mut Share<N>,
-    history: &History<N>,
-) -> Result<Vec<Desk<N>, A>, OpenFault>
-    requires parts { (rest.old.parts ≡ count) × (rest.old.amount ≡ 0) }
-    requires history { history.now ≡ [] }
-    ensures rest { IfOk result (λ _. (rest.new.parts ≡ 0) × (rest.new.amount ≡ 0)) }
-    ensures count { IfOk result (λ r. vec_len r ≡ count) }
-    ensures numbers { IfOk result (λ r. (k : ℕ) (d : _) → slice_get r.items k ≡ Some d → (d.number ≡ k + 1)
-        × (d.answered ≡ 0) × (d.history ≡ [])) }
-    ensures fault { IfErr result (λ fault. fault ≡ OpenFault.Memory) }
-{
-    let mut desks = Vec::new(alloc);
-    for number in 0..count {
-        let desk = make_desk(number + 1, rest.split_off(1, 0), history);
-        desks.push(desk).map_err(|_| OpenFault::Memory)?;
-    }
-    Ok(desks)
-}
-
-fn make_desk<N: OfficeName>(number: u16, share: Share<N>, history: &History<N>) -> Desk<N>
-    requires { (share.parts ≡ 1) × (share.amount ≡ 0) }
-    ensures { (result.number ≡ number) × (result.answered ≡ 0) × (result.history ≡ history.now) }
-{
-    Desk {
-        number,
-        answered: 0,
-        share,
-        history: history.again(),
-    }
-}
-
 impl<N: OfficeName> Desk<N> {
     /// Counts a call that was answered.
     pub(crate) fn answer(&mut self, ledger: &mut Book<N>, history: History<N>)
@@ -125,6 +90,15 @@ impl<N: OfficeName> Desk<N> {
         self.answered
     }
 
+    /// A slip of its history: the one of the last call that was answered, and an empty one before the first.
+    pub fn slip(&self) -> Slip<N>
+        ensures { result.history ≡ self.now.history }
+    {
+        Slip {
+            history: self.history.again(),
+        }
+    }
+
     /// Files a command. After a fault the desk is as it was.
     ///
     /// `JournalFull` is told where the journal has as many steps as the limits allow, `Memory` where a growth of memory
@@ -152,58 +126,4 @@ impl<N: OfficeName> Desk<N> {
         MutexGuard::unlock(inside);
         filed
     }
-}
-
-/// Whether the history begins with each desk's.
-pub(crate) fn all_begin<N: OfficeName>(desks: &[Desk<N>], history: &History<N>) -> bool
-    ensures { IsTrue result ↔ BeginsWithAll (λ d. d.history) desks.now history.now }
-{
-    for k in 0..desks.len() {
-        if !desks[k].history.begins(history) {
-            return false;
-        }
-    }
-    true
-}
-
-/// Whether no number stands twice among the desks'.
-pub(crate) fn all_apart<N: OfficeName>(desks: &[Desk<N>]) -> bool
-    ensures { IsTrue result ↔ Apart (map (λ d. d.number) desks.now) }
-{
-    match desks {
-        [] => true,
-        [first, rest @ ..] => has_none(rest, first.number) && all_apart(rest),
-    }
-}
-
-fn has_none<N: OfficeName>(desks: &[Desk<N>], number: u16) -> bool
-    ensures { IsTrue result ↔ (count_by (λ n. number == n) (map (λ d. d.number) desks.now) ≡ 0) }
-{
-    match desks {
-        [] => true,
-        [first, rest @ ..] => number != first.number && has_none(rest, number),
-    }
-}
-
-/// The shares of these desks as one. What the desks have no part of is lent, and tells the ledger.
-pub(crate) fn share_of_all<N: OfficeName, A: Allocator>(
-    mut desks: Vec<Desk<N>, A>,
-    rest: &mut Share<N>,
-) -> Share<N>
-    ensures parts { result.parts ≡ vec_len desks }
-    ensures amount { result.amount ≡ sum_by (λ d. d.answered) desks.items }
-    ensures within { result.parts ≤ N.parts }
-    ensures rest { rest.new ≡ rest.old }
-{
-    let mut all = rest.empty();
-    while let Some(desk) = desks.pop() {
-        let Desk {
-            number: _,
-            answered: _,
-            share,
-            history: _history,
-        } = desk;
-        all.merge(share);
-    }
-    all
 }

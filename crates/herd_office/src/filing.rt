@@ -3,13 +3,13 @@ ghost use Rattle.std.specs.Prelude.{List, ◌≡◌, ◌+◌, ◌≤◌, ◌↔�
 ghost use mathlib.Core.List.{IsPrefix};
 ghost use Rattle.herd_register.specs.Run.{IsLegal, step_of};
 ghost use Rattle.herd_office.specs.Filing.{answer_after, with_step_of};
-ghost use Rattle.herd_office.specs.Standing.{standing};
+ghost use Rattle.herd_office.specs.Standing.{IsFiled, Refuses, standing};
 
 use crate::copies::{Copies, show};
 use crate::copy_update::CopyUpdate;
-use crate::desk::{Desk, Filed, Slip};
+use crate::desk::{Desk, Filed};
+use crate::inside::Inside;
 use crate::name::OfficeName;
-use crate::office::Inside;
 use herd_register::{Command, FileFault, MOST_STEPS, Register, Step};
 use std::alloc::Allocator;
 use std::sync::Wait;
@@ -21,23 +21,11 @@ pub fn file_on<N: OfficeName, W: Wait, R: Wait + Drop, A: Allocator + Copy>(
     desk: &mut Desk<N>,
     command: Command,
 ) -> Result<Filed<N>, FileFault>
-    ensures stored { IfOk result
-        (λ f. inside.new.register.journal ≡ with_step_of inside.old.register.journal desk.old.number command f.reply) }
-    ensures reply { IfOk result (λ f. f.reply ≡ answer_after N.limits inside.old.register.journal command) }
-    ensures serial { IfOk result (λ f. f.serial ≡ length inside.new.register.journal) }
-    ensures counted { IfOk result (λ _. (inside.new.ledger.total ≡ inside.old.ledger.total + 1)
-        × (desk.new.answered ≡ desk.old.answered + 1)) }
-    ensures begins { IfOk result (λ _. IsPrefix desk.old.history inside.old.register.journal) }
-    ensures history { IfOk result
-        (λ f. (f.slip.history ≡ inside.new.register.journal) × (desk.new.history ≡ inside.new.register.journal)) }
-    ensures legal { IfOk result (λ f. IsLegal N.limits f.slip.history) }
+    ensures filed { IfOk result (IsFiled N.limits command (standing inside.old desk.old) (standing inside.new desk.new)) }
     ensures number { desk.new.number ≡ desk.old.number }
     ensures full { (result ≡ Err FileFault.JournalFull) ↔ (length inside.old.register.journal ≡ N.limits.steps) }
     ensures unfiled { OnErr result (standing inside.new desk.new ≡ standing inside.old desk.old) }
-    ensures no_reading { result ≡ Err FileFault.NoReading → length desk.old.history ≤ length inside.old.register.journal
-        → IsNone inside.new.keeper.claim }
-    ensures memory { result ≡ Err FileFault.Memory → (length desk.old.history ≤ length inside.old.register.journal)
-        × IsSome inside.new.keeper.claim }
+    ensures fault { IfErr result (Refuses N.limits.steps (standing inside.old desk.old) inside.new.keeper.claim) }
 {
     let Inside {
         register,
@@ -63,9 +51,7 @@ pub fn file_on<N: OfficeName, W: Wait, R: Wait + Drop, A: Allocator + Copy>(
     Ok(Filed {
         serial: steps as u32 + 1,
         reply: step.reply,
-        slip: Slip {
-            history: keeper.history.again(),
-        },
+        slip: desk.slip(),
     })
 }
 

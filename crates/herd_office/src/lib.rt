@@ -54,7 +54,8 @@
 //!
 //! | | definition (`specs/`) | code (`src/`) | proof (`proofs/`) |
 //! |---|---|---|---|
-//! | a name's parts; opening, closing | `Parts`, `Closing` | `name`, `office` | `Counting`, `Stored` |
+//! | a name's parts; opening, closing | `Parts`; `Opening`, `Closing` | `name`, `parts`; `office`, `staff` | `Counting`, `Stored` |
+//! | what lies under the lock, all desks together | `Beginnings`, `Histories` | `inside`, `desks` | `Counting`, `Stored` |
 //! | a desk's call, its slip | `Filing`, `Histories`, `Standing` | `desk`, `filing` | `Stored`, `Counting` |
 //! | the history: its rule, claims, beginnings of it | `Keeping` | `history`, `keeper` | `Claiming`, `Fronts` |
 //! | the readers' copies, what is sent to them | `Copies`, `Shelves` | `copies`, `copy_update`, `shown` | `Sides` |
@@ -65,21 +66,27 @@
 mod copies;
 mod copy_update;
 mod desk;
+mod desks;
 mod faults;
 mod filing;
 mod history;
+mod inside;
 mod inspector;
 mod keeper;
 mod limits;
 mod name;
 mod office;
+mod parts;
 mod shown;
+mod staff;
 
 pub use desk::{Desk, Filed, Slip};
 pub use faults::{CloseFault, FreezeFault, OpenFault};
 pub use filing::file_on;
 pub use history::History;
+pub use inside::Inside;
 pub use inspector::Inspector;
 pub use limits::{MOST_DESKS, MOST_INSPECTORS};
 pub use name::OfficeName;
-pub use office::{Inside, Office, OfficeParts, Unclosed};
+pub use office::{Office, Unclosed};
+pub use parts::OfficeParts;

@@ -5,21 +5,20 @@ use Rattle.std.proofs.lemmas.Bool.Decides.{nat_tests}
 use Rattle.std.proofs.lemmas.Grind.{common_steps}
 use Rattle.std.proofs.lemmas.List.Elements.{All-cons, All-nil, filter-append}
 use Rattle.std.proofs.lemmas.List.Sums.{length-filter, sum_by-cons}
-use Rattle.std.proofs.lemmas.Option.{get_or_from_slice_get, slice_get-map, slice_get_within}
-use Rattle.std.specs.Option.{option_map}
+use Rattle.std.proofs.lemmas.Option.{get_or_from_slice_get, slice_get_within}
 use mathlib.Core.List.{IsPrefix}
 use Rattle.herd_register.specs.declared.command.Command.{Command}
 use Rattle.herd_register.specs.declared.reply.Reply.{Reply}
 use Rattle.herd_register.specs.declared.step.Step.{Step}
 use Rattle.herd_register.specs.Run.{step_of}
-use Rattle.herd_office.specs.Closing.{BeginsWithAll}
+use Rattle.herd_office.specs.Beginnings.{BeginsWithAll}
 use Rattle.herd_office.specs.Filing.{EndsWith}
 use Rattle.herd_office.specs.Histories.{of_desk}
+use Rattle.herd_office.specs.Opening.{AreFresh}
 use Rattle.herd_office.specs.declared.desk.Desk.{Desk}
 use Rattle.herd_office.specs.declared.name.OfficeName as office_name
-use Rattle.herdbook.specs.Deal.{AreFresh, HasBegun, HasFiled, commands_at, dealt, dealt_first, every}
+use Rattle.herdbook.specs.Deal.{HasBegun, HasFiled, commands_at, dealt, dealt_first, every}
 use Rattle.herdbook.specs.Summary.{count_of}
-use Rattle.herdbook.specs.declared.clerk.Clerk.{Clerk}
 use Rattle.herdbook.specs.declared.deal.Deal.{Deal}
 use Rattle.herdbook.specs.declared.summary.DeskCount.{DeskCount}
 
@@ -231,29 +230,28 @@ gone_on old new step place commands all command some is more under =
     }
 
 -- desks but the first, at which nothing was filed
-others : {N : Type 0} {O : office_name.Ghosts N} (first : List Command) (from : ℕ) (clerks : List (Clerk N O)) → 2 ≤ from
-    → ((place : ℕ) (clerk : Clerk N O) → slice_get clerks place ≡ Some clerk
-    → (clerk.desk.number ≡ place + from) × (clerk.desk.answered ≡ 0) × (clerk.desk.history ≡ []))
-    → All (λ c. HasFiled c.desk (dealt_first first c.desk.number)) clerks
-others {N} {O} first from [] le fresh = All-nil (λ (c : Clerk N O). HasFiled c.desk (dealt_first first c.desk.number))
-others {N} {O} first from (clerk ∷ more) le fresh =
-    let own = fresh 0 clerk refl in
-    let later : (clerk.desk.number == 1) ≡ false = grind (arith, nat_tests, own.0, le) in
-    let none : dealt_first first clerk.desk.number ≡ [] = rw later refl in
-    All-cons (λ (c : Clerk N O). HasFiled c.desk (dealt_first first c.desk.number)) clerk more
-    (subst (HasFiled clerk.desk) (sym none) (filed_none clerk.desk own.1 own.2))
-    (others first (from + 1) more (omega (arith, le)) (λ place c there. let known = fresh (suc place) c there in (omega (arith, known.0), known.1, known.2)))
+others : {N : Type 0} {O : office_name.Ghosts N} (first : List Command) (from : ℕ) (desks : List (Desk N O)) → 2 ≤ from
+    → ((place : ℕ) (desk : Desk N O) → slice_get desks place ≡ Some desk
+    → (desk.number ≡ place + from) × (desk.answered ≡ 0) × (desk.history ≡ []))
+    → All (λ d. HasFiled d (dealt_first first d.number)) desks
+others {N} {O} first from [] le fresh = All-nil (λ (d : Desk N O). HasFiled d (dealt_first first d.number))
+others {N} {O} first from (desk ∷ more) le fresh =
+    let own = fresh 0 desk refl in
+    let later : (desk.number == 1) ≡ false = grind (arith, nat_tests, own.0, le) in
+    let none : dealt_first first desk.number ≡ [] = rw later refl in
+    All-cons (λ (d : Desk N O). HasFiled d (dealt_first first d.number)) desk more
+    (subst (HasFiled desk) (sym none) (filed_none desk own.1 own.2))
+    (others first (from + 1) more (omega (arith, le)) (λ place d there. let known = fresh (suc place) d there in (omega (arith, known.0), known.1, known.2)))
 
 -- the first desk has filed the first commands, and the others nothing
-pub all_begun : {N : Type 0} {O : office_name.Ghosts N} (deal : Deal) (clerks : List (Clerk N O)) (clerk : Clerk N O) → AreFresh (map (λ c. c.desk) clerks)
-    → clerk.desk.number ≡ 1 → HasFiled clerk.desk deal.first.now → All (λ c. HasBegun deal c.desk) (set clerks 0 clerk)
-all_begun {N} {O} deal [] clerk fresh one filed = All-nil (λ (c : Clerk N O). HasBegun deal c.desk)
-all_begun {N} {O} deal (old ∷ more) clerk fresh one filed =
-    let all : deal.first.now ≡ dealt_first deal.first.now clerk.desk.number = sym (ap (dealt_first deal.first.now) one) in
-    All-cons (λ (c : Clerk N O). HasBegun deal c.desk) clerk more (subst (HasFiled clerk.desk) all filed)
+pub all_begun : {N : Type 0} {O : office_name.Ghosts N} (deal : Deal) (desks : List (Desk N O)) (desk : Desk N O) → AreFresh desks
+    → desk.number ≡ 1 → HasFiled desk deal.first.now → All (HasBegun deal) (set desks 0 desk)
+all_begun {N} {O} deal [] desk fresh one filed = All-nil (λ (d : Desk N O). HasBegun deal d)
+all_begun {N} {O} deal (old ∷ more) desk fresh one filed =
+    let all : deal.first.now ≡ dealt_first deal.first.now desk.number = sym (ap (dealt_first deal.first.now) one) in
+    All-cons (λ (d : Desk N O). HasBegun deal d) desk more (subst (HasFiled desk) all filed)
     (others deal.first.now 2 more (omega arith)
-    (λ place c there.
-    let known = fresh (suc place) c.desk (slice_get-map (λ (d : Clerk N O). d.desk) more place ∙ ap (option_map (λ (d : Clerk N O). d.desk)) there) in (omega (arith, known.0), known.1, known.2)))
+    (λ place d there. let known = fresh (suc place) d there in (omega (arith, known.0), known.1, known.2)))
 
 -- what holds of all holds of the one at a place
 pub all_at : {D : Type 0} (P : D → Type 0) (desks : List D) → All P desks → (place : ℕ) (desk : D) → slice_get desks place ≡ Some desk → P desk

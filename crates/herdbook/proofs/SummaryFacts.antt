@@ -1,15 +1,16 @@
 -- Desks that are handed in, their numbers, and what their counts add up to.
-use Rattle.std.proofs.Common.{◌≡◌, ◌∙◌, ℕ, zero, suc, ◌+◌, List, [], ◌∷◌, ◌++◌, ap, ap₂, append_assoc, arith, get_or, length, map, set, slice_get, Some, refl, subst, sym}
+use Rattle.std.proofs.Common.{◌≡◌, ◌∙◌, ℕ, zero, suc, ◌+◌, ◌<◌, List, [], ◌∷◌, ◌++◌, ap, ap₂, append_assoc, arith, get_or, length, map, set, slice_get, Some, refl, subst, sym}
 use Rattle.std.specs.List.{range_with_len}
 use Rattle.std.specs.Prelude.{sum_by}
 use Rattle.std.proofs.lemmas.List.{map-append, map-set, set-get_or}
 use Rattle.std.proofs.lemmas.List.Folds.{fold-map}
-use mathlib.Core.List.{map-map}
+use borrow.Author.Count.{below_more}
+use mathlib.Core.List.{IsPrefix, map-map}
 use Rattle.herd_register.specs.Register.{Register}
 use Rattle.herd_register.specs.Run.{IsLegal, commands_of, run_book}
 use Rattle.herd_register.specs.declared.limits.Limits.{Limits}
 use Rattle.herd_register.specs.declared.step.Step.{Step}
-use Rattle.herd_office.specs.Closing.{BeginsWithAll}
+use Rattle.herd_office.specs.Beginnings.{BeginsWithAll}
 use Rattle.herd_office.specs.Histories.{of_desk}
 use Rattle.herd_office.specs.declared.desk.Desk.{Desk}
 use Rattle.herd_office.specs.declared.name.OfficeName as office_name
@@ -18,6 +19,7 @@ use Rattle.herdbook.specs.Summary.{CountsOf, IsSummaryOfDeal, count_of}
 use Rattle.herdbook.specs.declared.deal.Deal.{Deal}
 use Rattle.herdbook.specs.declared.summary.DeskCount.{DeskCount}
 use Rattle.herdbook.specs.declared.summary.Summary.{Summary}
+use Rattle.herd_office.proofs.Fronts.{prefix_trans}
 use Rattle.herdbook.proofs.DealFacts.{all-counted, dealt-all, each-dealt}
 
 -- the counts add up as the desks do
@@ -65,6 +67,16 @@ pub numbers-set : {C : Type 0} (number : C → ℕ) (clerks : List C) (place : �
 numbers-set number clerks place old new same =
     map-set number clerks place new ∙ ap (set (map number clerks) place) same
     ∙ sym (map-set number clerks place (get_or clerks place old)) ∙ ap (map number) (set-get_or clerks place old)
+
+-- who knew the histories of the desks before a place, and learns that of the desk at the place
+pub learnt_more : {D : Type 0} (history_of : D → List Step) (desks : List D) (place : ℕ) (desk : D) (old new : List Step)
+    → slice_get desks place ≡ Some desk → IsPrefix old new → IsPrefix (history_of desk) new
+    → ((k : ℕ) (d : D) → k < place → slice_get desks k ≡ Some d → IsPrefix (history_of d) old)
+    → (k : ℕ) (d : D) → k < place + 1 → slice_get desks k ≡ Some d → IsPrefix (history_of d) new
+learnt_more {D} history_of desks place desk old new there longer mine before k d less at =
+    below_more (λ (j : ℕ). (e : D) → slice_get desks j ≡ Some e → IsPrefix (history_of e) new) place
+    (λ j l e is. prefix_trans (history_of e) old new (before j e l is) longer)
+    (λ e is. let same : desk ≡ e = cc (there, is) in subst (λ (x : D). IsPrefix (history_of x) new) same mine) k less d at
 
 -- a register whose journal has what each desk filed, counted desk by desk, is summed up
 pub summed_up : {N : Type 0} {O : office_name.Ghosts N} (all : List (Desk N O)) (limits : Limits) (deal : Deal) (register : Register) (summary : Summary)

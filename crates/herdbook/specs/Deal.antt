@@ -1,5 +1,5 @@
 -- Which commands fall to which desk, and what a history has of a desk.
-use Rattle.std.specs.Prelude.{◌≡◌, ℕ, zero, suc, ◌==◌, ◌+◌, ◌-◌, if◌then◌else◌, List, [], ◌∷◌, ◌++◌, Some, length, map, filter, slice_get}
+use Rattle.std.specs.Prelude.{◌≡◌, ℕ, zero, suc, ◌==◌, ◌+◌, ◌-◌, if◌then◌else◌, List, [], ◌∷◌, ◌++◌, length, map, filter}
 use Rattle.herd_register.specs.declared.command.Command.{Command}
 use Rattle.herd_register.specs.declared.step.Step.{Step}
 use Rattle.herd_office.specs.Histories.{of_desk}
@@ -32,6 +32,10 @@ pub record HasFiled {N : Type 0} {O : office_name.Ghosts N} (desk : Desk N O) (c
   pub counted : desk.answered ≡ length commands
   pub known : of_desk desk.number desk.history ≡ desk.answered → commands_at desk.number desk.history ≡ commands
 
+-- the numbers of desks
+abbrev pub numbers_of : {N : Type 0} {O : office_name.Ghosts N} → List (Desk N O) → List ℕ
+numbers_of desks = map (λ d. d.number) desks
+
 -- a desk has filed what falls to it of a deal before the desks take turns
 abbrev pub HasBegun : {N : Type 0} {O : office_name.Ghosts N} → Deal → Desk N O → Type 0
 HasBegun deal desk = HasFiled desk (dealt_first deal.first.now desk.number)
@@ -39,8 +43,3 @@ HasBegun deal desk = HasFiled desk (dealt_first deal.first.now desk.number)
 -- a desk has filed all that falls to it of a deal
 abbrev pub HasDone : {N : Type 0} {O : office_name.Ghosts N} → Deal → Desk N O → Type 0
 HasDone deal desk = HasFiled desk (dealt deal.desks deal.first.now deal.rest.now desk.number)
-
--- desks that are numbered from 1 on, at which nothing was filed
-abbrev pub AreFresh : {N : Type 0} {O : office_name.Ghosts N} → List (Desk N O) → Type 0
-AreFresh {N} {O} desks = (place : ℕ) (desk : Desk N O) → slice_get desks place ≡ Some desk
-    → (desk.number ≡ place + 1) × (desk.answered ≡ 0) × (desk.history ≡ [])

@@ -6,13 +6,15 @@ ghost use Rattle.herd_register.specs.Register.{AreLimits};
 ghost use Rattle.herd_register.specs.Run.{IsLegal};
 ghost use Rattle.herd_register.specs.declared.limits.TheConstants.{MOST_STEPS};
 ghost use Rattle.herd_report.specs.reading.CommandFile.{CommandFile, IsRead, commands};
+ghost use Rattle.herd_office.specs.Beginnings.{BeginsWithAll};
+ghost use Rattle.herd_office.specs.Opening.{AreFresh};
 ghost use Rattle.herd_office.specs.Parts.{AreNamed};
 ghost use Rattle.herdbook.specs.Clerks.{CanEndClerks, EndsClerks, IsFiledBy, office_limits};
-ghost use Rattle.herdbook.specs.Deal.{AreFresh, HasDone};
+ghost use Rattle.herdbook.specs.Deal.{HasDone, numbers_of};
 ghost use Rattle.herdbook.specs.Summary.{CountsOf, EndsTelling, IsSummaryOf, IsSummaryOfDeal, count_of, summary_text};
 ghost use Rattle.herdbook.specs.declared.deal.Deal.{Deal};
 
-use crate::clerk::Clerk;
+use crate::clerk::file_turn;
 use crate::clerk_fault::ClerkFault;
 use crate::crew::file_in_turn;
 use crate::deal::Deal;
@@ -144,121 +146,78 @@ fn filed_at<N: OfficeName + Send + Sync, H: Threads + Wait + Sync, R: Wait + Dro
     requires fresh { AreFresh desks.items }
     ensures { IfOk result (IsSummaryOfDeal N.limits deal.entry) }
 {
-    let clerks = all_filed(rt, alloc, &office, desks, deal)?;
-    closed(rt, alloc, office, clerks, inspectors)
+    let desks = all_filed(rt, alloc, &office, desks, deal)?;
+    closed(rt, alloc, office, desks, inspectors)
 }
 
-// The clerks of the desks, once the commands are filed.
+// The desks, once the commands are filed.
 fn all_filed<N: OfficeName + Send + Sync, H: Threads + Wait + Sync, R: Wait + Drop + Send + Sync>(
     rt: &H,
     alloc: Global,
     office: &Office<N, R>,
-    desks: Vec<Desk<N>>,
+    mut desks: Vec<Desk<N>>,
     deal: Deal<'_>,
-) -> Result<Vec<Clerk<N>>, ClerkFault>
+) -> Result<Vec<Desk<N>>, ClerkFault>
     requires desks { vec_len desks ≡ deal.desks }
     requires fresh { AreFresh desks.items }
-    ensures numbers { IfOk result (λ clerks. map (λ c. c.desk.number) clerks.items ≡ map (λ d. d.number) desks.items) }
-    ensures filed { IfOk result (λ clerks. All (λ c. HasDone deal.entry c.desk) clerks.items) }
+    ensures numbers { IfOk result (λ done. numbers_of done.items ≡ numbers_of desks.items) }
+    ensures filed { IfOk result (λ done. All (HasDone deal.entry) done.items) }
 {
-    let mut clerks = clerks_at(alloc, desks)?;
-    clerks[0].file_turn(rt, office, deal.first_turn())?;
-    file_in_turn(rt, alloc, office, clerks, deal)
+    file_turn(rt, office, &mut desks[0], deal.first_turn())?;
+    file_in_turn(rt, alloc, office, desks, deal)
 }
 
-// A clerk for each desk, in their order.
-fn clerks_at<N: OfficeName>(alloc: Global, desks: Vec<Desk<N>>) -> Result<Vec<Clerk<N>>, AllocError>
-    ensures { IfOk result (λ clerks. map (λ c. c.desk) clerks.items ≡ desks.items) }
-{
-    let mut clerks = Vec::new(alloc);
-    for desk in desks {
-        clerks.push(Clerk::new(desk))?;
-    }
-    Ok(clerks)
-}
-
-// Hands the desks in, lets the inspector learn the slips and freeze the book, closes the office, and gives its summary.
+// Lets the inspector learn the desks' slips and freeze the book, closes the office, and gives its summary.
 fn closed<N: OfficeName, H: Wait, R: Wait + Drop>(
     rt: &H,
     alloc: Global,
     office: Office<N, R>,
-    clerks: Vec<Clerk<N>>,
-    inspectors: Vec<Inspector<N>>,
-) -> Result<Summary, ClerkFault>
-    requires { map (λ c. c.desk.number) clerks.items ≡ range_with_len 1 N.all }
-    ensures { (deal : Deal) → N.all ≡ deal.desks → All (λ c. HasDone deal c.desk) clerks.items
-        → IfOk result (IsSummaryOfDeal N.limits deal) }
-{
-    let handed = handed_in(alloc, clerks, inspectors)?;
-    match office.close(rt, handed.desks, handed.inspectors) {
-        Ok(register) => counted(&register, handed.counts, handed.seen),
-        Err(_) => Err(ClerkFault::NoPlace),
-    }
-}
-
-// What is handed in when an office closes.
-#[derive(Drop)]
-struct HandedIn<N: OfficeName> {
     desks: Vec<Desk<N>>,
-    counts: Vec<DeskCount>,
-    inspectors: Vec<Inspector<N>>,
-    // How many steps the inspector has seen.
-    seen: u64,
-}
-
-// The clerks' desks with their counts. The inspector learns the clerks' slips, and then freezes the book.
-fn handed_in<N: OfficeName>(
-    alloc: Global,
-    clerks: Vec<Clerk<N>>,
     mut inspectors: Vec<Inspector<N>>,
-) -> Result<HandedIn<N>, ClerkFault>
-    ensures counts { IfOk result (λ r. r.counts.items ≡ map (λ d. count_of d.number d.answered) r.desks.items) }
-    ensures desks { IfOk result (λ r. r.desks.items ≡ map (λ c. c.desk) clerks.items) }
+) -> Result<Summary, ClerkFault>
+    requires { numbers_of desks.items ≡ range_with_len 1 N.all }
+    ensures { (deal : Deal) → N.all ≡ deal.desks → All (HasDone deal) desks.items
+        → IfOk result (IsSummaryOfDeal N.limits deal) }
 {
     let Some(inspector) = inspectors.first_mut() else {
         return Err(ClerkFault::NoPlace);
     };
-    let (desks, counts) = desks_of(alloc, clerks, inspector)?;
-    let seen = steps_seen(alloc, inspector)?;
-    Ok(HandedIn {
-        desks,
-        counts,
-        inspectors,
-        seen,
-    })
+    let counts = counts_of(alloc, desks.as_slice())?;
+    let seen = steps_seen(alloc, desks.as_slice(), inspector)?;
+    match office.close(rt, desks, inspectors) {
+        Ok(register) => counted(&register, counts, seen),
+        Err(_) => Err(ClerkFault::NoPlace),
+    }
 }
 
-// The clerks' desks and their counts. The inspector learns the clerks' slips.
-fn desks_of<N: OfficeName>(
-    alloc: Global,
-    clerks: Vec<Clerk<N>>,
-    inspector: &mut Inspector<N>,
-) -> Result<(Vec<Desk<N>>, Vec<DeskCount>), AllocError>
-    ensures counts { IfOk result (λ r. r.1.items ≡ map (λ d. count_of d.number d.answered) r.0.items) }
-    ensures desks { IfOk result (λ r. r.0.items ≡ map (λ c. c.desk) clerks.items) }
+// How many calls of each desk were answered.
+fn counts_of<N: OfficeName>(alloc: Global, desks: &[Desk<N>]) -> Result<Vec<DeskCount>, AllocError>
+    ensures { IfOk result (λ counts. counts.items ≡ map (λ d. count_of d.number d.answered) desks.now) }
 {
-    let mut desks = Vec::new(alloc);
     let mut counts = Vec::new(alloc);
-    for clerk in clerks {
-        let Clerk { desk, slip } = clerk;
-        if let Some(slip) = slip {
-            inspector.learn(&slip);
-        }
+    for desk in desks {
         let count = DeskCount {
             number: desk.number(),
             answered: desk.answered(),
         };
         counts.push(count)?;
-        desks.push(desk)?;
     }
-    Ok((desks, counts))
+    Ok(counts)
 }
 
-// Freezes the book, and gives how many steps the inspector has seen then.
-fn steps_seen<N: OfficeName>(alloc: Global, inspector: &mut Inspector<N>) -> Result<u64, ClerkFault>
-    ensures { IfOk result (λ seen. seen ≡ length inspector.new.history) }
+// How many steps the inspector has seen, once it has learnt the desks' slips and frozen the book.
+fn steps_seen<N: OfficeName>(
+    alloc: Global,
+    desks: &[Desk<N>],
+    inspector: &mut Inspector<N>,
+) -> Result<u64, ClerkFault>
+    ensures seen { IfOk result (λ seen. seen ≡ length inspector.new.history) }
+    ensures learnt { IfOk result (λ _. BeginsWithAll (λ d. d.history) desks.now inspector.new.history) }
 {
-    inspector.freeze(alloc).map(|_frozen| ())?;
+    for desk in desks {
+        inspector.learn(&desk.slip());
+    }
+    let _frozen = inspector.freeze(alloc)?;
     Ok(inspector.steps_seen())
 }
 

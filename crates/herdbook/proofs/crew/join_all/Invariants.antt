@@ -7,8 +7,8 @@ use Rattle.herdbook.proofs.crew.join_all.Given as goal
 
 abbrev pub invariant-loop-handle : goal.invariant-loop-handle
 invariant-loop-handle g l = record {
-  numbers : map (λ c. c.desk.number) l.done.items ++ map (λ s. s.promise.number) (into_iter_items l.handle-iterator) ≡ map (λ s. s.promise.number) (vec_items l.fn.started);
+  numbers : map (λ d. d.number) l.done.items ++ map (λ s. s.promise.number) (into_iter_items l.handle-iterator) ≡ map (λ s. s.promise.number) (vec_items l.fn.started);
   filed : (deal : Deal) → All (λ s. s.promise.deal ≡ deal) (vec_items l.fn.started)
-      → All (λ c. HasDone deal c.desk) l.done.items
+      → All (HasDone deal) l.done.items
       × All (λ s. s.promise.deal ≡ deal) (into_iter_items l.handle-iterator);
 }

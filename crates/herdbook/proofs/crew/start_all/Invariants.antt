@@ -4,9 +4,9 @@ use Rattle.std.specs.Vec.Iter.{into_iter_items}
 use Rattle.herdbook.specs.Deal.{HasBegun}
 use Rattle.herdbook.proofs.crew.start_all.Given as goal
 
-abbrev pub invariant-loop-clerk : goal.invariant-loop-clerk
-invariant-loop-clerk g l = record {
-  numbers : map (λ s. s.promise.number) (vec_items l.started) ++ map (λ c. c.desk.number) (into_iter_items l.clerk-iterator) ≡ map (λ c. c.desk.number) l.fn.clerks.items;
+abbrev pub invariant-loop-desk : goal.invariant-loop-desk
+invariant-loop-desk g l = record {
+  numbers : map (λ s. s.promise.number) (vec_items l.started) ++ map (λ d. d.number) (into_iter_items l.desk-iterator) ≡ map (λ d. d.number) l.fn.desks.items;
   deals : All (λ s. s.promise.deal ≡ l.deal) (vec_items l.started);
-  first : All (λ c. HasBegun l.deal c.desk) (into_iter_items l.clerk-iterator);
+  first : All (HasBegun l.deal) (into_iter_items l.desk-iterator);
 }

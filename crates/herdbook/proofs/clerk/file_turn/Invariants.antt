@@ -3,15 +3,15 @@ use Rattle.std.proofs.Common.{◌≡◌, ◌-◌, List, ◌++◌, drop, length}
 use Rattle.herd_register.specs.declared.command.Command.{Command}
 use Rattle.herdbook.specs.Deal.{HasFiled, every}
 use Rattle.herdbook.proofs.DealFacts.{Underway}
-use Rattle.herdbook.proofs.clerk.Clerk.file_turn.Given as goal
+use Rattle.herdbook.proofs.clerk.file_turn.Given as goal
 
 abbrev pub invariant-loop-place : goal.invariant-loop-place
 invariant-loop-place g l =
     let commands = l.turn.commands.now in
     record {
-      number : l.self.desk.number ≡ l.initial.self.desk.number;
-      under : (before : List Command) → HasFiled l.initial.self.desk before
-          → Underway l.self.desk (every l.turn.step 0 (drop l.place commands)) (before ++ every l.turn.step l.turn.from commands);
+      number : l.desk.number ≡ l.initial.desk.number;
+      under : (before : List Command) → HasFiled l.initial.desk before
+          → Underway l.desk (every l.turn.step 0 (drop l.place commands)) (before ++ every l.turn.step l.turn.from commands);
     }
 
 abbrev pub decreases-loop-place : goal.decreases-loop-place

@@ -1,0 +1,68 @@
+//! What lies under an office's lock.
+ghost use Rattle.std.specs.Prelude.{map, ◌≡◌, ◌↔◌, IsTrue, [], length, drop};
+ghost use Rattle.herd_office.specs.Beginnings.{BeginsWithAll};
+ghost use Rattle.herd_office.specs.Histories.{Apart};
+ghost use Rattle.herd_office.specs.Shelves.{AreOf, state_of};
+
+use crate::copies::Held;
+use crate::desk::Desk;
+use crate::inspector::Inspector;
+use crate::keeper::Keeper;
+use crate::name::OfficeName;
+use crate::{desks, inspector};
+use herd_register::Register;
+use std::alloc::{Allocator, Global};
+use std::sync::Wait;
+use std::sync::ledger::{Book, Share};
+
+/// What lies under the lock: the register, the ledger of the desks' calls, the history, and the readers' copies.
+///
+/// The register is legal, the total is the length of its journal, the published list is that journal, and nothing is
+/// pending.
+#[derive(Drop)]
+pub struct Inside<N: OfficeName, R: Wait + Drop, A: Allocator = Global> {
+    pub(crate) register: Register<A>,
+    /// How many calls were answered in all.
+    pub(crate) ledger: Book<N>,
+    /// What the desks have no part of: nothing.
+    pub(crate) rest: Share<N>,
+    pub(crate) keeper: Keeper<N>,
+    pub(crate) copies: Held<R>,
+    pub ghost limits: { register.limits ≡ N.limits },
+    pub ghost counted: { length register.journal ≡ ledger.total },
+    pub ghost shown: { AreOf (state_of copies.writer.desk.shown.value) register.journal N.limits N.book },
+    pub ghost settled: { drop copies.writer.behind copies.writer.log.items ≡ [] },
+    pub ghost kept: { keeper.history ≡ register.journal },
+    pub ghost none_left: { (rest.parts ≡ 0) × (rest.amount ≡ 0) },
+}
+
+impl<N: OfficeName, R: Wait + Drop, A: Allocator> Inside<N, R, A> {
+    /// Whether the journal begins with each history, and the desks' numbers differ.
+    pub(crate) fn begins(&self, desks: &[Desk<N>], inspectors: &[Inspector<N>]) -> bool
+        ensures { IsTrue result ↔ (Apart (map (λ d. d.number) desks.now)
+            × BeginsWithAll (λ d. d.history) desks.now self.now.register.journal
+            × BeginsWithAll (λ i. i.history) inspectors.now self.now.register.journal) }
+    {
+        desks::all_apart(desks)
+            && desks::all_begin(desks, &self.keeper.history)
+            && inspector::all_begin(inspectors, &self.keeper.history)
+    }
+
+    /// The register, once the share that is handed in has every part.
+    pub(crate) fn end<W: Wait>(self, rt: &W, mut all: Share<N>) -> Register<A>
+        requires { all.parts ≡ N.parts }
+        ensures register { result ≡ self.register }
+        ensures sum { length result.journal ≡ all.amount }
+    {
+        let Inside {
+            register,
+            mut ledger,
+            rest: _rest,
+            keeper: _keeper,
+            copies,
+        } = self;
+        ledger.audit(&mut all);
+        copies.free(rt);
+        register
+    }
+}
