@@ -6,7 +6,7 @@ use Rattle.herd_register.specs.Run.{IsLegal}
 use Rattle.herd_register.specs.declared.command.Command.{Command}
 use Rattle.herd_register.specs.declared.file_fault.FileFault.{FileFault}
 use Rattle.herd_register.specs.declared.file_fault.FileFault.TheVariants.{JournalFull, Memory, NoReading}
-use Rattle.herd_register.specs.declared.limits.Limits.{Limits}
+use Rattle.herd_register.specs.Limits.{Limits}
 use Rattle.herd_register.specs.declared.step.Step.{Step}
 use Rattle.core.specs.declared.ledger.Ledger as ledger
 use Rattle.herd_office.specs.declared.desk.Desk.{Desk}

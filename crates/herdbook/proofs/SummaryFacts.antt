@@ -8,7 +8,7 @@ use borrow.Author.Count.{below_more}
 use mathlib.Core.List.{IsPrefix, map-map}
 use Rattle.herd_register.specs.Register.{Register}
 use Rattle.herd_register.specs.Run.{IsLegal, commands_of, run_book}
-use Rattle.herd_register.specs.declared.limits.Limits.{Limits}
+use Rattle.herd_register.specs.Limits.{Limits}
 use Rattle.herd_register.specs.declared.step.Step.{Step}
 use Rattle.herd_office.specs.Beginnings.{BeginsWithAll}
 use Rattle.herd_office.specs.Histories.{of_desk}
