@@ -3,7 +3,6 @@ ghost use Rattle.std.specs.Prelude.{map, ◌≡◌, ℕ, ◌+◌, ◌<◌, ◌�
 ghost use Rattle.std.specs.List.{sum_by};
 ghost use mathlib.Core.List.{IsPrefix};
 ghost use Rattle.herd_register.specs.Copybook.{copybook_of};
-ghost use Rattle.herd_register.specs.Register.{AreLimits};
 ghost use Rattle.left_right.specs.Sides.{view as seat_view};
 ghost use Rattle.herd_office.specs.Closing.{BeginsWithAll};
 ghost use Rattle.herd_office.specs.Copies.{office_of};
@@ -38,7 +37,6 @@ pub struct OfficeParts<R: Wait + Drop> {
     inspectors: u16,
     ghost one_each: { blank.parts ≡ desks },
     ghost some: { 0 < inspectors },
-    ghost range: { AreLimits limits },
     ghost same_limits: { opened.past.limits ≡ limits },
     ghost shown: { state_of copies.writer.desk.shown.value ≡ (copybook_of limits [] [], opened.past) },
     ghost settled: { drop copies.writer.behind copies.writer.log.items ≡ [] },
@@ -62,7 +60,6 @@ impl<R: Wait + Drop> OfficeParts<R> {
         desks: u16,
         inspectors: u16,
     ) -> Result<OfficeParts<R>, OpenFault>
-        requires limits { AreLimits limits }
         requires desks { (1 ≤ desks) × (desks ≤ MOST_DESKS) }
         requires inspectors { (1 ≤ inspectors) × (inspectors ≤ MOST_INSPECTORS) }
         ensures limits { IfOk result (λ parts. parts.limits ≡ limits) }

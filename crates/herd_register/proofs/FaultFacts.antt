@@ -18,7 +18,7 @@ use Rattle.herd_frozen.specs.declared.rules.animal.Animal.{Animal}
 use Rattle.herd_frozen.specs.declared.TheConstants.{DEPTH_LIMIT, MOST_ANIMALS}
 use Rattle.herd_register.specs.declared.command.Command.{Command}
 use Rattle.herd_register.specs.declared.command.Command.TheVariants.{Birth, Parents, Transfer, Exit}
-use Rattle.herd_register.specs.declared.limits.Limits.{Limits}
+use Rattle.herd_register.specs.Limits.{Limits}
 use Rattle.herd_register.specs.declared.reply.Refusal.{Refusal}
 use Rattle.herd_register.specs.declared.reply.Refusal.TheVariants.{AlreadyThere, BookFull, NotRegistered}
 use Rattle.herd_register.specs.Command.{IsAllowed}

@@ -6,7 +6,7 @@ use Rattle.herd_frozen.specs.declared.TheConstants.{DEPTH_LIMIT, MOST_ANIMALS}
 use Rattle.herd_pedigree.proofs.lemmas.LawfulChanges.{lawful-birth, lawful-empty, lawful-exit, lawful-owner, lawful-parents}
 use Rattle.herd_register.specs.declared.command.Command.{Command}
 use Rattle.herd_register.specs.declared.command.Command.TheVariants.{Birth, Parents, Transfer, Exit}
-use Rattle.herd_register.specs.declared.limits.Limits.{Limits}
+use Rattle.herd_register.specs.Limits.{Limits}
 use Rattle.herd_register.specs.declared.reply.Refusal.{Refusal}
 use Rattle.herd_register.specs.Run.{book_after, fault, newborn, next, run_book, set}
 use Rattle.herd_register.proofs.FaultFacts.{allowed_of_no_fault, birth_room}

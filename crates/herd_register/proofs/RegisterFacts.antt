@@ -20,7 +20,6 @@ IsRegister-with_step register old new step is room reply book before =
     let limits = register.limits in
     let steps = register.journal in
     record {
-      limits = is.limits;
       book = book ∙ (ap (λ (b : Book). next limits b step.command) is.book ∙ sym (run_book-append limits steps step));
       legal = IsLegal-append limits steps step is.legal (reply ∙ ap (λ (b : Book). answer limits b step.command) is.book);
       room = rw (length-append steps (step ∷ [])) (omega arith);
@@ -41,7 +40,6 @@ IsRegister-without_step register old new earlier last is can whole accepted refu
     let run : old.book ≡ next limits (run_book limits (commands_of earlier)) last.command = is.book ∙ (ap (λ (s : List Step). run_book limits (commands_of s)) whole ∙ run_book-append limits earlier last) in
     let size = length-append earlier (last ∷ []) in
     record {
-      limits = is.limits;
       book = by last.reply refl legal.1 run;
       legal = legal.0;
       room = let longer : length (earlier ++ last ∷ []) ≤ limits.steps = subst (λ (s : List Step). length s ≤ limits.steps) whole is.room in omega (arith, size);

@@ -3,12 +3,11 @@ use Rattle.std.specs.Prelude.{◌≡◌, ℕ, ◌≤◌, List, [], ◌∷◌, �
 use Rattle.herd_frozen.specs.rules.Book.{Book}
 use Rattle.herd_register.specs.declared.command.Command.{Command}
 use Rattle.herd_register.specs.declared.command.Command.TheVariants.{Birth, Parents, Transfer, Exit}
-use Rattle.herd_register.specs.declared.limits.Limits.{Limits}
+use Rattle.herd_register.specs.Limits.{AreLimits, Limits}
 use Rattle.herd_register.specs.declared.reply.Reply.{Reply}
 use Rattle.herd_register.specs.declared.reply.Reply.TheVariants.{Accepted, Refused}
 use Rattle.herd_register.specs.declared.step.Step.{Step}
 use Rattle.herd_register.specs.CopiedRecords.{with_record_in}
-use Rattle.herd_register.specs.Register.{AreLimits}
 use Rattle.herd_register.specs.Run.{newborn, set}
 
 -- the limits, the records, and the steps that were taken over

@@ -2,19 +2,10 @@
 use Rattle.std.specs.Prelude.{◌≡◌, ℕ, ◌-◌, ◌==◌, ◌≤◌, ◌<◌, Bool, true, false, IsTrue, List, [], ◌∷◌, ◌++◌, length, take, slice_get, if◌then◌else◌, Option, Some, None}
 use Rattle.herd_frozen.specs.rules.Book.{Book}
 use Rattle.herd_pedigree.specs.Pedigree.{Pedigree}
-use Rattle.herd_frozen.specs.declared.TheConstants.{MOST_ANIMALS}
-use Rattle.herd_register.specs.declared.limits.Limits.{Limits}
-use Rattle.herd_register.specs.declared.limits.TheConstants.{MOST_STEPS}
+use Rattle.herd_register.specs.Limits.{Limits}
 use Rattle.herd_register.specs.declared.reply.Reply.TheVariants.{Accepted}
 use Rattle.herd_register.specs.declared.step.Step.{Step}
 use Rattle.herd_register.specs.Run.{IsLegal, commands_of, run_book}
-
--- limits that a register may have
-pub record AreLimits (limits : Limits) : Type 0 where
-  pub some_animals : 1 ≤ limits.animals
-  pub most_animals : limits.animals ≤ MOST_ANIMALS
-  pub some_steps : 1 ≤ limits.steps
-  pub most_steps : limits.steps ≤ MOST_STEPS
 
 -- the limits, each command that was answered, and whether the last of them can be taken out again
 pub record Register : Type 0 where
@@ -56,7 +47,6 @@ pub record HasBefore (limits : Limits) (steps : List Step) (before : Option Book
 
 -- pedigree and replies are those of the commands in the journal, within the limits
 pub record IsRegister (register : Register) (pedigree : Pedigree) : Type 0 where
-  pub limits : AreLimits register.limits
   pub book : pedigree.book ≡ register_book register
   pub legal : IsLegal register.limits register.journal
   pub room : length register.journal ≤ register.limits.steps

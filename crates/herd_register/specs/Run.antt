@@ -12,7 +12,7 @@ use Rattle.herd_register.specs.declared.reply.Refusal.TheVariants as refusal
 use Rattle.herd_register.specs.declared.reply.Reply.{Reply}
 use Rattle.herd_register.specs.declared.reply.Reply.TheVariants.{Accepted, Refused}
 use Rattle.herd_register.specs.declared.step.Step.{Step}
-use Rattle.herd_register.specs.declared.limits.Limits.{Limits}
+use Rattle.herd_register.specs.Limits.{Limits}
 use Rattle.herd_register.specs.Refusal.{refusal_of}
 
 -- the faults of a change of parents, as refusals, each with its test

@@ -4,7 +4,6 @@ ghost use Rattle.herd_frozen.specs.rules.Lawful.{IsLawful};
 ghost use Rattle.herd_frozen.specs.declared.TheConstants.{DEPTH_LIMIT, MOST_ANIMALS};
 ghost use Rattle.herd_register.specs.Copybook.{copybook_of, set_in, taken_over};
 ghost use Rattle.herd_register.specs.CopiedRecords.{records_of};
-ghost use Rattle.herd_register.specs.Register.{AreLimits};
 ghost use Rattle.herd_register.specs.Run.{IsLegal, commands_of, run_book};
 
 use crate::command::{Command, newborn};
@@ -40,13 +39,14 @@ impl<A: Allocator> Model for Copybook<A> {
 impl<A: Allocator + Copy> Copybook<A> {
     /// A copy of a register in which nothing was filed. The only error is a growth of memory that is refused.
     pub fn new(alloc: A, limits: Limits) -> Result<Self, AllocError>
-        requires { AreLimits limits }
         ensures { IfOk result (λ copybook. copybook ≡ copybook_of limits [] []) }
     {
+        let records = CopiedRecords::with_room(alloc, limits.animals)?;
+        let journal = Vec::with_capacity(alloc, limits.steps as usize)?;
         Ok(Copybook {
             limits,
-            records: CopiedRecords::with_room(alloc, limits.animals)?,
-            journal: Vec::with_capacity(alloc, limits.steps as usize)?,
+            records,
+            journal,
         })
     }
 }

@@ -3,7 +3,6 @@ ghost use Rattle.std.specs.Prelude.{◌≡◌, ◌≤◌, IfNone, IfOk, IsSome, 
 ghost use Rattle.herd_frozen.specs.rules.Book.{changed, with_left, with_owner, with_parents};
 ghost use Rattle.herd_frozen.specs.rules.ParentFault.{first_that_holds};
 ghost use Rattle.herd_pedigree.specs.Pedigree.{IsFound, changed_to};
-ghost use Rattle.herd_frozen.specs.declared.TheConstants.{MOST_ANIMALS};
 ghost use Rattle.herd_register.specs.Run.{answer, birth_refusals, correction_refusals, exit_refusals, next, transfer_refusals, with_record};
 
 use crate::command::{Command, newborn};
@@ -21,7 +20,6 @@ impl Command {
         limits: Limits,
         pedigree: &mut Pedigree<A>,
     ) -> Result<Reply, AllocError>
-        requires { limits.animals ≤ MOST_ANIMALS }
         ensures reply { IfOk result (λ reply. reply ≡ answer limits pedigree.old.book self.now) }
         ensures book { OnOk result (pedigree.new.book ≡ next limits pedigree.old.book self.now) }
         ensures before { result ≡ Ok Reply.Accepted → pedigree.new.before ≡ Some pedigree.old.book }
@@ -64,7 +62,6 @@ fn file_birth<A: Allocator + Copy>(
     number: AnimalNumber,
     newborn: Animal,
 ) -> Result<Option<Refusal>, AllocError>
-    requires limits { limits.animals ≤ MOST_ANIMALS }
     requires since { newborn.since ≡ newborn.birth }
     requires left { newborn.left ≡ None }
     ensures refusal { IfOk result (λ refusal. refusal ≡ first_that_holds

@@ -1,5 +1,7 @@
 ghost use Rattle.std.specs.Prelude.{◌<◌, ◌≤◌, IsFalse, IsTrue};
 
+use std::marker::Model;
+
 /// The number of steps that a journal may have.
 pub const MOST_STEPS: u32 = 1_000_000;
 
@@ -10,6 +12,18 @@ pub struct Limits {
     pub animals: u32,
     /// The number of steps in the journal, from 1 to 1,000,000.
     pub steps: u32,
+}
+
+impl Model for Limits {
+    ghost use Rattle.herd_register.specs.Limits.{AreLimits, Limits, limits_of};
+
+    ghost Value = { Limits };
+
+    ghost view = { λ l. limits_of l.animals l.steps };
+
+    ghost inverse = { λ limits. record { animals = limits.animals; steps = limits.steps } };
+
+    ghost invariant = { λ l. AreLimits (limits_of l.animals l.steps) };
 }
 
 impl Limits {

@@ -1,7 +1,7 @@
 ghost use Rattle.std.specs.Option.{option_copied};
 ghost use Rattle.std.specs.Prelude.{◌≡◌, ◌≢◌, ◌≤◌, ◌↔◌, IsTrue, IfOk, OnErr, OnOk, length};
 ghost use Rattle.herd_register.specs.declared.reply.Refusal.{Refusal};
-ghost use Rattle.herd_register.specs.Register.{AreLimits, register_book, new_register, step_at, with_step, without_last_step};
+ghost use Rattle.herd_register.specs.Register.{register_book, new_register, step_at, with_step, without_last_step};
 ghost use Rattle.herd_register.specs.Run.{IsLegal, answer, next, step_of};
 
 use crate::command::Command;
@@ -37,7 +37,6 @@ impl<A: Allocator> Model for Register<A> {
 impl<A: Allocator + Copy> Register<A> {
     /// A register in which nothing was filed. It takes no memory.
     pub fn new(alloc: A, limits: Limits) -> Self
-        requires { AreLimits limits }
         ensures { result ≡ new_register limits }
     {
         Register {
@@ -82,8 +81,7 @@ impl<A: Allocator + Copy> Register<A> {
 impl<A: Allocator> Register<A> {
     /// The limits that it was made with.
     pub fn limits(&self) -> Limits
-        ensures value { result ≡ self.now.limits }
-        ensures range { AreLimits result }
+        ensures { result ≡ self.now.limits }
     {
         self.limits
     }

@@ -12,7 +12,7 @@ use Rattle.herd_register.specs.Register.{Register, with_step}
 use Rattle.herd_register.specs.Register.{register_book}
 use Rattle.herd_register.specs.Run.{answer, next, step_of, book_after, commands_of, run_book}
 use Rattle.herd_register.specs.declared.command.Command.{Command}
-use Rattle.herd_register.specs.declared.limits.Limits.{Limits}
+use Rattle.herd_register.specs.Limits.{Limits}
 use Rattle.herd_register.specs.declared.step.Step.{Step}
 use Rattle.herd_pool.specs.declared.pool_fault.PoolFault.{PoolFault}
 use Rattle.herd_pool.specs.declared.pool_fault.PoolFault.TheVariants as pool

@@ -8,7 +8,7 @@ use Rattle.herd_frozen.specs.declared.freezing.frozen.Row.{Row}
 use Rattle.herd_register.specs.Register.{Register}
 use Rattle.herd_register.specs.Run.{answer, next, run_book, step_of}
 use Rattle.herd_register.specs.declared.command.Command.{Command}
-use Rattle.herd_register.specs.declared.limits.Limits.{Limits}
+use Rattle.herd_register.specs.Limits.{Limits}
 use Rattle.herd_register.specs.declared.step.Step.{Step}
 use Rattle.herd_kinship.specs.FrozenAncestry.{ancestry_of}
 use Rattle.herd_kinship.specs.Table.{coefficient}

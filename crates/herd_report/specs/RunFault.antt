@@ -2,7 +2,7 @@
 use Rattle.std.specs.Prelude.{◌≡◌, ◌⊎◌, ℕ, ◌<◌, List, ⊤, Option, Some, None}
 use Rattle.herd_pool.specs.declared.pool_fault.PoolFault.{PoolFault}
 use Rattle.herd_pool.specs.declared.pool_fault.PoolFault.TheVariants as pool
-use Rattle.herd_register.specs.declared.limits.Limits.{Limits}
+use Rattle.herd_register.specs.Limits.{Limits}
 use Rattle.herd_report.specs.reading.CommandFile.{CommandFile, IsReadUpTo}
 use Rattle.herd_report.specs.writing.Output.{AppendsFront}
 use Rattle.herd_report.specs.declared.writing.certificate_fault.CertificateFault.{CertificateFault}

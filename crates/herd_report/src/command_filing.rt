@@ -1,7 +1,7 @@
 //! Filing commands in a register, one after the other at desk 0.
 ghost use Rattle.std.specs.Prelude.{◌≡◌, ◌<◌, ◌+◌, List, [], IfErr, IfOk, IfSome, OnErr, OnOk, length};
 ghost use Rattle.csv.specs.Reading.{has_failed};
-ghost use Rattle.herd_register.specs.Register.{AreLimits, register_book, with_step};
+ghost use Rattle.herd_register.specs.Register.{register_book, with_step};
 ghost use Rattle.herd_register.specs.Run.{answer, commands_of, step_of};
 ghost use Rattle.herd_register.specs.declared.command.Command.{Command};
 ghost use Rattle.herd_report.specs.reading.CommandFile.{CommandFile, IsRead, IsReadUpTo, commands};
@@ -30,7 +30,6 @@ pub(crate) fn file_commands<R: Read + Drop>(
     limits: Limits,
     reader: R,
 ) -> Result<Filed, AllocError>
-    requires { AreLimits limits }
     ensures file { IfOk result (λ filed. IfSome (R.remaining reader)
         (λ bytes. IsRead limits.steps (commands bytes limits.steps) (commands_of filed.register.journal) filed.fault)) }
     ensures filed { IfOk result (λ filed. HasFiled limits (commands_of filed.register.journal) filed.register) }
@@ -53,7 +52,6 @@ pub(crate) fn file_faultless<R: Read + Drop>(
     limits: Limits,
     reader: R,
 ) -> Result<Register<Global>, RunFault>
-    requires { AreLimits limits }
     ensures ok { IfOk result (λ register. IfSome (R.remaining reader)
         (λ bytes. IsFiledFile limits (commands bytes limits.steps) register)) }
     ensures err { IfErr result (λ fault. IfSome (R.remaining reader)
@@ -72,8 +70,7 @@ fn file_whole<R: Read>(
     limits: Limits,
     commands: &mut CommandReader<R>,
 ) -> Result<Register<Global>, RunFault>
-    requires limits { AreLimits limits }
-    requires ready { IsReady limits.steps 0 commands.old }
+    requires { IsReady limits.steps 0 commands.old }
     ensures ok { IfOk result (λ register. (file : CommandFile) → HasGiven R.remaining file [] commands.old
         → IsFiledFile limits file register) }
     ensures err { IfErr result (λ fault. (file : CommandFile) → HasGiven R.remaining file [] commands.old

@@ -3,7 +3,6 @@ ghost use Rattle.std.specs.Io.KnownBytes.{Appends};
 ghost use Rattle.herd_frozen.specs.rules.Book.{is_there};
 ghost use Rattle.herd_frozen.specs.freezing.Frozen.{book_of};
 ghost use Rattle.herd_frozen.specs.declared.TheConstants.{DEPTH_LIMIT};
-ghost use Rattle.herd_register.specs.Register.{AreLimits};
 ghost use Rattle.herd_kinship.specs.Coefficients.{AreCoefficients};
 ghost use Rattle.herd_kinship.specs.FrozenAncestry.{ancestry_of};
 ghost use Rattle.herd_kinship.specs.Table.{coefficient};
@@ -69,8 +68,7 @@ pub fn run<H: Threads + Wait + Sync, R: Read + Drop, W: Write>(
     reader: R,
     writer: &mut W,
 ) -> Result<(), RunFault>
-    requires limits { AreLimits limits }
-    requires order { IsOrder order }
+    requires { IsOrder order }
     ensures ok { OnOk result (IfSome (R.remaining reader)
         (λ bytes. IsAnswered limits order.entry (commands bytes limits.steps) (W.contents writer.old)
         (W.contents writer.new))) }
@@ -196,7 +194,6 @@ fn frozen_book<R: Read + Drop>(
     limits: Limits,
     reader: R,
 ) -> Result<Frozen<Global>, RunFault>
-    requires { AreLimits limits }
     ensures ok { IfOk result (λ frozen. IfSome (R.remaining reader)
         (λ bytes. IsFrozenFile limits (commands bytes limits.steps) frozen)) }
     ensures err { IfErr result (λ fault. IfSome (R.remaining reader)
@@ -214,7 +211,6 @@ fn write_answers<R: Read + Drop, W: Write>(
     reader: R,
     writer: &mut W,
 ) -> Result<(), RunFault>
-    requires { AreLimits limits }
     ensures ok { OnOk result (IfSome (R.remaining reader)
         (λ bytes. IsAnswered limits Order.File (commands bytes limits.steps) (W.contents writer.old)
         (W.contents writer.new))) }

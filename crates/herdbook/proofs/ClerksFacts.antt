@@ -2,7 +2,7 @@
 use Rattle.std.proofs.Common.{◌≡◌, ℕ, List, Option, None, Result, Ok, Err, drop, length, refl, subst, sym, take}
 use Rattle.std.specs.Prelude.{IfErr, OnErr}
 use Rattle.herd_register.specs.declared.command.Command.{Command}
-use Rattle.herd_register.specs.declared.limits.Limits.{Limits}
+use Rattle.herd_register.specs.Limits.{Limits}
 use Rattle.herd_report.specs.RunFault.{run_fault_of}
 use Rattle.herd_report.specs.reading.CommandFile.{CommandFile, IsRead}
 use Rattle.herd_report.specs.writing.Output.{AppendsFront}

@@ -7,7 +7,7 @@ use Rattle.std.proofs.lemmas.List.Folds.{fold-map}
 use mathlib.Core.List.{map-map}
 use Rattle.herd_register.specs.Register.{Register}
 use Rattle.herd_register.specs.Run.{IsLegal, commands_of, run_book}
-use Rattle.herd_register.specs.declared.limits.Limits.{Limits}
+use Rattle.herd_register.specs.Limits.{Limits}
 use Rattle.herd_register.specs.declared.step.Step.{Step}
 use Rattle.herd_office.specs.Closing.{BeginsWithAll}
 use Rattle.herd_office.specs.Histories.{of_desk}

@@ -1,7 +1,7 @@
 -- What clerks write for a command file, and how they may end.
 use Rattle.std.specs.Prelude.{◌≡◌, ℕ, max, ⊤, List, length, Option, Some, None}
 use Rattle.std.specs.Io.KnownBytes.{Appends}
-use Rattle.herd_register.specs.declared.limits.Limits.{Limits}
+use Rattle.herd_register.specs.Limits.{Limits}
 use Rattle.herd_register.specs.declared.file_fault.FileFault.{FileFault}
 use Rattle.herd_register.specs.declared.file_fault.FileFault.TheVariants as filing
 use Rattle.herd_office.specs.declared.faults.OpenFault.{OpenFault}

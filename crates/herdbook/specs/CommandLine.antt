@@ -9,7 +9,7 @@ use Rattle.clap.specs.declared.builder.command.Command.TheViews.{out-Command}
 use Rattle.clap.specs.declared.builder.value_parser.ValueParser.TheVariants.{Signed}
 use Rattle.herd_pool.specs.declared.limits.TheConstants.{MOST_WORKERS}
 use Rattle.herd_office.specs.declared.limits.TheConstants.{MOST_DESKS}
-use Rattle.herdbook.specs.declared.program.TheConstants.{LIMITS}
+use Rattle.herdbook.specs.Limits.{program_limits}
 
 -- a command that reads words by this line, and has no global argument
 pub record IsCommandOf (app : App) (command : Command) : Type 0 where
@@ -34,7 +34,7 @@ abbrev pub workers_rule : Rule
 workers_rule = number_option (codes "workers") 1 MOST_WORKERS (codes "1")
 
 abbrev pub block_rule : Rule
-block_rule = number_option (codes "block") 1 LIMITS.animals (codes "256")
+block_rule = number_option (codes "block") 1 program_limits.animals (codes "256")
 
 unfoldable pub inbreeding_line : App
 inbreeding_line = with_rule (with_rule (new_app (codes "inbreeding")) workers_rule) block_rule
@@ -66,7 +66,7 @@ abbrev pub desks_rule : Rule
 desks_rule = number_option (codes "desks") 1 MOST_DESKS (codes "2")
 
 abbrev pub base_rule : Rule
-base_rule = number_option (codes "base") 0 LIMITS.steps (codes "0")
+base_rule = number_option (codes "base") 0 program_limits.steps (codes "0")
 
 abbrev pub file_line : App
 file_line = new_app (codes "file")

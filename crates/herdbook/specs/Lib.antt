@@ -3,6 +3,7 @@ pub mod CommandLine
 pub mod Deal
 pub mod Ending
 pub mod FaultText
+pub mod Limits
 pub mod Program
 pub mod Summary
 pub mod Words

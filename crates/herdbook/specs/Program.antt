@@ -1,7 +1,7 @@
 -- How the program ends for its words and the bytes of a command file.
 use Rattle.std.specs.Prelude.{◌≡◌, ◌⊎◌, ℕ, List, [], Option}
 use Rattle.clap.specs.Words.{fault_of, subcommand_of}
-use Rattle.herd_register.specs.declared.limits.Limits.{Limits}
+use Rattle.herd_register.specs.Limits.{Limits}
 use Rattle.herd_report.specs.reading.CommandFile.{CommandFile, commands}
 use Rattle.herd_report.specs.Run.{CanEndBy, EndsBy, IsAnswered}
 use Rattle.herd_report.specs.declared.orders.Order.{Order}

@@ -4,7 +4,7 @@ use Rattle.std.specs.List.{range_with_len}
 use Rattle.herd_register.specs.Run.{IsLegal, commands_of, run_book}
 use Rattle.herd_register.specs.Register.{Register, register_book}
 use Rattle.herd_register.specs.declared.command.Command.{Command}
-use Rattle.herd_register.specs.declared.limits.Limits.{Limits}
+use Rattle.herd_register.specs.Limits.{Limits}
 use Rattle.herd_register.specs.declared.step.Step.{Step}
 use Rattle.herd_office.specs.Histories.{of_desk}
 use Rattle.herd_report.specs.writing.Output.{AppendsFront}

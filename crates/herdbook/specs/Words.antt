@@ -19,7 +19,7 @@ use Rattle.herdbook.specs.declared.arguments.WordsFault.{WordsFault}
 use Rattle.herdbook.specs.declared.arguments.WordsFault.TheVariants.{Words, Number}
 use Rattle.herdbook.specs.declared.plans.DeskPlan.{DeskPlan}
 use Rattle.herdbook.specs.declared.plans.WorkPlan.{WorkPlan}
-use Rattle.herdbook.specs.declared.program.TheConstants.{LIMITS}
+use Rattle.herdbook.specs.Limits.{program_limits}
 
 -- a subcommand's name, and what was found of its arguments
 abbrev pub Found : Type 0
@@ -56,12 +56,12 @@ texts_of id rows = unwrap_or (all_of id rows) []
 abbrev pub IsWorkPlanOf : List Row → WorkPlan → Type 0
 IsWorkPlanOf rows plan =
     IsNumberOr 1 MOST_WORKERS 1 (one_of (codes "workers") rows) plan.workers
-    × IsNumberOr 1 LIMITS.animals DEFAULT_BLOCK (one_of (codes "block") rows) plan.block
+    × IsNumberOr 1 program_limits.animals DEFAULT_BLOCK (one_of (codes "block") rows) plan.block
 
 abbrev pub IsDeskPlanOf : List Row → DeskPlan → Type 0
 IsDeskPlanOf rows plan =
     IsNumberOr 1 MOST_DESKS 2 (one_of (codes "desks") rows) plan.desks
-    × IsNumberOr 0 LIMITS.steps 0 (one_of (codes "base") rows) plan.base
+    × IsNumberOr 0 program_limits.steps 0 (one_of (codes "base") rows) plan.base
 
 abbrev pub IsAskedOfRun : Found → OwnedOrder → Type 0
 IsAskedOfRun found asked.File =

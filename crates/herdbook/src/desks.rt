@@ -2,7 +2,6 @@
 ghost use Rattle.std.specs.Prelude.{◌≡◌, ◌≤◌, All, IfErr, IfOk, IfSome, None, OnOk, drop, length, map, string_bytes, take, vec_len};
 ghost use Rattle.std.specs.List.{range_with_len};
 ghost use Rattle.std.specs.Io.KnownBytes.{Appends};
-ghost use Rattle.herd_register.specs.Register.{AreLimits};
 ghost use Rattle.herd_register.specs.Run.{IsLegal};
 ghost use Rattle.herd_register.specs.declared.limits.TheConstants.{MOST_STEPS};
 ghost use Rattle.herd_report.specs.reading.CommandFile.{CommandFile, IsRead, commands};
@@ -42,7 +41,6 @@ pub fn clerks<H: Threads + Wait + Sync, R: Read + Drop, W: Write>(
     reader: R,
     writer: &mut W,
 ) -> Result<(), TaskFault>
-    requires { AreLimits limits }
     ensures ok { OnOk result (IfSome (R.remaining reader)
         (λ bytes. IsFiledBy limits plan.desks plan.base (commands bytes limits.steps)
         (W.contents writer.old) (W.contents writer.new))) }
@@ -67,8 +65,7 @@ fn file_all<H: Threads + Wait + Sync, W: Write>(
     commands: &[Command],
     writer: &mut W,
 ) -> Result<(), TaskFault>
-    requires limits { AreLimits limits }
-    requires few { length commands.now ≤ limits.steps }
+    requires { length commands.now ≤ limits.steps }
     ensures ok { OnOk result ((file : CommandFile) → IsRead limits.steps file commands.now None
         → IsFiledBy limits plan.desks plan.base file (W.contents writer.old) (W.contents writer.new)) }
     ensures err { IfErr result (λ fault. (file : CommandFile) → IsRead limits.steps file commands.now None
@@ -102,8 +99,7 @@ fn summary_of<H: Threads + Wait + Sync>(
     plan: DeskPlan,
     commands: &[Command],
 ) -> Result<Summary, ClerkFault>
-    requires limits { AreLimits limits }
-    requires few { length commands.now ≤ limits.steps }
+    requires { length commands.now ≤ limits.steps }
     ensures { IfOk result (IsSummaryOf (office_limits limits.animals (length commands.now))
         plan.desks (take plan.base commands.now) (drop plan.base commands.now)) }
 {

@@ -3,7 +3,7 @@
 ghost use Rattle.std.specs.Prelude.{◌≡◌, IfErr, IfSome, OnOk, map, string_bytes};
 ghost use Rattle.herd_report.specs.reading.CommandFile.{commands};
 ghost use Rattle.herdbook.specs.Program.{CanEnd, CanEndServing, EndsServing, IsEnded, IsServed, IsUntouchedUnlessAsked};
-ghost use Rattle.herdbook.specs.declared.program.TheConstants.{LIMITS};
+ghost use Rattle.herdbook.specs.Limits.{program_limits};
 
 use crate::arguments::{Request, read_words};
 use crate::desks::clerks;
@@ -33,7 +33,7 @@ pub fn carry_out<H: Threads + Wait + Sync, R: Read + Drop, W: Write>(
     writer: &mut W,
 ) -> Ending
     ensures ended { IfSome (R.remaining reader)
-        (λ bytes. IsEnded LIMITS (map string_bytes words.now) bytes
+        (λ bytes. IsEnded program_limits (map string_bytes words.now) bytes
         (W.contents writer.old) (W.contents writer.new) result) }
     ensures possible { CanEnd (map string_bytes words.now) result }
     ensures unasked { IsUntouchedUnlessAsked (writer.new ≡ writer.old) result }
@@ -54,10 +54,10 @@ fn served<H: Threads + Wait + Sync, R: Read + Drop, W: Write>(
     writer: &mut W,
 ) -> Result<(), TaskFault>
     ensures ok { OnOk result (IfSome (R.remaining reader)
-        (λ bytes. IsServed request.now LIMITS (commands bytes LIMITS.steps)
+        (λ bytes. IsServed request.now program_limits (commands bytes program_limits.steps)
         (W.contents writer.old) (W.contents writer.new))) }
     ensures err { IfErr result (λ fault. IfSome (R.remaining reader)
-        (λ bytes. EndsServing request.now LIMITS (commands bytes LIMITS.steps)
+        (λ bytes. EndsServing request.now program_limits (commands bytes program_limits.steps)
         (W.contents writer.old) (W.contents writer.new) fault)) }
     ensures possible { IfErr result (CanEndServing request.now) }
 {

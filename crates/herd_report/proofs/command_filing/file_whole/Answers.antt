@@ -2,7 +2,7 @@
 use Rattle.std.proofs.Common.{◌≡◌, ◌∙◌, ℕ, None, Some, ap, subst}
 use Rattle.herd_register.specs.Register.{Register}
 use Rattle.herd_register.specs.Run.{commands_of}
-use Rattle.herd_register.specs.declared.limits.Limits.{Limits}
+use Rattle.herd_register.specs.Limits.{Limits}
 use Rattle.herd_report.specs.reading.CommandFile.{IsRead, IsReadUpTo}
 use Rattle.herd_report.specs.Run.{HasFiled}
 use Rattle.herd_report.proofs.RunFacts.{filed_file}
