@@ -1,9 +1,11 @@
 //! The records of a book, in a fixed room.
 ghost use Rattle.std.specs.Prelude.{◌≡◌, [], IfOk};
-ghost use Rattle.herd_frozen.specs.rules.Book.{changed, with_left, with_owner, with_parents};
+ghost use Rattle.std.specs.Fn.{FnOnceReturnsAt};
+ghost use Rattle.herd_frozen.specs.declared.rules.animal.Animal.{Animal};
+ghost use Rattle.herd_frozen.specs.rules.Book.{changed};
 ghost use Rattle.herd_register.specs.CopiedRecords.{records_of, with_record_in};
 
-use herd_animal::{AnimalNumber, Day, Herd};
+use herd_animal::AnimalNumber;
 use herd_frozen::Animal;
 use indexmap::IndexSet;
 use std::alloc::{AllocError, Allocator};
@@ -66,39 +68,16 @@ impl<A: Allocator> CopiedRecords<A> {
         }
     }
 
-    /// Sets both parents of an animal that is there.
-    pub(crate) fn set_parents(
-        &mut self,
-        number: &AnimalNumber,
-        sire: Option<AnimalNumber>,
-        dam: Option<AnimalNumber>,
-    )
-        ensures { self.new ≡ records_of (changed self.old.book number.now (with_parents sire dam)) self.old.most }
+    /// Changes the record of an animal that is there.
+    pub(crate) fn change<F: FnOnce(&Animal) -> Animal>(&mut self, number: &AnimalNumber, change: F)
+        requires { F.IsAlwaysCallable change }
+        ensures { (becomes : Animal → Animal)
+            → ((was : Animal) (is : Animal) → FnOnceReturnsAt F.FnOnce change was is → is ≡ becomes was)
+            → self.new ≡ records_of (changed self.old.book number.now becomes) self.old.most }
     {
         if let Some(place) = self.numbers.get_index_of(number) {
             let animal = &mut self.entries[place].1;
-            animal.sire = sire;
-            animal.dam = dam;
-        }
-    }
-
-    /// Sets the owner of an animal that is there, and the day from which it is.
-    pub(crate) fn set_owner(&mut self, number: &AnimalNumber, herd: Herd, day: Day)
-        ensures { self.new ≡ records_of (changed self.old.book number.now (with_owner herd day)) self.old.most }
-    {
-        if let Some(place) = self.numbers.get_index_of(number) {
-            let animal = &mut self.entries[place].1;
-            animal.herd = herd;
-            animal.since = day;
-        }
-    }
-
-    /// Sets the day on which an animal that is there left.
-    pub(crate) fn set_left(&mut self, number: &AnimalNumber, day: Day)
-        ensures { self.new ≡ records_of (changed self.old.book number.now (with_left day)) self.old.most }
-    {
-        if let Some(place) = self.numbers.get_index_of(number) {
-            self.entries[place].1.left = Some(day);
+            *animal = change(animal);
         }
     }
 }

@@ -107,13 +107,15 @@ fn set<A: Allocator>(records: &mut CopiedRecords<A>, command: &Command)
             herd,
             embryo,
         } => records.put(animal, newborn(day, sire, dam, herd, embryo)),
-        Command::Parents { animal, sire, dam } => records.set_parents(&animal, sire, dam),
+        Command::Parents { animal, sire, dam } => {
+            records.change(&animal, |was| was.with_parents(sire, dam))
+        }
         Command::Transfer {
             animal,
             day,
             giver: _,
             taker,
-        } => records.set_owner(&animal, taker, day),
-        Command::Exit { animal, day } => records.set_left(&animal, day),
+        } => records.change(&animal, |was| was.with_owner(taker, day)),
+        Command::Exit { animal, day } => records.change(&animal, |was| was.with_left(day)),
     }
 }
