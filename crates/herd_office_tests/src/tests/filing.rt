@@ -1,5 +1,6 @@
 //! What the tests do with desks and offices.
-ghost use Rattle.std.specs.Prelude.{◌≡◌};
+ghost use Rattle.std.specs.Prelude.{◌≡◌, ◌≤◌};
+ghost use Rattle.herd_register.specs.declared.limits.TheConstants.{MOST_STEPS};
 
 use super::commands::founder;
 use herd_fixtures::Name;
@@ -11,6 +12,7 @@ use std::sync::Wait;
 use std::test::Fail;
 
 pub(super) fn limits(steps: u32) -> Limits
+    requires { (1 ≤ steps) × (steps ≤ MOST_STEPS) }
     ensures { (result.animals ≡ 2000) × (result.steps ≡ steps) }
 {
     Limits {

@@ -1,8 +1,9 @@
 -- What was read is what the file says.
-use Rattle.std.proofs.Common.{◌≡◌, ℕ, List, None, Option, refl, subst, sym}
+use Rattle.std.proofs.Common.{◌≡◌, ℕ, List, None, Option, IfSome, refl, subst, sym}
 use Rattle.std.proofs.lemmas.Option.{IfSome_then}
 use Rattle.std.proofs.lemmas.Result.{IfErr-weaker, on_ok_weaker}
 use Rattle.herd_register.specs.declared.command.Command.{Command}
+use Rattle.herd_register.specs.Limits.{Limits}
 use Rattle.herd_report.specs.reading.CommandFile.{CommandFile, IsRead, commands}
 use Rattle.herd_report.specs.declared.reading.line_fault.LineFault.{LineFault}
 use Rattle.herdbook.proofs.desks.clerks.Goals as goal
@@ -12,11 +13,16 @@ as_read : (most : ℕ) (file : CommandFile) (list same : List Command) (fault : 
 as_read most file list same fault none is read =
     subst (λ (l : List Command). IsRead most file l None) (sym is) (subst (λ (f : Option LineFault). IsRead most file list f) none read)
 
+-- what was read of at most as many commands as limits have steps
+read_within : (limits same : Limits) (remaining : Option (List ℕ)) (list : List Command) (fault : Option LineFault) → limits ≡ same → IfSome remaining (λ bytes. IsRead limits.steps (commands bytes limits.steps) list fault) → IfSome remaining (λ bytes. IsRead same.steps (commands bytes same.steps) list fault)
+read_within limits same remaining list fault is read =
+    subst (λ (l : Limits). IfSome remaining (λ bytes. IsRead l.steps (commands bytes l.steps) list fault)) is read
+
 pub returns-in-Some-clause-err : goal.returns-in-Some-clause-err
 returns-in-Some-clause-err g c =
     let steps = c.args.limits.steps in
     let list = c.read_commands-commands.result.list.items in
-    IfSome_then (g.R.Read.remaining c.args.reader) c.read_commands-commands.ensures.file
+    IfSome_then (g.R.Read.remaining c.args.reader) (read_within _ c.args.limits _ list _ c.limits.view_is c.read_commands-commands.ensures.file)
     (λ bytes read. record {
       commands = list;
       read = subst (λ (fault : Option LineFault). IsRead steps (commands bytes steps) list fault) c.in-Some.is read;
@@ -28,7 +34,7 @@ returns-clause-ok g c =
     let steps = c.args.limits.steps in
     let list = c.read_commands-commands.result.list.items in
     on_ok_weaker c.file_all.result
-    (λ filed. IfSome_then (g.R.Read.remaining c.args.reader) c.read_commands-commands.ensures.file
+    (λ filed. IfSome_then (g.R.Read.remaining c.args.reader) (read_within _ c.args.limits _ list _ c.limits.view_is c.read_commands-commands.ensures.file)
     (λ bytes read. filed (commands bytes steps) (as_read steps (commands bytes steps) list c.as_slice.result.now _ c.in-None.is c.as_slice.ensures.value read)))
     c.file_all.ensures.ok
 
@@ -37,6 +43,6 @@ returns-clause-err g c =
     let steps = c.args.limits.steps in
     let list = c.read_commands-commands.result.list.items in
     IfErr-weaker c.file_all.result _ _
-    (λ fault ends. IfSome_then (g.R.Read.remaining c.args.reader) c.read_commands-commands.ensures.file
+    (λ fault ends. IfSome_then (g.R.Read.remaining c.args.reader) (read_within _ c.args.limits _ list _ c.limits.view_is c.read_commands-commands.ensures.file)
     (λ bytes read. ends (commands bytes steps) (as_read steps (commands bytes steps) list c.as_slice.result.now _ c.in-None.is c.as_slice.ensures.value read)))
     c.file_all.ensures.err
