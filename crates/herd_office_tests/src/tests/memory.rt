@@ -5,44 +5,14 @@ ghost use Rattle.herd_office.specs.Parts.{AreNamed};
 use super::commands::founder;
 use super::filing::{closed, frozen_length, limits};
 use herd_fixtures::Name::Bull;
+use herd_fixtures::{Crowd, MOST_BLOCKS, small_heap};
 use herd_office::*;
 use herd_register::{Command, FileFault};
-use linked_list_allocator::LocalHeap;
-use std::alloc::{AllocError, Allocator, Global};
+use std::alloc::{Allocator, Global};
 use std::marker::Brand;
 use std::process::Abort;
 use std::sync::Wait;
 use std::test::*;
-
-// More than the blocks that a heap has.
-const TIMES: u32 = 4_096;
-
-// What takes up a heap, if there is one.
-#[derive(Drop)]
-struct Crowd<'a> {
-    heap: Option<&'a LocalHeap>,
-    blocks: Vec<Vec<u8, &'a LocalHeap>, Global>,
-}
-
-impl Crowd<'_> {
-    // Takes up all that is left, by small blocks.
-    fn fill(&mut self) -> Result<(), AllocError> {
-        let Some(heap) = self.heap else {
-            return Ok(());
-        };
-        for _ in 0..TIMES {
-            match Vec::with_capacity(heap, 16) {
-                Ok(block) => self.blocks.push(block)?,
-                Err(AllocError) => break,
-            }
-        }
-        Ok(())
-    }
-
-    fn give_back(&mut self) {
-        drop(self.blocks.pop());
-    }
-}
 
 // Opens an office and uses it, with a block given back each time that memory is refused. How often it was: while the
 // office was made, while births were filed, and while the book was frozen.
@@ -52,13 +22,13 @@ fn use_in_time<R: Wait + Abort, A: Allocator + Copy>(
     alloc: A,
     crowd: &mut Crowd<'_>,
 ) -> Result<(u32, u32, u32), Fail> {
-    for refused in 0..TIMES {
+    for refused in 0..MOST_BLOCKS {
         if let Some((filing, freezing)) = opened(rt, global, alloc, crowd)? {
             return Ok((refused, filing, freezing));
         }
         crowd.give_back();
     }
-    Ok((TIMES, 0, 0))
+    Ok((MOST_BLOCKS, 0, 0))
 }
 
 // How often memory was refused in an office that was opened, if it was.
@@ -155,7 +125,7 @@ fn file_in_time<N: OfficeName, R: Wait + Abort, A: Allocator + Copy>(
     crowd: &mut Crowd<'_>,
 ) -> u32 {
     let birth = founder(rt, Bull(u32::from(births)));
-    for refused in 0..TIMES {
+    for refused in 0..MOST_BLOCKS {
         let serial = filed_serial(rt, office, desk, &birth);
         if serial == Ok(u32::from(births) + 1) {
             return refused;
@@ -167,7 +137,7 @@ fn file_in_time<N: OfficeName, R: Wait + Abort, A: Allocator + Copy>(
         expect_seen(rt, global, inspector, births);
         crowd.give_back();
     }
-    TIMES
+    MOST_BLOCKS
 }
 
 // The number of the step that a desk files.
@@ -202,7 +172,7 @@ fn freeze_in_time<N: OfficeName, A: Allocator + Copy>(
     births: u16,
     crowd: &mut Crowd<'_>,
 ) -> u32 {
-    for refused in 0..TIMES {
+    for refused in 0..MOST_BLOCKS {
         let length = frozen_length(inspector, alloc);
         if length == Ok(u32::from(births) + 1) {
             assert_eq!(rt; inspector.steps_seen(), u64::from(births) + 1);
@@ -214,16 +184,13 @@ fn freeze_in_time<N: OfficeName, A: Allocator + Copy>(
         );
         crowd.give_back();
     }
-    TIMES
+    MOST_BLOCKS
 }
 
 #[test]
 fn refused_memory_leaves_no_trace(rt: HostRuntime) -> Result<(), Fail> {
-    let heap = LocalHeap::new(rt.alloc(), 16_384)?;
-    let mut crowd = Crowd {
-        heap: Some(&heap),
-        blocks: Vec::new(rt.alloc()),
-    };
+    let heap = small_heap(rt.alloc())?;
+    let mut crowd = Crowd::of(rt.alloc(), Some(&heap));
     crowd.fill()?;
     let (opening, filing, freezing) = use_in_time(&rt, rt.alloc(), &heap, &mut crowd)?;
     assert!(rt; 0 < opening && 0 < filing && 0 < freezing);
@@ -233,10 +200,7 @@ fn refused_memory_leaves_no_trace(rt: HostRuntime) -> Result<(), Fail> {
 // Each growth may be refused once from outside.
 #[test]
 fn the_systems_memory_is_enough(rt: HostRuntime) -> Result<(), Fail> {
-    let mut none = Crowd {
-        heap: None,
-        blocks: Vec::new(rt.alloc()),
-    };
+    let mut none = Crowd::of(rt.alloc(), None);
     let (opening, filing, freezing) = use_in_time(&rt, rt.alloc(), rt.alloc(), &mut none)?;
     assert!(rt; opening.wrapping_add(filing).wrapping_add(freezing) < 2);
     Ok(())
