@@ -59,7 +59,8 @@ impl<A: Allocator> Mates<A> {
         requires sire { sire < length frozen.now }
         ensures ready { IfOk result (λ _. IsReady (length frozen.now) self.new) }
         ensures halves { IfOk result (λ _. (calf : ℕ) → IsCalf frozen.now sire calf
-            → at_parent self.new.column.items (dam_rank frozen.now calf) / 2 ≡ coefficient_at DEPTH_LIMIT frozen.now calf) }
+            → at_parent self.new.column.items (dam_rank frozen.now calf) / 2
+            ≡ coefficient_at DEPTH_LIMIT frozen.now calf) }
     {
         let last = frozen.len() - 1;
         mark_mates(frozen, calves, last, &mut self.marked);

@@ -21,7 +21,8 @@ pub fn file_on<N: OfficeName, W: Wait, R: Wait + Drop, A: Allocator + Copy>(
     desk: &mut Desk<N>,
     command: Command,
 ) -> Result<Filed<N>, FileFault>
-    ensures filed { IfOk result (IsFiled N.limits command (standing inside.old desk.old) (standing inside.new desk.new)) }
+    ensures filed { IfOk result
+        (IsFiled N.limits command (standing inside.old desk.old) (standing inside.new desk.new)) }
     ensures number { desk.new.number ≡ desk.old.number }
     ensures full { (result ≡ Err FileFault.JournalFull) ↔ (length inside.old.register.journal ≡ N.limits.steps) }
     ensures unfiled { OnErr result (standing inside.new desk.new ≡ standing inside.old desk.old) }

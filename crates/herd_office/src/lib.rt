@@ -54,8 +54,9 @@
 //!
 //! | | definition (`specs/`) | code (`src/`) | proof (`proofs/`) |
 //! |---|---|---|---|
-//! | a name's parts; opening, closing | `Parts`; `Opening`, `Closing` | `name`, `parts`; `office`, `staff` | `Counting`, `Stored` |
-//! | what lies under the lock, all desks together | `Beginnings`, `Histories` | `inside`, `desks` | `Counting`, `Stored` |
+//! | a name's parts | `Parts` | `name`, `parts` | |
+//! | opening, closing | `Opening`, `Closing` | `office`, `staff` | `Counting`, `Stored` |
+//! | what lies under the lock; all desks | `Beginnings`, `Histories` | `inside`, `desks` | `Counting`, `Stored` |
 //! | a desk's call, its slip | `Filing`, `Histories`, `Standing` | `desk`, `filing` | `Stored`, `Counting` |
 //! | the history: its rule, claims, beginnings of it | `Keeping` | `history`, `keeper` | `Claiming`, `Fronts` |
 //! | the readers' copies, what is sent to them | `Copies`, `Shelves` | `copies`, `copy_update`, `shown` | `Sides` |

@@ -1,5 +1,5 @@
 -- The first desk files the first commands, and then all file the rest.
-use Rattle.std.proofs.Common.{arith, ◌≡◌, ◌∙◌, ◌<◌, [], ◌++◌, IfOk, Some, ap, get_or, length, set, subst, sym}
+use Rattle.std.proofs.Common.{arith, ◌≡◌, ◌∙◌, ◌<◌, [], ◌++◌, IfOk, Some, ap, get_or, length, subst, sym}
 use Rattle.std.proofs.lemmas.Option.{slice_get-get_or}
 use Rattle.herd_office.specs.declared.desk.Desk.{Desk}
 use Rattle.herdbook.specs.Deal.{HasFiled, every, numbers_of}

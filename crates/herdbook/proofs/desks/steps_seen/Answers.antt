@@ -1,5 +1,5 @@
 -- What was learnt stays learnt.
-use Rattle.std.proofs.Common.{◌≡◌, ◌∙◌, ◌<◌, Some, ap, arith, length, rules, subst, sym}
+use Rattle.std.proofs.Common.{◌∙◌, ◌<◌, Some, ap, arith, length, subst, sym}
 use Rattle.std.proofs.lemmas.Option.{slice_get-get_or, slice_get_within}
 use mathlib.Core.List.{IsPrefix}
 use Rattle.herd_office.specs.declared.desk.Desk.{Desk}
