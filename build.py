@@ -3,8 +3,9 @@
 
 The toolchain's gate proves each crate, over a copy of just that crate and those below it without their edits, once those
 below it are proved; first those that most others wait for. It keeps each crate that it has proved on this machine, so
-that a call that was interrupted goes on from there, and `./check` takes it over too. Standard error tells each crate as
-it begins and as it ends, with the minutes so far.
+that a call that was interrupted goes on from there, and `./check` takes it over too. Where a kit's gate keeps nothing, it
+is run once over all crates, which it proves side by side itself; a call that was interrupted begins anew there. Standard
+error tells each crate as it begins and as it ends, with the minutes so far.
 """
 import concurrent.futures
 import os
@@ -58,6 +59,12 @@ def copy(lines, to):
         shutil.copytree(crate, to / "crates" / crate.name, ignore=left_out)
 
 
+def gate_keeps():
+    """Whether the kit's gate keeps what it has proved: such a gate can be told to prove all anew."""
+    told = subprocess.run(["rt", "help"], stdin=subprocess.DEVNULL, capture_output=True, text=True, errors="replace")
+    return "--anew" in told.stdout
+
+
 def free_memory():
     found = re.search(r"MemAvailable:\s+(\d+) kB", pathlib.Path("/proc/meminfo").read_text())
     return int(found[1]) * 1024 if found else MEMORY
@@ -71,6 +78,9 @@ class Build:
         lengths = {it: sum(file.stat().st_size for file in (TOP / "crates" / it).rglob("*.rt")) for it in self.names}
         self.left = sorted(self.names, key=lambda it: -chain(self.names, lengths, it))
         self.program, self.proved, self.runs, self.start = program, set(), {}, time.time()
+        if not gate_keeps():
+            # The program's run proves all others too.
+            self.left, self.proved = [program], {*self.names} - {program}
         self.telling, self.ended = threading.Lock(), False
 
     def say(self, text):
@@ -84,7 +94,7 @@ class Build:
             copy([self.lines[it] for it in self.lines if it in all_below(self.names, name)], room)
             with subprocess.Popen(["rt", "ci"], cwd=room, stdin=subprocess.DEVNULL, stdout=subprocess.PIPE, stderr=subprocess.STDOUT, text=True, errors="replace") as gate:
                 self.runs[name] = gate
-                told = list(gate.stdout)
+                told = [self.heard(name, line) for line in gate.stdout]
             del self.runs[name]
             if gate.returncode and not self.ended:
                 sys.stderr.writelines(told[-20:])
@@ -95,6 +105,13 @@ class Build:
             done = "was proved before" if kept else "is proved"
             self.say(f"{name} is not proved: rt check in crates/{name} says why" if gate.returncode else f"{name} {done}")
         return gate.returncode == 0
+
+    def heard(self, name, line):
+        """Tells a crate that the gate's run for another one has proved, and returns the gate's line."""
+        found = re.match(r"rt: (\w+) proved$", line)
+        if found and found[1] != name and not self.ended:
+            self.say(f"{found[1]} is proved")
+        return line
 
     def put(self, made):
         """Puts the program where the repository has it. A source that was changed meanwhile is newer."""

@@ -1,12 +1,10 @@
 //! The desks, and what they hold.
-ghost use Rattle.std.specs.Prelude.{map, ◌≡◌, ℕ, ◌+◌, ◌<◌, ◌≤◌, ◌^◌, ◌↔◌, IsTrue, [], length, vec_len, Some, slice_get, IfOk, IfErr, OnErr};
-ghost use Rattle.std.specs.List.{sum_by};
+ghost use Rattle.std.specs.Prelude.{◌≡◌, ◌+◌, ◌<◌, ◌≤◌, ◌^◌, length, IfOk, OnErr};
 ghost use mathlib.Core.List.{IsPrefix};
 ghost use Rattle.herd_register.specs.Run.{IsLegal};
 ghost use Rattle.herd_office.specs.Filing.{EndsWith};
 ghost use Rattle.herd_office.specs.Histories.{of_desk};
 
-use crate::faults::OpenFault;
 use crate::filing::file_on;
 use crate::history::History;
 use crate::name::OfficeName;
@@ -16,7 +14,7 @@ use std::alloc::Allocator;
 use std::sync::ledger::{Book, Share};
 use std::sync::{MutexGuard, Wait};
 
-/// What a desk tells of a call that was answered: the history that ends with it.
+/// A history of the office: the one that ends with a call that was answered, or the one that a desk holds.
 #[derive(Drop)]
 pub struct Slip<N: OfficeName> {
     pub(crate) history: History<N>,

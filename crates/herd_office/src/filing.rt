@@ -1,8 +1,7 @@
 //! How a command is filed, on the value under the lock.
-ghost use Rattle.std.specs.Prelude.{List, ◌≡◌, ◌+◌, ◌≤◌, ◌↔◌, ◌≢◌, IsNone, IsSome, [], ◌∷◌, ◌++◌, length, drop, Some, IfOk, IfErr, OnErr};
-ghost use mathlib.Core.List.{IsPrefix};
+ghost use Rattle.std.specs.Prelude.{◌≡◌, ◌+◌, ◌↔◌, ◌≢◌, [], ◌∷◌, ◌++◌, length, drop, IfOk, IfErr, OnErr};
 ghost use Rattle.herd_register.specs.Run.{IsLegal, step_of};
-ghost use Rattle.herd_office.specs.Filing.{answer_after, with_step_of};
+ghost use Rattle.herd_office.specs.Filing.{answer_after};
 ghost use Rattle.herd_office.specs.Standing.{IsFiled, Refuses, standing};
 
 use crate::copies::{Copies, show};

@@ -144,12 +144,7 @@ fn print_coefficients(
 }
 
 fn print_coefficient(rt: &impl Print, number: AnimalNumber, coefficient: Fraction) -> Result<()> {
-    let bytes = number.bytes();
-    let text = std::str::from_utf8(&bytes)?;
-    println!(rt;
-        "{text} {}/{}",
-        coefficient.numerator, coefficient.denominator
-    )?;
+    println!(rt; "{number} {coefficient}")?;
     Ok(())
 }
 
@@ -169,10 +164,7 @@ fn print_mating(
     match mating(alloc, frozen, coefficients, &sire, &dam) {
         Ok(numerator) => {
             let coefficient = fraction(numerator);
-            println!(rt;
-                "their calf {}/{}",
-                coefficient.numerator, coefficient.denominator
-            )?;
+            println!(rt; "their calf {coefficient}")?;
         }
         Err(fault) => println!(rt; "no calf: {fault}")?,
     }
