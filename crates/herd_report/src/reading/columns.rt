@@ -21,6 +21,7 @@ enum Kind {
 impl Kind {
     ghost use Rattle.herd_report.specs.reading.Grammar.{kind_of};
 
+    #[inline(always)]
     fn parse(text: &[u8]) -> Option<Kind>
         ensures { result ≡ kind_of text.now }
     {

@@ -6,6 +6,8 @@ use crate::reading::line_fault::LineCause;
 use herd_animal::{AnimalNumber, Day, Herd};
 
 /// The animal number that a field is.
+// Not inlined: a birth calls it for three fields.
+#[inline(never)]
 pub fn animal(text: &[u8], cause: LineCause) -> Result<AnimalNumber, LineCause>
     ensures { result ≡ (if is_animal_number text.now then Ok text.now else Err cause) }
 {
