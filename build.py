@@ -62,7 +62,8 @@ def copy(lines, to):
 def gate_keeps():
     """Whether the kit's gate keeps what it has proved: such a gate can be told to prove all anew."""
     told = subprocess.run(["rt", "help"], stdin=subprocess.DEVNULL, capture_output=True, text=True, errors="replace")
-    return "--anew" in told.stdout
+    # A kit may tell its usage on either.
+    return "--anew" in told.stdout + told.stderr
 
 
 def free_memory():
