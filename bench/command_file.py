@@ -1,13 +1,21 @@
 """Command files to measure with, each made once by generate.py and kept in a folder."""
 
+from __future__ import annotations
+
 import os
 import subprocess
 import sys
+import tempfile
 
 HERE = os.path.dirname(os.path.abspath(__file__))
 
 
-def command_file(work, name, *words):
+def work_folder() -> str:
+    """Where the files are kept, unless a call says it."""
+    return os.environ.get("BENCH_WORK", os.path.join(tempfile.gettempdir(), "herdbook-bench"))
+
+
+def command_file(work: str, name: str, *words: object) -> str:
     """The path of the file of that name, made with these words of generate.py where it isn't there yet."""
     made = os.path.join(work, name)
     if not os.path.exists(made):

@@ -19,6 +19,8 @@ inspector freezes or none does. The least of several runs counts, for the longes
 The status is 1 where a run doesn't print the counts that it is to have.
 """
 
+from __future__ import annotations
+
 import argparse
 import os
 import re
@@ -26,11 +28,12 @@ import subprocess
 import sys
 import tempfile
 import time
+from typing import IO
 
 MOST_ANIMALS = 60_000
 
 
-def measured(words, given=subprocess.DEVNULL):
+def measured(words: list[str], given: int | IO[bytes] = subprocess.DEVNULL) -> tuple[str, str, float, float, int]:
     """What a run prints to its outputs, and its wall time, processor time and memory (s, s, bytes)."""
     with tempfile.TemporaryFile() as out, tempfile.TemporaryFile() as told:
         start = time.perf_counter()
@@ -46,12 +49,12 @@ def measured(words, given=subprocess.DEVNULL):
     return *texts, wall, used.ru_utime + used.ru_stime, used.ru_maxrss * 1024
 
 
-def counts(births):
+def counts(births: int) -> str:
     """What a run with so many births is to print."""
     return f"{min(births, MOST_ANIMALS)} accepted, {births} steps\n"
 
 
-def write_births(path, births):
+def write_births(path: str, births: int) -> None:
     """The same births as a command file."""
     with open(path, "w", encoding="ascii") as file:
         file.write("kind,animal,day,sire,dam,from,to\n")
@@ -59,7 +62,7 @@ def write_births(path, births):
             file.write(f"birth,HOLGBRM{place % MOST_ANIMALS:012},2000-01-01,0,0,,1\n")
 
 
-def filed(herdbook, births, runs):
+def filed(herdbook: str, births: int, runs: int) -> float:
     """The least processor time of `file` on these births."""
     with tempfile.TemporaryDirectory() as folder:
         path = os.path.join(folder, "births.csv")
@@ -71,7 +74,7 @@ def filed(herdbook, births, runs):
     return least
 
 
-def crowds(given, births):
+def crowds(given: argparse.Namespace, births: int) -> bool:
     """A line of the first table for each number of desks and of inspectors; whether all counts are right."""
     alone = filed(given.herdbook, births, given.runs)
     well = True
@@ -90,12 +93,13 @@ def crowds(given, births):
     return well
 
 
-def beside(given, inspectors):
+def beside(given: argparse.Namespace, inspectors: int) -> bool:
     """A line of the second table; whether all counts are right."""
     words = [given.program, "beside", str(given.before), str(given.timed), str(inspectors)]
     tried = [measured(words) for _ in range(given.runs)]
-    times = [re.fullmatch(r"(\d+) ns longest, (\d+) ns in all\n", told) for _, told, *_ in tried]
-    if None in times:
+    found = [re.fullmatch(r"(\d+) ns longest, (\d+) ns in all\n", told) for _, told, *_ in tried]
+    times = [it for it in found if it]
+    if len(times) < len(found):
         return False
     longest, total = (min(int(it[group]) for it in times) for group in (1, 2))
     print(
@@ -105,7 +109,7 @@ def beside(given, inspectors):
     return all(printed == counts(given.before + given.timed) for printed, *_ in tried)
 
 
-def main():
+def main() -> int:
     takes = argparse.ArgumentParser(description=__doc__, formatter_class=argparse.RawDescriptionHelpFormatter)
     takes.add_argument("program")
     takes.add_argument("herdbook")

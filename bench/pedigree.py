@@ -14,19 +14,22 @@ memory that a run had less that of a run with one animal, for each animal. The p
 many animals there are; the status is 1 where that isn't the number that was asked for.
 """
 
+from __future__ import annotations
+
 import argparse
 import fcntl
 import os
 import subprocess
 import sys
 import time
+from typing import Iterator
 
 HERE = os.path.dirname(os.path.abspath(__file__))
 PROGRAM = os.path.join(HERE, "..", "crates", "pedigree_timing", "out", "pedigree_timing")
 PIPE = 4096
 
 
-def full_pipe():
+def full_pipe() -> tuple[int, int]:
     """A pipe with no room left, so that a program waits before it prints."""
     reader, writer = os.pipe()
     fcntl.fcntl(writer, fcntl.F_SETPIPE_SZ, PIPE)
@@ -34,7 +37,7 @@ def full_pipe():
     return reader, writer
 
 
-def peak_once_it_waits(process):
+def peak_once_it_waits(process: int) -> int:
     """The most memory that a process had, in bytes, once it waits to print or has ended."""
     peak = 0
     while True:
@@ -46,7 +49,7 @@ def peak_once_it_waits(process):
         time.sleep(0.001)
 
 
-def measured(words):
+def measured(words: list[str]) -> tuple[str, float, int]:
     """What a run prints, its processor time in seconds, and the most memory that it had in bytes.
 
     The system's own figure of a child's memory counts what this script had when it started it."""
@@ -61,14 +64,14 @@ def measured(words):
     return printed, usage.ru_utime + usage.ru_stime, peak
 
 
-def best(words, runs):
+def best(words: list[str], runs: int) -> tuple[float, int, bool]:
     """The least time and the least memory of several runs, and whether each printed its number."""
     tried = [measured(words) for _ in range(runs)]
     well = all(printed == words[2] for printed, _, _ in tried)
     return min(cpu for _, cpu, _ in tried), min(peak for _, _, peak in tried), well
 
 
-def tasks(size, corrections):
+def tasks(size: int, corrections: int) -> Iterator[tuple[list[str], list[str] | None, int]]:
     """For a book of this size: the words, those of what is taken off, and how often it is done."""
     births = ["births", str(size)]
     yield births, None, size
@@ -76,7 +79,7 @@ def tasks(size, corrections):
     yield ["corrections", str(size), str(corrections)], ["corrections", str(size), "0"], corrections
 
 
-def main():
+def main() -> int:
     parser = argparse.ArgumentParser(description=__doc__, formatter_class=argparse.RawDescriptionHelpFormatter)
     parser.add_argument("program", nargs="?", default=PROGRAM)
     parser.add_argument("--sizes", default="5000,20000,60000")

@@ -12,25 +12,26 @@ same of processor time, and the speed-up of what a list takes beyond `file`: who
 program and of the native one. The status is 1 where two lists differ.
 """
 
+from __future__ import annotations
+
 import argparse
 import os
 import sys
-import tempfile
 
 from bench import baseline, digest, ran
-from command_file import command_file
+from command_file import command_file, work_folder
 
 SHAPES = "narrow,dairy,broad,deep,fullsib,pairs,founders"
 
 
-def book(work, shape, size):
+def book(work: str, shape: str, size: int) -> str:
     """The births of a book of that shape; founders are the narrow book's animals without their parents."""
     if shape == "founders":
         return command_file(work, f"founders-{size}.csv", "narrow", size, "--unknown", "1")
     return command_file(work, f"{shape}-{size}-60.csv", shape, size, "--depth", "60")
 
 
-def jobs_of(program, native, workers, block):
+def jobs_of(program: str, native: str, workers: list[int], block: int) -> dict[str, list[str]]:
     """The words of each run, by its name."""
     jobs = {"file": [program, "file"], "one": [program, "inbreeding"]}
     for n in workers:
@@ -41,9 +42,13 @@ def jobs_of(program, native, workers, block):
     return jobs
 
 
-def measured(jobs, file, runs, out):
+def measured(
+    jobs: dict[str, list[str]], file: str, runs: int, out: str
+) -> tuple[dict[str, float], dict[str, float], dict[str, str]]:
     """The least seconds of the clock and of the processor of each job, and what it wrote."""
-    wall, processor, wrote = {}, {}, {}
+    wall: dict[str, float] = {}
+    processor: dict[str, float] = {}
+    wrote: dict[str, str] = {}
     for _ in range(runs):
         for name, words in jobs.items():
             used, took, status, told = ran(words, file, out)
@@ -55,12 +60,12 @@ def measured(jobs, file, runs, out):
     return wall, processor, wrote
 
 
-def speed_up(wall, file, one, more):
+def speed_up(wall: dict[str, float], file: str, one: str, more: str) -> float:
     """How many times as fast a list is by more workers, beyond what the replies to the same file take."""
     return (wall[one] - wall[file]) / max(wall[more] - wall[file], 1e-6)
 
 
-def main():
+def main() -> int:
     takes = argparse.ArgumentParser(description=__doc__, formatter_class=argparse.RawDescriptionHelpFormatter)
     takes.add_argument("program")
     takes.add_argument("--size", type=int, default=60000)
@@ -68,12 +73,13 @@ def main():
     takes.add_argument("--workers", default="2,4")
     takes.add_argument("--block", type=int, default=256)
     takes.add_argument("--runs", type=int, default=15)
-    takes.add_argument("--work", default=os.environ.get("BENCH_WORK", os.path.join(tempfile.gettempdir(), "herdbook-bench")))
+    takes.add_argument("--work", default=work_folder())
     said = takes.parse_args()
     os.makedirs(said.work, exist_ok=True)
     native, workers = baseline(said.work), [int(it) for it in said.workers.split(",")]
     jobs = jobs_of(os.path.abspath(said.program), native, workers, said.block)
-    print(f"{said.size} animals, blocks of {said.block}, least of {said.runs}, load {os.getloadavg()[0]:.1f} on {os.cpu_count()} cores")
+    load = f"load {os.getloadavg()[0]:.1f} on {os.cpu_count()} cores"
+    print(f"{said.size} animals, blocks of {said.block}, least of {said.runs}, {load}")
     all_same = True
     for shape in said.shapes.split(","):
         file = book(said.work, shape, said.size)
@@ -84,7 +90,8 @@ def main():
             ours = speed_up(wall, "file", "one", f"x{n}")
             theirs = speed_up(wall, "native file", "native x1", f"native x{n}")
             print(
-                f"{shape:9} x{n}: file {wall['file'] * 1e3:5.0f} one {wall['one'] * 1e3:6.0f} x{n} {wall[f'x{n}'] * 1e3:6.0f}"
+                f"{shape:9} x{n}: file {wall['file'] * 1e3:5.0f} one {wall['one'] * 1e3:6.0f}"
+                f" x{n} {wall[f'x{n}'] * 1e3:6.0f}"
                 f"  clock {wall[f'x{n}'] / wall['one']:.2f}  processor {processor[f'x{n}'] / processor['one']:.2f}"
                 f"  speed-up {ours:.2f} native {theirs:.2f}  {'same bytes' if same else 'OTHER BYTES'}",
                 flush=True,

@@ -73,8 +73,8 @@ class Names:
                 self.named[animal.name.casefold()].append(animal)
 
     def find_parents(self, rows: dict[str, Animal], book: Book) -> None:
-        """A parent that is no row's id, but the name of one animal alone, is taken for that one where it can be it. What
-        is the parent in the book stays it, whatever other animals have its name."""
+        """A parent that is no row's id, but the name of one animal alone, is taken for that one where it can be it.
+        What is the parent in the book stays it, whatever other animals have its name."""
         with_row = rows.keys() | {id for id, known in book.known.items() if known.had_row()}
         ids = {known.number: id for id, known in book.known.items()}
         links = [(calf, role, text) for calf in rows.values() for role, text in calf.parents() if text not in with_row]
@@ -108,7 +108,9 @@ class Names:
             for role, parent in animal.parents():
                 if parent not in self.animals:
                     more = f" and of {calves[parent] - 1} more" if calves[parent] > 1 else ""
-                    why = f"the {role} of {animal.id}{more} has no row: added without parents{self.hint(animal, parent)}"
+                    why = (
+                        f"the {role} of {animal.id}{more} has no row: added without parents{self.hint(animal, parent)}"
+                    )
                     self.report.tell(ADDED, animal.line, parent, why)
                     self.animals[parent] = Animal(parent)
                 one = self.animals[parent]
@@ -116,13 +118,18 @@ class Names:
 
     def advise_unknown(self) -> None:
         """A parent without a row that is a sire and a dam of many may be a word for an unknown one."""
-        links = collections.Counter((parent, role) for animal in self.animals.values() for role, parent in animal.parents())
+        links = collections.Counter(
+            (parent, role) for animal in self.animals.values() for role, parent in animal.parents()
+        )
         for (parent, role), dams in links.items():
             sires = links.get((parent, "sire"), 0)
             has_row = parent in self.animals and self.animals[parent].line
             if role == "dam" and sires and sires + dams >= MANY and not has_row and "," not in parent:
                 many = f"{parent} has no row, and is the sire of {sires} and the dam of {dams}"
-                self.report.advice.append(f"{many}: if it means an unknown parent, take this again with --unknown={shlex.quote(parent)} --drop-gone")
+                self.report.advice.append(
+                    f"{many}: if it means an unknown parent, take this again with "
+                    f"--unknown={shlex.quote(parent)} --drop-gone"
+                )
 
     def hint(self, calf: Animal, text: str) -> str:
         """Which id may be meant by a text that is none."""

@@ -55,7 +55,9 @@ class Animal:
         why = f"line {self.line} has this id too"
         if (sire, dam) == (self.sire, self.dam):
             return why
-        before, here = (" and ".join(parent or "unknown" for parent in pair) for pair in ((self.sire, self.dam), (sire, dam)))
+        before, here = (
+            " and ".join(parent or "unknown" for parent in pair) for pair in ((self.sire, self.dam), (sire, dam))
+        )
         return f"{why}, with other parents, which are taken ({before}; here they are {here})"
 
     def has_day(self) -> bool:
@@ -98,7 +100,8 @@ class Rows:
             elif id.casefold() in self.unknown:
                 why = f"'{id}' is a word for an unknown animal: give it another id" if id else "it has no id"
             elif id in found:
-                why = found[id].has_id_too(*(self.parent(cells, role) for role in ROLES)) + self.differing(first[id], cells)
+                parents = [self.parent(cells, role) for role in ROLES]
+                why = found[id].has_id_too(*parents) + self.differing(first[id], cells)
             else:
                 found[id], first[id] = self.animal(line, id, cells), cells
                 continue
@@ -172,13 +175,16 @@ class Rows:
         return sex
 
     def read_exit(self, animal: Animal, text: str) -> None:
-        """An exit is a day, a text with a day, or a word, such as `sold`: then it has left on a day that isn't known."""
+        """An exit is a day, a text with a day, or a word, such as `sold`: then it has left on a day that isn't
+        known."""
         if text.casefold() in KNOWN_NO or plain(text) in KNOWN_STAYS:
             return
         left = self.span(animal, "exit", text)
         if left and not is_span(text) and left.last < animal.birth.first:
             # a number within a text that can't be its day
-            self.leave_out(animal, "exit", text, "its exit", f"'{text}' {GONE}, since its day would be before the birth")
+            self.leave_out(
+                animal, "exit", text, "its exit", f"'{text}' {GONE}, since its day would be before the birth"
+            )
             left = None
         if left:
             animal.left = left.last
@@ -213,5 +219,7 @@ class Rows:
     def is_embryo(self, animal: Animal, text: str) -> bool:
         self.unread.read["embryo"] += bool(text)
         if text and text.casefold() not in KNOWN_YES | KNOWN_NO | self.unknown:
-            self.leave_out(animal, "embryo", text, "its cell for a stored embryo", f"'{text}' isn't known: write 1 or nothing")
+            self.leave_out(
+                animal, "embryo", text, "its cell for a stored embryo", f"'{text}' isn't known: write 1 or nothing"
+            )
         return text.casefold() in KNOWN_YES

@@ -130,7 +130,8 @@ class Days:
         elif by_calves:
             self.likely[id] = min(by_calves), "from its offspring"
         elif dated:
-            self.likely[id] = max(middle(self.animals[parent].birth) for parent in dated) + GENERATION, "from its parents"
+            youngest = max(middle(self.animals[parent].birth) for parent in dated)
+            self.likely[id] = youngest + GENERATION, "from its parents"
 
     def day_for(self, animal: Animal) -> tuple[datetime.date, str]:
         parents = [self.animals[parent].born.toordinal() for _, parent in animal.parents()]
@@ -141,7 +142,8 @@ class Days:
         elif parents:
             day, why = max(parents) + GENERATION, "from its parents"
         else:
-            day, why = FIRST_DAY.toordinal(), "the earliest that a book can have, since no parent and no offspring has one"
+            day = FIRST_DAY.toordinal()
+            why = "the earliest that a book can have, since no parent and no offspring has one"
         if kept and animal.birth.first <= kept <= animal.birth.last:
             day = kept.toordinal()
             why = why if parents or animal.id in self.likely else "as in the book"

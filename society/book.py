@@ -158,9 +158,13 @@ class Book:
         """The animal of an id, a number or a name; a mistake where there is none, or several of a name."""
         word = " ".join(word.split())
         if word in self.known:
-            others = sorted(one.id for one in self.known.values() if one.name.casefold() == word.casefold() and one.id != word)
+            others = sorted(
+                one.id for one in self.known.values() if one.name.casefold() == word.casefold() and one.id != word
+            )
             if others:
-                self.notes.append(f"'{word}' is taken for the animal with this id; others have this name: {', '.join(others[:9])}")
+                self.notes.append(
+                    f"'{word}' is taken for the animal with this id; others have this name: {', '.join(others[:9])}"
+                )
             return self.known[word]
         named = [known for known in self.known.values() if word in (known.number, known.name)]
         if not named:

@@ -28,7 +28,8 @@ STYLE = f"""
 @page {{ size: A4 portrait; margin: 14mm; }}
 * {{ box-sizing: border-box; }}
 html {{ background: #e9ecef; }}
-body {{ margin: 0; font: 10.5pt/1.35 {FONT}; color: {INK}; -webkit-print-color-adjust: exact; print-color-adjust: exact; }}
+body {{ margin: 0; font: 10.5pt/1.35 {FONT}; color: {INK};
+  -webkit-print-color-adjust: exact; print-color-adjust: exact; }}
 main {{ width: 182mm; min-height: 262mm; margin: 8mm auto; padding: 0; background: {PAPER}; }}
 main {{ display: flex; flex-direction: column; }}
 header {{ border-bottom: 0.8mm solid {INK}; padding-bottom: 3mm; }}
@@ -46,10 +47,12 @@ table {{ width: 100%; border-collapse: separate; border-spacing: 0; table-layout
 td {{ position: relative; padding: 1mm 4mm 1mm 4mm; height: 18.5mm; vertical-align: middle; }}
 td:first-child.one {{ padding-left: 0; }}
 td.three {{ padding-right: 0; }}
-td.two::before, td.three::before {{ content: ""; position: absolute; left: 0; width: 4mm; border-left: 0.3mm solid {LINE}; }}
+td.two::before, td.three::before {{ content: ""; position: absolute; left: 0; width: 4mm;
+  border-left: 0.3mm solid {LINE}; }}
 td.sire.two::before, td.sire.three::before {{ top: 50%; bottom: 0; border-top: 0.3mm solid {LINE}; }}
 td.dam.two::before, td.dam.three::before {{ top: 0; bottom: 50%; border-bottom: 0.3mm solid {LINE}; }}
-td.one::after, td.two::after {{ content: ""; position: absolute; right: 0; top: 50%; width: 4mm; border-top: 0.3mm solid {LINE}; }}
+td.one::after, td.two::after {{ content: ""; position: absolute; right: 0; top: 50%; width: 4mm;
+  border-top: 0.3mm solid {LINE}; }}
 .box {{ position: relative; border: 0.3mm solid {LINE}; border-radius: 1.2mm; padding: 1mm 2mm; }}
 .box {{ font-size: 8.5pt; line-height: 1.25; overflow-wrap: anywhere; }}
 .box b {{ display: block; font-size: 9.5pt; }}
@@ -185,7 +188,8 @@ def facts_of(known: Known, told: dict[str, str], shown: Shown) -> str:
 
 
 def owner_day_known(book: Book, known: Known) -> bool:
-    """Is the day known since which the owner has it? A sheet gives the owner of today: only a change of owners has a day."""
+    """Is the day known since which the owner has it? A sheet gives the owner of today: only a change of owners has a
+    day."""
     transfers = book.records[known.number].transfers
     return bool(transfers) and transfers[-1].giver != str(NO_OWNER)
 
@@ -206,5 +210,6 @@ def ancestor_cell(letters: str, told: dict[str, str], shown: Shown) -> str:
         percent = shown.language.percent_of(coefficient)
         mark = f' <span class="inbred">{escape(percent)}</span>' if coefficient.is_inbred else ""
         by_name = escape(shown.language.marked("", INFERRED)) if written else ""
-        box = f'<div class="box">{relation}<b>{escape(known.id)}{by_name}</b>{name}{escape(shown.born(known))}{mark}</div>'
+        box = f'<div class="box">{relation}<b>{escape(known.id)}{by_name}</b>{name}'
+        box += f"{escape(shown.born(known))}{mark}</div>"
     return f'<td class="{kind}" rowspan="{span}">{box}</td>'

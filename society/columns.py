@@ -5,14 +5,15 @@ import unicodedata
 
 from society.report import Mistake
 
-# The usual titles, the likelier first. They are compared in small letters, without accents, blanks and signs. A parent's
-# column may also have a word for the parent beside one for the id, as `Vater Ohrmarke`.
+# The usual titles, the likelier first. They are compared in small letters, without accents, blanks and signs. A
+# parent's column may also have a word for the parent beside one for the id, as `Vater Ohrmarke`.
 TITLES = {
-    "id": "id, animal id, ear tag, eartag, ear tag number, ear tag no, tag, tag number, tag no, animal number, animal no, "
-    "registration, registration number, registration no, reg no, herd book number, herd book no, identification, ident, "
-    "Ohrmarke, Ohrmarkennummer, Ohrmarken-Nr, Ohrm, Lebensnummer, Lebensohrmarke, Herdbuchnummer, Herdbuch-Nr, Tiernummer, Tier-Nr, "
-    "Tier-ID, LOM, HB-Nr, Kennzeichen, numéro national, n° national, numéro d'identification, identifiant, boucle, matricule, "
-    "animal, Tier, number, no, nr, Nummer, numéro, n°",
+    "id": "id, animal id, ear tag, eartag, ear tag number, ear tag no, tag, tag number, tag no, animal number, "
+    "animal no, registration, registration number, registration no, reg no, herd book number, herd book no, "
+    "identification, ident, Ohrmarke, Ohrmarkennummer, Ohrmarken-Nr, Ohrm, Lebensnummer, Lebensohrmarke, "
+    "Herdbuchnummer, Herdbuch-Nr, Tiernummer, Tier-Nr, Tier-ID, LOM, HB-Nr, Kennzeichen, numéro national, "
+    "n° national, numéro d'identification, identifiant, boucle, matricule, animal, Tier, number, no, nr, Nummer, "
+    "numéro, n°",
     "name": "name, animal name, Tiername, Rufname, nom, nom de l'animal",
     "sex": "sex, gender, Geschlecht, Geschl, sexe",
     "birth": "born, birth, birth date, date of birth, birthday, birth day, dob, Geburtsdatum, Geburtstag, geboren, "
@@ -23,26 +24,31 @@ TITLES = {
     "dam": "dam, of dam, mother, Mutter, der Mutter, Muttertier, mère, de la mère",
     "owner": "owner, herd, farm, holding, Besitzer, Eigentümer, Halter, Betrieb, propriétaire, détenteur, élevage, "
     "exploitation",
-    "exit": "exit, left, exit date, date of exit, departure, died, death, date of death, Abgang, Abgangsdatum, abgegangen, "
-    "abgegangen am, Abgang am, Todesdatum, gestorben, gestorben am, sortie, date de sortie, mort, mort le, décès, "
-    "date de décès",
+    "exit": "exit, left, exit date, date of exit, departure, died, death, date of death, Abgang, Abgangsdatum, "
+    "abgegangen, abgegangen am, Abgang am, Todesdatum, gestorben, gestorben am, sortie, date de sortie, mort, "
+    "mort le, décès, date de décès",
     "embryo": "embryo, embryo calf, stored embryo, embryo transfer, et, et calf, Embryotransfer, ET-Kalb, Embryokalb, "
     "embryon, transfert d'embryon",
 }  # fmt: skip
 # Columns that a sheet has to have; `--columns sire=` says that there is none.
 NEEDED = ("id", "birth", "sire", "dam")
 
-UNKNOWN = "0, -, --, ?, ., n/a, #n/a, #nv, na, nan, none, null, unknown, unbekannt, unbek, unbek., k.A., keine Angabe, inconnu, inconnue"
+UNKNOWN = (
+    "0, -, --, ?, ., n/a, #n/a, #nv, na, nan, none, null, unknown, unbekannt, unbek, unbek., k.A., keine Angabe, "
+    "inconnu, inconnue"
+)
 # `M` is male in all three languages, and `W` is weiblich; single letters that mean two things aren't here.
 SEXES = {
-    "M": "m, male, bull, ram, tup, buck, billy, stallion, colt, ox, steer, bullock, wether, gelding, boar, ♂, männlich, männl, männliche, "
-    "Bulle, Jungbulle, Zuchtbulle, Deckbulle, Stier, Jungstier, Zuchtstier, Muni, Bock, Schafbock, Ziegenbock, Zuchtbock, Jungbock, Altbock, "
-    "Bocklamm, Widder, Hengst, Ochse, Hammel, Wallach, Eber, Bullenkalb, Stierkalb, Hengstfohlen, "
-    "mâle, taureau, taurillon, bélier, bouc, étalon, hongre, boeuf, bœuf, agneau mâle, verrat, masculin, masc",
-    "F": "f, female, fem, cow, heifer, ewe, gimmer, doe, nanny, mare, filly, sow, gilt, ♀, w, weiblich, weibl, weibliche, "
-    "Kuh, Jungkuh, Mutterkuh, Färse, Kalbin, Kalbe, Sterke, Starke, Kuhkalb, Aue, Au, Jungaue, Altaue, Aulamm, Auenlamm, Mutter, "
-    "Muttertier, Mutterschaf, Zibbe, Zibbenlamm, Ziege, Geiß, Geiss, Mutterziege, Jungziege, Stute, Jungstute, Zuchtstute, Stutfohlen, "
-    "Sau, femelle, vache, génisse, brebis, antenaise, agnelle, agneau femelle, chèvre, chevrette, jument, pouliche, truie, féminin, fém",
+    "M": "m, male, bull, ram, tup, buck, billy, stallion, colt, ox, steer, bullock, wether, gelding, boar, ♂, "
+    "männlich, männl, männliche, Bulle, Jungbulle, Zuchtbulle, Deckbulle, Stier, Jungstier, Zuchtstier, Muni, Bock, "
+    "Schafbock, Ziegenbock, Zuchtbock, Jungbock, Altbock, Bocklamm, Widder, Hengst, Ochse, Hammel, Wallach, Eber, "
+    "Bullenkalb, Stierkalb, Hengstfohlen, mâle, taureau, taurillon, bélier, bouc, étalon, hongre, boeuf, bœuf, "
+    "agneau mâle, verrat, masculin, masc",
+    "F": "f, female, fem, cow, heifer, ewe, gimmer, doe, nanny, mare, filly, sow, gilt, ♀, w, weiblich, weibl, "
+    "weibliche, Kuh, Jungkuh, Mutterkuh, Färse, Kalbin, Kalbe, Sterke, Starke, Kuhkalb, Aue, Au, Jungaue, Altaue, "
+    "Aulamm, Auenlamm, Mutter, Muttertier, Mutterschaf, Zibbe, Zibbenlamm, Ziege, Geiß, Geiss, Mutterziege, "
+    "Jungziege, Stute, Jungstute, Zuchtstute, Stutfohlen, Sau, femelle, vache, génisse, brebis, antenaise, agnelle, "
+    "agneau femelle, chèvre, chevrette, jument, pouliche, truie, féminin, fém",
 }
 # what cells for an exit say of animals that haven't left, and of those that have
 STAYS = (
@@ -50,10 +56,11 @@ STAYS = (
     "vivant, vivante, en vie, actif, présent, présente"
 )
 EXITS = (
-    "ja, yes, oui, x, verkauft, verk, Verkauf, geschlachtet, Schlachtung, geschl, gestorben, verstorben, verendet, tot, "
-    "Tod, abgegangen, Abgang, ausgeschieden, exportiert, gekeult, euthanasiert, notgetötet, gerissen, weg, sold, sale, "
-    "slaughtered, slaughter, dead, died, death, culled, exported, gone, left, lost, vendu, vendue, vente, abattu, abattue, "
-    "abattage, mort, morte, décédé, décédée, réformé, réformée, réforme, sorti, sortie, exporté, exportée"
+    "ja, yes, oui, x, verkauft, verk, Verkauf, geschlachtet, Schlachtung, geschl, gestorben, verstorben, verendet, "
+    "tot, Tod, abgegangen, Abgang, ausgeschieden, exportiert, gekeult, euthanasiert, notgetötet, gerissen, weg, sold, "
+    "sale, slaughtered, slaughter, dead, died, death, culled, exported, gone, left, lost, vendu, vendue, vente, "
+    "abattu, abattue, abattage, mort, morte, décédé, décédée, réformé, réformée, réforme, sorti, sortie, exporté, "
+    "exportée"
 )
 YES = "1, x, yes, y, true, et, embryo, ja, j, wahr, oui, o, vrai"
 NO = "0, -, no, n, false, nein, falsch, non, faux"
@@ -93,7 +100,8 @@ def known_titles(titles: list[str]) -> int:
 
 
 def find_columns(line: int, titles: list[str], given: dict[str, str]) -> dict[str, int]:
-    """For each field its column, by the titles that are given, and else by the usual ones. The titles stand in a line."""
+    """For each field its column, by the titles that are given, and else by the usual ones. The titles stand in a
+    line."""
     found = {}
     for field in TITLES:
         if field in given:
@@ -121,7 +129,9 @@ def given_column(line: int, titles: list[str], field: str, title: str) -> int:
         if places:
             return places[0]
     shown = ", ".join(f"'{one}'" for one in titles if one)
-    raise Mistake(f"line {line}: there is no column '{title}', which --columns names for {field}. The titles are {shown}")
+    raise Mistake(
+        f"line {line}: there is no column '{title}', which --columns names for {field}. The titles are {shown}"
+    )
 
 
 def read_given(words: list[str]) -> dict[str, str]:
@@ -152,4 +162,4 @@ def sex_word(text: str) -> str:
 
 def unknown_words(more: list[str]) -> set[str]:
     """The words for an unknown parent, in small letters: the usual ones and those of `--unknown`."""
-    return {""} | {word.casefold() for word in listed(UNKNOWN)} | {word.casefold() for one in more for word in listed(one)}
+    return {""} | {word.casefold() for one in [UNKNOWN, *more] for word in listed(one)}

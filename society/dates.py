@@ -34,7 +34,8 @@ class MonthFirst(Unreadable):
 
 
 class Span(NamedTuple):
-    """The days that a cell leaves open: one day, or those of a month or of a year. `wrong` is a day that there isn't."""
+    """The days that a cell leaves open: one day, or those of a month or of a year. `wrong` is a day that there
+    isn't."""
 
     first: datetime.date
     last: datetime.date

@@ -31,8 +31,9 @@ class Paths:
         return path
 
     def to_cut(self) -> list[str]:
-        """The animals without whose parents no path is too long. Along a path `down` grows from parent to parent, so one
-        that is too long comes to a parent in a higher band of `MOST_STEPS + 1` values; and within a band none is."""
+        """The animals without whose parents no path is too long. Along a path `down` grows from parent to parent, so
+        one that is too long comes to a parent in a higher band of `MOST_STEPS + 1` values; and within a band none
+        is."""
         band = MOST_STEPS + 1
         return [
             id
@@ -52,11 +53,19 @@ def too_deep(animals: dict[str, Animal], refused: list[Animal]) -> Mistake:
     more = steps - MOST_STEPS
     top = path[-more:][::-1]
     return Mistake(
-        f"{refused[0].where()}a path of parents would be longer than {MOST_STEPS} steps, which is the limit (refusal 10)",
-        f"the longest path has {steps} steps, {more} more than {MOST_STEPS}, from {youngest} up to {oldest}; "
-        f"its oldest {f'{more} animals are' if more > 1 else 'animal is'} {named(animals, top, MOST_SHOWN)}",
-        f"set the parents of {'these animals' if len(cut) > 1 else 'this animal'} to unknown, and no path is too long: "
-        f"{named(animals, cut, MOST_NAMED)}. To leave out rows of founders doesn't help: they are added again as parents",
+        (
+            f"{refused[0].where()}a path of parents would be longer than {MOST_STEPS} steps, which is the limit "
+            "(refusal 10)"
+        ),
+        (
+            f"the longest path has {steps} steps, {more} more than {MOST_STEPS}, from {youngest} up to {oldest}; "
+            f"its oldest {f'{more} animals are' if more > 1 else 'animal is'} {named(animals, top, MOST_SHOWN)}"
+        ),
+        (
+            f"set the parents of {'these animals' if len(cut) > 1 else 'this animal'} to unknown, and no path is too "
+            f"long: {named(animals, cut, MOST_NAMED)}. To leave out rows of founders doesn't help: they are added "
+            "again as parents"
+        ),
     )
 
 

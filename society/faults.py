@@ -20,7 +20,8 @@ WHY = {
 
 
 def leave_out_faulty_parents(taking: Taking, program: Herdbook) -> None:
-    """Files all animals without parents, and then asks for the parents of each, the oldest first, until none is refused."""
+    """Files all animals without parents, and then asks for the parents of each, the oldest first, until none is
+    refused."""
     by_age = taking.by_birth()
     first = [birth(animal.number, animal.born, "", "", 1, animal.embryo) for animal in by_age]
     first += [leave(animal.number, animal.left) for animal in by_age if animal.left]

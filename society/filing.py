@@ -32,8 +32,12 @@ class Filing:
         for place, refusal in refused.items():
             kind, number, day = commands[place][:3]
             on = f" on {day}" if day else ""
-            sentences.append(f"{by_number[number].where()}{kind}{on} is refused: {REFUSALS[refusal]} (refusal {refusal})")
-        raise Mistake(*sentences, f"nothing is taken (refused: {len(refused)}): mend these rows, and take the sheet again")
+            sentences.append(
+                f"{by_number[number].where()}{kind}{on} is refused: {REFUSALS[refusal]} (refusal {refusal})"
+            )
+        raise Mistake(
+            *sentences, f"nothing is taken (refused: {len(refused)}): mend these rows, and take the sheet again"
+        )
 
     def appended(self) -> list[Command] | None:
         """The book's commands and those that it lacks, or none where what stands in it has to be corrected."""
@@ -80,7 +84,8 @@ class Filing:
         return birth(animal.number, animal.born, sire, dam, herd, animal.embryo)
 
     def transfer_of(self, animal: Animal, record: Record) -> list[Command]:
-        """The transfer to another owner, on the day of the taking, or on that of the animal's exit where it left before."""
+        """The transfer to another owner, on the day of the taking, or on that of the animal's exit where it left
+        before."""
         herd = self.herd_of(animal.owner)
         if not animal.owner or herd == record.herd:
             return []
@@ -113,7 +118,9 @@ class Filing:
         if known.birth == animal.birth_inferred == INVENTED:
             # invented days are invented anew each time
             del pairs[1]
-        return [f"{what}: {after or 'none'}, before {before or 'none'}" for what, before, after in pairs if before != after]
+        return [
+            f"{what}: {after or 'none'}, before {before or 'none'}" for what, before, after in pairs if before != after
+        ]
 
 
 def exit_words(left: datetime.date | None, inferred: str) -> str:

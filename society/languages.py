@@ -77,7 +77,10 @@ TEXTS = {
         "Un parent inconnu n'est compté comme apparenté à aucun animal. Coefficients de Wright, calculés exactement.",
     ),
     "inferred note": (
-        "(inferred): not known for certain; inferred from the year, the parents, the offspring or a name when the sheet was taken.",
+        (
+            "(inferred): not known for certain; inferred from the year, the parents, the offspring or a name when the "
+            "sheet was taken."
+        ),
         "(erschlossen): nicht sicher bekannt; aus dem Jahr, den Eltern, den Nachkommen oder einem Namen erschlossen.",
         "(déduit) : non connu avec certitude ; déduit de l'année, des parents, des descendants ou d'un nom.",
     ),
@@ -105,7 +108,8 @@ class Language:
     def day(self, day: object) -> str:
         """A day, which is given as `2001-03-01`."""
         year, month, day_of_month = str(day).split("-")
-        return {"en": str(day), "de": f"{day_of_month}.{month}.{year}", "fr": f"{day_of_month}/{month}/{year}"}[self.name]
+        days = {"en": str(day), "de": f"{day_of_month}.{month}.{year}", "fr": f"{day_of_month}/{month}/{year}"}
+        return days[self.name]
 
     def decimal(self, number: str) -> str:
         return number if self.name == "en" else number.replace(".", ",")

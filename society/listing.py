@@ -53,7 +53,9 @@ def rows_of(book: Book, listed: Iterable[tuple[str, Coefficient]]) -> list[list[
     for number, coefficient in listed:
         known = names[number]
         day = f"{book.records[number].born}{known.birth_mark()}"
-        rows.append([known.id, known.name, number, day, coefficient.fraction, coefficient.decimal(), coefficient.percent])
+        rows.append(
+            [known.id, known.name, number, day, coefficient.fraction, coefficient.decimal(), coefficient.percent]
+        )
     return rows
 
 
@@ -92,7 +94,8 @@ def advise(book: Book, program: Herdbook, dam: Known, sires: list[Known], also_l
         left = len(males) - len(sires)
         if not sires:
             what = "living male with a row" if males else "male with a row" if without_row else "male"
-            hints = ["--left asks for those that left too"] * bool(left) + ["name those without a row"] * bool(without_row)
+            hints = ["--left asks for those that left too"] * bool(left)
+            hints += ["name those without a row"] * bool(without_row)
             raise Mistake(f"the book has no {what}{': ' * bool(hints)}{', and '.join(hints)}")
     numbers = list(dict.fromkeys(known.number for known in sires))
     names = book.by_number()

@@ -34,7 +34,8 @@ def scaled(value: str) -> int:
 
 
 def write_inverse(book: Book, program: Herdbook, path: pathlib.Path) -> tuple[int, int, pathlib.Path]:
-    """Writes the matrix and, beside it, the ids of its rows, one a line. Answers how many rows and elements there are."""
+    """Writes the matrix and, beside it, the ids of its rows, one a line. Answers how many rows and elements there
+    are."""
     order, elements = summed(book, program)
     names = book.by_number()
     unit = 1 << BITS

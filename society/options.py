@@ -10,8 +10,9 @@ from typing import NoReturn
 from society.languages import LANGUAGES
 from society.report import Mistake
 
-ABOUT = """Keeps a society's herd book in a folder: takes its spreadsheet, and writes lists, certificates, mating advice and
-pictures. Every refusal and every coefficient comes from the program herdbook; the front desk around it isn't proved."""
+ABOUT = """Keeps a society's herd book in a folder: takes its spreadsheet, and writes lists, certificates, mating advice
+and pictures. Every refusal and every coefficient comes from the program herdbook; the front desk around it isn't
+proved."""
 EXAMPLES = """examples:
   society/society take sheet.csv                     from a spreadsheet to a book in the folder `book`
   society/society list --out list.csv                all animals with their coefficients
@@ -79,7 +80,8 @@ def generations(text: str) -> int:
 
 
 def parser() -> Parser:
-    top = Parser(prog="society", description=ABOUT, epilog=EXAMPLES, formatter_class=argparse.RawDescriptionHelpFormatter)
+    as_written = argparse.RawDescriptionHelpFormatter
+    top = Parser(prog="society", description=ABOUT, epilog=EXAMPLES, formatter_class=as_written)
     words = top.add_subparsers(dest="word", metavar="WORD", required=True)
 
     def word(name: str, help: str, more: str = "") -> Parser:
@@ -90,7 +92,11 @@ def parser() -> Parser:
         )
         return one
 
-    take = word("take", "take a spreadsheet into the book", "The columns are known by their usual names in English, German and French.")
+    take = word(
+        "take",
+        "take a spreadsheet into the book",
+        "The columns are known by their usual names in English, German and French.",
+    )
     take.add_argument(
         "sheet", nargs="?", type=pathlib.Path, metavar="SHEET",
         help="the spreadsheet: CSV, or .xlsx where openpyxl is installed",
@@ -118,7 +124,9 @@ def parser() -> Parser:
     )
     take.add_argument("--day", type=day, default=datetime.date.today(), help="the day on which owners changed [today]")
     take.add_argument("--strict", action="store_true", help="take nothing where anything would be left out")
-    take.add_argument("--semicolons", action="store_true", help="write report.csv with semicolons, as some spreadsheets want it")
+    take.add_argument(
+        "--semicolons", action="store_true", help="write report.csv with semicolons, as some spreadsheets want it"
+    )
     take.add_argument(
         "--drop-gone", action="store_true",
         help="drop animals of the book that have no row any more and aren't ancestors of any that has one",
@@ -135,7 +143,9 @@ def parser() -> Parser:
         one.add_argument("--out", type=file, metavar="FILE", help="write to this file, not to the screen")
 
     certificate = word("certificate", "write an animal's certificate, a page of HTML for the printer")
-    certificate.add_argument("--title", default="", help="what stands above the animal [Certificate of pedigree, in the language]")
+    certificate.add_argument(
+        "--title", default="", help="what stands above the animal [Certificate of pedigree, in the language]"
+    )
     tree = word("pedigree", "draw an animal with its known ancestors, inbred ones marked")
     tree.add_argument("--generations", type=generations, default=4, metavar="N", help="how many, 1 to 10 [4]")
     for one in certificate, tree:

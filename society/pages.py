@@ -14,11 +14,15 @@ INBRED, INBRED_INK = "#fff3cf", "#b4560c"
 
 def escape(text: object) -> str:
     """The text for a page: characters that no page may have are left out."""
-    kept = "".join(one for one in str(text) if one >= " " and not 0xD800 <= ord(one) < 0xE000 and one not in "\ufffe\uffff")
+    kept = "".join(
+        one for one in str(text) if one >= " " and not 0xD800 <= ord(one) < 0xE000 and one not in "\ufffe\uffff"
+    )
     return html.escape(kept, quote=True)
 
 
-def text_at(x: float, y: float, what: str, colour: str, size: float, anchor: str = "start", weight: str = "normal") -> str:
+def text_at(
+    x: float, y: float, what: str, colour: str, size: float, anchor: str = "start", weight: str = "normal"
+) -> str:
     """A line of text in a picture, nothing where there is no text."""
     if not what:
         return ""

@@ -89,7 +89,8 @@ class Sexes:
             report.tell(CHANGED, animal.line, animal.id, f"taken with {couple}, {why}")
 
     def why_swapped(self, animal: Animal) -> str:
-        """Which animal is a sire in one line and a dam in another: a parent of this one, or one that couples join to it."""
+        """Which animal is a sire in one line and a dam in another: a parent of this one, or one that couples join to
+        it."""
         found = [(*self.both[parent], role, parent) for role, parent in animal.parents()]
         steps, both, role, parent = min(found, key=lambda one: one[0])
         calves = {one: self.calf[one][both] for one in self.calf}
@@ -99,7 +100,8 @@ class Sexes:
         return f"since {both}{joined} is a sire {place(calves['sire'])} and a dam {place(calves['dam'])}"
 
     def couples_round(self, animal: Animal) -> str:
-        """The couples that lead from the sire by mates to the dam, and with this animal's back: an odd number of them."""
+        """The couples that lead from the sire by mates to the dam, and with this animal's back: an odd number of
+        them."""
         up, down = self.way(animal.sire), self.way(animal.dam)
         while len(up) > 1 and len(down) > 1 and up[-2] == down[-2]:
             del up[-1], down[-1]

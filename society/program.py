@@ -46,9 +46,15 @@ class Herdbook:
         named = os.environ.get("HERDBOOK")
         self.path = pathlib.Path(named).absolute() if named else TOP / "herdbook"
         if not self.path.exists():
-            raise Mistake(f"{self.path}, the program of the herd book, isn't there: put its path into the variable HERDBOOK")
+            raise Mistake(
+                f"{self.path}, the program of the herd book, isn't there: put its path into the variable HERDBOOK"
+            )
         if not named and (TOP / "crates").exists() and not (TOP / "crates/herdbook/out/herdbook").exists():
-            print("society: the program herdbook is built first, which takes half an hour or more", file=sys.stderr, flush=True)
+            print(
+                "society: the program herdbook is built first, which takes half an hour or more",
+                file=sys.stderr,
+                flush=True,
+            )
             self.version(tell=True)
 
     def version(self, tell: bool = False) -> str:
@@ -90,6 +96,8 @@ class Herdbook:
         """The refusals of commands: for each refused one its place, from 0 on, and the refusal's number."""
         replies = self.run(["file"], text_of(commands)).splitlines()
         if len(replies) != len(commands):
-            raise Mistake(f"the program answered {len(replies)} of {len(commands)} commands: is {self.path} the right one?")
+            raise Mistake(
+                f"the program answered {len(replies)} of {len(commands)} commands: is {self.path} the right one?"
+            )
         refused = (line.split(",") for line in replies if line.endswith(",accepted") is False)
         return {int(serial) - 1: int(refusal) for serial, _, refusal in refused}

@@ -55,7 +55,11 @@ class Report:
     def left_out(self) -> str:
         """How many rows, cells and parents are left out, in words."""
         counts = collections.Counter(entry.part for entry in self.entries if entry.what == LEFT_OUT)
-        parts = [f"{counts[part]} {part}{'s' if counts[part] > 1 else ''}" for part in (ROW, LINE, CELL, PARENT) if counts[part]]
+        parts = [
+            f"{counts[part]} {part}{'s' if counts[part] > 1 else ''}"
+            for part in (ROW, LINE, CELL, PARENT)
+            if counts[part]
+        ]
         return f"{counts.total()} left out" + (f" ({', '.join(parts)})" if parts else "")
 
     def counts(self) -> collections.Counter[str]:

@@ -125,7 +125,8 @@ def read_workbook(path: pathlib.Path, data: bytes) -> tuple[list[Row], str]:
         import openpyxl
     except ImportError:
         raise Mistake(
-            f"{path} is an .xlsx file, and openpyxl, which reads these, isn't installed: save the sheet as CSV, and take that"
+            f"{path} is an .xlsx file, and openpyxl, which reads these, isn't installed: save the sheet as CSV, and "
+            "take that"
         ) from None
     try:
         workbook = openpyxl.load_workbook(io.BytesIO(data), read_only=True, data_only=True)
@@ -134,7 +135,9 @@ def read_workbook(path: pathlib.Path, data: bytes) -> tuple[list[Row], str]:
         sheet.reset_dimensions()
         values = list(sheet.iter_rows(values_only=True))
     except Exception as error:  # openpyxl raises whatever its parts raise
-        raise Mistake(f"{path} can't be read as an .xlsx file ({error}): save the sheet as CSV, and take that") from None
+        raise Mistake(
+            f"{path} can't be read as an .xlsx file ({error}): save the sheet as CSV, and take that"
+        ) from None
     rows = [Row(line, [cell_text(value) for value in cells]) for line, cells in enumerate(values, 1)]
     first = f"the first of {len(workbook.worksheets)} sheets of " if len(workbook.worksheets) > 1 else ""
     return [row for row in rows if any(row.cells)], f"{first}an .xlsx file"

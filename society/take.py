@@ -67,8 +67,8 @@ def take_sheet(path: pathlib.Path, wishes: Wishes) -> None:
 
 
 def remember(book: Book, wishes: Wishes) -> dict[str, list[str]]:
-    """The words of the three options that say how cells are read: those that the book remembers, and then those that are
-    given now, which stay in the book."""
+    """The words of the three options that say how cells are read: those that the book remembers, and then those that
+    are given now, which stay in the book."""
     now = {"columns": wishes.columns, "unknown": wishes.unknown, "sexes": wishes.sexes}
     before = {option: [word for one, word in book.options if one == option] for option in now}
     both = {option: [word for word in before[option] if word not in now[option]] + now[option] for option in now}
@@ -101,7 +101,8 @@ def take_pedigree(path: pathlib.Path, wishes: Wishes) -> None:
 
 
 def finish(taking: Taking, program: Herdbook, wishes: Wishes, about: list[str], invented: int) -> None:
-    """Files the book, and writes it only where nothing is refused. What is told comes last, first of all what it is about."""
+    """Files the book, and writes it only where nothing is refused. What is told comes last, first of all what it is
+    about."""
     book, report = taking.book, taking.report
     taking.give_numbers(wishes.breed, wishes.country)
     leave_out_faulty_parents(taking, program)
@@ -123,9 +124,13 @@ def finish(taking: Taking, program: Herdbook, wishes: Wishes, about: list[str], 
         print(f"{book.path} is written anew, since something in it was corrected or dropped")
     counts = report.counts()
     if counts[GONE] and not wishes.drop_gone:
-        print("those that are gone stay: with --drop-gone they are dropped, but for the ancestors of animals that have a row")
+        print(
+            "those that are gone stay: with --drop-gone they are dropped, but for the ancestors of animals that have "
+            "a row"
+        )
     print("".join(f"{sentence}\n" for sentence in report.advice), end="")
-    inferred = [f"{invented} invented"] * bool(invented) + [f"{counts[INFERRED]} inferred"] * bool(counts[INFERRED] or not invented)
+    inferred = [f"{invented} invented"] * bool(invented)
+    inferred += [f"{counts[INFERRED]} inferred"] * bool(counts[INFERRED] or not invented)
     each = f": {book.folder / REPORT} has each" if report.entries else ""
     print(
         f"{book.folder}: {len(taking.animals)} animals, {new} new, {counts[CHANGED]} changed, {', '.join(inferred)}, "
@@ -134,8 +139,8 @@ def finish(taking: Taking, program: Herdbook, wishes: Wishes, about: list[str], 
 
 
 def show(report: Report, path: pathlib.Path) -> None:
-    """The first entries of each kind, and of what is left out the first rows, cells and parents; but no new animals, which
-    are as the sheet has them."""
+    """The first entries of each kind, and of what is left out the first rows, cells and parents; but no new animals,
+    which are as the sheet has them."""
     for what in ORDER:
         shown: collections.Counter[str] = collections.Counter()
         for entry in report.in_order():

@@ -44,7 +44,10 @@ class Taking:
         Names(self.animals, self.report).add_parents()
         if len(self.animals) > MOST_ANIMALS:
             many = f"the sheet and the book have {len(self.animals):,} animals together"
-            raise Mistake(f"{many}, and a book holds at most {MOST_ANIMALS:,}: leave out the oldest, and take the rest with --drop-gone")
+            raise Mistake(
+                f"{many}, and a book holds at most {MOST_ANIMALS:,}: leave out the oldest, and take the rest with "
+                "--drop-gone"
+            )
 
     def keep(self, animal: Animal) -> None:
         """What the sheet has no column for, or no text that can be read, stays as it is in the book."""
@@ -83,7 +86,8 @@ class Taking:
         return self.names[number].id if number else ""
 
     def leave_out_unread_sexes(self) -> None:
-        """The row of an animal whose sex can't be read is left out, where neither the book nor any offspring says it."""
+        """The row of an animal whose sex can't be read is left out, where neither the book nor any offspring says
+        it."""
         for animal in self.animals.values():
             for role, parent in animal.parents():
                 self.roles.setdefault(parent, role)
@@ -94,8 +98,8 @@ class Taking:
                 del self.animals[id]
 
     def find_sexes(self) -> None:
-        """An animal without a sex has that of the first parent that it is, or else that of the book; else it is taken for
-        a female."""
+        """An animal without a sex has that of the first parent that it is, or else that of the book; else it is taken
+        for a female."""
         for id, animal in self.animals.items():
             if animal.sex:
                 continue
@@ -117,8 +121,8 @@ class Taking:
         Days(self.animals, kept).infer(self.report)
 
     def give_numbers(self, breed: str, country: str) -> None:
-        """An animal that is or was in the book keeps its twelve digits; new ones go on from the greatest, by birth day and
-        id. No number of a dropped animal is given to another."""
+        """An animal that is or was in the book keeps its twelve digits; new ones go on from the greatest, by birth day
+        and id. No number of a dropped animal is given to another."""
         last = 0
         for id, known in (self.book.dropped | self.book.known).items():
             animal = self.animals.get(id)
@@ -136,8 +140,8 @@ class Taking:
         return {id: replace(known, row="dropped") for id, known in before.items() if id not in self.animals}
 
     def written_parents(self) -> dict[tuple[str, str], str]:
-        """The texts of parents that were left out, or are written by their names; those of the book where the sheet doesn't
-        give the parent."""
+        """The texts of parents that were left out, or are written by their names; those of the book where the sheet
+        doesn't give the parent."""
         found = {}
         for (id, role), text in self.book.written.items():
             animal, record = self.animals.get(id), self.record(id)

@@ -73,7 +73,9 @@ def all_ancestors(book: Book, number: str) -> set[str]:
     return found
 
 
-def tree_picture(book: Book, known: Known, coefficients: dict[str, Coefficient], generations: int, language: Language) -> str:
+def tree_picture(
+    book: Book, known: Known, coefficients: dict[str, Coefficient], generations: int, language: Language
+) -> str:
     names = book.by_number()
     root, rows = grow(book, known.number, 0, generations, 0.0)
     nodes = nodes_of(root)
@@ -82,7 +84,9 @@ def tree_picture(book: Book, known: Known, coefficients: dict[str, Coefficient],
     width = max(width, 620)
     height = HEAD + rows * ROW + FOOT
     parts = [link(node, parent) for node in nodes for parent in node.parents]
-    parts += [box(book, node, names[node.number], coefficients[node.number], times[node.number], language) for node in nodes]
+    parts += [
+        box(book, node, names[node.number], coefficients[node.number], times[node.number], language) for node in nodes
+    ]
     hidden = len(all_ancestors(book, known.number) - set(times))
     return picture(parts, known, width, height, len(times) - 1, hidden, language.texts)
 
@@ -110,7 +114,10 @@ def box(book: Book, node: Node, known: Known, coefficient: Coefficient, times: i
     texts = language.texts
     facts = [year_of(book, known, language)] + ([texts["drawn times"].format(times)] if times > 1 else [])
     day = language.marked(language.day(book.records[known.number].born), known.birth_mark())
-    tip = f"{known.id} {known.name}".strip() + f", {known.number}, {texts['born on'].format(day)}, F {coefficient.fraction}"
+    tip = (
+        f"{known.id} {known.name}".strip()
+        + f", {known.number}, {texts['born on'].format(day)}, F {coefficient.fraction}"
+    )
     # a coefficient stands at the end of the second line
     told = [shortened(known.name, 14 if inbred else 24)] * bool(known.name or inbred) + [", ".join(facts)]
     id_size = max(10.0, min(15.0, 15 * 20 / len(known.id)))
@@ -122,11 +129,15 @@ def box(book: Book, node: Node, known: Known, coefficient: Coefficient, times: i
     ]
     lines += [text_at(x + 12, y + 37 + 16 * at, what, GREY, 13) for at, what in enumerate(told)]
     if inbred:
-        lines.append(text_at(x + BOX_WIDTH - 10, y + 37, language.percent_of(coefficient), INBRED_INK, 13.5, "end", "bold"))
+        lines.append(
+            text_at(x + BOX_WIDTH - 10, y + 37, language.percent_of(coefficient), INBRED_INK, 13.5, "end", "bold")
+        )
     return "".join(lines) + "</g>"
 
 
-def picture(parts: list[str], known: Known, width: float, height: float, drawn: int, hidden: int, texts: dict[str, str]) -> str:
+def picture(
+    parts: list[str], known: Known, width: float, height: float, drawn: int, hidden: int, texts: dict[str, str]
+) -> str:
     title = texts["pedigree of"].format(known.id) + (f", {known.name}" if known.name else "")
     note = texts["ancestors"].format(drawn) + (texts["hidden"].format(hidden) if hidden else "")
     y = height - 34

@@ -51,7 +51,9 @@ def scale_for(value: float, least: float, steps: tuple[float, ...]) -> float:
 def trend_picture(book: Book, coefficients: dict[str, Coefficient], language: Language) -> str:
     years, without = years_of(book, coefficients)
     if not years:
-        raise Mistake("no animal of the book has a known birth year, so there is no trend to draw: take a sheet with birth days")
+        raise Mistake(
+            "no animal of the book has a known birth year, so there is no trend to draw: take a sheet with birth days"
+        )
     first, last = years[0].year, years[-1].year
     step = (WIDTH - LEFT - RIGHT) / (last - first + 1)
     most_percent = scale_for(float(max(year.mean for year in years)) * 100, 0.04, (1, 1.5, 2, 2.5, 3, 4, 5, 6, 8, 10))
@@ -86,13 +88,18 @@ def axes(most_percent: float, most_count: float, y, language: Language) -> list[
     for at in range(5):
         height = y(at / 4)
         parts.append(f'<line x1="{LEFT}" y1="{height:.1f}" x2="{WIDTH - RIGHT}" y2="{height:.1f}" stroke="#e3e7eb"/>')
-        parts.append(text_at(LEFT - 10, height + 5, language.percent(f"{most_percent * at / 4:.4g}"), INBRED_INK, 15, "end"))
+        parts.append(
+            text_at(LEFT - 10, height + 5, language.percent(f"{most_percent * at / 4:.4g}"), INBRED_INK, 15, "end")
+        )
         parts.append(text_at(WIDTH - RIGHT + 10, height + 5, f"{most_count * at / 4:.6g}", GREY, 15))
     return parts
 
 
 def dot(x: float, y: float, within: str) -> str:
-    return f'<circle cx="{x:.1f}" cy="{y:.1f}" r="4" fill="{PAPER}" stroke="{INBRED_INK}" stroke-width="2.5">{within}</circle>'
+    return (
+        f'<circle cx="{x:.1f}" cy="{y:.1f}" r="4" fill="{PAPER}" stroke="{INBRED_INK}"'
+        f' stroke-width="2.5">{within}</circle>'
+    )
 
 
 def bar(year: Year, x: float, top: float, bottom: float, step: float, language: Language) -> str:

@@ -64,11 +64,17 @@ def split(text: str) -> list[Line]:
     lines = [(number, part) for number, part in numbered if part.strip() and not part.lstrip().startswith("#")]
     separator = next((one for one in ";\t," if lines and one in lines[0][1]), None)
     if separator:
-        return [Line(number, [cell.strip() for cell in next(csv.reader([part], delimiter=separator))]) for number, part in lines]
+        return [
+            Line(number, [cell.strip() for cell in next(csv.reader([part], delimiter=separator))])
+            for number, part in lines
+        ]
     for number, part in lines:
         other = next((one for one in (";", ",") if one in re.sub('"[^"]*"', "", part)), None)
         if other:
-            why = f"has '{other}', and the first line has blanks between its cells: write all lines with the same between them"
+            why = (
+                f"has '{other}', and the first line has blanks between its cells: write all lines with the same between"
+                " them"
+            )
             raise Mistake(f"line {number}: '{part.strip()}' {why}")
     return [Line(number, [cell.strip('"').strip() for cell in CELL.findall(part)]) for number, part in lines]
 
@@ -85,14 +91,17 @@ def check_cells(line: Line, titles: Line | None, last: int) -> None:
         )
     if titles and any(line.cells[len(titles.cells) :]):
         raise Mistake(
-            f"{line} has {count} cells, and line {titles.number} has {len(titles.cells)} titles: write one for each column "
-            "(R writes such a file without row.names = FALSE), or an id with blanks in quotation marks"
+            f"{line} has {count} cells, and line {titles.number} has {len(titles.cells)} titles: write one for each "
+            "column (R writes such a file without row.names = FALSE), or an id with blanks in quotation marks"
         )
 
 
 def has_titles(cells: list[str]) -> bool:
     """Two usual titles, or that of ids in the first place."""
-    return plain(cells[0]) in KNOWN_TITLES["id"] or sum(plain(cell) in KNOWN_TITLES[field] for cell in cells for field in FIELDS) >= 2
+    return (
+        plain(cells[0]) in KNOWN_TITLES["id"]
+        or sum(plain(cell) in KNOWN_TITLES[field] for cell in cells for field in FIELDS) >= 2
+    )
 
 
 def title_places(line: Line) -> list[int]:

@@ -9,8 +9,14 @@ from society.report import Mistake
 # what to do where most cells of a column can't be read
 ADVICE = {
     "sex": "write M or F, or say which sex each word is, as --sexes {word}=m or {word}=f",
-    "birth": "write days as 2001-03-01 or 01.03.2001, or 03.2001 or 2001 alone; or name another column, as --columns birth=TITLE",
-    "exit": "write days as 2001-03-01 or 01.03.2001; or name another column, as --columns exit=TITLE, or none, as --columns exit=",
+    "birth": (
+        "write days as 2001-03-01 or 01.03.2001, or 03.2001 or 2001 alone; or name another column, as --columns "
+        "birth=TITLE"
+    ),
+    "exit": (
+        "write days as 2001-03-01 or 01.03.2001; or name another column, as --columns exit=TITLE, or none, as --columns"
+        " exit="
+    ),
     "embryo": "write 1 or nothing; or name another column, as --columns embryo=TITLE, or none, as --columns embryo=",
 }
 

@@ -108,7 +108,10 @@ def do(asked: argparse.Namespace) -> None:
         mating(asked, book, program)
     elif asked.word == "inverse":
         rows, elements, ids = write_inverse(book, program, asked.matrix_market)
-        print(f"{asked.matrix_market}: {rows} rows, {elements} elements of the lower triangle; {ids} has the ids of the rows")
+        print(
+            f"{asked.matrix_market}: {rows} rows, {elements} elements of the lower triangle; {ids} has the ids of the "
+            "rows"
+        )
     else:
         draw(asked, book, program)
     for note in book.notes:
@@ -135,7 +138,9 @@ def main(words: list[str]) -> int:
     except OSError as error:
         sentences = (f"{error.filename or 'a file'}: {error.strerror or error}",)
     except Exception as error:  # a fault of the front desk itself, told without a traceback
-        sentences = (f"a fault of the front desk itself ({type(error).__name__}: {error}): please report it, with the sheet",)
+        sentences = (
+            f"a fault of the front desk itself ({type(error).__name__}: {error}): please report it, with the sheet",
+        )
     for sentence in sentences:
         print(f"society: {sentence}", file=sys.stderr)
     return 1

@@ -1,4 +1,5 @@
-# The inverse relationship matrix in SciPy, sparse, from what `society/society inverse --matrix-market FILE` writes: inverse_scipy.py FILE
+# inverse_scipy.py FILE: the inverse relationship matrix in SciPy, sparse, from what
+# `society/society inverse --matrix-market FILE` writes
 import sys
 from scipy.io import mmread
 inverse = mmread(sys.argv[1]).tocsr()

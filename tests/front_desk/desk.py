@@ -39,7 +39,9 @@ class Desk:
         command = [sys.executable, str(TOP / "society/society"), *words]
         done = subprocess.run(command, cwd=self.room, env=env, capture_output=True, timeout=SECONDS)
         found = Done(done.returncode, done.stdout.decode(), done.stderr.decode())
-        self.checks.count("Traceback" not in found.err and "fault of the front desk" not in found.err, f"{words}: {found}")
+        self.checks.count(
+            "Traceback" not in found.err and "fault of the front desk" not in found.err, f"{words}: {found}"
+        )
         return found
 
     def good(self, *words: str) -> Done:
@@ -78,7 +80,11 @@ class Desk:
 
     def parents(self) -> dict[str, tuple[str, str]]:
         """The parents of each animal after the last command that sets them, by ids."""
-        found = {line.split(",")[1]: line.split(",")[3:5] for line in self.commands() if line.split(",")[0] in ("birth", "parents")}
+        found = {
+            line.split(",")[1]: line.split(",")[3:5]
+            for line in self.commands()
+            if line.split(",")[0] in ("birth", "parents")
+        }
         ids = {number: id for id, number in self.numbers().items()} | {"0": ""}
         return {ids[number]: (ids[sire], ids[dam]) for number, (sire, dam) in found.items()}
 

@@ -20,7 +20,10 @@ class PageChecks(Checks):
         for id in born.keys() - {her.undated, her.imported}:
             years.setdefault(born[id][:4], []).append(values[id])
         for year, those in years.items():
-            self.count(f"{year}: {float(sum(those) / len(those)) * 100:.2f}% in the mean of {len(those)}" in tips, f"trend: {year}")
+            self.count(
+                f"{year}: {float(sum(those) / len(those)) * 100:.2f}% in the mean of {len(those)}" in tips,
+                f"trend: {year}",
+            )
             self.count(f"{year}: {len(those)} animals" in tips, f"trend: {year}")
         self.count("2 more have no known birth year" in "".join(picture.itertext()), "trend: the note")
         youngest = max((row["Ohrmarke"] for row in her.rows), key=lambda id: (born[id], id))
@@ -33,22 +36,38 @@ class PageChecks(Checks):
                 drawn += level
             picture = desk.page("tree.svg")
             tips = [title.text.split(",")[0] for title in picture.iter("{http://www.w3.org/2000/svg}title")]
-            self.count(sorted(tip.split(" ")[0] for tip in tips) == sorted(id.split(" ")[0] for id in drawn), f"pedigree: {tips}")
+            self.count(
+                sorted(tip.split(" ")[0] for tip in tips) == sorted(id.split(" ")[0] for id in drawn),
+                f"pedigree: {tips}",
+            )
             words = "".join(picture.itertext())
-            self.count(words.count("F\u00a0") == sum(values[id] > 0 for id in drawn) and words.count("F\u00a0") >= sum(values[id] > 0 for id in drawn), "pedigree: inbred ones are marked")
+            self.count(
+                words.count("F\u00a0") == sum(values[id] > 0 for id in drawn)
+                and words.count("F\u00a0") >= sum(values[id] > 0 for id in drawn),
+                "pedigree: inbred ones are marked",
+            )
         self.count(f"{len(set(drawn)) - 1} known ancestors" in words, "pedigree: the note")
 
     def escaped(self) -> None:
         """Whatever a sheet has in its cells, pages and pictures are well-formed and show it."""
         desk = Desk(self, "escaped")
         ids = ["<b>&amp;\"'", "</td>", "]]>", "a,b;c", "100 %", "é\u0301", "\U0001f404"]
-        rows = [{"id": id, "name": f"<i>{id}&", "sex": "MF"[at % 2], "born": f"200{at}", "sire": ids[0] if at else "", "dam": "", "owner": f"&{id}"} for at, id in enumerate(ids)]
+        rows = [
+            {
+                "id": id, "name": f"<i>{id}&", "sex": "MF"[at % 2], "born": f"200{at}", "sire": ids[0] if at else "",
+                "dam": "", "owner": f"&{id}",
+            }
+            for at, id in enumerate(ids)
+        ]
         desk.take(sheet_text(rows, ","))
         self.count([row["id"] for row in desk.listed("list")] == ids, "list: ids as they are")
         for id in ids:
             desk.good("certificate", id, "--out", "page.html", "--title", "<&>")
             desk.good("pedigree", id, "--out", "page.svg")
-            self.count(id in "".join(desk.page("page.html").itertext()) and id in "".join(desk.page("page.svg").itertext()), f"{id}")
+            self.count(
+                id in "".join(desk.page("page.html").itertext()) and id in "".join(desk.page("page.svg").itertext()),
+                f"{id}",
+            )
 
     def languages(self) -> None:
         """A certificate in three languages: other words, and the same ids, days and numbers."""
@@ -57,14 +76,25 @@ class PageChecks(Checks):
         calf = next(row["Ohrmarke"] for row in her.rows if row["Mutter"] == her.undated)
         pages = {}
         for language, words in [
-            ("en", ["Certificate of pedigree", "Coefficient of inbreeding", "Sire's dam", "Owner since", "(inferred)", "(inferred): not known for certain", "An unknown parent counts"]),
-            ("de", ["Abstammungsnachweis", "Inzuchtkoeffizient", "Vatersmutter", "Besitzer seit", "(erschlossen)", "(erschlossen): nicht sicher bekannt", "Unbekannte Eltern gelten"]),
-            ("fr", ["Certificat généalogique", "Coefficient de consanguinité", "Mère du père", "Propriétaire depuis", "(déduit)", "(déduit) : non connu avec", "Un parent inconnu n'est"]),
+            ("en", [
+                "Certificate of pedigree", "Coefficient of inbreeding", "Sire's dam", "Owner since", "(inferred)",
+                "(inferred): not known for certain", "An unknown parent counts",
+            ]),
+            ("de", [
+                "Abstammungsnachweis", "Inzuchtkoeffizient", "Vatersmutter", "Besitzer seit", "(erschlossen)",
+                "(erschlossen): nicht sicher bekannt", "Unbekannte Eltern gelten",
+            ]),
+            ("fr", [
+                "Certificat généalogique", "Coefficient de consanguinité", "Mère du père", "Propriétaire depuis",
+                "(déduit)", "(déduit) : non connu avec", "Un parent inconnu n'est",
+            ]),
         ]:  # fmt: skip
             desk.good("certificate", calf, "--language", language, "--out", "page.html")
             page = desk.page("page.html")
             text = " ".join(page.itertext())
-            self.count(page.get("lang") == language and all(word in text for word in words), f"{language}: {text[-1500:]}")
+            self.count(
+                page.get("lang") == language and all(word in text for word in words), f"{language}: {text[-1500:]}"
+            )
             body = next(part for part in page if part.tag.endswith("body"))
             text = " ".join(body.itertext())
             self.written(language, text)
@@ -74,7 +104,10 @@ class PageChecks(Checks):
             numbers = re.findall(r"[A-Z]{6}[MF]\d{12}|[A-Z]+-\d\d/\d+|\d{4}-\d\d-\d\d|\d+/\d+|\d+\.\d+", text)
             pages[language] = numbers, [word for word in re.findall(r"[^\W\d_]{3,}", " ".join(body.itertext()))]
         self.count(pages["en"][0] == pages["de"][0] == pages["fr"][0] and len(pages["en"][0]) > 20, f"numbers: {pages}")
-        english = {"Sire", "Dam", "Born", "Left", "Owner", "unknown", "inferred", "male", "female", "Number", "Pedigree", "society", "the"}
+        english = {
+            "Sire", "Dam", "Born", "Left", "Owner", "unknown", "inferred", "male", "female", "Number", "Pedigree",
+            "society", "the",
+        }
         for language in "de", "fr":
             self.count(not english & set(pages[language][1]), f"{language}: {english & set(pages[language][1])}")
         desk.good("certificate", calf, "--language", "de", "--title", "Zuchtbescheinigung", "--out", "page.html")
@@ -83,11 +116,17 @@ class PageChecks(Checks):
         desk.good("take", "--pedigree", desk.write("one.txt", "x 0 0\n"), "--book", "one")
         desk.good("certificate", "x", "--book", "one", "--out", "x.html", "--language", "de")
         text = "".join(desk.page("x.html").itertext())
-        self.count(text.count(" (erfunden)") == 2 and "(erfunden): die Abstammung hat weder" in text, f"invented: {text}")
+        self.count(
+            text.count(" (erfunden)") == 2 and "(erfunden): die Abstammung hat weder" in text, f"invented: {text}"
+        )
 
     def written(self, language: str, text: str) -> None:
         """Days, decimals and percentages are written as in the language."""
-        forms = {"en": (r"\d{4}-\d\d-\d\d", r"\d\.\d+%"), "de": (r"\d\d\.\d\d\.\d{4}", r"\d,\d+\u00a0%"), "fr": (r"\d\d/\d\d/\d{4}", r"\d,\d+\u202f%")}
+        forms = {
+            "en": (r"\d{4}-\d\d-\d\d", r"\d\.\d+%"),
+            "de": (r"\d\d\.\d\d\.\d{4}", r"\d,\d+\u00a0%"),
+            "fr": (r"\d\d/\d\d/\d{4}", r"\d,\d+\u202f%"),
+        }
         for one, (day, percent) in forms.items():
             has = re.search(day, text) and re.search(percent, text)
             self.count(bool(has) == (one == language), f"{language}: days and percentages as in {one}: {text}")
@@ -97,4 +136,6 @@ class PageChecks(Checks):
         top = desk.good("--help").out
         for word in "take", "list", "certificate", "mating", "trend", "pedigree", "inverse":
             shown = desk.good(word, "--help").out
-            self.count(word in top and "--book FOLDER" in shown and "usage: society " + word in shown, f"help: {word}: {shown}")
+            self.count(
+                word in top and "--book FOLDER" in shown and "usage: society " + word in shown, f"help: {word}: {shown}"
+            )

@@ -31,17 +31,32 @@ class InferringChecks(Checks):
             """
         )
         exits = Desk(self, "exits")
-        taken = exits.take("id,sex,born,sire,dam,exit\ncow,F,2001-01-01,,,2006-03-04\ncalf,F,,,cow,\nown,F,,,cow,2002-01-01\nlater,F,2010-01-01,,calf,\n")
-        self.count(exits.born()["calf"] == "2006-03-04" and exits.born()["own"] == "2002-01-01" and " 0 left out" in taken.last, f"{exits.born()}")
+        taken = exits.take(
+            "id,sex,born,sire,dam,exit\ncow,F,2001-01-01,,,2006-03-04\ncalf,F,,,cow,\nown,F,,,cow,2002-01-01\n"
+            "later,F,2010-01-01,,calf,\n"
+        )
+        self.count(
+            exits.born()["calf"] == "2006-03-04"
+            and exits.born()["own"] == "2002-01-01"
+            and " 0 left out" in taken.last,
+            f"{exits.born()}",
+        )
         born = desk.born()
         wanted = {
-            "year": "2001-07-02", "month": "2002-03-16", "squeezed": "2001-12-31", "calves": "2008-05-06", "parents": "2004-03-15", "between": "2001-12-31",
-            "first": "1900-01-01", "chain1": "1997-01-03", "chain2": "1999-01-03", "mate": "2002-03-16", "theirs": "2004-03-15", "early": "2005-03-03",
+            "year": "2001-07-02", "month": "2002-03-16", "squeezed": "2001-12-31", "calves": "2008-05-06",
+            "parents": "2004-03-15", "between": "2001-12-31",
+            "first": "1900-01-01", "chain1": "1997-01-03", "chain2": "1999-01-03", "mate": "2002-03-16",
+            "theirs": "2004-03-15", "early": "2005-03-03",
         }  # fmt: skip
         self.count(wanted.items() <= born.items(), f"inferred days: {born}")
         self.count(" 12 inferred, 0 left out" in done.last, done.last)
         marks = {row["id"]: row["birth"] for row in desk.table("book/ids.csv") if row["birth"]}
-        self.count(marks.keys() == wanted.keys() and marks["year"] == "from the year 2001" and marks["calves"] == "from its offspring", f"marks: {marks}")
+        self.count(
+            marks.keys() == wanted.keys()
+            and marks["year"] == "from the year 2001"
+            and marks["calves"] == "from its offspring",
+            f"marks: {marks}",
+        )
         listed = {row["id"]: row["birth"] for row in desk.listed("list")}
         self.count(all(listed[id] == born[id] + (" (inferred)" if id in wanted else "") for id in born), f"{listed}")
 
@@ -50,12 +65,21 @@ class InferringChecks(Checks):
         desk = Desk(self, "come")
         desk.take("id,sex,born,sire,dam\nmother,F,,,\ncalf,M,2005-06-07,,mother\nyear,F,2003,,\n")
         before, numbers = desk.born(), desk.numbers()
-        done = desk.take("id,sex,born,sire,dam\nmother,F,,,\ncalf,M,2005-06-07,,mother\nyear,F,02.02.2003,,\nelder,M,2004-08-08,,mother\n")
+        done = desk.take(
+            "id,sex,born,sire,dam\nmother,F,,,\ncalf,M,2005-06-07,,mother\nyear,F,02.02.2003,,\n"
+            "elder,M,2004-08-08,,mother\n"
+        )
         after = desk.born()
-        self.count((before["mother"], after["mother"], after["year"]) == ("2003-06-08", "2003-06-08", "2003-02-02"), f"{before}, {after}")
+        self.count(
+            (before["mother"], after["mother"], after["year"]) == ("2003-06-08", "2003-06-08", "2003-02-02"),
+            f"{before}, {after}",
+        )
         self.count(desk.numbers().items() >= numbers.items(), "numbers stay")
         self.told(done, "line 4: year: changed: birth day: 2003-02-02, before 2003-07-02")
-        done = desk.take("id,sex,born,sire,dam\nmother,F,,,\ncalf,M,2005-06-07,,mother\nyear,F,,,\nelder,M,2004-08-08,,mother\neldest,M,2003-01-01,,mother\n")
+        done = desk.take(
+            "id,sex,born,sire,dam\nmother,F,,,\ncalf,M,2005-06-07,,mother\nyear,F,,,\nelder,M,2004-08-08,,mother\n"
+            "eldest,M,2003-01-01,,mother\n"
+        )
         self.count(desk.born()["mother"] == "2002-12-31" and desk.born()["year"] == "2003-02-02", f"{desk.born()}")
         self.told(done, "line 4: year: inferred: birth day 2003-02-02, as in the book, since its cell gives none")
 
@@ -63,20 +87,39 @@ class InferringChecks(Checks):
         """Without a column of sexes a sire is male and a dam female; what is corrected keeps its digits."""
         desk = Desk(self, "sexes")
         done = desk.take("id,born,sire,dam\na,2001-01-01,,\nb,2001-02-01,,\nc,2003-01-01,a,b\nd,2004-01-01,,\n")
-        self.count([number[6] for number in desk.numbers().values()] == ["M", "F", "F", "F"] and " 4 inferred" in done.last, f"{desk.numbers()}")
-        desk.take("id,born,sire,dam\na,2001-01-01,,\nb,2001-02-01,,\nc,2003-01-01,a,b\nd,2004-01-01,,\ne,2008-01-01,d,c\n")
+        self.count(
+            [number[6] for number in desk.numbers().values()] == ["M", "F", "F", "F"] and " 4 inferred" in done.last,
+            f"{desk.numbers()}",
+        )
+        desk.take(
+            "id,born,sire,dam\na,2001-01-01,,\nb,2001-02-01,,\nc,2003-01-01,a,b\nd,2004-01-01,,\ne,2008-01-01,d,c\n"
+        )
         self.count(desk.numbers()["d"] == "HOLGBRM000000000004", f"{desk.numbers()}")
-        done = desk.take("id,sex,born,sire,dam\na,M,2001-01-01,,\nb,F,2001-02-01,,\nc,M,2003-01-01,a,b\nd,M,2004-01-01,,\ne,F,2008-01-01,d,c\n")
+        done = desk.take(
+            "id,sex,born,sire,dam\na,M,2001-01-01,,\nb,F,2001-02-01,,\nc,M,2003-01-01,a,b\nd,M,2004-01-01,,\n"
+            "e,F,2008-01-01,d,c\n"
+        )
         self.count(desk.numbers()["c"] == "HOLGBRM000000000003", f"{desk.numbers()}")
         self.told(done, "line 6: e: its dam c (line 4) is left out: it isn't female (refusal 6)")
-        self.told(done, "line 4: c: changed: number: HOLGBRM000000000003, before HOLGBRF000000000003", "line 6: e: changed: dam: none, before c")
+        self.told(
+            done,
+            "line 4: c: changed: number: HOLGBRM000000000003, before HOLGBRF000000000003",
+            "line 6: e: changed: dam: none, before c",
+        )
 
         both = Desk(self, "both")
         done = both.take("id,born,sire,dam\na,2001,,\nb,2003,a,\nc,2004,,a\n")
-        self.told(done, "line 4: c: its dam a (line 2) is left out: it isn't female (refusal 6); its sex is inferred: male, since it is a sire")
+        self.told(
+            done,
+            (
+                "line 4: c: its dam a (line 2) is left out: it isn't female (refusal 6); its sex is inferred: male,"
+                " since it is a sire"
+            ),
+        )
 
     def named_parents(self) -> None:
-        """A parent that is no id, but one animal's name, is that animal where it can be it; it is told with the line."""
+        """A parent that is no id, but one animal's name, is that animal where it can be it; it is told with the
+        line."""
         desk = Desk(self, "names")
         sheet = """\
             id;name;sex;born;sire;dam
@@ -101,18 +144,27 @@ class InferringChecks(Checks):
             f"line 9: L1: inferred: its dam 'änne' is E3 by its name: {meant}",
             f"line 10: L2: inferred: its sire 'Max' is R1 by its name: {meant}",
             f"line 13: L6: inferred: its dam 'Rosi' is E4 by its name: {meant}",
-            "line 10: Lotte: added: the dam of L2 has no row: added without parents (2 animals have this name, E1, E2: write the id of the one that is meant)",
+            (
+                "line 10: Lotte: added: the dam of L2 has no row: added without parents (2 animals have this name, E1,"
+                " E2: write the id of the one that is meant)"
+            ),
             "line 11: Leo: added: the sire of L3 and of 1 more has no row: added without parents (is R5 meant?)",
-            "line 11: Moritz: added: the dam of L3 has no row: added without parents (2 animals have this name, R2, L1: write the id of the one that is meant)",
+            (
+                "line 11: Moritz: added: the dam of L3 has no row: added without parents (2 animals have this name, R2,"
+                " L1: write the id of the one that is meant)"
+            ),
             "line 12: Rosi: added: the sire of L4 has no row: added without parents (is E4 meant?)",
             "line 12: L4: its dam R1 (line 2) is left out: it isn't female (refusal 6)",
         )
         self.count(" 8 inferred, 1 left out (1 parent), 4 added, 0 gone" in done.last, done.last)
         parents = desk.parents()
-        wanted = {"L1": ("R2", "E3"), "L2": ("R1", "Lotte"), "L3": ("Leo", "Moritz"), "L4": ("Rosi", ""), "L6": ("Leo", "E4")}
+        wanted = {
+            "L1": ("R2", "E3"), "L2": ("R1", "Lotte"), "L3": ("Leo", "Moritz"), "L4": ("Rosi", ""), "L6": ("Leo", "E4"),
+        }
         self.count(wanted.items() <= parents.items(), f"{parents}")
         # a later animal of the name doesn't change what is in the book, but a new calf may be of either
-        done = desk.take(sheet + "E9;Änne;F;2010-01-01;;\nL5;;F;2012-01-01;;Moritz\nL9;;F;2012-01-01;;Änne\n".replace("\n", "\n            "))
+        more = "E9;Änne;F;2010-01-01;;\nL5;;F;2012-01-01;;Moritz\nL9;;F;2012-01-01;;Änne\n"
+        done = desk.take(sheet + more.replace("\n", "\n            "))
         self.count(desk.parents()["L1"] == ("R2", "E3") and " 0 changed" in done.last, f"{done}")
         self.count(desk.parents()["L9"] == ("", "Änne"), f"{desk.parents()}")
         # a row that comes later is found by its name, and a founder that stood for it is no parent any more
@@ -121,7 +173,12 @@ class InferringChecks(Checks):
         grown = "id,name,sex,born,sire,dam\nc,,F,2004-01-01,Hans,\nH1,Hans,M,2000-01-01,,\n"
         done = late.take(grown)
         stays = "no animal has it as a parent any more, and stays in the book as it is"
-        self.told(done, f"line 2: c: inferred: its sire 'Hans' is H1 by its name: {meant}", "line 2: c: changed: sire: H1, before Hans", f"Hans: gone: {stays}")
+        self.told(
+            done,
+            f"line 2: c: inferred: its sire 'Hans' is H1 by its name: {meant}",
+            "line 2: c: changed: sire: H1, before Hans",
+            f"Hans: gone: {stays}",
+        )
         self.count(", 1 gone: " in done.last and "with --drop-gone they are dropped" in done.out, f"{done}")
         self.told(done, "Hans: inferred: birth day 2002-01-01, as in the book")
         self.count(late.numbers()["Hans"] == "HOLGBRM000000000001", f"its number stays: {late.numbers()}")

@@ -27,21 +27,42 @@ class LeavingChecks(Checks):
         self.told(
             done,
             "line 4: self: its sire self is left out: self would be its own ancestor (self > self)",
-            "line 5: young: its dam late (line 6, born 2005-01-01) is left out: it isn't at least a day older (refusal 8); young was born 2004-01-01",
-            "line 7: after: its dam b (line 3, left 2003-01-01) is left out: it left on a day before the birth (refusal 9); "
-            "after was born 2004-02-01; offspring from a stored embryo needs 1 in the column embryo",
+            (
+                "line 5: young: its dam late (line 6, born 2005-01-01) is left out: it isn't at least a day older "
+                "(refusal 8); young was born 2004-01-01"
+            ),
+            (
+                "line 7: after: its dam b (line 3, left 2003-01-01) is left out: it left on a day before the birth "
+                "(refusal 9); after was born 2004-02-01; offspring from a stored embryo needs 1 in the column embryo"
+            ),
             "line 9: both: its sire b (line 3) is left out: it isn't male (refusal 5)",
             "line 9: both: its dam a (line 2) is left out: it isn't female (refusal 6)",
             "line 12: z: its sire y is left out: z would be its own ancestor (z > y > x > z)",
         )
-        self.count("11 animals, 11 new, 0 changed, 2 inferred, 6 left out (6 parents), 0 added, 0 gone" in done.last, done.last)
-        numbers, births = desk.numbers(), {line.split(",")[1]: line.split(",")[3:5] for line in desk.commands() if line.startswith("birth")}
+        self.count(
+            "11 animals, 11 new, 0 changed, 2 inferred, 6 left out (6 parents), 0 added, 0 gone" in done.last, done.last
+        )
+        numbers, births = desk.numbers(), {
+            line.split(",")[1]: line.split(",")[3:5] for line in desk.commands() if line.startswith("birth")
+        }
         found = {id: births[number] for id, number in numbers.items()}
-        wanted = {"young": ["a", 0], "after": ["a", 0], "frozen": ["a", "b"], "both": [0, 0], "x": ["z", 0], "y": ["x", 0], "z": [0, 0], "self": [0, 0]}
-        self.count(all(found[id] == [numbers.get(one, "0") for one in parents] for id, parents in wanted.items()), f"{found}")
+        wanted = {
+            "young": ["a", 0], "after": ["a", 0], "frozen": ["a", "b"], "both": [0, 0], "x": ["z", 0], "y": ["x", 0],
+            "z": [0, 0], "self": [0, 0],
+        }
+        self.count(
+            all(found[id] == [numbers.get(one, "0") for one in parents] for id, parents in wanted.items()), f"{found}"
+        )
         strict = Desk(self, "strict")
-        done = strict.wrong("6 left out (6 parents): with --strict nothing is taken", "take", strict.write("sheet.csv", sheet), "--strict")
-        self.count("society: line 4: self: its sire self is left out: self would be its own ancestor" in done.err, f"{done}")
+        done = strict.wrong(
+            "6 left out (6 parents): with --strict nothing is taken",
+            "take",
+            strict.write("sheet.csv", sheet),
+            "--strict",
+        )
+        self.count(
+            "society: line 4: self: its sire self is left out: self would be its own ancestor" in done.err, f"{done}"
+        )
         strict.take("id,born,sire,dam\na,2001,,\nb,2003-01-01,a,c\n", "--strict")
 
     def faulty_rows(self) -> None:
@@ -68,7 +89,10 @@ class LeavingChecks(Checks):
         )
         self.told(
             done,
-            "line 3: a: the row is left out: line 2 has this id too (name 'Berta', there 'Anna'; birth '2002-01-01', there '2001-01-01')",
+            (
+                "line 3: a: the row is left out: line 2 has this id too (name 'Berta', there 'Anna'; birth "
+                "'2002-01-01', there '2001-01-01')"
+            ),
             "line 4: the row is left out: it has no id",
             "line 5: unknown: the row is left out: 'unknown' is a word for an unknown animal: give it another id",
             "line 6: e: inferred: birth day 2002-02-15, from the month 2002-02, since there is no day 31.02.2002",
@@ -76,10 +100,16 @@ class LeavingChecks(Checks):
             "line 8: g: its sex is left out: 'cat' isn't known: write M or F, or name it as --sexes cat=m or cat=f",
             "line 8: g: its exit is left out: 'sold' has no day: it counts as gone, on a day that isn't known",
             "line 8: g: the row is left out: its sex can't be read, and no animal has it as a parent",
-            "1 of 10 cells for sex can't be read, the first in line 8: 'cat': write M or F, or say which sex each word is, as --sexes cat=m or cat=f",
+            (
+                "1 of 10 cells for sex can't be read, the first in line 8: 'cat': write M or F, or say which sex each "
+                "word is, as --sexes cat=m or cat=f"
+            ),
             "line 9: h: the row is left out: it has 9 cells, and there are 8 titles: is there a separator too many?",
             "line 10: i: its cell for a stored embryo is left out: 'maybe' isn't known: write 1 or nothing",
-            "line 15: n: its birth day is left out: '37800' is a number: give the column the format of a date, and save the sheet again",
+            (
+                "line 15: n: its birth day is left out: '37800' is a number: give the column the format of a date, and "
+                "save the sheet again"
+            ),
             "line 11: j: its birth day is left out: the year 2300 isn't one of 1900 to 2199",
             "line 10: A: added: the sire of i has no row: added without parents (is a meant?)",
         )
@@ -90,7 +120,12 @@ class LeavingChecks(Checks):
         desk = Desk(self, "corrections")
         desk.take("id,sex,born,sire,dam,owner,exit\na,F,2001-01-01,,,x,2010-01-01\nb,M,2003-01-01,c,a,y,2011\n")
         numbers = desk.numbers()
-        done = desk.take("id,sex,born,sire,dam,owner,exit\na,F,2001-01-01,,,z,2012-02-03\nb,M,2003-01-01,c,a,,\nc,M,2000-05-06,d,,y,\n", "--day", "2020-01-01")
+        done = desk.take(
+            "id,sex,born,sire,dam,owner,exit\na,F,2001-01-01,,,z,2012-02-03\nb,M,2003-01-01,c,a,,\n"
+            "c,M,2000-05-06,d,,y,\n",
+            "--day",
+            "2020-01-01",
+        )
         self.count(desk.numbers().items() >= numbers.items(), f"{desk.numbers()}")
         self.told(
             done,
@@ -102,8 +137,13 @@ class LeavingChecks(Checks):
             "book/commands.csv is written anew, since something in it was corrected or dropped",
         )
         lines = desk.commands()
-        self.count(f"transfer,{numbers['a']},2012-02-03,,,1,3," in lines and f"exit,{numbers['a']},2012-02-03,,,,," in lines, f"{lines}")
-        self.count(reference.replies((desk.room / "book/commands.csv").read_text()).count("accepted") == len(lines), f"{lines}")
+        self.count(
+            f"transfer,{numbers['a']},2012-02-03,,,1,3," in lines and f"exit,{numbers['a']},2012-02-03,,,,," in lines,
+            f"{lines}",
+        )
+        self.count(
+            reference.replies((desk.room / "book/commands.csv").read_text()).count("accepted") == len(lines), f"{lines}"
+        )
         # columns that a sheet doesn't have change nothing, and cells that can't be read neither
         before = desk.commands()
         done = desk.take("id,sex,born,sire,dam,exit\na,F,x,,,gone\nb,M,2003-01-01,c,a,\nc,x,2000-05-06,d,,\n")
@@ -114,7 +154,10 @@ class LeavingChecks(Checks):
     def dropped(self) -> None:
         """With --drop-gone animals without a row leave the book, unless one that has a row descends from them."""
         desk = Desk(self, "dropped")
-        rows = ["a,M,2001-01-01,,,x", "b,F,2001-02-01,,,x", "c,F,2004-01-01,a,b,x", "wrong,M,2005-01-01,import,c,y", "d,F,2006-01-01,a,c,y"]
+        rows = [
+            "a,M,2001-01-01,,,x", "b,F,2001-02-01,,,x", "c,F,2004-01-01,a,b,x", "wrong,M,2005-01-01,import,c,y",
+            "d,F,2006-01-01,a,c,y",
+        ]
         sheet = lambda *those: "id,sex,born,sire,dam,owner\n" + "".join(row + "\n" for row in those)
         desk.take(sheet(*rows))
         desk.take(sheet(rows[0], rows[1][:-1] + "y", *rows[2:]), "--day", "2010-01-01")
@@ -126,14 +169,31 @@ class LeavingChecks(Checks):
         self.told(done, f"b: {gone}", f"wrong: {gone}")
         self.count(desk.commands() == before and ", 2 gone: " in done.last, f"{done}")
         done = desk.take(without, "--drop-gone")
-        self.told(done, f"b: {gone}", "wrong: gone: it has no row any more: it is dropped from the book", "import: gone: no animal has it as a parent any more: it is dropped from the book")
-        self.count("book: 4 animals, 0 new, 0 changed, 0 inferred, 0 left out, 0 added, 3 gone: " in done.last, done.last)
-        self.count(desk.numbers() == {id: numbers[id] for id in "abcd"} and desk.parents()["d"] == ("a", "c"), f"{desk.numbers()}")
+        self.told(
+            done,
+            f"b: {gone}",
+            "wrong: gone: it has no row any more: it is dropped from the book",
+            "import: gone: no animal has it as a parent any more: it is dropped from the book",
+        )
+        self.count(
+            "book: 4 animals, 0 new, 0 changed, 0 inferred, 0 left out, 0 added, 3 gone: " in done.last, done.last
+        )
+        self.count(
+            desk.numbers() == {id: numbers[id] for id in "abcd"} and desk.parents()["d"] == ("a", "c"),
+            f"{desk.numbers()}",
+        )
         self.count(sum(line.startswith("transfer") for line in desk.commands()) == 1, f"{desk.commands()}")
-        self.count(reference.replies((desk.room / "book/commands.csv").read_text()).count("accepted") == len(desk.commands()), "all are accepted")
-        self.count([row["id"] for row in desk.listed("mating", "--dam", "d")] == ["a"], "the founder is no sire any more")
+        self.count(
+            reference.replies((desk.room / "book/commands.csv").read_text()).count("accepted") == len(desk.commands()),
+            "all are accepted",
+        )
+        self.count(
+            [row["id"] for row in desk.listed("mating", "--dam", "d")] == ["a"], "the founder is no sire any more"
+        )
         done = desk.take(without, "--drop-gone")
-        self.count(", 0 changed, 0 inferred, 0 left out, 0 added, 1 gone: " in done.last and "anew" not in done.out, f"{done}")
+        self.count(
+            ", 0 changed, 0 inferred, 0 left out, 0 added, 1 gone: " in done.last and "anew" not in done.out, f"{done}"
+        )
         # no other animal gets the number of one that was dropped, which gets it again when it comes back
         done = desk.take(sheet(*rows[:3], rows[4], "e,F,2011-01-01,,,"))
         after = desk.numbers()

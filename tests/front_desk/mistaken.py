@@ -15,7 +15,13 @@ class MistakeChecks(Checks):
         good = "id,sex,born,sire,dam,exit\na,F,2001-01-01,,,\n"
         sheets = [
             ("", "is empty: its first row has to have the titles"),
-            ("id,born\na,2001\n", "line 1: no column for sire or dam is found. The titles are 'id', 'born'. Say which it is, as --columns sire=TITLE,dam=TITLE"),
+            (
+                "id,born\na,2001\n",
+                (
+                    "line 1: no column for sire or dam is found. The titles are 'id', 'born'. Say which it is, as "
+                    "--columns sire=TITLE,dam=TITLE"
+                ),
+            ),
             ("ab,cd\n1,2\n", "line 1: no column for id or birth or sire or dam is found"),
             ("id,born,sire,dam\n", "has no row that can be taken"),
             ("id,born,sire,dam\n,2001,,\n", "line 2: the row is left out: it has no id"),
@@ -23,10 +29,28 @@ class MistakeChecks(Checks):
             (b"id,born,sire,dam\n\x81\x8d,2001,,\n", "is no text in UTF-8 or Windows-1252"),
             (b"\xd0\xcf\x11\xe0abc", "is an old Excel file (.xls): save the sheet as CSV or .xlsx"),
             ("id,born,sire,dam\na,03/25/2001,,\n", "line 2: a: birth day: '03/25/2001' has the month first"),
-            ("id,born,sire,dam\na,x,,\nb,y,,\nc,z,,\nd,2001,,\n", "3 of 4 cells for birth can't be read, the first in line 2: 'x', 'y', 'z': write days as 2001-03-01"),
-            ("id,born,sire,dam\na,2001,,\nb,2003,\"2,76E+14\",\n", "line 3: '2,76E+14' is a long number that the spreadsheet has cut: give the columns of ids the format text"),
-            ("id,sex,born,sire,dam,exit\na,F,2001,,,Hof\nb,F,2001,,,Hof\nc,F,2001,,,Hof\n", "3 of 3 cells for exit can't be read, the first in line 2: 'Hof' (3 times): write days"),
-            (good + "b,F,2001-01-01,,,2000-01-01\n", "line 3: b: exit on 2000-01-01 is refused: the day is before its birth, or before its owner got it (refusal 14)"),
+            (
+                "id,born,sire,dam\na,x,,\nb,y,,\nc,z,,\nd,2001,,\n",
+                "3 of 4 cells for birth can't be read, the first in line 2: 'x', 'y', 'z': write days as 2001-03-01",
+            ),
+            (
+                'id,born,sire,dam\na,2001,,\nb,2003,"2,76E+14",\n',
+                (
+                    "line 3: '2,76E+14' is a long number that the spreadsheet has cut: give the columns of ids the "
+                    "format text"
+                ),
+            ),
+            (
+                "id,sex,born,sire,dam,exit\na,F,2001,,,Hof\nb,F,2001,,,Hof\nc,F,2001,,,Hof\n",
+                "3 of 3 cells for exit can't be read, the first in line 2: 'Hof' (3 times): write days",
+            ),
+            (
+                good + "b,F,2001-01-01,,,2000-01-01\n",
+                (
+                    "line 3: b: exit on 2000-01-01 is refused: the day is before its birth, or before its owner got it "
+                    "(refusal 14)"
+                ),
+            ),
         ]
         for text, told in sheets:
             desk.wrong(told, "take", desk.write("sheet.csv", text))
@@ -37,12 +61,15 @@ class MistakeChecks(Checks):
             (["take", "absent.csv"], "absent.csv can't be read: No such file or directory. Is the name right?"),
             (["take", "."], "is a folder: name the sheet's file"),
             (["take"], "take reads one file: name a sheet, or a pedigree with --pedigree"),
-            (["take", "good.csv", "--columns", "id=Tag"], "line 1: there is no column 'Tag', which --columns names for id"),
-            (["take", "good.csv", "--columns", "tag=id"], "--columns tag=id: write FIELD=TITLE, where FIELD is one of id, name, sex"),
+            (["take", "good.csv", "--columns", "id=Tag"],
+             "line 1: there is no column 'Tag', which --columns names for id"),
+            (["take", "good.csv", "--columns", "tag=id"],
+             "--columns tag=id: write FIELD=TITLE, where FIELD is one of id, name, sex"),
             (["take", "good.csv", "--breed", "hol"], "'hol' isn't three letters A to Z"),
             (["take", "good.csv", "--book", "file"], "the folder file can't be written"),
             (["take", "good.csv", "--day", "1.2.2003"], "'1.2.2003' isn't a day written as 2001-03-01"),
-            (["list"], "there is no book in the folder book: take a sheet first, as society/society take SHEET --book book"),
+            (["list"],
+             "there is no book in the folder book: take a sheet first, as society/society take SHEET --book book"),
             (["sell"], "invalid choice: 'sell'"),
             ([], "the following arguments are required: WORD"),
         ]:  # fmt: skip
@@ -50,10 +77,12 @@ class MistakeChecks(Checks):
         desk.good("take", "good.csv")
         for words, told in [
             (["certificate", "b"], "the book has no animal 'b': book/ids.csv has the ids"),
-            (["mating", "--dam", "a", "HOLGBRM000000000009"], "the book has no animal 'HOLGBRM000000000009': book/ids.csv has the ids"),
+            (["mating", "--dam", "a", "HOLGBRM000000000009"],
+             "the book has no animal 'HOLGBRM000000000009': book/ids.csv has the ids"),
             (["mating", "--dam", "a"], "the book has no male"),
             (["mating", "--dam", "a", "a", "--all"], "not both"),
-            (["certificate", "DE", "01", "2345"], "unrecognized arguments: 01 2345: put an id or a name with blanks between quotation marks"),
+            (["certificate", "DE", "01", "2345"],
+             "unrecognized arguments: 01 2345: put an id or a name with blanks between quotation marks"),
             (["list", "--language", "de"], "there is no option --language here: `society list --help` shows"),
             (["list", "--out", "book"], "'book' is a folder: name a file"),
             (["inverse", "--matrix-market", "."], "'.' is a folder: name a file"),
@@ -67,26 +96,45 @@ class MistakeChecks(Checks):
     def mistakes_of_others(self, desk: Desk) -> None:
         """A program that isn't there, a book that somebody changed, and a reader who has enough."""
         done = desk.run("list", program="/nowhere/herdbook")
-        self.count(done.status == 1 and "/nowhere/herdbook, the program of the herd book, isn't there" in done.err, f"{done}")
+        self.count(
+            done.status == 1 and "/nowhere/herdbook, the program of the herd book, isn't there" in done.err, f"{done}"
+        )
         done = desk.run("list", program="/bin/true")
         self.count(done.status == 1 and "the program answered 0 of 1 commands" in done.err, f"{done}")
         done = desk.run("take", "good.csv", program="/bin/false")
-        self.count(done.status == 1 and "the program `herdbook file` can't do it: it ended with status 1" in done.err, f"{done}")
+        self.count(
+            done.status == 1 and "the program `herdbook file` can't do it: it ended with status 1" in done.err,
+            f"{done}",
+        )
         pipe = f"'{sys.executable}' '{TOP}/society/society' list | true"
-        done = subprocess.run(["sh", "-c", pipe], cwd=desk.room, env=os.environ | {"HERDBOOK": PROGRAM}, capture_output=True, timeout=SECONDS)
+        known = os.environ | {"HERDBOOK": PROGRAM}
+        done = subprocess.run(["sh", "-c", pipe], cwd=desk.room, env=known, capture_output=True, timeout=SECONDS)
         self.count(not done.stderr, f"a closed pipe: {done}")
         desk.write("bull.csv", "id,sex,born,sire,dam\nbull,M,2001,,\nson,M,2005,bull,\n")
         (desk.room / "book/commands.csv.new").mkdir()
         desk.wrong("the folder book can't be written", "take", "bull.csv")
         (desk.room / "book/commands.csv.new").rmdir()
         desk.good("take", "bull.csv", "--book", "bulls")
-        desk.wrong("bull: the dam isn't female (fault 4): name a female as the dam", "mating", "--dam", "bull", "--book", "bulls")
+        told = "bull: the dam isn't female (fault 4): name a female as the dam"
+        desk.wrong(told, "mating", "--dam", "bull", "--book", "bulls")
         kept = desk.files()
         commands = desk.room / "book/commands.csv"
         commands.write_text(commands.read_text() + "exit,HOLGBRF000000000009,2001-01-01,,,,,\n")
-        desk.wrong("book/commands.csv: command 2 is refused: it isn't in the book (refusal 11). Somebody has changed this file", "list")
+        desk.wrong(
+            (
+                "book/commands.csv: command 2 is refused: it isn't in the book (refusal 11). Somebody has changed this "
+                "file"
+            ),
+            "list",
+        )
         commands.write_text(kept["book/commands.csv"].decode() + "exit,HOLGBRF000000000001,2001-02-30,,,,,\n")
-        desk.wrong("the program `herdbook file` can't do it: record 2: fault 5 Day. Somebody has changed the command file: restore it", "list")
+        desk.wrong(
+            (
+                "the program `herdbook file` can't do it: record 2: fault 5 Day. Somebody has changed the command file:"
+                " restore it"
+            ),
+            "list",
+        )
         commands.write_text("birth\n")
         desk.wrong("book/commands.csv: line 1 isn't the header of a command file", "take", "good.csv")
         commands.write_bytes(kept["book/commands.csv"])
@@ -96,11 +144,23 @@ class MistakeChecks(Checks):
     def limits(self) -> None:
         """A path of 61 steps and an animal too many are told before anything is written."""
         desk = Desk(self, "limits")
-        line = lambda count: "id,sex,born,sire,dam\n" + "".join(f"a{at},M,{1900 + at},{f'a{at - 1}' if at else ''},\n" for at in range(count))
+        line = lambda count: "id,sex,born,sire,dam\n" + "".join(
+            f"a{at},M,{1900 + at},{f'a{at - 1}' if at else ''},\n" for at in range(count)
+        )
         desk.take(line(61), "--book", "deep")
-        done = desk.wrong("line 63: a61: a path of parents would be longer than 60 steps, which is the limit (refusal 10)", "take", desk.write("deep.csv", line(62)))
-        self.count("the longest path has 61 steps, 1 more than 60, from a61 (line 63) up to a0 (line 2)" in done.err, f"{done}")
+        done = desk.wrong(
+            "line 63: a61: a path of parents would be longer than 60 steps, which is the limit (refusal 10)",
+            "take",
+            desk.write("deep.csv", line(62)),
+        )
+        self.count(
+            "the longest path has 61 steps, 1 more than 60, from a61 (line 63) up to a0 (line 2)" in done.err, f"{done}"
+        )
         many = "id,sex,born,sire,dam\n" + "".join(f"{at + 1},M,2001-01-01,,\n" for at in range(60_001))
-        desk.wrong("the sheet and the book have 60,001 animals together, and a book holds at most 60,000", "take", desk.write("many.csv", many))
+        desk.wrong(
+            "the sheet and the book have 60,001 animals together, and a book holds at most 60,000",
+            "take",
+            desk.write("many.csv", many),
+        )
         desk.write("deep.txt", "".join(f"{at + 1} {at} 0\n" for at in range(62)))
         desk.wrong("longer than 60 steps", "take", "--pedigree", "deep.txt")

@@ -13,14 +13,21 @@ class PedigreeChecks(Checks):
     def textbook(self) -> None:
         """Mrode's six animals: F is 1/8 for two, and the inverse's diagonal is as published."""
         for name, text in [
-            ("blanks", "1 0 0\n2 0 0\n3 1 2\n4 1 0\n5 4 3\n6 5 2\n"), ("titles", "ID,Sire,Dam\n1,NA,NA\n2,NA,NA\n3,1,2\n4,1,NA\n5,4,3\n6,5,2\n"),
-            ("any order", "# a comment\n6\t5\t2\n5\t4\t3\n\n4\t1\t.\n3\t1\t2\n"), ("turned", "dam;id;sire\n0;1;0\n0;2;0\n2;3;1\n0;4;1\n3;5;4\n2;6;5\n"),
+            ("blanks", "1 0 0\n2 0 0\n3 1 2\n4 1 0\n5 4 3\n6 5 2\n"),
+            ("titles", "ID,Sire,Dam\n1,NA,NA\n2,NA,NA\n3,1,2\n4,1,NA\n5,4,3\n6,5,2\n"),
+            ("any order", "# a comment\n6\t5\t2\n5\t4\t3\n\n4\t1\t.\n3\t1\t2\n"),
+            ("turned", "dam;id;sire\n0;1;0\n0;2;0\n2;3;1\n0;4;1\n3;5;4\n2;6;5\n"),
         ]:  # fmt: skip
             desk = Desk(self, f"mrode {name}")
             done = desk.good("take", "--pedigree", desk.write("mrode.txt", text))
-            self.count("6 animals, " in done.last and " 0 left out" in done.last and "are invented" in done.out, f"{name}: {done}")
+            self.count(
+                "6 animals, " in done.last and " 0 left out" in done.last and "are invented" in done.out,
+                f"{name}: {done}",
+            )
             found = {row["id"]: (row["coefficient"], row["decimal"]) for row in desk.listed("list")}
-            self.count(found == dict.fromkeys("1234", ("0", "0")) | dict.fromkeys("56", ("1/8", "0.125")), f"{name}: {found}")
+            self.count(
+                found == dict.fromkeys("1234", ("0", "0")) | dict.fromkeys("56", ("1/8", "0.125")), f"{name}: {found}"
+            )
             desk.good("inverse", "--matrix-market", "inverse.mtx")
             ids = (desk.room / "inverse.mtx.ids").read_text().split()
             matrix = self.matrix_of(desk.room / "inverse.mtx")
@@ -28,8 +35,14 @@ class PedigreeChecks(Checks):
             diagonal = [matrix[at[id], at[id]] for id in "123456"]
             wanted = [11 / 6, 61 / 30, 5 / 2, 11 / 6, 38 / 15, 32 / 15]
             self.count(all(abs(one - other) < 1e-15 * 4 for one, other in zip(diagonal, wanted)), f"{name}: {diagonal}")
-            off = {("1", "2"): 0.5, ("1", "3"): -1, ("1", "4"): -2 / 3, ("2", "5"): 8 / 15, ("2", "6"): -16 / 15, ("3", "4"): 0.5, ("3", "5"): -1, ("1", "5"): 0, ("4", "6"): 0}
-            self.count(all(abs(matrix.get((at[r], at[c]), 0) - value) < 1e-14 for (r, c), value in off.items()), f"{name}: {matrix}")
+            off = {
+                ("1", "2"): 0.5, ("1", "3"): -1, ("1", "4"): -2 / 3, ("2", "5"): 8 / 15, ("2", "6"): -16 / 15,
+                ("3", "4"): 0.5, ("3", "5"): -1, ("1", "5"): 0, ("4", "6"): 0,
+            }
+            self.count(
+                all(abs(matrix.get((at[r], at[c]), 0) - value) < 1e-14 for (r, c), value in off.items()),
+                f"{name}: {matrix}",
+            )
             if name != "any order":
                 self.count(ids == list("123456"), f"{name}: {ids}")
 
@@ -43,7 +56,10 @@ class PedigreeChecks(Checks):
             below.append(int(column) <= int(row) <= rows and (int(row) - 1, int(column) - 1) not in found)
             found[int(row) - 1, int(column) - 1] = found[int(column) - 1, int(row) - 1] = float(value)
         self.count(all(below), "each element once, in the lower triangle")
-        self.count(first == "%%MatrixMarket matrix coordinate real symmetric" and rows == columns and len(lines) == count + 1, f"{first}")
+        self.count(
+            first == "%%MatrixMarket matrix coordinate real symmetric" and rows == columns and len(lines) == count + 1,
+            f"{first}",
+        )
         if importlib.util.find_spec("scipy"):
             import scipy.io
 
@@ -75,7 +91,9 @@ class PedigreeChecks(Checks):
         desk.good("take", "--pedigree", desk.write("one.txt", "x 0 0\n"), "--book", "one")
         desk.good("certificate", "x", "--book", "one", "--out", "x.html")
         words = "".join(desk.page("x.html").itertext())
-        self.count(words.count(" (invented)") == 2 and "(invented): the pedigree has neither" in words, f"invented: {words}")
+        self.count(
+            words.count(" (invented)") == 2 and "(invented): the pedigree has neither" in words, f"invented: {words}"
+        )
         done = desk.good("take", "--pedigree", desk.write("both.txt", "a 0 0\nb 0 0\nc a b\nd c a\ne d c\nf 0 d\n"))
         self.count(" 0 left out" in done.last, f"{done}")
         found = {row["id"]: row["coefficient"] for row in desk.listed("list")}
@@ -83,25 +101,40 @@ class PedigreeChecks(Checks):
         self.told(
             done,
             "line 4: d: changed: taken with the sire a and the dam c, since c is a sire in line 4 and a dam in line 5",
-            "line 6: f: changed: taken with the sire d and the dam unknown, since d is a sire in line 5 and a dam in line 6",
+            (
+                "line 6: f: changed: taken with the sire d and the dam unknown, since d is a sire in line 5 and a dam "
+                "in line 6"
+            ),
         )
-        done = desk.good("take", "--pedigree", desk.write("odd.txt", "a b 0\nb a 0\nc a a\nd a b\ne b c\nf c a\n"), "--book", "odd")
+        done = desk.good(
+            "take", "--pedigree", desk.write("odd.txt", "a b 0\nb a 0\nc a a\nd a b\ne b c\nf c a\n"), "--book", "odd"
+        )
         self.told(
             done,
             "line 3: c: its dam a is left out: a is its sire too, and no calf has one parent twice",
             "line 2: b: its sire a is left out: b would be its own ancestor (b > a > b)",
-            "line 5: e: its dam c is left out: no choice of sexes fits all of the couples b and a (line 4), a and c (line 6), c and b (line 5)",
+            (
+                "line 5: e: its dam c is left out: no choice of sexes fits all of the couples b and a (line 4), a and c"
+                " (line 6), c and b (line 5)"
+            ),
         )
         self.count(" 3 left out (3 parents), " in done.last, f"{done}")
-        done = desk.good("take", "--pedigree", desk.write("more.txt", "g f e\na 0 0\nb 0 0\nc a b\nd c a\ne d c\nf 0 d\n"))
+        done = desk.good(
+            "take", "--pedigree", desk.write("more.txt", "g f e\na 0 0\nb 0 0\nc a b\nd c a\ne d c\nf 0 d\n")
+        )
         self.count(", 1 new, " in done.last, f"{done}")
         done = desk.good("take", "--pedigree", "both.txt", "--drop-gone")
         self.count("book: 6 animals, 0 new, " in done.last and ", 1 gone: " in done.last, f"{done}")
         for text, told in [
-            ("a b\n", "line 1: 'a b' has 2 cells: write an id, its sire and its dam"), ("", "has no animals: write a line `id sire dam` for each"),
-            ("a 0 0\n0 a a\n", "line 2: '0' is a word for an unknown parent"), ("id,sire\na,b\n", "line 1: 'id sire': the titles have to be id, sire and dam"),
+            ("a b\n", "line 1: 'a b' has 2 cells: write an id, its sire and its dam"),
+            ("", "has no animals: write a line `id sire dam` for each"),
+            ("a 0 0\n0 a a\n", "line 2: '0' is a word for an unknown parent"),
+            ("id,sire\na,b\n", "line 1: 'id sire': the titles have to be id, sire and dam"),
         ]:  # fmt: skip
             desk.wrong(told, "take", "--pedigree", desk.write("wrong.txt", text), "--book", "wrong")
         desk.wrong("can't be read: No such file or directory", "take", "--pedigree", "absent.txt")
         desk.wrong("name a sheet, or a pedigree", "take", "both.txt", "--pedigree", "both.txt")
-        done = desk.wrong("no animal of the book has a known birth year, so there is no trend to draw: take a sheet with birth days", "trend")
+        done = desk.wrong(
+            "no animal of the book has a known birth year, so there is no trend to draw: take a sheet with birth days",
+            "trend",
+        )

@@ -1,4 +1,5 @@
-"""A secretary's sheet of 200 animals, the same each time, with an own grandparent, a wrong sex and a row without a day."""
+"""A secretary's sheet of 200 animals, the same each time, with an own grandparent, a wrong sex and a row without a
+day."""
 from __future__ import annotations
 
 import csv
@@ -7,7 +8,9 @@ import functools
 import io
 import random
 
-TITLES = ["Ohrmarke", "Name", "Geschlecht", "Geburtsdatum", "Vater", "Mutter", "Besitzer", "Abgang", "Embryo", "Bemerkung"]
+TITLES = [
+    "Ohrmarke", "Name", "Geschlecht", "Geburtsdatum", "Vater", "Mutter", "Besitzer", "Abgang", "Embryo", "Bemerkung",
+]
 OWNERS = ["Hof Süd, Müller", "Jörg Weiß", "Groß-Ähren", "Käthe Löw", ""]
 NAMES = ["Bärbel", "Änne", "Löwe", "Süße", "Gräfin", "Jürgen", "Flöckchen", "Rößl", "Ümit", "Mäxle"]
 
@@ -25,7 +28,10 @@ def clean_rows() -> list[dict[str, str]]:
         at = len(rows) + 1
         born = german(year, 1 + at % 12, 1 + at * 7 % 28)
         left = german(2018, 1 + at % 12, 3) if year < 2003 and at % 3 == 0 else ""
-        values = [f"DE-{year % 100:02}/{at:03}", NAMES[at % 10] + f" {at}", sex, born, sire, dam, OWNERS[at % 5], left, "", ""]
+        values = [
+            f"DE-{year % 100:02}/{at:03}", NAMES[at % 10] + f" {at}", sex, born, sire, dam, OWNERS[at % 5], left, "",
+            "",
+        ]
         rows.append(dict(zip(TITLES, values)))
 
     for at in range(30):
@@ -42,12 +48,17 @@ def clean_rows() -> list[dict[str, str]]:
 
 
 class Secretary:
-    """Her sheet: the clean rows with an own grandparent, a wrong sex, a row without a day and a parent without a row."""
+    """Her sheet: the clean rows with an own grandparent, a wrong sex, a row without a day and a parent without a
+    row."""
 
     def __init__(self) -> None:
         self.rows = clean_rows()
         by_id = {row["Ohrmarke"]: row for row in self.rows}
-        calf = next(row for row in self.rows if row["Vater"] in by_id and by_id[row["Vater"]]["Vater"] in by_id and row["Geschlecht"] == "weiblich")
+        calf = next(
+            row
+            for row in self.rows
+            if row["Vater"] in by_id and by_id[row["Vater"]]["Vater"] in by_id and row["Geschlecht"] == "weiblich"
+        )
         self.grandchild = calf["Ohrmarke"]
         self.grandsire = by_id[calf["Vater"]]["Vater"]
         by_id[self.grandsire]["Mutter"] = self.grandchild
@@ -67,7 +78,10 @@ class Secretary:
     def parents(self) -> dict[str, tuple[str, str]]:
         """The parents that are to stand in the book."""
         ids = {row["Ohrmarke"] for row in self.rows} | {self.imported}
-        found = {row["Ohrmarke"]: [row[role] if row[role] in ids else "" for role in ("Vater", "Mutter")] for row in self.rows}
+        found = {
+            row["Ohrmarke"]: [row[role] if row[role] in ids else "" for role in ("Vater", "Mutter")]
+            for row in self.rows
+        }
         found[self.grandsire][1] = ""
         found[self.misled][0] = ""
         return {id: (sire, dam) for id, (sire, dam) in found.items()} | {self.imported: ("", "")}

@@ -1,0 +1,1 @@
+"""Proves a program of crates.txt and builds it, for build.py."""

@@ -1,0 +1,102 @@
+"""The crates of a repository, as crates.txt names them."""
+from __future__ import annotations
+
+import functools
+import pathlib
+import shutil
+from typing import Iterator
+
+from building.telling import Stop
+
+TOP = pathlib.Path(__file__).resolve().parent.parent
+
+
+class Crates:
+    """A program and the crates of the repository that it stands on."""
+
+    def __init__(self, program: str) -> None:
+        lines = lines_of(TOP / "crates.txt")
+        if program not in lines:
+            raise Stop(f"crates.txt names no crate {program}: its programs are {programs(lines)}", 2)
+        if not is_program(program):
+            raise Stop(f"{program} is a library, and this builds programs: {programs(lines)}", 2)
+        self.program = program
+        self.lines = {name: lines[name] for name in lines if name in closure(lines, program)}
+        self.below = {name: named(line) & {*self.lines} for name, line in self.lines.items()}
+
+    def all_below(self, name: str) -> set[str]:
+        """A crate and all that it stands on."""
+        return closure(self.lines, name)
+
+    @functools.cached_property
+    def by_chain(self) -> list[str]:
+        """All of them, first those with the longest chain of others that wait for them, by the bytes of sources."""
+        lengths = {name: sum(it.stat().st_size for it in sources(name) if it.suffix == ".rt") for name in self.lines}
+
+        @functools.cache
+        def chain(name: str) -> int:
+            return lengths[name] + max((chain(it) for it in self.lines if name in self.below[it]), default=0)
+
+        return sorted(self.lines, key=lambda name: -chain(name))
+
+    def newest_source(self) -> float:
+        """When the newest source was changed."""
+        files = [TOP / "crates.txt", *(file for name in self.lines for file in sources(name))]
+        return max(it.stat().st_mtime for it in files)
+
+    def copy_to(self, room: pathlib.Path, name: str) -> None:
+        """Makes a repository of a crate and those below it alone, without their edits, as the gate wants one."""
+        wanted = [it for it in self.lines if it in self.all_below(name)]
+        (room / ".git").mkdir()
+        (room / "crates.txt").write_text("".join(f"{self.lines[it]}\n" for it in wanted), encoding="utf-8")
+        shutil.copy(TOP / "HANDLES", room)
+        for it in wanted:
+            shutil.copytree(folder(it), room / "crates" / it, ignore=left_out)
+
+
+def lines_of(file: pathlib.Path) -> dict[str, str]:
+    """The lines of crates.txt by the crate that each begins with."""
+    lines = file.read_text(encoding="utf-8").splitlines()
+    return {line.split(":")[0].split()[0]: line for line in lines if line.partition(":")[0].strip() and ":" in line}
+
+
+def named(line: str) -> set[str]:
+    """What a line of crates.txt says that its crate stands on, the kit's crates too."""
+    return {*line.split(":")[1].split()}
+
+
+def closure(lines: dict[str, str], name: str) -> set[str]:
+    """A crate and all of these that it stands on."""
+    found: set[str] = set()
+    left = [name]
+    while left:
+        one = left.pop()
+        if one in lines and one not in found:
+            found.add(one)
+            left += named(lines[one])
+    return found
+
+
+def folder(name: str) -> pathlib.Path:
+    return TOP / "crates" / name
+
+
+def is_program(name: str) -> bool:
+    return (folder(name) / "src" / "main.rt").exists()
+
+
+def programs(lines: dict[str, str]) -> str:
+    return ", ".join(sorted(filter(is_program, lines)))
+
+
+def sources(name: str) -> Iterator[pathlib.Path]:
+    """The files of a crate that are proved and built."""
+    for part in ("src", "specs", "proofs"):
+        for kind in ("*.rt", "*.antt"):
+            yield from (folder(name) / part).rglob(kind)
+
+
+def left_out(at: str, names: list[str]) -> set[str]:
+    """What a copy of a crate leaves out: what was made of it, and its edits."""
+    is_top = pathlib.Path(at).parent == TOP / "crates"
+    return {"out", "must-fail"} & {*names} if is_top else set()

@@ -1,0 +1,62 @@
+"""What the machine gives: memory, processors, and folders for the gate's runs."""
+from __future__ import annotations
+
+import contextlib
+import os
+import pathlib
+import re
+import shutil
+import tempfile
+from typing import Iterator
+
+# What the gate takes for the proof of one crate.
+MEMORY = 4_000_000_000
+# A container's limit, and what it holds of that.
+GROUPS = (
+    ("/sys/fs/cgroup/memory.max", "/sys/fs/cgroup/memory.stat", r"^anon (\d+)"),
+    ("/sys/fs/cgroup/memory/memory.limit_in_bytes", "/sys/fs/cgroup/memory/memory.stat", r"^total_rss (\d+)"),
+)
+
+
+def at_once() -> int:
+    """How many runs go side by side: the gate gives the proof of one crate half of four processors.
+
+    It is asked before any has begun: later those that have grown would be taken for others.
+    """
+    return max(1, min(max(2, len(os.sched_getaffinity(0)) // 2), free_memory() // MEMORY))
+
+
+def free_memory() -> int:
+    """The free memory in bytes."""
+    available = number_in("/proc/meminfo", r"^MemAvailable:\s+(\d+) kB")
+    found = [MEMORY if available is None else 1024 * available]
+    for limit_file, held_file, pattern in GROUPS:
+        limit, held = number_in(limit_file, r"^(\d+)"), number_in(held_file, pattern)
+        if limit is not None and held is not None:
+            found.append(max(0, limit - held))
+    return min(found)
+
+
+def number_in(file: str, pattern: str) -> int | None:
+    """The number that a file of the system has there, if it has one."""
+    try:
+        found = re.search(pattern, pathlib.Path(file).read_text(encoding="utf-8"), re.MULTILINE)
+    except OSError:
+        return None
+    return int(found[1]) if found else None
+
+
+@contextlib.contextmanager
+def room() -> Iterator[pathlib.Path]:
+    """A folder for a run, which bears the number of this process."""
+    with tempfile.TemporaryDirectory(prefix=f"herdbook-{os.getpid()}-", ignore_cleanup_errors=True) as at:
+        yield pathlib.Path(at)
+
+
+def sweep() -> None:
+    """Removes the folders of this user's calls that were killed."""
+    for at in pathlib.Path(tempfile.gettempdir()).glob("herdbook-*"):
+        found = re.match(r"herdbook-(\d+)-", at.name)
+        with contextlib.suppress(OSError):
+            if found and at.lstat().st_uid == os.geteuid() and not pathlib.Path("/proc", found[1]).exists():
+                shutil.rmtree(at, ignore_errors=True)
