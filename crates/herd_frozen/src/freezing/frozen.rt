@@ -119,7 +119,8 @@ impl<A: Allocator> Frozen<A> {
 
     /// The ranks of the animals of a depth, ascending; none beyond the limit.
     pub fn level(&self, depth: u8) -> &[u32]
-        ensures { result.now ≡ level_of depth self.now }
+        ensures level { result.now ≡ level_of depth self.now }
+        ensures frozen { IsFrozen DEPTH_LIMIT MOST_ANIMALS self.now }
     {
         match self.levels.get(depth as usize) {
             Some(level) => level.as_slice(),
