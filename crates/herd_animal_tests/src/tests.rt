@@ -1,4 +1,4 @@
-//! Numbers, days and herds as bytes: which are read, and the first faults of others.
+//! Numbers, days and herds as bytes: which are read, and the first faults of others; and herds as numbers.
 
 mod texts;
 
@@ -75,6 +75,19 @@ fn reads_herds(rt: HostRuntime) {
             Herd::parse(text).map(|herd| herd.number()),
             Ok(number),
             "{text:?}"
+        );
+    }
+    let numbers = [
+        (0, Err(HerdOutside)),
+        (1, Ok(1)),
+        (99_999_999, Ok(99_999_999)),
+        (100_000_000, Err(HerdOutside)),
+    ];
+    for (number, made) in numbers {
+        assert_eq!(rt;
+            Herd::try_from(number).map(|herd| herd.number()),
+            made,
+            "{number}"
         );
     }
 }

@@ -1,4 +1,3 @@
 mod DigitFacts
-mod HerdFacts
 mod NameFacts
 mod NumberFacts

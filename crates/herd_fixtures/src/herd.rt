@@ -9,9 +9,5 @@ pub fn herd_of(number: u8) -> Herd
     requires { (1 ≤ number) × (number ≤ 9) }
     ensures { result ≡ number }
 {
-    let Ok(herd) = Herd::parse(&[b'0' + number]) else {
-        unreachable!();
-    };
-    let _bound = herd.number();
-    herd
+    Herd::try_from(u32::from(number)).unwrap()
 }

@@ -32,6 +32,9 @@ pub use freezing::number_index::NumberIndex;
 pub use freezing::rows::{PackedParents, RowRecord, Rows};
 #[doc(hidden)]
 pub use places::packed_index::PackedIndex;
+// `herd_pedigree` asks it too.
+#[doc(hidden)]
+pub use rules::depth::depth_of_calf;
 
 /// The number of steps that the longest path of known parents may have.
 ///

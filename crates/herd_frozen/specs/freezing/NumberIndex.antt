@@ -1,6 +1,9 @@
 -- An index of numbers by buckets, which are followed from the last rank to the first.
 use Rattle.std.specs.Prelude.{◌≡◌, ℕ, ◌+◌, ◌<◌, ◌≤◌, ◌*◌, ◌/◌, ◌^◌, List, length, slice_get, slice_index, Some}
 use Rattle.std.specs.Hash.FoldHasher.{finish, initial, write}
+use Rattle.herd_frozen.specs.declared.freezing.frozen.Row.{Row}
+use Rattle.herd_frozen.specs.declared.freezing.number_index.NumberIndex.{NumberIndex}
+use Rattle.herd_frozen.specs.freezing.Frozen.{numbers_of}
 
 -- the hash of a number
 unfoldable pub hash_of : List ℕ → ℕ
@@ -17,8 +20,12 @@ pub record IsAfterLast (numbers : List (List ℕ)) (count bound bucket after : �
   pub last : (rank : ℕ) (number : List ℕ) → rank < bound → slice_get numbers rank ≡ Some number → bucket_of count number ≡ bucket → rank < after
 
 -- the first n numbers stand in the buckets
-pub record IsIndexOf (numbers : List (List ℕ)) (n : ℕ) (lasts earlier : List ℕ) : Type 0 where
+pub record AreBucketed (numbers : List (List ℕ)) (n : ℕ) (lasts earlier : List ℕ) : Type 0 where
   pub wide : length lasts ≡ length numbers + 1
   pub long : length earlier ≡ n
   pub lasts_are : (bucket : ℕ) → bucket < length numbers + 1 → IsAfterLast numbers (length numbers + 1) n bucket (slice_index lasts bucket)
   pub earlier_are : (rank : ℕ) (number : List ℕ) → rank < n → slice_get numbers rank ≡ Some number → IsAfterLast numbers (length numbers + 1) rank (bucket_of (length numbers + 1) number) (slice_index earlier rank)
+
+-- all numbers of the rows stand in the buckets of the index
+abbrev pub IsIndexOf : {A : Type 0} → List Row → NumberIndex A → Type 0
+IsIndexOf rows index = AreBucketed (numbers_of rows) (length rows) index.lasts.items index.earlier.items

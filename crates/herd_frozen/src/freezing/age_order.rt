@@ -27,11 +27,11 @@ pub(crate) fn by_age<A: Allocator, S: Registered>(
     let mut keys = Vec::with_capacity(alloc, count)?;
     for place in 0..count {
         let entry = records.record_at(place);
-        keys.push(AgeKey {
+        keys.push_reserved(AgeKey {
             birth: entry.1.birth,
             number: entry.0,
             place: place as u32,
-        })?;
+        });
     }
     keys.sort_unstable();
     Ok(keys)

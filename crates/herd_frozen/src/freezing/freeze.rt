@@ -1,9 +1,8 @@
-ghost use Rattle.std.specs.Prelude.{◌≡◌, ◌<◌, ◌≤◌, length, map, slice_get, All, IfOk, IfSome, IsPermutation};
+ghost use Rattle.std.specs.Prelude.{◌≡◌, ◌<◌, ◌≤◌, length, map, slice_get, IfOk, IfSome, IsPermutation};
 ghost use Rattle.std.specs.List.{range_with_len};
-ghost use Rattle.std.specs.Option.{option_and_then};
+ghost use Rattle.std.specs.Option.{option_and_then, option_map};
 ghost use Rattle.herd_frozen.specs.freezing.Frozen.{IsFrozenFrom, depth_at, numbers_of};
 ghost use Rattle.herd_frozen.specs.freezing.Freeze.{AreRanks, AreRows, IsAgeOrder, IsRanked, IsRowOf, places_of};
-ghost use Rattle.herd_frozen.specs.rules.Depths.{depth_above};
 ghost use Rattle.herd_frozen.specs.rules.Lawful.{IsLawful};
 ghost use Rattle.herd_frozen.specs.places.Places.{IsIndexIn};
 ghost use Rattle.herd_frozen.specs.declared.TheConstants.{DEPTH_LIMIT, MOST_ANIMALS};
@@ -14,6 +13,7 @@ use crate::freezing::listed::{Listed, places_by_number};
 use crate::freezing::registered::Registered;
 use crate::freezing::rows::Rows;
 use crate::rules::animal::Animal;
+use crate::rules::depth::depth_of_calf;
 use herd_animal::AnimalNumber;
 use std::alloc::{AllocError, Allocator};
 
@@ -57,16 +57,13 @@ fn rank_of(ranks: &[u32], parent: Option<u32>) -> Option<u32>
     Some(ranks[place as usize])
 }
 
-// One more than the depth of a parent, and 0 for an unknown one.
-fn above<A: Allocator>(rows: &Rows<A>, parent: Option<u32>) -> u8
-    requires within { IfSome parent (λ rank. rank < length rows.now) }
-    requires shallow { All (λ row. row.depth ≤ DEPTH_LIMIT) rows.now }
-    ensures { result ≡ depth_above (depth_at rows.now) parent }
+// The depth of a parent that is known.
+fn depth_of<A: Allocator>(rows: &Rows<A>, parent: Option<u32>) -> Option<u8>
+    requires { IfSome parent (λ rank. rank < length rows.now) }
+    ensures { result ≡ option_map (depth_at rows.now) parent }
 {
-    match parent {
-        Some(rank) => rows.depth(rank) + 1,
-        None => 0,
-    }
+    let rank = parent?;
+    Some(rows.depth(rank))
 }
 
 // The row of the record whose turn it is, once the rows of all the older ones are made. Inlined: the numbers of its
@@ -92,12 +89,13 @@ fn next_row<A: Allocator, S: Registered>(
     let link = records.link_at(key.place as usize);
     let sire = rank_of(ranks, link.sire);
     let dam = rank_of(ranks, link.dam);
+    let depth = depth_of_calf(depth_of(rows, sire), depth_of(rows, dam));
     Row {
         number: key.number,
         animal: entry.1,
         sire,
         dam,
-        depth: above(rows, sire).max(above(rows, dam)),
+        depth: depth as u8,
     }
 }
 

@@ -48,7 +48,7 @@ pub struct Frozen<A: Allocator> {
 impl<A: Allocator> Model for Frozen<A> {
     ghost use Rattle.std.specs.Prelude.{List, ◌≡◌, length, map};
     ghost use Rattle.herd_frozen.specs.declared.freezing.frozen.Row.{Row};
-    ghost use Rattle.herd_frozen.specs.freezing.Frozen.{IsFrozen, levels_of, numbers_of};
+    ghost use Rattle.herd_frozen.specs.freezing.Frozen.{IsFrozen, levels_of};
     ghost use Rattle.herd_frozen.specs.freezing.NumberIndex.{IsIndexOf};
     ghost use Rattle.herd_frozen.specs.declared.TheConstants.{DEPTH_LIMIT, MOST_ANIMALS};
 
@@ -58,7 +58,7 @@ impl<A: Allocator> Model for Frozen<A> {
 
     ghost invariant = { λ f. IsFrozen DEPTH_LIMIT MOST_ANIMALS f.rows
         × (map (λ level. level.items) f.levels.items ≡ levels_of DEPTH_LIMIT f.rows)
-        × IsIndexOf (numbers_of f.rows) (length f.rows) f.index.lasts.items f.index.earlier.items };
+        × IsIndexOf f.rows f.index };
 }
 
 impl<A: Allocator> Frozen<A> {
@@ -119,7 +119,8 @@ impl<A: Allocator> Frozen<A> {
 
     /// The ranks of the animals of a depth, ascending; none beyond the limit.
     pub fn level(&self, depth: u8) -> &[u32]
-        ensures { result.now ≡ level_of depth self.now }
+        ensures level { result.now ≡ level_of depth self.now }
+        ensures frozen { IsFrozen DEPTH_LIMIT MOST_ANIMALS self.now }
     {
         match self.levels.get(depth as usize) {
             Some(level) => level.as_slice(),

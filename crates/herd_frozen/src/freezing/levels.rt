@@ -12,7 +12,7 @@ fn empty_levels<A: Allocator + Clone>(alloc: A) -> Result<Vec<Vec<u32, A>, A>, A
 {
     let mut levels = Vec::with_capacity(alloc.clone()?, usize::from(DEPTH_LIMIT) + 1)?;
     for _ in 0..=DEPTH_LIMIT {
-        levels.push(Vec::new(alloc.clone()?))?;
+        levels.push_reserved(Vec::new(alloc.clone()?));
     }
     Ok(levels)
 }

@@ -22,14 +22,13 @@ impl<A: Allocator + Clone> NumberIndex<A> {
     /// The index of the rows. There is a bucket for each row, and one more.
     pub fn of<B: Allocator>(alloc: A, rows: &Rows<B>) -> Result<NumberIndex<A>, AllocError>
         requires { length rows.now ≤ MOST_ANIMALS }
-        ensures { IfOk result
-            (λ index. IsIndexOf (numbers_of rows.now) (length rows.now) index.lasts.items index.earlier.items) }
+        ensures { IfOk result (IsIndexOf rows.now) }
     {
         let mut lasts = vec![in alloc.clone()?; 0u32; rows.len() + 1]?;
         let mut earlier = Vec::with_capacity(alloc, rows.len())?;
         for rank in 0..rows.len() as u32 {
             let bucket = bucket_of(rows.number(rank), lasts.len());
-            earlier.push(lasts[bucket])?;
+            earlier.push_reserved(lasts[bucket]);
             lasts[bucket] = rank + 1;
         }
         Ok(NumberIndex { lasts, earlier })
@@ -40,7 +39,7 @@ impl<A: Allocator> NumberIndex<A> {
     /// The rank of a number among the rows that were indexed.
     pub fn rank<B: Allocator>(&self, rows: &Rows<B>, number: &AnimalNumber) -> Option<u32>
         requires few { length rows.now ≤ MOST_ANIMALS }
-        requires index { IsIndexOf (numbers_of rows.now) (length rows.now) self.now.lasts.items self.now.earlier.items }
+        requires index { IsIndexOf rows.now self.now }
         ensures found { IfSome result (λ rank. slice_get (numbers_of rows.now) rank ≡ Some number.now) }
         ensures absent { IfNone result ((rank : ℕ) → slice_get (numbers_of rows.now) rank ≡ Some number.now → ⊥) }
     {

@@ -1,20 +1,19 @@
 //! The depth of an animal by the depths of its parents.
 ghost use Rattle.std.specs.Prelude.{◌≡◌, ◌<◌, ◌≤◌, [], All, IfSome, length, slice_index};
-ghost use Rattle.herd_frozen.specs.rules.Depths.{depth_above, depth_from};
+ghost use Rattle.std.specs.Option.{option_map};
+ghost use Rattle.herd_frozen.specs.rules.Depths.{depth_from};
 ghost use Rattle.herd_pedigree.specs.store.Undo.{undone_writes};
 
+use herd_frozen::depth_of_calf;
 use std::alloc::Allocator;
 
-// One more than the depth of a parent, 0 where it is unknown.
-fn depth_above_parent(depths: &[u8], parent: Option<u32>) -> u16
+// The depth of a parent that is known.
+fn depth_of(depths: &[u8], parent: Option<u32>) -> Option<u8>
     requires { IfSome parent (λ place. place < length depths.now) }
-    ensures depth { result ≡ depth_above (slice_index depths.now) parent }
-    ensures bound { result ≤ 256 }
+    ensures { result ≡ option_map (slice_index depths.now) parent }
 {
-    match parent {
-        Some(place) => u16::from(depths[place as usize]) + 1,
-        None => 0,
-    }
+    let place = parent?;
+    Some(depths[place as usize])
 }
 
 /// The depth that an animal with these parents has.
@@ -24,9 +23,7 @@ pub fn depth_with(depths: &[u8], sire: Option<u32>, dam: Option<u32>) -> u16
     ensures depth { result ≡ depth_from (slice_index depths.now) sire dam }
     ensures bound { result ≤ 256 }
 {
-    let by_sire = depth_above_parent(depths, sire);
-    let by_dam = depth_above_parent(depths, dam);
-    by_sire.max(by_dam)
+    depth_of_calf(depth_of(depths, sire), depth_of(depths, dam))
 }
 
 /// Takes back the writes that are logged, each with its place and the depth that it wrote over.

@@ -5,7 +5,7 @@ use Rattle.std.specs.Str.{bytes_eq}
 use Rattle.std.proofs.lemmas.Bool.{cases_lt, cases_eq}
 use Rattle.std.proofs.lemmas.List.{length-set, get_or-set_same, get_or-set_other, get_or_push, get_or_append_left, length_push}
 use Rattle.std.proofs.lemmas.Option.{same_Some, slice_get_within}
-use Rattle.herd_frozen.specs.freezing.NumberIndex.{IsAfterLast, IsIndexOf, bucket_of}
+use Rattle.herd_frozen.specs.freezing.NumberIndex.{IsAfterLast, AreBucketed, bucket_of}
 use Rattle.herd_frozen.proofs.lemmas.rules.BookFacts.{bytes_itself}
 
 module _ (numbers : List (List ℕ)) (i : ℕ) (number : List ℕ) (at : slice_get numbers i ≡ Some number) where
@@ -36,8 +36,8 @@ module _ (numbers : List (List ℕ)) (i : ℕ) (number : List ℕ) (at : slice_g
   }
 
   -- one more rank
-  pub index-more : (lasts earlier : List ℕ) (bucket : ℕ) → bucket ≡ bucket_of (length numbers + 1) number → bucket < length numbers + 1 → IsIndexOf numbers i lasts earlier →
-      IsIndexOf numbers (i + 1) (set lasts bucket (i + 1)) (earlier ++ slice_index lasts bucket ∷ [])
+  pub index-more : (lasts earlier : List ℕ) (bucket : ℕ) → bucket ≡ bucket_of (length numbers + 1) number → bucket < length numbers + 1 → AreBucketed numbers i lasts earlier →
+      AreBucketed numbers (i + 1) (set lasts bucket (i + 1)) (earlier ++ slice_index lasts bucket ∷ [])
   index-more lasts earlier bucket is within old = record {
     wide = length-set lasts bucket (i + 1) ∙ old.wide;
     long = length_push earlier (slice_index lasts bucket) ∙ ap (λ n. n + 1) old.long;
@@ -71,7 +71,7 @@ pub record IsFollowed (numbers : List (List ℕ)) (number : List ℕ) (after : �
   pub here : (rank : ℕ) (x : List ℕ) → after ≡ rank + 1 → slice_get numbers rank ≡ Some x → bucket_of (length numbers + 1) x ≡ bucket_of (length numbers + 1) number
   pub rest : (rank : ℕ) → slice_get numbers rank ≡ Some number → rank < after
 
-module _ (numbers : List (List ℕ)) (n : ℕ) (all : n ≡ length numbers) (lasts earlier : List ℕ) (index : IsIndexOf numbers n lasts earlier) (number : List ℕ) where
+module _ (numbers : List (List ℕ)) (n : ℕ) (all : n ≡ length numbers) (lasts earlier : List ℕ) (index : AreBucketed numbers n lasts earlier) (number : List ℕ) where
   pub follow-next : (after rank : ℕ) (x : List ℕ) → after ≡ rank + 1 → slice_get numbers rank ≡ Some x → x ≢ number → IsFollowed numbers number after → IsFollowed numbers number (slice_index earlier rank)
   follow-next after rank x e at other followed =
       let within = slice_get_within numbers rank x at in

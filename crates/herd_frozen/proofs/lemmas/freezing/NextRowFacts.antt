@@ -10,6 +10,7 @@ use Rattle.herd_frozen.specs.declared.freezing.age_order.AgeKey.{AgeKey}
 use Rattle.herd_frozen.specs.declared.freezing.frozen.Row.{Row}
 use Rattle.herd_frozen.specs.declared.places.links.Link.{Link}
 use Rattle.herd_frozen.specs.rules.Book.{Book, IsDepthOf, parentage_of, record_of}
+use Rattle.herd_frozen.specs.rules.Depths.{depth_above, depth_from}
 use Rattle.herd_frozen.specs.rules.Lawful.{IsLawfulRecord}
 use Rattle.herd_frozen.specs.freezing.Frozen.{depth_at, numbers_of}
 use Rattle.herd_frozen.specs.freezing.Freeze.{AreRows, IsAbove, IsRanked, IsRowOf, places_of}
@@ -29,7 +30,7 @@ pub record IsParentOf (book : Book) (keys : List AgeKey) (ranks : List ℕ) (row
   pub within : IfSome place (λ p. p < length ranks)
   pub ranked : IsIndexIn (map (λ k. k.number) keys) (option_and_then (slice_get ranks) place) parent
   pub earlier : IfSome (option_and_then (slice_get ranks) place) (λ rank. rank < length rows)
-  pub above : IsAbove (parentage_of book) parent (option_map_or (λ rank. depth_at rows rank + 1) (option_and_then (slice_get ranks) place) 0)
+  pub above : IsAbove (parentage_of book) parent (depth_above (depth_at rows) (option_and_then (slice_get ranks) place))
 
 -- what is known of the record of a key, with the places of its parents
 pub record IsNext (book : Book) (keys : List AgeKey) (ranks : List ℕ) (rows : List Row) (key : AgeKey) (animal : Animal) (link : Link) : Type 0 where
@@ -38,18 +39,6 @@ pub record IsNext (book : Book) (keys : List AgeKey) (ranks : List ℕ) (rows : 
   pub dam : IsParentOf book keys ranks rows link.dam animal.dam
 
 module _ (l most : ℕ) (book : Book) (keys : List AgeKey) (ranks : List ℕ) (rows : List Row) (is : IsRanked l most book keys ranks) (made : AreRows book keys rows) where
-  -- the depths so far are within the limit
-  pub rows-shallow : length rows < length keys → All (λ row. row.depth ≤ l) rows
-  rows-shallow few i d h =
-      let row = there rows i h in
-      let key = there keys i (omega arith) in
-      let its_row : IsRowOf book keys key.0 row.0 = made i key.0 row.0 key.1 row.1 in
-      rw (get_or_from_slice_get rows i row.0 d row.1) (IsDepthOf-le l book is.lawful.shallow row.0.number row.0.depth its_row.depth)
-
-  depth-found : (x : List ℕ) (animal : Animal) → record_of book x ≡ Some animal → (a b : ℕ) → IsAbove (parentage_of book) animal.sire a → IsAbove (parentage_of book) animal.dam b → IsDepthOf book x (max a b)
-  depth-found x animal found a b sire dam =
-      IsDepth-from_parents (parentage_of book) x a b (rw found refl) (rw found sire) (rw found dam)
-
   module _ (key : AgeKey) (at : slice_get keys (length rows) ≡ Some key) where
     pub parent-found : (place : Option ℕ) (parent : Option (List ℕ)) → IsIndexIn (keys_of book) place parent → IsOlder book key.birth parent → IsParentOf book keys ranks rows place parent
     parent-found None None placed older = record { within = tt; ranked = tt; earlier = tt; above = refl }
@@ -106,21 +95,28 @@ module _ (l most : ℕ) (book : Book) (keys : List AgeKey) (ranks : List ℕ) (r
               (λ p e. let dam = lawful.dam p e in (dam.dam, dam.there, subst (λ birth. dam.dam.birth <ℤ birth) (sym born) dam.older));
         }
 
+    -- its depth
+    depth-next : (animal : Animal) (link : Link) → IsNext book keys ranks rows key animal link →
+        IsDepthOf book key.number (depth_from (depth_at rows) (option_and_then (slice_get ranks) link.sire) (option_and_then (slice_get ranks) link.dam))
+    depth-next animal link n =
+        let found : record_of book key.number ≡ Some animal = lookup_at book is.lawful.once key.place key.number animal n.entry in
+        IsDepth-from_parents (parentage_of book) key.number _ _ (rw found refl) (rw found n.sire.above) (rw found n.dam.above)
+
+    pub depth_next-le : (animal : Animal) (link : Link) → IsNext book keys ranks rows key animal link → depth_from (depth_at rows) (option_and_then (slice_get ranks) link.sire) (option_and_then (slice_get ranks) link.dam) ≤ l
+    depth_next-le animal link n = IsDepthOf-le l book is.lawful.shallow key.number _ (depth-next animal link n)
+
     -- its row
     pub row-next : (animal : Animal) (link : Link) → IsNext book keys ranks rows key animal link → (row : Row) → row.number ≡ key.number → row.animal ≡ animal →
         row.sire ≡ option_and_then (slice_get ranks) link.sire → row.dam ≡ option_and_then (slice_get ranks) link.dam →
-        row.depth ≡ max (option_map_or (λ rank. depth_at rows rank + 1) row.sire 0) (option_map_or (λ rank. depth_at rows rank + 1) row.dam 0) →
+        row.depth ≡ depth_from (depth_at rows) (option_and_then (slice_get ranks) link.sire) (option_and_then (slice_get ranks) link.dam) →
         IsRowOf book keys key row
     row-next its link n row number animal sire dam depth =
-        let found : record_of book row.number ≡ Some row.animal = ap (λ x. record_of book x) number ∙ lookup_at book is.lawful.once key.place key.number its n.entry ∙ ap Some (sym animal) in
-        let by_sire : IsAbove (parentage_of book) row.animal.sire (option_map_or (λ rank. depth_at rows rank + 1) row.sire 0) = rw (animal, sire) n.sire.above in
-        let by_dam : IsAbove (parentage_of book) row.animal.dam (option_map_or (λ rank. depth_at rows rank + 1) row.dam 0) = rw (animal, dam) n.dam.above in
         record {
           number = number;
           entry = n.entry ∙ ap Some (λ i. (sym number i, sym animal i));
           sire = rw (animal, sire) n.sire.ranked;
           dam = rw (animal, dam) n.dam.ranked;
-          depth = subst (λ d. IsDepthOf book row.number d) (sym depth) (depth-found row.number row.animal found _ _ by_sire by_dam);
+          depth = rw (number, depth) (depth-next its link n);
         }
 
 -- the key whose turn it is

@@ -6,6 +6,7 @@ use Rattle.herd_frozen.specs.declared.freezing.frozen.Parents.{Parents}
 use Rattle.herd_frozen.specs.declared.freezing.frozen.Row.{Row}
 use Rattle.herd_frozen.specs.declared.freezing.rows.PackedParents.{PackedParents}
 use Rattle.herd_frozen.specs.declared.freezing.rows.RowRecord.{RowRecord}
+use Rattle.herd_frozen.specs.declared.freezing.rows.Rows.TheInside.{Inside}
 use Rattle.herd_frozen.specs.freezing.Frozen.{depth_at, numbers_of, parents_of}
 use Rattle.herd_frozen.specs.places.PackedIndex.{nowhere}
 use Rattle.herd_frozen.specs.places.Places.{IsIndexIn, number_at}
@@ -67,13 +68,6 @@ module _ (rs : List RowRecord) (ps : List PackedParents) (kept : AreKept rs ps) 
 
   pub numbers-rows : numbers_of (rows_kept rs ps) ≡ numbers_kept rs
   numbers-rows = numbers-rows_with (numbers_kept rs) rs ps kept.long
-
-  -- a rank of the rows is one of what is kept of them
-  pub rank-kept : {rows : List Row} → rows_kept rs ps ≡ rows → (rank : ℕ) → rank < length rows → (rank < length rs) × (rank < length ps)
-  rank-kept {rows} told rank within =
-      let long : length rows ≡ length rs = sym (ap (λ (l : List Row). length l) told) ∙ length-rows in
-      let both : length ps ≡ length rs = kept.long in
-      (omega arith, omega arith)
 
   module _ (rows : List Row) (told : rows_kept rs ps ≡ rows) (row : Row) (sire : IsIndexIn (numbers_of rows) row.sire row.animal.sire) (dam : IsIndexIn (numbers_of rows) row.dam row.animal.dam) where
     numbers_told : numbers_of rows ≡ numbers_kept rs
@@ -172,3 +166,12 @@ module _ (rs : List RowRecord) (ps : List PackedParents) (kept : AreKept rs ps) 
         dam = (same j).dam;
         depth = (same j).depth;
       }))
+
+-- a rank of the rows is within the vectors that keep them
+pub rank-within : {A : Type 0} (inside : Inside A) → AreKept inside.records.items inside.parents.items → {rows : List Row} → rows_kept inside.records.items inside.parents.items ≡ rows → (rank : ℕ) → rank < length rows → (rank < inside.records.len) × (rank < inside.parents.len)
+rank-within inside kept {rows} told rank within =
+    let long : length rows ≡ length inside.records.items = sym (ap (λ (l : List Row). length l) told) ∙ length-rows inside.records.items inside.parents.items kept in
+    let both = kept.long in
+    let records = inside.records.ok.0 in
+    let parents = inside.parents.ok.0 in
+    (omega (arith, within, long, records), omega (arith, within, long, both, parents))

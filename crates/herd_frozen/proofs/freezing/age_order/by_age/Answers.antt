@@ -1,5 +1,5 @@
 -- `by_age`: its loop and its result.
-use Rattle.std.proofs.Common.{ap, ◌∙◌, subst, arith, ◌≤◌, length, map}
+use Rattle.std.proofs.Common.{rules, ap, ◌∙◌, subst, arith, ◌≤◌, length, map}
 use Rattle.std.specs.Prelude.{IsPermutation}
 use Rattle.std.specs.List.{enumerate_from}
 use Rattle.std.proofs.lemmas.List.{take_all}
@@ -12,7 +12,11 @@ pub loop-place-preserved : goal.loop-place-preserved
 loop-place-preserved g c =
     let book = g.S.Registered.book c.args.records.now in
     let entry = c.record_at-entry.result in
-    key_more book c.loop-place.place entry.0 entry.1 c.loop-place.keys.items c.push.new.self.items c.loop-place.invariant c.record_at-entry.ensures c.in_ok-push.ensures.items
+    record {
+      keys = key_more book c.loop-place.place entry.0 entry.1 c.loop-place.keys.items c.push_reserved.new.self.items c.loop-place.invariant.keys c.record_at-entry.ensures c.push_reserved.ensures.items;
+      count = search rules;
+      room = search rules;
+    }
 
 pub returns : goal.returns
 returns g c =
@@ -22,6 +26,6 @@ returns g c =
     let all = c.count-count.ensures in
     let long : length (enumerate_from 0 book) ≤ c.loop-place.place = omega (arith, n, b, all) in
     record {
-      same = subst (λ keys. IsPermutation keys c.sort_unstable.new.self.items) (c.loop-place.invariant ∙ ap (λ l. map age_key l) (take_all c.loop-place.place (enumerate_from 0 book) long)) c.sort_unstable.ensures.permutation;
+      same = subst (λ keys. IsPermutation keys c.sort_unstable.new.self.items) (c.loop-place.invariant.keys ∙ ap (λ l. map age_key l) (take_all c.loop-place.place (enumerate_from 0 book) long)) c.sort_unstable.ensures.permutation;
       sorted = c.sort_unstable.ensures.sorted;
     }

@@ -1,9 +1,13 @@
--- `next_row`: what `entry`, `link`, `sire`, `dam` and `above` require and its clauses `row`, `sire` and `dam`.
-use Rattle.std.proofs.Common.{refl, ◌≡◌, Some, length, slice_get}
+-- `next_row`: what its calls require, that the depth fits, and its clauses `row`, `sire` and `dam`.
+use Rattle.std.proofs.Common.{arith, refl, ◌≡◌, Some, length, slice_get}
+use Rattle.std.specs.Option.{option_and_then}
 use Rattle.herd_frozen.specs.declared.TheConstants.{DEPTH_LIMIT, MOST_ANIMALS}
-use Rattle.herd_frozen.proofs.lemmas.freezing.NextRowFacts.{IsNext, key-read, made-already, next, place-within, row-next, rows-shallow}
+use Rattle.herd_frozen.specs.freezing.Frozen.{depth_at}
+use Rattle.herd_frozen.specs.rules.Depths.{depth_from}
+use Rattle.herd_frozen.proofs.lemmas.rules.DepthsFacts.{depth_from-read}
+use Rattle.herd_frozen.proofs.lemmas.freezing.NextRowFacts.{IsNext, depth_next-le, key-read, made-already, next, place-within, row-next}
 use Rattle.herd_frozen.proofs.freezing.freeze.next_row.Given.{Over}
-use Rattle.herd_frozen.proofs.freezing.freeze.next_row.Goals.{After-index-keys-len, After-link_at-link}
+use Rattle.herd_frozen.proofs.freezing.freeze.next_row.Goals.{After-depth_of_calf-depth, After-index-keys-len, After-link_at-link}
 use Rattle.herd_frozen.proofs.freezing.freeze.next_row.Goals as goal
 
 -- the key whose turn it is
@@ -17,6 +21,12 @@ known g c =
     next DEPTH_LIMIT MOST_ANIMALS _ _ _ c.args.rows.now c.requires.ranked c.requires.rows c.index-keys-len.result
     (key-read c.args.keys.now c.args.rows.now c.requires.more c.len.result c.len.ensures c.index-keys-len.result c.index-keys-len.is)
     c.record_at-entry.result c.link_at-link.result c.record_at-entry.ensures c.link_at-link.ensures
+
+-- its depth
+depth : (g : Over) (c : After-depth_of_calf-depth g) →
+    c.depth_of_calf-depth.result ≡ depth_from (depth_at c.args.rows.now) (option_and_then (slice_get c.args.ranks.now) c.link_at-link.result.sire) (option_and_then (slice_get c.args.ranks.now) c.link_at-link.result.dam)
+depth g c =
+    rw (c.depth_of_calf-depth.ensures.depth, c.depth_of.ensures, c.depth_of-2.ensures, c.rank_of-sire.ensures, c.rank_of-dam.ensures) (depth_from-read (depth_at c.args.rows.now) _ _)
 
 pub record_at-entry-requires : goal.record_at-entry-requires
 record_at-entry-requires g c =
@@ -32,23 +42,25 @@ rank_of-sire-requires g c = (known g (goal.at.rank_of-sire-requires g c).After-l
 pub rank_of-dam-requires : goal.rank_of-dam-requires
 rank_of-dam-requires g c = (known g (goal.at.rank_of-dam-requires g c).After-link_at-link).dam.within
 
-pub above-requires-clause-within : goal.above-requires-clause-within
-above-requires-clause-within g c = rw c.rank_of-sire.ensures (known g (goal.at.above-requires-clause-within g c).After-link_at-link).sire.earlier
+pub depth_of-requires : goal.depth_of-requires
+depth_of-requires g c = rw c.rank_of-sire.ensures (known g (goal.at.depth_of-requires g c).After-link_at-link).sire.earlier
 
-pub above-requires-clause-shallow : goal.above-requires-clause-shallow
-above-requires-clause-shallow g c = rows-shallow _ _ _ _ _ c.args.rows.now c.requires.ranked c.requires.rows c.requires.more
+pub depth_of-requires-2 : goal.depth_of-requires-2
+depth_of-requires-2 g c = rw c.rank_of-dam.ensures (known g (goal.at.depth_of-requires-2 g c).After-link_at-link).dam.earlier
 
-pub above-requires-2-clause-within : goal.above-requires-2-clause-within
-above-requires-2-clause-within g c = rw c.rank_of-dam.ensures (known g (goal.at.above-requires-2-clause-within g c).After-link_at-link).dam.earlier
-
-pub above-requires-2-clause-shallow : goal.above-requires-2-clause-shallow
-above-requires-2-clause-shallow g c = rows-shallow _ _ _ _ _ c.args.rows.now c.requires.ranked c.requires.rows c.requires.more
+pub overflow_cast-result : goal.overflow_cast-result
+overflow_cast-result g c =
+    let here = goal.at.overflow_cast-result g c in
+    let is = depth g here.After-depth_of_calf-depth in
+    let le = depth_next-le _ _ _ _ _ c.args.rows.now c.requires.ranked c.requires.rows c.index-keys-len.result (at g here.After-index-keys-len) _ _ (known g here.After-link_at-link) in
+    omega (arith, is, le)
 
 pub returns-clause-row : goal.returns-clause-row
 returns-clause-row g c =
-    let here = at g (goal.at.returns-clause-row g c).After-index-keys-len in
-    rw here (row-next _ _ _ _ _ c.args.rows.now c.requires.ranked c.requires.rows c.index-keys-len.result here c.record_at-entry.result.1 c.link_at-link.result
-    (known g (goal.at.returns-clause-row g c).After-link_at-link) _ refl refl c.rank_of-sire.ensures c.rank_of-dam.ensures (rw (c.max.ensures, c.above.ensures, c.above-2.ensures) refl))
+    let here = goal.at.returns-clause-row g c in
+    let key = at g here.After-index-keys-len in
+    rw key (row-next _ _ _ _ _ c.args.rows.now c.requires.ranked c.requires.rows c.index-keys-len.result key c.record_at-entry.result.1 c.link_at-link.result
+    (known g here.After-link_at-link) _ refl refl c.rank_of-sire.ensures c.rank_of-dam.ensures (depth g here.After-depth_of_calf-depth))
 
 pub returns-clause-sire : goal.returns-clause-sire
 returns-clause-sire g c =

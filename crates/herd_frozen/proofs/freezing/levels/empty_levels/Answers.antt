@@ -7,4 +7,4 @@ use Rattle.herd_frozen.proofs.freezing.levels.empty_levels.Goals as goal
 pub returns : goal.returns
 returns g c =
     let end : c.loop.counter ≡ DEPTH_LIMIT + 1 = let a = c.loop.auto in let t = c.loop-test.false in omega arith in
-    c.loop.invariant ∙ levels_of-none DEPTH_LIMIT c.loop.counter end
+    c.loop.invariant.empty ∙ levels_of-none DEPTH_LIMIT c.loop.counter end

@@ -8,7 +8,7 @@ use Rattle.herd_pool.proofs.level.Level.blocks.Goals as goal
 pub overflow_cast-result : goal.overflow_cast-result
 overflow_cast-result g c =
     let rows = c.args.self.now.frozen.now in
-    let level = ap length c.level-ranks.ensures in
+    let level = ap length c.level-ranks.ensures.level in
     let all = length-level_of c.args.self.now.depth rows in
     let few = c.requires.frozen.lawful.few in
     let book = length-book_of rows in

@@ -1,4 +1,4 @@
--- `Frozen::level`: its result.
+-- `Frozen::level`: its clause `level`.
 use Rattle.std.proofs.Common.{refl, sym, ap, ◌∙◌, subst, ◌≡◌, ◌<◌, ◌≤◌, ℕ, List, [], Some, length, map, slice_get}
 use Rattle.std.proofs.lemmas.Bool.{ltb-true, ltb-false}
 use Rattle.std.proofs.lemmas.List.{length-map}
@@ -9,8 +9,8 @@ use Rattle.herd_frozen.specs.declared.TheConstants.{DEPTH_LIMIT, MOST_ANIMALS}
 use Rattle.herd_frozen.proofs.lemmas.freezing.FrozenFacts.{level-at, level-beyond}
 use Rattle.herd_frozen.proofs.freezing.frozen.Frozen.level.Goals as goal
 
-pub returns-in-Some : goal.returns-in-Some
-returns-in-Some g c =
+pub returns-in-Some-clause-level : goal.returns-in-Some-clause-level
+returns-in-Some-clause-level g c =
     let vectors = c.self.inside.levels.items in
     let depth : ℕ = c.args.depth in
     let level = c.in-Some.level.now in
@@ -21,8 +21,8 @@ returns-in-Some g c =
     let is : level.items ≡ level_of depth c.self.inside.rows = level-at DEPTH_LIMIT c.self.inside.rows (map (λ v. v.items) vectors) c.self.invariant.1 depth level.items at in
     c.as_slice.ensures.value ∙ is ∙ ap (λ (rows : List Row). level_of depth rows) c.self.view_is
 
-pub returns-in-None : goal.returns-in-None
-returns-in-None g c =
+pub returns-in-None-clause-level : goal.returns-in-None-clause-level
+returns-in-None-clause-level g c =
     let vectors = c.self.inside.levels.items in
     let depth : ℕ = c.args.depth in
     let past : length c.deref.result.now ≤ depth = ltb-false depth (length c.deref.result.now) (sym c.in-None.ensures.lookup.0) in
