@@ -2,7 +2,8 @@
 """program.py PROGRAM: tries the built herd book program from outside.
 
 It runs the examples of README and `docs/` as they stand there, the spreadsheet and the recipes of `examples/`, each
-order on the sample books beside `reference.py`, help, whose texts stand in `help/`, and its examples, the limits, each status and text of the table of statuses
+order on the sample books beside `reference.py`, the list by every number of workers and clerks at every number of
+desks, help, whose texts stand in `help/`, and its examples, the limits, each status and text of the table of statuses
 but for `no reader's place`, and then each order on a small book with the nth growth of memory, read, write or start of
 a thread refused (`refuse.c`), for n from 1 until a run meets no refusal; writes of long texts too. Last come other
 programs that the gate built: one that makes the libraries' calls, refused likewise and then made again, and those that
@@ -42,7 +43,7 @@ class AllChecks(
 
 GROUPS = """
     pages examples help orders clerks limits words wrong_numbers line_faults other_statuses failing_writes
-    refused_growths refused_growths_before_a_line_fault refused_reads refused_writes refused_threads
+    refused_growths refused_growths_before_a_line_fault refused_reads refused_writes refused_threads workers desks
     long_texts little_memory asked_again timed_offices timed_pedigrees
 """.split()
 

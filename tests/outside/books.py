@@ -51,3 +51,16 @@ def sire_lines(generations: int) -> str:
     for one in range(1, 2 * generations + 1):
         text += birth(animal("M", one), f"{1950 + one}-01-01", animal("M", one - 2) if one > 2 else "", "")
     return text
+
+
+def families(count: int, calves: int, grandcalves: int) -> str:
+    """So many couples, each with calves of both sexes in turn, of which the first two have inbred calves."""
+    text, width = HEADER, 2 + calves + grandcalves
+    for one in range(1, 1 + width * count, width):
+        sire, dam, son, daughter = animal("M", one), animal("F", one + 1), animal("M", one + 2), animal("F", one + 3)
+        text += founder(sire) + founder(dam)
+        for at in range(calves):
+            text += birth(animal("MF"[at % 2], one + 2 + at), "2003-01-01", sire, dam)
+        for at in range(grandcalves):
+            text += birth(animal("F", one + 2 + calves + at), "2006-01-01", son, daughter)
+    return text

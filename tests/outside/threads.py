@@ -1,9 +1,18 @@
-"""The threads that workers and clerks start: each start is refused in turn."""
+"""The list by every number of workers, and the threads that workers and clerks start: each start is refused in turn."""
 from __future__ import annotations
 
-from outside.books import HEADER, couples
+import reference
+from outside.books import HEADER, couples, families
 from outside.refusals import Refusals
-from outside.runs import Done, fault
+from outside.runs import Done, fault, wrote
+from outside.small import SMALL
+
+MOST_WORKERS = MOST_DESKS = 16
+
+# A book and, by the length of a block, for how many workers the levels of depth have work: for no more than have blocks
+# with a sire that has calves, and but one more for each 32 calves.
+SMALL_WORK = {1: [2], 7: [1], 60_000: [1]}
+WIDE, WIDE_WORK = families(16, 30, 4), {1: [16, 3], 7: [3, 3], 60_000: [1, 1]}
 
 
 def inbreeding(workers: int, block: int) -> list[str]:
@@ -37,6 +46,28 @@ def is_no_thread(wanted: Done, done: Done) -> bool:
 
 
 class ThreadChecks(Refusals):
+    def workers(self) -> None:
+        """Each number of workers lists what the reference does, over blocks of several lengths, by threads."""
+        for text, work in (SMALL, SMALL_WORK), (WIDE, WIDE_WORK):
+            wanted = wrote(reference.inbreeding(text))
+            for block, most in work.items():
+                for workers in range(1, MOST_WORKERS + 1):
+                    words = inbreeding(workers, block)
+                    self.expect("workers", wanted, words, text)
+                    self.starts(words, text, sum(min(workers, it) - 1 for it in most))
+
+    def desks(self) -> None:
+        """Each number of desks has a thread a desk."""
+        for desks in range(1, MOST_DESKS + 1):
+            self.starts(clerks(desks), SMALL, desks)
+
+    def starts(self, words: list[str], text: str, threads: int) -> None:
+        """So many threads are started, and no more: there is a last one that can be refused, and none after it."""
+        is_there, told = self.refused("thread", words, text, {"REFUSE": "thread"}, threads)
+        is_another, _ = self.refused("thread", words, text, {"REFUSE": "thread"}, threads + 1)
+        right = told == fault("no thread") if is_there else threads == 0
+        self.count(right and not is_another, f"{threads} threads aren't started, or more are: {words}: {told}")
+
     def refused_threads(self) -> None:
         """Each start is refused in turn: there are as many as desks, and in a level one fewer than workers.
 
