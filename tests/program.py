@@ -27,7 +27,7 @@ from outside.memory import MemoryChecks
 from outside.orders import OrderChecks
 from outside.pages import PageChecks
 from outside.reads import ReadChecks
-from outside.refusals import make_refuser
+from outside.refusals import without_refuser
 from outside.statuses import StatusChecks
 from outside.threads import ThreadChecks
 from outside.timed import TimedChecks
@@ -57,12 +57,22 @@ def run_group(checks: AllChecks, group: str) -> None:
     print(f"{group}: {checks.passed - passed} passed, {checks.failed - failed} failed", flush=True)
 
 
+def missing(program: str, room: str) -> str:
+    """What isn't there and what to do about it, in a sentence, or nothing."""
+    if not os.path.exists(program):
+        return f"{program} isn't there: call ./herdbook --version, which builds it"
+    return without_refuser(room)
+
+
 def main(program: str) -> int:
     with tempfile.TemporaryDirectory(prefix="herdbook-tests-") as room:
-        make_refuser(room)
         checks = AllChecks(program, room)
-        for group in GROUPS:
-            run_group(checks, group)
+        told = missing(program, room)
+        if told:
+            checks.count(False, told)
+        else:
+            for group in GROUPS:
+                run_group(checks, group)
     print(f"{checks.passed} passed, {checks.failed} failed")
     return 1 if checks.failed else 0
 

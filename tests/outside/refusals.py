@@ -20,10 +20,17 @@ MOST_CALLS, AT_ONCE = 20_000, 64
 IsRight = Callable[[Done, Done], bool]
 
 
-def make_refuser(room: str) -> None:
-    """Makes `refuse.so` of `refuse.c`."""
+def without_refuser(room: str) -> str:
+    """Makes `refuse.so` of `refuse.c`. A sentence if that can't be done."""
     words = ["cc", "-O1", "-shared", "-fPIC", "-o", f"{room}/refuse.so", str(TOP / "tests/refuse.c"), "-ldl"]
-    subprocess.run(words, check=True)
+    install = "install gcc and libc6-dev (apt-get install gcc libc6-dev) and call this again"
+    try:
+        subprocess.run(words, check=True)
+    except OSError:
+        return f"there is no C compiler cc, which tests/refuse.c needs: {install}"
+    except subprocess.CalledProcessError:
+        return f"the C compiler cc can't make tests/refuse.c: {install}"
+    return ""
 
 
 class Refusals(Checks):
