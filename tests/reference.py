@@ -150,8 +150,10 @@ def commands(text: str) -> list[dict[str, str]]:
     return list(csv.DictReader(io.StringIO(text)))
 
 
+# many runs ask for the same file
+@functools.lru_cache(maxsize=4)
 def filed(text: str) -> tuple[Book, list[int | None]]:
-    """The book after the commands of a file, and the refusal of each, or none."""
+    """The book after the commands of a file, and the refusal of each, or none. Neither is to be changed."""
     book = Book()
     return book, [getattr(book, fields["kind"])(fields) for fields in commands(text)]
 
