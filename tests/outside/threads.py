@@ -9,10 +9,12 @@ from outside.small import SMALL
 
 MOST_WORKERS = MOST_DESKS = 16
 
-# A book and, by the length of a block, for how many workers the levels of depth have work: for no more than have blocks
-# with a sire that has calves, and but one more for each 32 calves.
-SMALL_WORK = {1: [2], 7: [1], 60_000: [1]}
-WIDE, WIDE_WORK = families(16, 30, 4), {1: [16, 3], 7: [3, 3], 60_000: [1, 1]}
+# Books and, by the length of a block, for how many workers their levels of depth have work: for no more than there are
+# blocks with a sire that has calves, and but one more for each 32 calves. In the second book there is work for all.
+WORK = [
+    (SMALL, {1: [2], 7: [1], 60_000: [1]}),
+    (families(16, 30, 4), {1: [16, 3], 7: [3, 3], 60_000: [1, 1]}),
+]
 
 
 def inbreeding(workers: int, block: int) -> list[str]:
@@ -48,7 +50,7 @@ def is_no_thread(wanted: Done, done: Done) -> bool:
 class ThreadChecks(Refusals):
     def workers(self) -> None:
         """Each number of workers lists what the reference does, over blocks of several lengths, by threads."""
-        for text, work in (SMALL, SMALL_WORK), (WIDE, WIDE_WORK):
+        for text, work in WORK:
             wanted = wrote(reference.inbreeding(text))
             for block, most in work.items():
                 for workers in range(1, MOST_WORKERS + 1):
@@ -69,10 +71,7 @@ class ThreadChecks(Refusals):
         self.count(right and not is_another, f"{threads} threads aren't started, or more are: {words}: {told}")
 
     def refused_threads(self) -> None:
-        """Each start is refused in turn: there are as many as desks, and in a level one fewer than workers.
-
-        Or than blocks that have a sire with calves; and no more than one for each 32 calves.
-        """
+        """Each start is refused in turn: there are as many as desks, and in a level one fewer than have work."""
         for words, calves, threads in STARTED:
             # the eight cows have the first ranks, and then come the eight bulls
             text = HEADER + couples(8, 1, calves)
