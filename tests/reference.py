@@ -3,42 +3,58 @@
 Relationships are the entries of the tabular method, as fractions. A command file is taken apart by Python's `csv`, so
 this speaks only of files without a line fault.
 """
+from __future__ import annotations
+
 import csv
 import datetime
-import fractions
 import functools
 import io
+from collections.abc import Callable, Iterable
+from fractions import Fraction
 
 MOST_ANIMALS, MOST_DEPTH = 60_000, 60
 
+# a number and whether it is the answer
+Test = tuple[int, object]
+# of two animals, or of none: their entry of the tabular method
+Relationship = Callable[[str | None, str | None], Fraction]
+
 
 class Animal:
-    def __init__(self, birth, sire, dam, herd, embryo):
+    """A record."""
+
+    def __init__(self, birth: datetime.date, sire: str | None, dam: str | None, herd: str, embryo: bool) -> None:
         self.birth, self.sire, self.dam, self.herd, self.embryo = birth, sire, dam, herd, embryo
-        self.since, self.left = birth, None
+        self.since = birth
+        self.left: datetime.date | None = None
 
 
-def day(text):
+def day(text: str) -> datetime.date:
     return datetime.date.fromisoformat(text)
 
 
-def parent(text):
+def parent(text: str) -> str | None:
     return None if text in ("", "0") else text
+
+
+def first_of(tests: Iterable[Test]) -> int | None:
+    """The number of the first test that holds."""
+    return next((code for code, holds in tests if holds), None)
 
 
 class Book:
     """The records, by number, in order of registration."""
 
-    def __init__(self):
-        self.animals = {}
+    def __init__(self) -> None:
+        self.animals: dict[str, Animal] = {}
 
-    def depth_with(self, number, sire, dam):
+    def depth_with(self, number: str, sire: str | None, dam: str | None) -> int:
         """The longest line of known parents in the book in which the number has these parents."""
         parents = {it: (animal.sire, animal.dam) for it, animal in self.animals.items()}
         parents[number] = (sire, dam)
-        depths = {}
+        depths: dict[str, int] = {}
 
-        def depth(one, above):
+        def depth(one: str, above: frozenset[str]) -> int:
             if one in above:
                 return MOST_DEPTH + 1
             if one not in depths:
@@ -47,21 +63,22 @@ class Book:
 
         return max(depth(one, frozenset()) for one in parents)
 
-    def fault_of_parents(self, number, birth, sire, dam, embryo):
-        there = self.animals
-        tests = [
-            (3, sire and sire not in there),
-            (4, dam and dam not in there),
+    def fault_of_parents(
+        self, number: str, birth: datetime.date, sire: str | None, dam: str | None, embryo: bool
+    ) -> int | None:
+        father, mother = self.animals.get(sire or ""), self.animals.get(dam or "")
+        fault = first_of([
+            (3, sire and not father),
+            (4, dam and not mother),
             (5, sire and sire[6] != "M"),
             (6, dam and dam[6] != "F"),
-            (7, sire in there and there[sire].birth >= birth),
-            (8, dam in there and there[dam].birth >= birth),
-            (9, dam in there and not embryo and there[dam].left and there[dam].left < birth),
-        ]
-        fault = next((code for code, holds in tests if holds), None)
+            (7, father and father.birth >= birth),
+            (8, mother and mother.birth >= birth),
+            (9, mother and not embryo and mother.left and mother.left < birth),
+        ])  # fmt: skip
         return fault or (10 if self.depth_with(number, sire, dam) > MOST_DEPTH else None)
 
-    def birth(self, fields):
+    def birth(self, fields: dict[str, str]) -> int | None:
         number, birth, herd, embryo = fields["animal"], day(fields["day"]), fields["to"], fields.get("embryo") == "1"
         sire, dam = parent(fields["sire"]), parent(fields["dam"])
         if number in self.animals:
@@ -73,7 +90,7 @@ class Book:
             self.animals[number] = Animal(birth, sire, dam, herd, embryo)
         return fault
 
-    def parents(self, fields):
+    def parents(self, fields: dict[str, str]) -> int | None:
         animal = self.animals.get(fields["animal"])
         if animal is None:
             return 11
@@ -83,82 +100,82 @@ class Book:
             animal.sire, animal.dam = sire, dam
         return fault
 
-    def transfer(self, fields):
+    def transfer(self, fields: dict[str, str]) -> int | None:
         animal, on = self.animals.get(fields["animal"]), day(fields["day"])
-        tests = [
-            (11, animal is None),
-            (12, animal and animal.left),
-            (13, animal and animal.herd != fields["from"]),
+        if animal is None:
+            return 11
+        fault = first_of([
+            (12, animal.left),
+            (13, animal.herd != fields["from"]),
             (15, fields["from"] == fields["to"]),
-            (14, animal and on < animal.since),
-        ]
-        fault = next((code for code, holds in tests if holds), None)
+            (14, on < animal.since),
+        ])  # fmt: skip
         if not fault:
             animal.herd, animal.since = fields["to"], on
         return fault
 
-    def exit(self, fields):
+    def exit(self, fields: dict[str, str]) -> int | None:
         animal, on = self.animals.get(fields["animal"]), day(fields["day"])
+        if animal is None:
+            return 11
         calves = [it for it in self.animals.values() if it.dam == fields["animal"] and not it.embryo]
-        tests = [
-            (11, animal is None),
-            (12, animal and animal.left),
-            (14, animal and on < animal.since),
-            (16, any(it.birth > on for it in calves)),
-        ]
-        fault = next((code for code, holds in tests if holds), None)
+        fault = first_of([(12, animal.left), (14, on < animal.since), (16, any(it.birth > on for it in calves))])
         if not fault:
             animal.left = on
         return fault
 
-    def by_age(self):
+    def by_age(self) -> list[str]:
         return sorted(self.animals, key=lambda it: (self.animals[it].birth, it))
 
-    def relationships(self):
-        """A function of two animals, or of none: their entry of the tabular method."""
-        rank = {number: at for at, number in enumerate(self.by_age())}
+    def ranks(self) -> dict[str, int]:
+        return {number: rank for rank, number in enumerate(self.by_age())}
+
+    def relationships(self) -> Relationship:
+        ranks = self.ranks()
 
         @functools.cache
-        def entry(one, other):
+        def entry(one: str | None, other: str | None) -> Fraction:
             if one is None or other is None:
-                return fractions.Fraction(0)
+                return Fraction(0)
             if one == other:
                 return 1 + entry(self.animals[one].sire, self.animals[one].dam) / 2
-            older, younger = sorted((one, other), key=rank.get)
+            older, younger = sorted((one, other), key=ranks.__getitem__)
             animal = self.animals[younger]
             return (entry(older, animal.sire) + entry(older, animal.dam)) / 2
 
         return entry
 
 
-def commands(text):
+def commands(text: str) -> list[dict[str, str]]:
     return list(csv.DictReader(io.StringIO(text)))
 
 
-def filed(text):
-    """The book after the commands of a file, and the refusal of each, or none."""
+# many runs ask for the same file
+@functools.lru_cache(maxsize=4)
+def filed(text: str) -> tuple[Book, list[int | None]]:
+    """The book after the commands of a file, and the refusal of each, or none. Neither is to be changed."""
     book = Book()
     return book, [getattr(book, fields["kind"])(fields) for fields in commands(text)]
 
 
-def replies(text):
+def replies(text: str) -> str:
     answers = filed(text)[1]
     return "".join(f"{place},{f'refused,{code}' if code else 'accepted'}\n" for place, code in enumerate(answers, 1))
 
 
-def percentage(value):
+def percentage(value: Fraction) -> str:
     hundredths = (value * 20_000 + 1) // 2
     return f"{hundredths // 100}.{hundredths % 100:02}"
 
 
-def inbreeding(text):
+def inbreeding(text: str) -> str:
     book = filed(text)[0]
     entry = book.relationships()
     values = [(it, entry(book.animals[it].sire, book.animals[it].dam) / 2) for it in book.by_age()]
     return "".join(f"{number},{value},{percentage(value)}\n" for number, value in values)
 
 
-def certificate(text, number):
+def certificate(text: str, number: str) -> str:
     book = filed(text)[0]
     animal = book.animals[number]
     value = book.relationships()(animal.sire, animal.dam) / 2
@@ -171,55 +188,51 @@ def certificate(text, number):
         f"left {animal.left or '-'}",
         f"inbreeding {value} {percentage(value)}",
     ]
-    named = {"": number}
+    named: dict[str, str | None] = {"": number}
     for letters in ["S", "D", "SS", "SD", "DS", "DD"] + [a + b + c for a in "SD" for b in "SD" for c in "SD"]:
-        child = book.animals.get(named[letters[:-1]])
-        named[letters] = child and (child.sire if letters[-1] == "S" else child.dam)
+        child = book.animals.get(named[letters[:-1]] or "")
+        named[letters] = (child.sire if letters[-1] == "S" else child.dam) if child else None
         lines.append(f"{letters} {named[letters] or 0}")
     return "\n".join(lines) + "\n"
 
 
-def mating(text, dam, sires):
+def mating(text: str, dam: str, sires: list[str]) -> str:
     book = filed(text)[0]
     entry = book.relationships()
     lines = []
     for sire in sires:
-        fault = next(
-            (
-                code
-                for code, holds in [
-                    (1, sire not in book.animals),
-                    (2, dam not in book.animals),
-                    (3, sire[6] != "M"),
-                    (4, dam[6] != "F"),
-                ]
-                if holds
-            ),
-            None,
-        )
+        fault = first_of([
+            (1, sire not in book.animals),
+            (2, dam not in book.animals),
+            (3, sire[6] != "M"),
+            (4, dam[6] != "F"),
+        ])  # fmt: skip
         fault = fault or (5 if book.depth_with("calf", sire, dam) > MOST_DEPTH else None)
-        value = None if fault else entry(sire, dam) / 2
-        lines.append(f"{sire},refused,{fault}\n" if fault else f"{sire},{value},{percentage(value)}\n")
+        if fault:
+            lines.append(f"{sire},refused,{fault}\n")
+        else:
+            value = entry(sire, dam) / 2
+            lines.append(f"{sire},{value},{percentage(value)}\n")
     return "".join(lines)
 
 
-def inverse(text):
+def inverse(text: str) -> str:
     book = filed(text)[0]
-    entry = book.relationships()
-    rank = {number: at for at, number in enumerate(book.by_age())}
+    entry, ranks = book.relationships(), book.ranks()
     lines = []
     for number in book.by_age():
         parents = [it for it in (book.animals[number].sire, book.animals[number].dam) if it]
-        alpha = 1 / (1 - sum((entry(it, it) for it in parents), fractions.Fraction(0)) / 4)
-        cells = [(number, number, alpha)] + [(number, it, -alpha / 2) for it in parents] + [(it, it, alpha / 4) for it in parents]
+        alpha = 1 / (1 - sum((entry(it, it) for it in parents), Fraction(0)) / 4)
+        cells = [(number, number, alpha)]
+        cells += [(number, it, -alpha / 2) for it in parents] + [(it, it, alpha / 4) for it in parents]
         if len(parents) == 2:
-            older, younger = sorted(parents, key=rank.get)
+            older, younger = sorted(parents, key=ranks.__getitem__)
             cells.append((younger, older, alpha / 4))
         lines += [f"{number},{row},{column},{value}\n" for row, column, value in cells]
     return "".join(lines)
 
 
-def clerks(text, desks=2, base=0):
+def clerks(text: str, desks: int = 2, base: int = 0) -> str:
     book, answers = filed(text)
     first = min(base, len(answers))
     answered = [len(range(desk, len(answers) - first, desks)) for desk in range(desks)]

@@ -1,0 +1,94 @@
+"""Runs of the program, and what is counted."""
+from __future__ import annotations
+
+import dataclasses
+import pathlib
+import subprocess
+from collections.abc import Callable, Mapping, Sequence
+from typing import IO, Self
+
+TOP = pathlib.Path(__file__).resolve().parent.parent.parent
+SECONDS = 60
+
+Words = Sequence[str | bytes]
+# a text, or the handle of an open file
+Given = str | bytes | int
+
+
+@dataclasses.dataclass(frozen=True, repr=False)
+class Done:
+    """What a run ended with."""
+
+    status: int
+    out: bytes
+    err: bytes
+
+    def __repr__(self) -> str:
+        return f"status {self.status}, output {self.out[-160:]!r}, error {self.err[-160:]!r}"
+
+
+def wrote(out: str, err: str = "", status: int = 0) -> Done:
+    return Done(status, out.encode(), err.encode())
+
+
+def fault(text: str, out: str = "", status: int = 1) -> Done:
+    return wrote(out, f"herdbook: {text}\n", status)
+
+
+class Checks:
+    """Runs a program, in an environment without the caller's variables, and counts what passed and what failed."""
+
+    def __init__(self, program: str, room: str) -> None:
+        self.program, self.room = program, pathlib.Path(room)
+        self.passed = self.failed = 0
+
+    def built(self, name: str) -> Self:
+        """The checks of another program that the gate built, in the same room."""
+        return type(self)(str(TOP / f"crates/{name}/out/{name}"), str(self.room))
+
+    def take_over(self, other: Checks) -> None:
+        """Adds what was counted elsewhere."""
+        self.passed, self.failed = self.passed + other.passed, self.failed + other.failed
+
+    def run(
+        self,
+        words: Words,
+        given: Given = "",
+        out: int | IO[bytes] = subprocess.PIPE,
+        err: int | IO[bytes] = subprocess.PIPE,
+        refuse: Mapping[str, object] | None = None,
+        before: Callable[[], object] | None = None,
+    ) -> Done:
+        """Runs the program. `refuse` is what `refuse.c` reads; `before` is called in the new process."""
+        env = {"PATH": "/usr/bin:/bin", "LANG": "C.UTF-8"}
+        if refuse:
+            env |= {"LD_PRELOAD": str(self.room / "refuse.so")} | {name: str(value) for name, value in refuse.items()}
+        done = subprocess.run(
+            [self.program, *words],
+            input=None if isinstance(given, int) else given.encode() if isinstance(given, str) else given,
+            stdin=given if isinstance(given, int) else None,
+            stdout=out,
+            stderr=err,
+            env=env,
+            timeout=SECONDS,
+            preexec_fn=before,
+        )
+        return Done(done.returncode, done.stdout or b"", done.stderr or b"")
+
+    def count(self, right: object, what: str) -> None:
+        self.passed, self.failed = self.passed + bool(right), self.failed + (not right)
+        if not right:
+            print(f"FAILED {what}", flush=True)
+
+    def expect(
+        self,
+        what: str,
+        wanted: Done,
+        words: Words,
+        given: Given = "",
+        out: int | IO[bytes] = subprocess.PIPE,
+        refuse: Mapping[str, object] | None = None,
+        before: Callable[[], object] | None = None,
+    ) -> None:
+        found = self.run(words, given, out=out, refuse=refuse, before=before)
+        self.count(found == wanted, f"{what}: {' '.join(map(repr, words))}: {found}; wanted {wanted}")

@@ -1,0 +1,100 @@
+"""The table of statuses: words, numbers, records and input that the program refuses, and what it tells of them."""
+from __future__ import annotations
+
+import os
+
+from outside.books import HEADER, SAMPLES, animal, founder
+from outside.runs import Checks, Words, fault
+
+# words that are no command line, and what is told of them
+NO_COMMAND_LINES: list[tuple[list[str], str]] = [
+    ([], "Usage: "),
+    (["sell"], "'sell'"),
+    (["file", "x"], "'x'"),
+    (["inbreeding", "--workers", "17"], "'17'"),
+    (["inbreeding", "--workers", "0"], "'0'"),
+    (["inbreeding", "--block", "0"], "'0'"),
+    (["inbreeding", "--block", "60001"], "'60001'"),
+    (["inbreeding", "--workers", "many"], "'many'"),
+    (["certificate"], "<NUMBER>"),
+    (["mating", "--dam", animal("F", 1)], "<SIRE>"),
+    (["mating", animal("M", 1)], "--dam <NUMBER>"),
+    (["inverse", "--desks", "1"], "'--desks'"),
+    (["clerks", "--desks", "0"], "'0'"),
+    (["clerks", "--desks", "17"], "'17'"),
+    (["clerks", "--base", "1000001"], "'1000001'"),
+    (["clerks", "--base", "-1"], "'-1'"),
+]
+
+NO_TEXTS: list[Words] = [[b"\xff"], [b"certificate", b"HOLGBRM00000000000\xff"], [b"mating", b"--dam", b"\xc3", b"M"]]
+
+NO_NUMBERS = [
+    ("HOLGBRM1", "1 Length"),
+    ("", "1 Length"),
+    ("HoLGBRM000000000001", "2 Letter"),
+    ("HOLGB1M000000000001", "2 Letter"),
+    ("HOLGBRX000000000001", "3 SexLetter"),
+    ("HOLGBRM00000000000a", "4 NumberCharacter"),
+]
+
+GOOD = HEADER + founder(animal("M", 1))
+BIRTH = "birth,HOLGBRM000000000002,2000-01-01,0,0,,1"
+EMBRYO_HEADER = HEADER.replace("to\n", "to,embryo\n")
+
+# command files, the number of the faulty record, and its fault
+FAULTY_FILES = [
+    ("", 0, "1 Header"),
+    ("kind\n", 0, "1 Header"),
+    (GOOD + "birth,HOLGBRM0000", 2, "2 Fields"),
+    (GOOD + "sale,HOLGBRM000000000002,,,,,", 2, "3 Kind"),
+    (GOOD + BIRTH.replace("M", "X"), 2, "4 Animal"),
+    (GOOD + BIRTH.replace("2000-01-01", "2023-02-29"), 2, "5 Day"),
+    (GOOD + BIRTH.replace(",0,0,", ",x,0,"), 2, "6 Sire"),
+    (GOOD + BIRTH.replace(",0,0,", ",0,x,"), 2, "7 Dam"),
+    (GOOD + f"transfer,{animal('M', 1)},2001-01-01,,,0,1", 2, "8 FromHerd"),
+    (GOOD + BIRTH + "00000000", 2, "9 ToHerd"),
+    (GOOD + f"exit,{animal('M', 1)},2001-01-01,,,,1", 2, "10 FieldNotUsed"),
+    (EMBRYO_HEADER + BIRTH + ",x", 1, "14 Embryo"),
+]
+
+
+class StatusChecks(Checks):
+    def words(self) -> None:
+        for words, told in NO_COMMAND_LINES:
+            done = self.run(words, HEADER)
+            right = done.err.startswith(b"error: ") or not words
+            is_told = done.status == 2 and not done.out and right and told.encode() in done.err
+            self.count(is_told, f"no command line: {words}: {done}")
+        for no_text in NO_TEXTS:
+            self.expect("words", fault("a word isn't UTF-8 text", status=2), no_text)
+
+    def wrong_numbers(self) -> None:
+        right = animal("F", 2)
+        for number, told in NO_NUMBERS:
+            wanted = fault(f"animal number fault {told}", status=2)
+            self.expect("number", wanted, ["certificate", number], "not read")
+            self.expect("number", wanted, ["mating", "--dam", right, animal("M", 1), number, "HOLGBRX000000000001"])
+            self.expect("number", wanted, ["mating", "--dam", number, "HOLGBRM1"])
+
+    def line_faults(self) -> None:
+        mating = ["mating", "--dam", animal("F", 2), animal("M", 1)]
+        for text, record, told in FAULTY_FILES:
+            answered = "1,accepted\n" if record == 2 else ""
+            self.expect("line fault", fault(f"record {record}: fault {told}", answered), ["file"], text)
+            for words in ["inbreeding"], ["inverse"], ["clerks"], ["certificate", animal("M", 9)], mating:
+                self.expect("line fault", fault(f"record {record}: fault {told}"), words, text)
+        many = HEADER + f"exit,{animal('M', 1)},2000-01-01,,,,\n" * 1_000_001
+        answers = "".join(f"{serial},refused,11\n" for serial in range(1, 1_000_001))
+        self.expect("too many", fault("record 1000001: fault 12 TooMany", answers), ["file"], many)
+        self.expect("too many", fault("record 1000001: fault 12 TooMany"), ["clerks"], many)
+
+    def other_statuses(self) -> None:
+        text = SAMPLES[1].read_text()
+        self.expect("absent", fault("not registered"), ["certificate", animal("M", 9)], text)
+        # what can't be read at all
+        unread = fault("record 0: fault 11 Read")
+        for words in ["file"], ["clerks"]:
+            self.expect("a closed input", unread, words, before=lambda: os.close(0))
+        folder = os.open(self.room, os.O_RDONLY)
+        self.expect("a folder for input", unread, ["file"], folder)
+        os.close(folder)
