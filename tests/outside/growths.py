@@ -3,9 +3,10 @@ from __future__ import annotations
 
 import re
 
+from outside.orders import ONE_CLERK, WIDEST_BLOCK, each_order
 from outside.refusals import ALL, Refusals, is_fault, want_of_memory, while_reading
 from outside.runs import Done, Words, fault
-from outside.small import ONE_CLERK, SMALL, WIDEST_BLOCK, each_order
+from outside.small import SMALL
 
 # words for which no book is read
 WITHOUT_BOOK: list[Words] = [

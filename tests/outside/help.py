@@ -5,8 +5,8 @@ import re
 import shlex
 
 from outside.books import full_sibs
+from outside.orders import order_names
 from outside.runs import TOP, Checks, wrote
-from outside.small import order_names
 
 
 class HelpChecks(Checks):

@@ -2,8 +2,9 @@
 from __future__ import annotations
 
 from outside.books import males
+from outside.orders import WIDEST_BLOCK
 from outside.runs import Checks, wrote
-from outside.small import SMALL, WIDEST_BLOCK
+from outside.small import SMALL
 
 
 class LimitChecks(Checks):

@@ -6,9 +6,10 @@ import resource
 import signal
 from collections.abc import Callable
 
+from outside.orders import each_order
 from outside.refusals import Refusals, is_fault, want_of_memory
 from outside.runs import wrote
-from outside.small import SMALL, each_order
+from outside.small import SMALL
 
 # no order takes so many kilobytes of stack more than the version
 STACK = 250

@@ -1,4 +1,4 @@
-"""Each order beside the reference: what is printed for the sample books and for full sibs."""
+"""Each order: as it is run on the small book, and beside the reference on the sample books and on full sibs."""
 from __future__ import annotations
 
 import itertools
@@ -9,6 +9,28 @@ from outside.books import HEADER, SAMPLES, animal, full_sibs
 from outside.runs import Checks, wrote
 
 MOST_COMMANDS = 1_000_000
+
+ONE_CLERK = ["clerks", "--desks", "1"]
+# one block in each level
+WIDEST_BLOCK = ["inbreeding", "--workers", "3", "--block", "60000"]
+
+
+def each_order() -> list[list[str]]:
+    return [
+        ["file"],
+        ["inbreeding"],
+        ["inbreeding", "--workers", "3", "--block", "1"],
+        ["certificate", animal("M", 7)],
+        ["mating", "--dam", animal("F", 6), animal("M", 5), animal("F", 8), animal("M", 7)],
+        ["inverse"],
+        ONE_CLERK,
+        ["clerks", "--desks", "3", "--base", "44"],
+    ]
+
+
+def order_names() -> list[str]:
+    """The orders, as help lists them."""
+    return list(dict.fromkeys(words[0] for words in each_order()))
 
 
 class OrderChecks(Checks):

@@ -1,9 +1,10 @@
 """Each read of standard input is refused in turn."""
 from __future__ import annotations
 
+from outside.orders import each_order
 from outside.refusals import Refusals, is_fault
 from outside.runs import Done, Words
-from outside.small import SMALL, each_order
+from outside.small import SMALL
 
 # words that ask for no book
 WITHOUT_BOOK: list[Words] = [

@@ -6,9 +6,10 @@ from collections.abc import Callable
 from typing import IO
 
 from outside.books import animal, founder, males
+from outside.orders import each_order
 from outside.refusals import ALL, Refusals, is_fault
 from outside.runs import Done, Words, fault, wrote
-from outside.small import SMALL, each_order
+from outside.small import SMALL
 
 # the bytes of a part, in which long texts are written
 PART = 65_536
