@@ -1,4 +1,4 @@
-ghost use Rattle.std.specs.Prelude.{◌≡◌, ◌≤◌, length, IfOk, IsPermutation};
+ghost use Rattle.std.specs.Prelude.{◌≤◌, length, IfOk, IsPermutation};
 ghost use Rattle.std.specs.List.{range_with_len};
 ghost use Rattle.herd_frozen.specs.freezing.Freeze.{AreRanks, IsAgeOrder, places_of};
 ghost use Rattle.herd_frozen.specs.declared.TheConstants.{MOST_ANIMALS};

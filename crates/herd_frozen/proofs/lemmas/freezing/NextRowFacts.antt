@@ -1,8 +1,8 @@
 -- The row of a record, once those of the older ones are made.
-use Rattle.std.proofs.Common.{ℕ, zero, suc, ◌+◌, ◌<◌, ◌≤◌, ◌≡◌, ◌⊎◌, inl, inr, ⊎_elim, arith, refl, sym, ap, ◌∙◌, subst, List, [], ◌∷◌, ◌++◌, Option, Some, None, length, slice_get, get_or, map, max, All}
+use Rattle.std.proofs.Common.{ℕ, ◌+◌, ◌<◌, ◌≤◌, ◌≡◌, ⊎_elim, arith, refl, sym, ap, ◌∙◌, subst, List, [], ◌∷◌, ◌++◌, Option, Some, None, length, slice_get, get_or, map}
 use Rattle.std.specs.Prelude.{ℤ, ◌<ℤ◌, IfSome}
 use Rattle.std.specs.Map.{keys_of}
-use Rattle.std.specs.Option.{option_and_then, option_map_or}
+use Rattle.std.specs.Option.{option_and_then}
 use Rattle.std.proofs.lemmas.List.{get_or-map, length-map}
 use Rattle.std.proofs.lemmas.Option.{slice_get-map, slice_get_read, slice_get_within, get_or_from_slice_get, same_Some}
 use Rattle.herd_frozen.specs.declared.rules.animal.Animal.{Animal}
@@ -17,7 +17,7 @@ use Rattle.herd_frozen.specs.freezing.Freeze.{AreRows, IsAbove, IsRanked, IsRowO
 use Rattle.herd_frozen.specs.places.Links.{IsLinkAt}
 use Rattle.herd_frozen.specs.places.Places.{IsIndexIn}
 use Rattle.herd_frozen.proofs.lemmas.freezing.AgeOrderFacts.{IsKeyOf, key-at, length-keys, older-before}
-use Rattle.herd_frozen.proofs.lemmas.rules.BookFacts.{key_from_entry, entry_from_key, lookup_at, there}
+use Rattle.herd_frozen.proofs.lemmas.rules.BookFacts.{key_from_entry, entry_from_key, lookup_at, push_cases, there}
 use Rattle.herd_frozen.proofs.lemmas.freezing.FrozenDepthFacts.{IsDepth-from_parents, IsDepthOf-le}
 use Rattle.herd_frozen.proofs.lemmas.freezing.RankFacts.{place-at}
 
@@ -122,12 +122,6 @@ module _ (l most : ℕ) (book : Book) (keys : List AgeKey) (ranks : List ℕ) (r
 -- the key whose turn it is
 pub key-read : (keys : List AgeKey) (rows : List Row) → length rows < length keys → (n : ℕ) → n ≡ length rows → (key : AgeKey) → key ≡ get_or keys n key → slice_get keys (length rows) ≡ Some key
 key-read keys rows more n long key read = slice_get_read keys (length keys) (length rows) key refl more (read ∙ ap (λ m. get_or keys m key) long)
-
-push_cases : {X : Type 0} (xs : List X) (y x : X) (i : ℕ) → slice_get (xs ++ y ∷ []) i ≡ Some x → (slice_get xs i ≡ Some x) ⊎ ((i ≡ length xs) × (y ≡ x))
-push_cases [] y x zero at = inr (refl, same_Some y x at)
-push_cases [] y x (suc i) at = absurd (cc)
-push_cases (z ∷ zs) y x zero at = inl at
-push_cases (z ∷ zs) y x (suc i) at = ⊎_elim (λ h. inl h) (λ last. inr (ap (λ n. suc n) last.0, last.1)) (push_cases zs y x i at)
 
 -- one more row
 pub rows-more : (book : Book) (keys : List AgeKey) (rows : List Row) (row : Row) → AreRows book keys rows → IfSome (slice_get keys (length rows)) (λ key. IsRowOf book keys key row) → AreRows book keys (rows ++ row ∷ [])
