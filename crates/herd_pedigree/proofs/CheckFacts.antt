@@ -35,6 +35,8 @@ use Rattle.herd_pedigree.proofs.KeptFacts.{too_deep-birth}
 use Rattle.herd_frozen.proofs.lemmas.rules.WrittenFacts.{written-changed, too_deep-written}
 use Rattle.herd_pedigree.proofs.lemmas.store.SetFacts.{keys-set, set-changed, AreParents-set}
 
+-- ---- the places of named parents
+
 -- a named parent's place is within the book
 pub named-within : (numbers : List (List ℕ)) (o : Option ℕ) (n : Option (List ℕ)) (p : ℕ) → IsIndexIn numbers o n → o ≡ Some p → p < length numbers
 named-within numbers o n p is e = let f = number_from_place numbers o n p is e in slice_get_within numbers p f.0 f.2
@@ -49,11 +51,15 @@ parents-within book parent_of parents a c p e =
     let n = length-keys book in
     omega (arith, h, n)
 
+-- ---- an animal that isn't in the book
+
 -- a path of the animals of two numbers' parents: one that isn't in the book
 pub too_deep-absent : (l most : ℕ) (book : Book) (sires dams : List (Option ℕ)) (depths : List ℕ) → IsKept l most book sires dams depths → (number : List ℕ) → record_of book number ≡ None →
     (sire dam : Option ℕ) (s d : Option (List ℕ)) → IsIndexIn (keys_of book) sire s → IsIndexIn (keys_of book) dam d → nat_lt l (depth_from (slice_index depths) sire dam) ≡ is_too_deep l book number s d
 too_deep-absent l most book sires dams depths k number absent sire dam s d si di =
     too_deep-birth l most book sires dams depths k number (record { birth = pos 0; sire = s; dam = d; embryo = false; herd = 0; since = pos 0; left = None }) absent sire dam si di
+
+-- ---- the parents of one exchanged
 
 -- the parents by place, with those of one exchanged
 module _ (sires dams : List (Option ℕ)) (a : ℕ) (sire dam : Option ℕ) (here : a < length sires) (wide : length dams ≡ length sires) where
@@ -139,6 +145,8 @@ module _ (l most : ℕ) (book : Book) (sires dams : List (Option ℕ)) (depths :
       (cases_eq c a))
       (λ c there. k.depths_are.most c (there-same sires dams a sire dam within wide c there))
 
+-- ---- the first fault
+
 -- the first fault of the records is the first
 pub fault-first : (l : ℕ) (book : Book) (number : List ℕ) (birth : ℤ) (sire dam : Option (List ℕ)) (embryo : Bool) (fault : ParentFault) →
     fault_by_records book birth sire dam embryo ≡ Some fault → Some fault ≡ parent_fault l book number birth sire dam embryo
@@ -166,6 +174,8 @@ pub newborn-fault : (l most : ℕ) (book now : Book) → book ≡ now → (sires
 newborn-fault l most book now same sires dams depths k number absent birth s d embryo sire dam shown si di deep e =
     fault-told l now book (sym same) number birth s d embryo sire dam shown si di deep
     (λ s d si di. sym e ∙ too_deep-absent l most book sires dams depths k number absent sire dam s d si di)
+
+-- ---- a correction is sound
 
 -- a new parent is there, where those that are exchanged are
 closed-exchange : (l most : ℕ) (book : Book) (sires dams : List (Option ℕ)) (depths : List ℕ) → IsKept l most book sires dams depths → (a : ℕ) (sire dam : Option ℕ) → a < length sires →
@@ -218,6 +228,8 @@ correction-depths l most book depths c k found same =
           (λ x other there. (there-same sires dams c.place c.sire c.dam c.sound.here c.sound.wide x there, get_or-set_other sires c.place x c.sire None other, get_or-set_other dams c.place x c.dam None other));
       shallow = λ x within. k.depths_are.most x (lt-ltb x (length sires) (omega (arith, within, long)));
     })
+
+-- ---- paths by places and by numbers, once the parents of one are exchanged
 
 module _ (l most : ℕ) (book : Book) (sires dams : List (Option ℕ)) (depths : List ℕ) (k : IsKept l most book sires dams depths)
     (number : List ℕ) (a : ℕ) (at : slice_get (keys_of book) a ≡ Some number)
