@@ -1,4 +1,5 @@
 -- How what is kept changes with the book.
+pub mod MapFacts
 pub mod RecordsFacts
 pub mod PlaceFacts
 pub mod DepthFacts

@@ -32,7 +32,8 @@ chain families zero calf = []
 chain families (suc n) None = []
 chain families (suc n) (Some calf) = calf ∷ chain families n (next_of families calf)
 
--- there are fewer animals than places, and each calf of a parent stands in its chain once: what is next has less seniority
+-- there are fewer animals than places, and each calf of a parent stands in its chain once:
+-- what is next has less seniority
 pub record AreChained (families : List Family) : Type 0 where
   pub few : length families < 2 ^ 32
   pub seniority : ℕ → ℕ
