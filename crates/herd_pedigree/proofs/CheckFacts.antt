@@ -166,14 +166,25 @@ fault-told l book now same number birth s d embryo sire dam shown si di deep tol
     fault-rest l now number birth s d embryo deep (subst (λ b. fault_by_records b birth s d embryo ≡ None) same shown)
     (told s d (subst (λ b. IsIndexIn (keys_of b) sire s) same si) (subst (λ b. IsIndexIn (keys_of b) dam d) same di))
 
--- of an animal that isn't in the book its depth does
-pub newborn-fault : (l most : ℕ) (book now : Book) → book ≡ now → (sires dams : List (Option ℕ)) (depths : List ℕ) → IsKept l most book sires dams depths → (number : List ℕ) → record_of book number ≡ None →
-    (birth : ℤ) (s d : Option (List ℕ)) (embryo : Bool) (sire dam : Option ℕ) → fault_by_records now birth s d embryo ≡ None →
-    IsIndexIn (keys_of now) sire s → IsIndexIn (keys_of now) dam d → (deep : Bool) → nat_lt l (depth_from (slice_index depths) sire dam) ≡ deep →
-    (if deep then Some TooDeep else None) ≡ parent_fault l book number birth s d embryo
-newborn-fault l most book now same sires dams depths k number absent birth s d embryo sire dam shown si di deep e =
-    fault-told l now book (sym same) number birth s d embryo sire dam shown si di deep
-    (λ s d si di. sym e ∙ too_deep-absent l most book sires dams depths k number absent sire dam s d si di)
+-- of an animal that isn't in the book its depth does, by what is read of the depths of its parents and of the limit
+module _ (l most : ℕ) (book now : Book) (same : book ≡ now) (sires dams : List (Option ℕ)) (depths : List ℕ) (k : IsKept l most book sires dams depths) (number : List ℕ) (absent : record_of book number ≡ None)
+    (animal : Animal) (shown : fault_by_records now animal.birth animal.sire animal.dam animal.embryo ≡ None)
+    (sire dam : Option ℕ) (sire_is : IsIndexIn (keys_of now) sire animal.sire) (dam_is : IsIndexIn (keys_of now) dam animal.dam)
+    (limit depth : ℕ) (limit_is : limit ≡ l) (depth_is : depth ≡ depth_from (slice_index depths) sire dam) where
+  newborn-told : (deep : Bool) → nat_lt l (depth_from (slice_index depths) sire dam) ≡ deep → (if deep then Some TooDeep else None) ≡ parent_fault l book number animal.birth animal.sire animal.dam animal.embryo
+  newborn-told deep e =
+      fault-told l now book (sym same) number animal.birth animal.sire animal.dam animal.embryo sire dam shown sire_is dam_is deep
+      (λ s d si di. sym e ∙ too_deep-absent l most book sires dams depths k number absent sire dam s d si di)
+
+  pub newborn-deep : limit < depth → Some TooDeep ≡ parent_fault l book number animal.birth animal.sire animal.dam animal.embryo
+  newborn-deep more = newborn-told true (lt-ltb l (depth_from (slice_index depths) sire dam) (omega (arith, more, limit_is, depth_is)))
+
+  pub newborn-none : depth ≤ limit → None ≡ parent_fault l book number animal.birth animal.sire animal.dam animal.embryo
+  newborn-none low = newborn-told false (le-ltb l (depth_from (slice_index depths) sire dam) (omega (arith, low, limit_is, depth_is)))
+
+-- the depth that was computed of depths as they were read
+pub depth-read : (depth : ℕ) (read depths : List ℕ) (sire dam : Option ℕ) → depth ≡ depth_from (slice_index read) sire dam → read ≡ depths → depth ≡ depth_from (slice_index depths) sire dam
+depth-read depth read depths sire dam is same = is ∙ ap (λ ds. depth_from (slice_index ds) sire dam) same
 
 -- ---- a correction is sound
 
@@ -344,3 +355,11 @@ module _ (l most : ℕ) (book : Book) (sires dams : List (Option ℕ)) (depths :
       deep ≡ is_too_deep l book number s d
   too_deep-told_by true deep shallow = let path = deep refl in sym (too_deep-by_place path.0 path.1)
   too_deep-told_by false deep shallow = sym (not_deep-by_place (shallow refl))
+
+  -- and, of an animal whose parents' records show no fault, the first one
+  module _ (birth : ℤ) (embryo : Bool) (shown : fault_by_records book birth s d embryo ≡ None) where
+    pub fault-deep : (c : ℕ) × IsTrue (has_path (exchanged sires dams a sire dam) (l + 1) c) → Some TooDeep ≡ parent_fault l book number birth s d embryo
+    fault-deep path = fault-rest l book number birth s d embryo true shown (sym (too_deep-by_place path.0 path.1))
+
+    pub fault-none : ((c : ℕ) → IsFalse (has_path (exchanged sires dams a sire dam) (l + 1) c)) → None ≡ parent_fault l book number birth s d embryo
+    fault-none none = fault-rest l book number birth s d embryo false shown (sym (not_deep-by_place none))

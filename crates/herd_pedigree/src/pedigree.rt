@@ -302,8 +302,7 @@ impl<A: Allocator + Copy> Pedigree<A> {
     {
         let place = found.place;
         let was = self.records.stored_at(place as usize);
-        let Animal { birth, embryo, .. } = self.records.animal_at(place as usize);
-        let parents = match sound_parents(&self.records, birth, &sire, &dam, embryo) {
+        let parents = match sound_parents(&self.records, was.birth, &sire, &dam, was.embryo) {
             Ok(parents) => parents,
             Err(fault) => return Ok(Some(fault)),
         };

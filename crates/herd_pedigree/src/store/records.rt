@@ -22,10 +22,10 @@ use std::marker::Model;
 /// What is kept of an animal under its number: its record, with the places of the parents that are known.
 #[derive(Clone, Copy)]
 pub struct StoredRecord {
-    birth: Day,
+    pub(crate) birth: Day,
     sire: PackedIndex,
     dam: PackedIndex,
-    embryo: bool,
+    pub(crate) embryo: bool,
     herd: Herd,
     since: Day,
     left: Option<Day>,
