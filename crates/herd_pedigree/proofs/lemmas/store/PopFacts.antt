@@ -61,17 +61,6 @@ chained-empty = record {
   single = λ c e. (refl, refl);
 }
 
--- what is written behind the part that is left changes nothing
-pub take-set : {X : Type 0} (xs : List X) (n : ℕ) (v : X) → n < length xs → take n (slice_set xs n v) ≡ take n xs
-take-set xs n v h =
-    let m = length-set xs n v in
-    let a = length-take-le n xs (omega (arith, h)) in
-    let b = length-take-le n (slice_set xs n v) (omega (arith, h, m)) in
-    ext_get_or v (take n (slice_set xs n v)) (take n xs) (omega (arith, a, b))
-    (λ i l.
-    let low : i < n = omega (arith, l, b) in
-    get_or-take n (slice_set xs n v) i v low ∙ get_or-set_other xs n i v v (λ is. let bad : i ≡ n = is in absurd (omega (arith, bad, low))) ∙ sym (get_or-take n xs i v low))
-
 -- an animal with no calves has none either once its own parent is taken away
 pub still_childless : (parents : List (Option ℕ)) (n : ℕ) → n < length parents → ((c : ℕ) → parent_at parents c ≡ Some n → ⊥) → (c : ℕ) → parent_at (slice_set parents n None) c ≡ Some n → ⊥
 still_childless parents n here childless c e =

@@ -4,7 +4,8 @@ use Rattle.std.proofs.lemmas.List.{take-map, get_or-set_same, length-map, length
 use Rattle.herd_pedigree.specs.declared.store.progeny.Family.{Family}
 use Rattle.herd_pedigree.specs.store.Calves.{parent_of, parents_of}
 use Rattle.herd_frozen.specs.places.Places.{parent_at}
-use Rattle.herd_pedigree.proofs.lemmas.store.PopFacts.{chained-pop, still_childless, take-set}
+use Rattle.herd_pedigree.proofs.lemmas.store.ListFacts.{take-set}
+use Rattle.herd_pedigree.proofs.lemmas.store.PopFacts.{chained-pop, still_childless}
 use Rattle.herd_pedigree.proofs.lemmas.store.ProgenyFacts.{length-families, parents-seen}
 use Rattle.herd_pedigree.proofs.store.progeny.Progeny.pop.Goals as goal
 
