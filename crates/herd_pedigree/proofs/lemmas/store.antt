@@ -7,8 +7,8 @@ pub mod SetFacts
 pub mod UndoFacts
 pub mod ListFacts
 pub mod ProgenyFacts
-pub mod LinkFacts
-pub mod UnlinkFacts
+pub mod JoinFacts
+pub mod PartFacts
 pub mod PopFacts
 pub mod ChainFacts
 pub mod CarryFacts
