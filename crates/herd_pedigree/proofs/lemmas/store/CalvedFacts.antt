@@ -1,10 +1,10 @@
 -- Whether an animal is the dam of one born after a day, by her calves alone.
-use Rattle.std.proofs.Common.{ℕ, ℤ, zero, suc, ◌≡◌, ⊎_elim, sym, ap, ◌∙◌, subst, Bool, true, false, not, ◌&&◌, int_lt, List, [], ◌∷◌, Option, Some, None, slice_get, get_or}
+use Rattle.std.proofs.Common.{ℕ, ℤ, ◌≡◌, sym, ap, ◌∙◌, subst, Bool, true, false, not, ◌&&◌, int_lt, List, Option, Some, None, slice_get, get_or}
 use Rattle.std.specs.Str.{bytes_eq}
 use Rattle.std.specs.List.{IsDistinct}
 use Rattle.std.specs.Map.{keys_of, values_of}
 use Rattle.std.specs.Option.{option_map_or}
-use Rattle.std.proofs.lemmas.Bool.{cases_Bool, false_from_ne_true, and_parts}
+use Rattle.std.proofs.lemmas.Bool.{false_from_ne_true, and_parts}
 use Rattle.std.proofs.lemmas.Option.{same_Some, slice_get-get_or}
 use Rattle.std.proofs.lemmas.List.Folds.{list_any_none}
 use Rattle.herd_frozen.specs.declared.rules.animal.Animal.{Animal}

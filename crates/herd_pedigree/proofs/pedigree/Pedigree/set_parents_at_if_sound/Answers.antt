@@ -1,16 +1,13 @@
 -- `Pedigree::set_parents_at_if_sound`: what `carry_if_shallow` and `write` require, the invariant, and its clauses `fault`, `set` and `by_records`.
-use Rattle.std.proofs.Common.{◌+◌, refl, sym, ap, ◌∙◌, subst, ◌≡◌, ◌<◌, ℕ, List, [], Option, Some, None, IfSome, IsFalse, IsTrue, true, false, All, length, slice_index, slice_get, slice_set}
+use Rattle.std.proofs.Common.{refl, sym, ap, ◌∙◌, subst, ◌≡◌, ◌<◌, ℕ, List, [], Option, Some, None, IfSome, All, length, slice_index, slice_get, slice_set}
 use Rattle.std.specs.Map.{keys_of}
 use Rattle.std.specs.Vec.{with_items}
 use Rattle.std.proofs.lemmas.List.{with_items_is}
-use Rattle.std.proofs.lemmas.Bool.{false≢true, true≢false}
 use Rattle.herd_frozen.specs.declared.rules.animal.Animal.{Animal}
 use Rattle.herd_pedigree.specs.declared.store.records.StoredRecord.{StoredRecord}
 use Rattle.herd_pedigree.specs.declared.store.undo.Undo.TheVariants.{Record}
-use Rattle.herd_frozen.specs.rules.Paths.{has_path}
-use Rattle.herd_frozen.specs.rules.Book.{Book, changed, record_of, with_parents}
+use Rattle.herd_frozen.specs.rules.Book.{Book, changed, with_parents}
 use Rattle.herd_pedigree.specs.Pedigree.{IsCorrection, IsFound, changed_to}
-use Rattle.herd_frozen.specs.rules.ParentFault.{parent_fault}
 use Rattle.herd_frozen.specs.declared.rules.parent_fault.ParentFault.TheVariants.{TooDeep}
 use Rattle.herd_pedigree.specs.store.Carry.{IsSettled}
 use Rattle.herd_pedigree.specs.store.Exchange.{exchanged}

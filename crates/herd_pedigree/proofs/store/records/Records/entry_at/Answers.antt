@@ -1,5 +1,5 @@
 -- `Records::entry_at`: its result.
-use Rattle.std.proofs.Common.{◌≡◌, ◌∙◌, sym, ap, ℕ, List, Some, slice_get}
+use Rattle.std.proofs.Common.{◌≡◌, ◌∙◌, sym, ap, slice_get}
 use Rattle.std.specs.Map.{keys_of}
 use Rattle.herd_frozen.specs.rules.Book.{Book}
 use Rattle.herd_frozen.proofs.lemmas.rules.BookFacts.{entry_from_both}
