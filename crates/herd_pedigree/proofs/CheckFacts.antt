@@ -35,6 +35,8 @@ use Rattle.herd_pedigree.proofs.KeptFacts.{too_deep-birth}
 use Rattle.herd_frozen.proofs.lemmas.rules.WrittenFacts.{written-changed, too_deep-written}
 use Rattle.herd_pedigree.proofs.lemmas.store.SetFacts.{keys-set, set-changed, AreParents-set}
 
+-- ---- the places of named parents
+
 -- a named parent's place is within the book
 pub named-within : (numbers : List (List ℕ)) (o : Option ℕ) (n : Option (List ℕ)) (p : ℕ) → IsIndexIn numbers o n → o ≡ Some p → p < length numbers
 named-within numbers o n p is e = let f = number_from_place numbers o n p is e in slice_get_within numbers p f.0 f.2
@@ -49,11 +51,15 @@ parents-within book parent_of parents a c p e =
     let n = length-keys book in
     omega (arith, h, n)
 
+-- ---- an animal that isn't in the book
+
 -- a path of the animals of two numbers' parents: one that isn't in the book
 pub too_deep-absent : (l most : ℕ) (book : Book) (sires dams : List (Option ℕ)) (depths : List ℕ) → IsKept l most book sires dams depths → (number : List ℕ) → record_of book number ≡ None →
     (sire dam : Option ℕ) (s d : Option (List ℕ)) → IsIndexIn (keys_of book) sire s → IsIndexIn (keys_of book) dam d → nat_lt l (depth_from (slice_index depths) sire dam) ≡ is_too_deep l book number s d
 too_deep-absent l most book sires dams depths k number absent sire dam s d si di =
     too_deep-birth l most book sires dams depths k number (record { birth = pos 0; sire = s; dam = d; embryo = false; herd = 0; since = pos 0; left = None }) absent sire dam si di
+
+-- ---- the parents of one exchanged
 
 -- the parents by place, with those of one exchanged
 module _ (sires dams : List (Option ℕ)) (a : ℕ) (sire dam : Option ℕ) (here : a < length sires) (wide : length dams ≡ length sires) where
@@ -139,6 +145,8 @@ module _ (l most : ℕ) (book : Book) (sires dams : List (Option ℕ)) (depths :
       (cases_eq c a))
       (λ c there. k.depths_are.most c (there-same sires dams a sire dam within wide c there))
 
+-- ---- the first fault
+
 -- the first fault of the records is the first
 pub fault-first : (l : ℕ) (book : Book) (number : List ℕ) (birth : ℤ) (sire dam : Option (List ℕ)) (embryo : Bool) (fault : ParentFault) →
     fault_by_records book birth sire dam embryo ≡ Some fault → Some fault ≡ parent_fault l book number birth sire dam embryo
@@ -158,14 +166,27 @@ fault-told l book now same number birth s d embryo sire dam shown si di deep tol
     fault-rest l now number birth s d embryo deep (subst (λ b. fault_by_records b birth s d embryo ≡ None) same shown)
     (told s d (subst (λ b. IsIndexIn (keys_of b) sire s) same si) (subst (λ b. IsIndexIn (keys_of b) dam d) same di))
 
--- of an animal that isn't in the book its depth does
-pub newborn-fault : (l most : ℕ) (book now : Book) → book ≡ now → (sires dams : List (Option ℕ)) (depths : List ℕ) → IsKept l most book sires dams depths → (number : List ℕ) → record_of book number ≡ None →
-    (birth : ℤ) (s d : Option (List ℕ)) (embryo : Bool) (sire dam : Option ℕ) → fault_by_records now birth s d embryo ≡ None →
-    IsIndexIn (keys_of now) sire s → IsIndexIn (keys_of now) dam d → (deep : Bool) → nat_lt l (depth_from (slice_index depths) sire dam) ≡ deep →
-    (if deep then Some TooDeep else None) ≡ parent_fault l book number birth s d embryo
-newborn-fault l most book now same sires dams depths k number absent birth s d embryo sire dam shown si di deep e =
-    fault-told l now book (sym same) number birth s d embryo sire dam shown si di deep
-    (λ s d si di. sym e ∙ too_deep-absent l most book sires dams depths k number absent sire dam s d si di)
+-- of an animal that isn't in the book its depth does, by what is read of the depths of its parents and of the limit
+module _ (l most : ℕ) (book now : Book) (same : book ≡ now) (sires dams : List (Option ℕ)) (depths : List ℕ) (k : IsKept l most book sires dams depths) (number : List ℕ) (absent : record_of book number ≡ None)
+    (animal : Animal) (shown : fault_by_records now animal.birth animal.sire animal.dam animal.embryo ≡ None)
+    (sire dam : Option ℕ) (sire_is : IsIndexIn (keys_of now) sire animal.sire) (dam_is : IsIndexIn (keys_of now) dam animal.dam)
+    (limit depth : ℕ) (limit_is : limit ≡ l) (depth_is : depth ≡ depth_from (slice_index depths) sire dam) where
+  newborn-told : (deep : Bool) → nat_lt l (depth_from (slice_index depths) sire dam) ≡ deep → (if deep then Some TooDeep else None) ≡ parent_fault l book number animal.birth animal.sire animal.dam animal.embryo
+  newborn-told deep e =
+      fault-told l now book (sym same) number animal.birth animal.sire animal.dam animal.embryo sire dam shown sire_is dam_is deep
+      (λ s d si di. sym e ∙ too_deep-absent l most book sires dams depths k number absent sire dam s d si di)
+
+  pub newborn-deep : limit < depth → Some TooDeep ≡ parent_fault l book number animal.birth animal.sire animal.dam animal.embryo
+  newborn-deep more = newborn-told true (lt-ltb l (depth_from (slice_index depths) sire dam) (omega (arith, more, limit_is, depth_is)))
+
+  pub newborn-none : depth ≤ limit → None ≡ parent_fault l book number animal.birth animal.sire animal.dam animal.embryo
+  newborn-none low = newborn-told false (le-ltb l (depth_from (slice_index depths) sire dam) (omega (arith, low, limit_is, depth_is)))
+
+-- the depth that was computed of depths as they were read
+pub depth-read : (depth : ℕ) (read depths : List ℕ) (sire dam : Option ℕ) → depth ≡ depth_from (slice_index read) sire dam → read ≡ depths → depth ≡ depth_from (slice_index depths) sire dam
+depth-read depth read depths sire dam is same = is ∙ ap (λ ds. depth_from (slice_index ds) sire dam) same
+
+-- ---- a correction is sound
 
 -- a new parent is there, where those that are exchanged are
 closed-exchange : (l most : ℕ) (book : Book) (sires dams : List (Option ℕ)) (depths : List ℕ) → IsKept l most book sires dams depths → (a : ℕ) (sire dam : Option ℕ) → a < length sires →
@@ -218,6 +239,8 @@ correction-depths l most book depths c k found same =
           (λ x other there. (there-same sires dams c.place c.sire c.dam c.sound.here c.sound.wide x there, get_or-set_other sires c.place x c.sire None other, get_or-set_other dams c.place x c.dam None other));
       shallow = λ x within. k.depths_are.most x (lt-ltb x (length sires) (omega (arith, within, long)));
     })
+
+-- ---- paths by places and by numbers, once the parents of one are exchanged
 
 module _ (l most : ℕ) (book : Book) (sires dams : List (Option ℕ)) (depths : List ℕ) (k : IsKept l most book sires dams depths)
     (number : List ℕ) (a : ℕ) (at : slice_get (keys_of book) a ≡ Some number)
@@ -332,3 +355,11 @@ module _ (l most : ℕ) (book : Book) (sires dams : List (Option ℕ)) (depths :
       deep ≡ is_too_deep l book number s d
   too_deep-told_by true deep shallow = let path = deep refl in sym (too_deep-by_place path.0 path.1)
   too_deep-told_by false deep shallow = sym (not_deep-by_place (shallow refl))
+
+  -- and, of an animal whose parents' records show no fault, the first one
+  module _ (birth : ℤ) (embryo : Bool) (shown : fault_by_records book birth s d embryo ≡ None) where
+    pub fault-deep : (c : ℕ) × IsTrue (has_path (exchanged sires dams a sire dam) (l + 1) c) → Some TooDeep ≡ parent_fault l book number birth s d embryo
+    fault-deep path = fault-rest l book number birth s d embryo true shown (sym (too_deep-by_place path.0 path.1))
+
+    pub fault-none : ((c : ℕ) → IsFalse (has_path (exchanged sires dams a sire dam) (l + 1) c)) → None ≡ parent_fault l book number birth s d embryo
+    fault-none none = fault-rest l book number birth s d embryo false shown (sym (not_deep-by_place none))

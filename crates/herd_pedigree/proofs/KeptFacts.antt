@@ -24,7 +24,7 @@ use Rattle.herd_pedigree.proofs.lemmas.store.PlaceFacts.{no_longer_path, path_by
 use Rattle.herd_pedigree.proofs.lemmas.store.DepthFacts.{depths-push, new_depth-most}
 use Rattle.herd_frozen.proofs.lemmas.rules.FaultFacts.{HasNoFault, no_fault}
 use Rattle.herd_pedigree.proofs.lemmas.LawfulChanges.{lawful-birth, lawful-empty}
-use Rattle.herd_pedigree.proofs.lemmas.store.UndoFacts.{without_last-push}
+use Rattle.herd_pedigree.proofs.lemmas.store.ListFacts.{without_last-push}
 use Rattle.herd_frozen.proofs.lemmas.rules.WrittenFacts.{written-push, too_deep-written}
 
 IsIndexIn-push : (numbers : List (List ℕ)) (number : List ℕ) (o : Option ℕ) (n : Option (List ℕ)) → IsIndexIn numbers o n → IsIndexIn (numbers ++ number ∷ []) o n

@@ -1,6 +1,7 @@
 -- What becomes of a birth, by whether its number is free and what fault its parents have.
-use Rattle.std.proofs.Common.{◌≡◌, ℕ, Bool, true, false, if◌then◌else◌, List, Ok, Option, Result, Some, None, IfSome, refl, ap}
+use Rattle.std.proofs.Common.{◌≡◌, ℕ, Bool, true, false, if◌then◌else◌, List, Ok, Option, Result, Some, None, IfSome, refl, not, sym, ap, ◌∙◌}
 use Rattle.std.specs.Option.{option_map_or}
+use Rattle.std.proofs.lemmas.Bool.{not-true}
 use Rattle.herd_frozen.specs.declared.rules.animal.Animal.{Animal}
 use Rattle.herd_frozen.specs.declared.rules.parent_fault.ParentFault.{ParentFault}
 use Rattle.herd_frozen.specs.rules.Book.{Book, is_there, record_of}
@@ -9,6 +10,10 @@ use Rattle.herd_frozen.proofs.lemmas.rules.BookFacts.{none_if}
 use Rattle.herd_pedigree.specs.declared.registration.Registration.{Registration}
 use Rattle.herd_pedigree.specs.declared.registration.Registration.TheVariants.{Added, AlreadyThere, Unsound}
 use Rattle.herd_pedigree.specs.Pedigree.{registration, unsound}
+
+-- a number that was new had no record
+pub absent-new : (book : Book) (number : List ℕ) (new : Bool) → new ≡ not (is_there book number) → new ≡ true → record_of book number ≡ None
+absent-new book number new is added = none_if (record_of book number) (not-true (is_there book number) (sym is ∙ added))
 
 module _ (l : ℕ) (book : Book) (number : List ℕ) (animal : Animal) where
   -- the fault that the parents have where the number is free

@@ -26,7 +26,7 @@ pub use pedigree::Pedigree;
 pub use registration::Registration;
 // A crate can name a pedigree in a contract only if the types of its fields are exported.
 #[doc(hidden)]
-pub use store::progeny::{Family, Progeny};
+pub use store::progeny::{ChainNode, Progeny};
 #[doc(hidden)]
 pub use store::records::{Records, StoredRecord};
 #[doc(hidden)]

@@ -280,9 +280,7 @@ impl<A: Allocator + Copy> Pedigree<A> {
         ensures refused { IfOk result (λ fault. IsSome fault → self.new ≡ self.old) }
         ensures err { OnErr result (self.new ≡ self.old) }
     {
-        let Some(found) = self.find(&number) else {
-            unreachable!();
-        };
+        let found = self.found(&number);
         self.set_parents_at_if_sound(&found, sire, dam)
     }
 
@@ -304,8 +302,7 @@ impl<A: Allocator + Copy> Pedigree<A> {
     {
         let place = found.place;
         let was = self.records.stored_at(place as usize);
-        let Animal { birth, embryo, .. } = self.records.animal_at(place as usize);
-        let parents = match sound_parents(&self.records, birth, &sire, &dam, embryo) {
+        let parents = match sound_parents(&self.records, was.birth, &sire, &dam, was.embryo) {
             Ok(parents) => parents,
             Err(fault) => return Ok(Some(fault)),
         };
@@ -364,9 +361,11 @@ impl<A: Allocator> Pedigree<A> {
         Some(self.depths[place])
     }
 
-    /// The animal of a number, for the calls that end in `_at`: they don't look the number up again.
+    /// The animal of a number, for the calls that end in `_at`: they don't look the number up again. It also tells
+    /// that the book is lawful, as `depth` does.
     #[inline(always)]
     pub fn find(&self, number: &AnimalNumber) -> Option<Found>
+        ensures lawful { IsLawful DEPTH_LIMIT MOST_ANIMALS self.now.book }
         ensures absent { IfNone result (record_of self.now.book number.now ≡ None) }
         ensures number { IfSome result (λ found. found.number ≡ number.now) }
         ensures found { IfSome result (IsFound self.now.book) }
@@ -376,6 +375,18 @@ impl<A: Allocator> Pedigree<A> {
             number: *number,
             place: place as u32,
         })
+    }
+
+    // The animal of a number that is in the book.
+    fn found(&self, number: &AnimalNumber) -> Found
+        requires { IsSome (record_of self.now.book number.now) }
+        ensures number { result.number ≡ number.now }
+        ensures found { IsFound self.now.book result }
+    {
+        match self.find(number) {
+            Some(found) => found,
+            None => unreachable!(),
+        }
     }
 
     /// The record of an animal that was found.
@@ -391,14 +402,10 @@ impl<A: Allocator> Pedigree<A> {
     pub fn calved_after(&self, number: &AnimalNumber, day: Day) -> bool
         ensures { result ≡ has_calved_after self.now.book number.now day }
     {
-        let Some(place) = self.records.place_of(number) else {
-            return false;
-        };
-        let found = Found {
-            number: *number,
-            place: place as u32,
-        };
-        self.calved_after_at(&found, day)
+        match self.find(number) {
+            Some(found) => self.calved_after_at(&found, day),
+            None => false,
+        }
     }
 
     /// Whether an animal that was found is the dam of one born after the day, as `calved_after` says.
@@ -420,9 +427,7 @@ impl<A: Allocator> Pedigree<A> {
         requires { IsPresentOn self.old.book number day }
         ensures { self.new ≡ changed_to self.old (changed self.old.book number (with_owner herd day)) }
     {
-        let Some(found) = self.find(&number) else {
-            unreachable!();
-        };
+        let found = self.found(&number);
         self.set_owner_at(&found, herd, day);
     }
 
@@ -441,9 +446,7 @@ impl<A: Allocator> Pedigree<A> {
         requires { IsExit self.old.book number day }
         ensures { self.new ≡ changed_to self.old (changed self.old.book number (with_left day)) }
     {
-        let Some(found) = self.find(&number) else {
-            unreachable!();
-        };
+        let found = self.found(&number);
         self.set_left_at(&found, day);
     }
 

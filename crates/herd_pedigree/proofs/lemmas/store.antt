@@ -1,4 +1,5 @@
 -- How what is kept changes with the book.
+pub mod MapFacts
 pub mod RecordsFacts
 pub mod PlaceFacts
 pub mod DepthFacts
@@ -6,8 +7,8 @@ pub mod SetFacts
 pub mod UndoFacts
 pub mod ListFacts
 pub mod ProgenyFacts
-pub mod LinkFacts
-pub mod UnlinkFacts
+pub mod JoinFacts
+pub mod PartFacts
 pub mod PopFacts
 pub mod ChainFacts
 pub mod CarryFacts

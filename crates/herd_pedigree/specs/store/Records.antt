@@ -1,6 +1,5 @@
 -- The records of a book by place, each with the places of its parents.
-pub use Rattle.indexmap.specs.IndexMap.{set_value_at}
-use Rattle.std.specs.Prelude.{◌≡◌, ℕ, ◌<◌, ℤ, List, map, length, slice_get, IfSome, Option, Some}
+use Rattle.std.specs.Prelude.{◌≡◌, ℕ, zero, suc, ◌<◌, ℤ, List, [], ◌∷◌, map, length, slice_get, IfSome, Option, Some}
 use Rattle.std.specs.Map.{keys_of, values_of}
 use Rattle.herd_frozen.specs.declared.rules.animal.Animal.{Animal}
 use Rattle.herd_pedigree.specs.declared.store.records.StoredRecord.{StoredRecord}
@@ -10,6 +9,12 @@ use Rattle.herd_frozen.specs.places.Places.{IsIndexIn, number_at}
 -- what contracts see of the records: their book
 pub record Records : Type 0 where
   pub book : Book
+
+-- the entries with another value at a place
+abbrev pub set_value_at : {X : Type 0} → List (List ℕ × X) → ℕ → X → List (List ℕ × X)
+set_value_at [] place value = []
+set_value_at (entry ∷ entries) zero value = (entry.0, value) ∷ entries
+set_value_at (entry ∷ entries) (suc place) value = entry ∷ set_value_at entries place value
 
 -- the record of an entry, with the numbers of the parents for their places
 abbrev pub animal_of : List (List ℕ) → StoredRecord → Animal

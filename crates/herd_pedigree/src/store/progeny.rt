@@ -1,7 +1,7 @@
 //! The parents of one sex by place, with the calves of each in a chain.
 ghost use Rattle.std.specs.Prelude.{◌≡◌, ◌+◌, ◌^◌, ◌-◌, ◌<◌, ◌↔◌, ℕ, [], ◌++◌, ◌∷◌, Some, None, Contains, length, slice_set, IsFalse, IsTrue, OnOk};
 ghost use Rattle.std.specs.Iterator.{YieldsFirst, item_count};
-ghost use Rattle.herd_pedigree.specs.store.Calves.{AreChained, Show, family_at, first_of, next_of, parent_of, parents_of, previous_of, put};
+ghost use Rattle.herd_pedigree.specs.store.Calves.{AreChained, Show, node_at, first_of, next_of, parent_of, parents_of, previous_of, put};
 ghost use Rattle.herd_frozen.specs.places.Places.{parent_at};
 ghost use Rattle.herd_pedigree.specs.store.Undo.{without_last};
 
@@ -11,7 +11,7 @@ use std::marker::Model;
 
 /// What is kept of an animal: its parent, and the calves of that parent that stand beside it.
 #[derive(Clone, Copy)]
-pub struct Family {
+pub struct ChainNode {
     parent: PackedIndex,
     previous: PackedIndex,
     next: PackedIndex,
@@ -22,7 +22,7 @@ pub struct Family {
 /// The sire, or the dam, of each animal by place, and the calves of each parent.
 #[derive(Drop)]
 pub struct Progeny<A: Allocator> {
-    families: Vec<Family, A>,
+    nodes: Vec<ChainNode, A>,
 }
 
 impl<A: Allocator> Model for Progeny<A> {
@@ -33,17 +33,17 @@ impl<A: Allocator> Model for Progeny<A> {
     ghost Value = { Progeny };
 
     ghost view = { λ p. record {
-      parents = parents_of p.families.items;
-      room = vec_capacity p.families - vec_len p.families;
+      parents = parents_of p.nodes.items;
+      room = vec_capacity p.nodes - vec_len p.nodes;
     } };
 
-    ghost invariant = { λ p. AreChained p.families.items };
+    ghost invariant = { λ p. AreChained p.nodes.items };
 }
 
-/// The calves of a parent, from the one that was linked last on.
+/// The calves of a parent, from the one that joined last on.
 #[derive(Drop)]
 pub struct Calves<'a> {
-    families: &'a [Family],
+    nodes: &'a [ChainNode],
     next: Option<u32>,
     // No chain is longer than there are animals.
     most: usize,
@@ -55,7 +55,7 @@ impl<'a> Model for Calves<'a> {
 
     ghost Value = { List ℕ };
 
-    ghost view = { λ c. chain c.families.now c.most c.next };
+    ghost view = { λ c. chain c.nodes.now c.most c.next };
 }
 
 impl<'a> Iterator for Calves<'a> {
@@ -68,8 +68,8 @@ impl<'a> Iterator for Calves<'a> {
     fn next(&mut self) -> Option<u32> {
         self.most = self.most.checked_sub(1)?;
         let calf = self.next?;
-        self.next = match self.families.get(calf as usize) {
-            Some(family) => family.next.get(),
+        self.next = match self.nodes.get(calf as usize) {
+            Some(node) => node.next.get(),
             None => None,
         };
         Some(calf)
@@ -82,7 +82,7 @@ impl<A: Allocator> Progeny<A> {
         ensures { result.parents ≡ [] }
     {
         Progeny {
-            families: Vec::new(alloc),
+            nodes: Vec::new(alloc),
         }
     }
 
@@ -91,7 +91,7 @@ impl<A: Allocator> Progeny<A> {
         requires { place < length self.now.parents }
         ensures { result ≡ parent_at self.now.parents place }
     {
-        family_at(&self.families, place).parent.get()
+        node_at(&self.nodes, place).parent.get()
     }
 
     /// Whether the animal at a place has calves.
@@ -100,7 +100,7 @@ impl<A: Allocator> Progeny<A> {
         ensures some { IsTrue result → (calf : ℕ) × (parent_at self.now.parents calf ≡ Some place) }
         ensures none { IsFalse result → (calf : ℕ) → parent_at self.now.parents calf ≡ Some place → ⊥ }
     {
-        family_at(&self.families, place).first.get().is_some()
+        node_at(&self.nodes, place).first.get().is_some()
     }
 
     /// The places of the calves of the animal at a place.
@@ -109,9 +109,9 @@ impl<A: Allocator> Progeny<A> {
         ensures { (calf : ℕ) → Contains result calf ↔ (parent_at self.now.parents calf ≡ Some place) }
     {
         Calves {
-            families: self.families.as_slice(),
-            next: family_at(&self.families, place).first.get(),
-            most: self.families.len(),
+            nodes: self.nodes.as_slice(),
+            next: node_at(&self.nodes, place).first.get(),
+            most: self.nodes.len(),
         }
     }
 
@@ -120,7 +120,7 @@ impl<A: Allocator> Progeny<A> {
         ensures parents { self.new.parents ≡ self.old.parents }
         ensures room { OnOk result (0 < self.new.room) }
     {
-        self.families.reserve(1)
+        self.nodes.reserve(1)
     }
 
     /// Adds an animal with this parent. It takes no memory.
@@ -130,10 +130,10 @@ impl<A: Allocator> Progeny<A> {
         requires room { 0 < self.old.room }
         ensures { self.new.parents ≡ self.old.parents ++ parent ∷ [] }
     {
-        let calf = self.families.len() as u32;
+        let calf = self.nodes.len() as u32;
         self.push_alone();
         if let Some(parent) = parent {
-            self.link(calf, parent);
+            self.join(calf, parent);
         }
     }
 
@@ -143,13 +143,13 @@ impl<A: Allocator> Progeny<A> {
         requires room { 0 < self.old.room }
         ensures { self.new.parents ≡ self.old.parents ++ None ∷ [] }
     {
-        let alone = Family {
+        let alone = ChainNode {
             parent: PackedIndex::none(),
             previous: PackedIndex::none(),
             next: PackedIndex::none(),
             first: PackedIndex::none(),
         };
-        self.families.push_reserved(alone);
+        self.nodes.push_reserved(alone);
     }
 
     /// Sets the parent of the animal at a place. It takes no memory.
@@ -158,9 +158,9 @@ impl<A: Allocator> Progeny<A> {
         requires within { (p : ℕ) → parent ≡ Some p → p < length self.old.parents }
         ensures { self.new.parents ≡ slice_set self.old.parents place parent }
     {
-        self.unlink(place);
+        self.part(place);
         if let Some(parent) = parent {
-            self.link(place, parent);
+            self.join(place, parent);
         }
     }
 
@@ -170,128 +170,128 @@ impl<A: Allocator> Progeny<A> {
         requires childless { (calf : ℕ) → parent_at self.old.parents calf ≡ Some (length self.old.parents - 1) → ⊥ }
         ensures { self.new.parents ≡ without_last self.old.parents }
     {
-        let last = self.families.len() - 1;
-        self.unlink(last as u32);
-        self.families.truncate(last);
+        let last = self.nodes.len() - 1;
+        self.part(last as u32);
+        self.nodes.truncate(last);
     }
 
     // Gives a parent to an animal that has none.
-    fn link(&mut self, calf: u32, parent: u32)
+    fn join(&mut self, calf: u32, parent: u32)
         requires here { calf < length self.old.parents }
         requires within { parent < length self.old.parents }
         requires none { parent_at self.old.parents calf ≡ None }
         ensures { self.new.parents ≡ slice_set self.old.parents calf (Some parent) }
     {
-        join(&mut self.families, calf, parent);
+        join(&mut self.nodes, calf, parent);
     }
 
     // Takes the parent of an animal away.
-    fn unlink(&mut self, calf: u32)
+    fn part(&mut self, calf: u32)
         requires here { calf < length self.old.parents }
         ensures { self.new.parents ≡ slice_set self.old.parents calf None }
     {
-        part(&mut self.families, calf);
+        part(&mut self.nodes, calf);
     }
 }
 
 // Puts an animal before the other calves of a parent.
-fn join(families: &mut [Family], calf: u32, parent: u32)
-    requires chained { AreChained families.old }
-    requires here { calf < length families.old }
-    requires within { parent < length families.old }
-    requires none { parent_of families.old calf ≡ None }
-    ensures chained { AreChained families.new }
-    ensures parents { parents_of families.new ≡ slice_set (parents_of families.old) calf (Some parent) }
+fn join(nodes: &mut [ChainNode], calf: u32, parent: u32)
+    requires chained { AreChained nodes.old }
+    requires here { calf < length nodes.old }
+    requires within { parent < length nodes.old }
+    requires none { parent_of nodes.old calf ≡ None }
+    ensures chained { AreChained nodes.new }
+    ensures parents { parents_of nodes.new ≡ slice_set (parents_of nodes.old) calf (Some parent) }
 {
-    let first = family_at(families, parent).first;
+    let first = node_at(nodes, parent).first;
     let own = PackedIndex::at(calf);
     let shared = PackedIndex::at(parent);
-    set_first(families, shared, own);
-    set_previous(families, first, own);
-    set_next(families, own, first);
-    set_parent(families, calf, shared);
+    set_first(nodes, shared, own);
+    set_previous(nodes, first, own);
+    set_next(nodes, own, first);
+    set_parent(nodes, calf, shared);
 }
 
 // Takes an animal from among the calves of its parent, where it has one.
-fn part(families: &mut [Family], calf: u32)
-    requires chained { AreChained families.old }
-    requires here { calf < length families.old }
-    ensures chained { AreChained families.new }
-    ensures parents { parents_of families.new ≡ slice_set (parents_of families.old) calf None }
+fn part(nodes: &mut [ChainNode], calf: u32)
+    requires chained { AreChained nodes.old }
+    requires here { calf < length nodes.old }
+    ensures chained { AreChained nodes.new }
+    ensures parents { parents_of nodes.new ≡ slice_set (parents_of nodes.old) calf None }
 {
-    let family = family_at(families, calf);
+    let node = node_at(nodes, calf);
     let own = PackedIndex::at(calf);
     let none = PackedIndex::none();
-    set_first(families, led_by(&family), family.next);
-    set_next(families, family.previous, family.next);
-    set_previous(families, family.next, family.previous);
-    set_next(families, own, none);
-    set_previous(families, own, none);
-    set_parent(families, calf, none);
+    set_first(nodes, led_by(&node), node.next);
+    set_next(nodes, node.previous, node.next);
+    set_previous(nodes, node.next, node.previous);
+    set_next(nodes, own, none);
+    set_previous(nodes, own, none);
+    set_parent(nodes, calf, none);
 }
 
 // What is kept of the animal at a place.
 #[inline(always)]
-fn family_at(families: &[Family], place: u32) -> Family
-    requires { place < length families.now }
-    ensures { result ≡ family_at families.now place }
+fn node_at(nodes: &[ChainNode], place: u32) -> ChainNode
+    requires { place < length nodes.now }
+    ensures { result ≡ node_at nodes.now place }
 {
-    families[place as usize]
+    nodes[place as usize]
 }
 
 // The parent of which an animal is the first calf.
-fn led_by(family: &Family) -> PackedIndex
-    ensures first { family.now.previous ≡ None → result ≡ family.now.parent }
-    ensures later { (calf : ℕ) → family.now.previous ≡ Some calf → result ≡ None }
+fn led_by(node: &ChainNode) -> PackedIndex
+    ensures first { node.now.previous ≡ None → result ≡ node.now.parent }
+    ensures later { (calf : ℕ) → node.now.previous ≡ Some calf → result ≡ None }
 {
-    match family.previous.get() {
+    match node.previous.get() {
         Some(_) => PackedIndex::none(),
-        None => family.parent,
+        None => node.parent,
     }
 }
 
 // Sets the parent of the animal at a place.
-fn set_parent(families: &mut [Family], place: u32, parent: PackedIndex)
-    requires { place < length families.old }
-    ensures { Show families.new (length families.old) (put (Some place) parent (parent_of families.old))
-        (previous_of families.old) (next_of families.old) (first_of families.old) }
+fn set_parent(nodes: &mut [ChainNode], place: u32, parent: PackedIndex)
+    requires { place < length nodes.old }
+    ensures { Show nodes.new (length nodes.old) (put (Some place) parent (parent_of nodes.old))
+        (previous_of nodes.old) (next_of nodes.old) (first_of nodes.old) }
 {
-    let family = families[place as usize];
-    families[place as usize] = Family { parent, ..family };
+    let node = nodes[place as usize];
+    nodes[place as usize] = ChainNode { parent, ..node };
 }
 
 // Sets which calf stands before that at a place, where there is one.
-fn set_previous(families: &mut [Family], place: PackedIndex, previous: PackedIndex)
-    requires { (p : ℕ) → place ≡ Some p → p < length families.old }
-    ensures { Show families.new (length families.old) (parent_of families.old)
-        (put place previous (previous_of families.old)) (next_of families.old) (first_of families.old) }
+fn set_previous(nodes: &mut [ChainNode], place: PackedIndex, previous: PackedIndex)
+    requires { (p : ℕ) → place ≡ Some p → p < length nodes.old }
+    ensures { Show nodes.new (length nodes.old) (parent_of nodes.old)
+        (put place previous (previous_of nodes.old)) (next_of nodes.old) (first_of nodes.old) }
 {
     if let Some(place) = place.get() {
-        let family = families[place as usize];
-        families[place as usize] = Family { previous, ..family };
+        let node = nodes[place as usize];
+        nodes[place as usize] = ChainNode { previous, ..node };
     }
 }
 
 // Sets which calf stands behind that at a place, where there is one.
-fn set_next(families: &mut [Family], place: PackedIndex, next: PackedIndex)
-    requires { (p : ℕ) → place ≡ Some p → p < length families.old }
-    ensures { Show families.new (length families.old) (parent_of families.old) (previous_of families.old)
-        (put place next (next_of families.old)) (first_of families.old) }
+fn set_next(nodes: &mut [ChainNode], place: PackedIndex, next: PackedIndex)
+    requires { (p : ℕ) → place ≡ Some p → p < length nodes.old }
+    ensures { Show nodes.new (length nodes.old) (parent_of nodes.old) (previous_of nodes.old)
+        (put place next (next_of nodes.old)) (first_of nodes.old) }
 {
     if let Some(place) = place.get() {
-        let family = families[place as usize];
-        families[place as usize] = Family { next, ..family };
+        let node = nodes[place as usize];
+        nodes[place as usize] = ChainNode { next, ..node };
     }
 }
 
 // Sets the first calf of the animal at a place, where there is one.
-fn set_first(families: &mut [Family], place: PackedIndex, first: PackedIndex)
-    requires { (p : ℕ) → place ≡ Some p → p < length families.old }
-    ensures { Show families.new (length families.old) (parent_of families.old) (previous_of families.old)
-        (next_of families.old) (put place first (first_of families.old)) }
+fn set_first(nodes: &mut [ChainNode], place: PackedIndex, first: PackedIndex)
+    requires { (p : ℕ) → place ≡ Some p → p < length nodes.old }
+    ensures { Show nodes.new (length nodes.old) (parent_of nodes.old) (previous_of nodes.old)
+        (next_of nodes.old) (put place first (first_of nodes.old)) }
 {
     if let Some(place) = place.get() {
-        let family = families[place as usize];
-        families[place as usize] = Family { first, ..family };
+        let node = nodes[place as usize];
+        nodes[place as usize] = ChainNode { first, ..node };
     }
 }

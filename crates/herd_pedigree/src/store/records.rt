@@ -22,10 +22,10 @@ use std::marker::Model;
 /// What is kept of an animal under its number: its record, with the places of the parents that are known.
 #[derive(Clone, Copy)]
 pub struct StoredRecord {
-    birth: Day,
+    pub(crate) birth: Day,
     sire: PackedIndex,
     dam: PackedIndex,
-    embryo: bool,
+    pub(crate) embryo: bool,
     herd: Herd,
     since: Day,
     left: Option<Day>,
@@ -171,14 +171,13 @@ impl<A: Allocator> Records<A> {
         Some(self.animal_of(entry))
     }
 
-    /// The number and the record at a place, where there are so many.
+    /// The number and the record at a place.
     #[inline(always)]
-    pub fn get_index(&self, place: usize) -> Option<(AnimalNumber, Animal)>
-        ensures { result ≡ slice_get self.now.book place }
+    pub fn entry_at(&self, place: usize) -> (AnimalNumber, Animal)
+        requires { place < length self.now.book }
+        ensures { slice_get self.now.book place ≡ Some result }
     {
-        let (number, entry) = self.entries.get_index(place)?;
-        let animal = self.animal_of(entry);
-        Some((*number, animal))
+        (self.entries.keys()[place], self.animal_at(place))
     }
 
     /// What is kept at a place.

@@ -16,10 +16,7 @@ impl<A: Allocator> Registered for Records<A> {
 
     #[inline(always)]
     fn record_at(&self, place: usize) -> (AnimalNumber, Animal) {
-        let Some(entry) = self.get_index(place) else {
-            unreachable!();
-        };
-        entry
+        self.entry_at(place)
     }
 
     #[inline(always)]

@@ -1,17 +1,18 @@
 -- Whether an animal is the dam of one born after a day, by her calves alone.
-use Rattle.std.proofs.Common.{ℕ, ℤ, zero, suc, ◌≡◌, ⊎_elim, sym, ap, ◌∙◌, subst, Bool, true, false, not, ◌&&◌, int_lt, List, [], ◌∷◌, Option, Some, None, slice_get, get_or}
+use Rattle.std.proofs.Common.{ℕ, ℤ, ◌≡◌, sym, ap, ◌∙◌, subst, Bool, true, false, not, ◌&&◌, int_lt, List, Option, Some, None, slice_get, get_or}
 use Rattle.std.specs.Str.{bytes_eq}
 use Rattle.std.specs.List.{IsDistinct}
 use Rattle.std.specs.Map.{keys_of, values_of}
 use Rattle.std.specs.Option.{option_map_or}
-use Rattle.std.proofs.lemmas.Bool.{cases_Bool, false_from_ne_true, and_parts}
+use Rattle.std.proofs.lemmas.Bool.{false_from_ne_true, and_parts}
 use Rattle.std.proofs.lemmas.Option.{same_Some, slice_get-get_or}
 use Rattle.std.proofs.lemmas.List.Folds.{list_any_none}
 use Rattle.herd_frozen.specs.declared.rules.animal.Animal.{Animal}
 use Rattle.herd_frozen.specs.rules.Book.{Book, record_of, has_calved_after, is_calf_after}
+use Rattle.herd_frozen.specs.rules.Lawful.{IsLawful}
 use Rattle.herd_frozen.specs.places.Places.{parent_at, IsIndexIn, AreParents}
 use Rattle.herd_pedigree.proofs.lemmas.store.ListFacts.{any_found}
-use Rattle.herd_frozen.proofs.lemmas.rules.BookFacts.{same_bytes, bytes_itself, stands_once, entry_from_key, value_at}
+use Rattle.herd_frozen.proofs.lemmas.rules.BookFacts.{same_bytes, bytes_itself, lookup_at, stands_once, value_at}
 
 -- the calf counts: it is from no stored embryo, and born after the day
 abbrev pub counts : ℤ → Animal → Bool
@@ -21,35 +22,19 @@ named : (number : List ℕ) (dam : Option (List ℕ)) → option_map_or (bytes_e
 named number None h = absurd (cc)
 named number (Some d) h = ap Some (sym (same_bytes number d h))
 
--- who stands in the book has a record
-no_record : (es : Book) (q : ℕ) (x : List ℕ) (animal : Animal) → slice_get es q ≡ Some (x, animal) → record_of es x ≡ None → ⊥
-no_record [] q x animal e none = absurd (cc)
-no_record (f ∷ es) zero x animal e none =
-    let k : f ≡ (x, animal) = same_Some _ _ e in
-    let t : bytes_eq x f.0 ≡ true = subst (λ v. bytes_eq x v ≡ true) (sym (ap (λ p. p.0) k)) (bytes_itself x) in
-    let bad : Some f.1 ≡ None = rw t at none in absurd (cc)
-no_record (f ∷ es) (suc q) x animal e none =
-    ⊎_elim
-    (λ (t : bytes_eq x f.0 ≡ true). let bad : Some f.1 ≡ None = rw t at none in absurd (cc))
-    (λ (t : bytes_eq x f.0 ≡ false). no_record es q x animal e (rw t at none))
-    (cases_Bool (bytes_eq x f.0))
+-- nobody has a dam that isn't in the book
+pub none_calved : (l most : ℕ) (book : Book) → IsLawful l most book → (number : List ℕ) (day : ℤ) → record_of book number ≡ None → has_calved_after book number day ≡ false
+none_calved l most book lawful number day absent =
+    list_any_none (λ entry. is_calf_after number day entry.1) book
+    (λ k d h.
+    let calf : List ℕ × Animal = get_or book k d in
+    false_from_ne_true (is_calf_after number day calf.1)
+    (λ t.
+    let dam = named number calf.1.dam (and_parts (option_map_or (bytes_eq number) calf.1.dam false) (counts day calf.1) t).0 in
+    let there = lookup_at book lawful.once k calf.0 calf.1 (slice_get-get_or book k d h) in
+    let found = ((lawful.records calf.0 calf.1 there).dam number dam).there in absurd (cc)))
 
 module _ (book : Book) (dams : List (Option ℕ)) (a : AreParents book (λ animal. animal.dam) dams) (number : List ℕ) (day : ℤ) where
-  -- nobody has a dam that isn't in the book
-  pub none_calved : record_of book number ≡ None → has_calved_after book number day ≡ false
-  none_calved absent =
-      list_any_none (λ entry. is_calf_after number day entry.1) book
-      (λ k d h.
-      false_from_ne_true (is_calf_after number day (get_or book k d).1)
-      (λ t.
-      let dam = named number (get_or book k d).1.dam (and_parts (option_map_or (bytes_eq number) (get_or book k d).1.dam false) (counts day (get_or book k d).1) t).0 in
-      let is : IsIndexIn (keys_of book) (parent_at dams k) (Some number) = subst (λ o. IsIndexIn (keys_of book) (parent_at dams k) o) dam (a.each k (get_or book k d) (slice_get-get_or book k d h)) in
-      no_place (parent_at dams k) is))
-    where
-      no_place : (o : Option ℕ) → IsIndexIn (keys_of book) o (Some number) → ⊥
-      no_place None is = is
-      no_place (Some q) is = let entry = entry_from_key book q number is in no_record book q number entry.0 entry.1 absent
-
   module _ (once : IsDistinct bytes_eq (keys_of book)) (place : ℕ) (at : slice_get (keys_of book) place ≡ Some number) where
     -- one of her calves counts
     pub calf_found : (calf : ℕ) (animal : Animal) → parent_at dams calf ≡ Some place → slice_get (values_of book) calf ≡ Some animal → counts day animal ≡ true → has_calved_after book number day ≡ true

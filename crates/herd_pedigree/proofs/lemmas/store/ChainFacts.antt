@@ -2,7 +2,7 @@
 use Rattle.std.proofs.Common.{◌↔◌, Contains, ℕ, zero, suc, ◌+◌, ◌<◌, ◌≤◌, ◌≡◌, ◌≢◌, ◌⊎◌, ◌==◌, inl, inr, arith, refl, sym, ap, ◌∙◌, cond, List, Option, Some, None, length, slice_get, unwrap_or}
 use Rattle.std.proofs.lemmas.Bool.{cases_eq, eq-eqb, ne_eqb}
 use Rattle.std.proofs.lemmas.Option.{same_Some, slice_get_within, slice_get-get_or, get_or_from_slice_get}
-use Rattle.herd_pedigree.specs.declared.store.progeny.Family.{Family}
+use Rattle.herd_pedigree.specs.declared.store.progeny.ChainNode.{ChainNode}
 use Rattle.herd_frozen.specs.places.Places.{parent_at}
 use Rattle.herd_pedigree.specs.store.Calves.{AreChained, chain, first_of, next_of, parent_of, parents_of, previous_of}
 use Rattle.herd_pedigree.proofs.lemmas.store.ProgenyFacts.{animal-within, known, parents-seen}
@@ -48,110 +48,110 @@ pigeonhole (suc m) (suc n) f low apart =
     omega (arith, fewer)
 
 -- k calves further on
-steps : List Family → ℕ → Option ℕ → Option ℕ
-steps families zero calf = calf
-steps families (suc k) None = None
-steps families (suc k) (Some calf) = steps families k (next_of families calf)
+steps : List ChainNode → ℕ → Option ℕ → Option ℕ
+steps nodes zero calf = calf
+steps nodes (suc k) None = None
+steps nodes (suc k) (Some calf) = steps nodes k (next_of nodes calf)
 
-steps_none : (families : List Family) (k : ℕ) → steps families k None ≡ None
+steps_none : (nodes : List ChainNode) (k : ℕ) → steps nodes k None ≡ None
 unfolding steps
-steps_none families zero = refl
-steps_none families (suc k) = refl
+steps_none nodes zero = refl
+steps_none nodes (suc k) = refl
 
-step_on : (families : List Family) (k : ℕ) (at : Option ℕ) (c : ℕ) → steps families k at ≡ Some c → steps families (suc k) at ≡ next_of families c
+step_on : (nodes : List ChainNode) (k : ℕ) (at : Option ℕ) (c : ℕ) → steps nodes k at ≡ Some c → steps nodes (suc k) at ≡ next_of nodes c
 unfolding steps
-step_on families zero None c e = absurd (cc)
-step_on families zero (Some x) c e = ap (λ v. next_of families v) (same_Some _ _ e)
-step_on families (suc k) None c e = absurd (cc)
-step_on families (suc k) (Some x) c e = step_on families k (next_of families x) c e
+step_on nodes zero None c e = absurd (cc)
+step_on nodes zero (Some x) c e = ap (λ v. next_of nodes v) (same_Some _ _ e)
+step_on nodes (suc k) None c e = absurd (cc)
+step_on nodes (suc k) (Some x) c e = step_on nodes k (next_of nodes x) c e
 
-step_past : (families : List Family) (k : ℕ) (at : Option ℕ) → steps families k at ≡ None → steps families (suc k) at ≡ None
+step_past : (nodes : List ChainNode) (k : ℕ) (at : Option ℕ) → steps nodes k at ≡ None → steps nodes (suc k) at ≡ None
 unfolding steps
-step_past families zero None e = refl
-step_past families zero (Some x) e = absurd (cc)
-step_past families (suc k) None e = refl
-step_past families (suc k) (Some x) e = step_past families k (next_of families x) e
+step_past nodes zero None e = refl
+step_past nodes zero (Some x) e = absurd (cc)
+step_past nodes (suc k) None e = refl
+step_past nodes (suc k) (Some x) e = step_past nodes k (next_of nodes x) e
 
-chain-at : (families : List Family) (n k : ℕ) (at : Option ℕ) → k < n → slice_get (chain families n at) k ≡ steps families k at
+chain-at : (nodes : List ChainNode) (n k : ℕ) (at : Option ℕ) → k < n → slice_get (chain nodes n at) k ≡ steps nodes k at
 unfolding steps
-chain-at families zero k at h = absurd (omega (arith, h))
-chain-at families (suc n) zero None h = refl
-chain-at families (suc n) (suc k) None h = refl
-chain-at families (suc n) zero (Some c) h = refl
-chain-at families (suc n) (suc k) (Some c) h = chain-at families n k (next_of families c) (omega (arith, h))
+chain-at nodes zero k at h = absurd (omega (arith, h))
+chain-at nodes (suc n) zero None h = refl
+chain-at nodes (suc n) (suc k) None h = refl
+chain-at nodes (suc n) zero (Some c) h = refl
+chain-at nodes (suc n) (suc k) (Some c) h = chain-at nodes n k (next_of nodes c) (omega (arith, h))
 
-chain-past : (families : List Family) (n k : ℕ) (at : Option ℕ) (c : ℕ) → slice_get (chain families n at) k ≡ Some c → k < n
-chain-past families zero k at c e = absurd (cc)
-chain-past families (suc n) k None c e = absurd (cc)
-chain-past families (suc n) zero (Some x) c e = omega arith
-chain-past families (suc n) (suc k) (Some x) c e = let h = chain-past families n k (next_of families x) c e in omega (arith, h)
+chain-past : (nodes : List ChainNode) (n k : ℕ) (at : Option ℕ) (c : ℕ) → slice_get (chain nodes n at) k ≡ Some c → k < n
+chain-past nodes zero k at c e = absurd (cc)
+chain-past nodes (suc n) k None c e = absurd (cc)
+chain-past nodes (suc n) zero (Some x) c e = omega arith
+chain-past nodes (suc n) (suc k) (Some x) c e = let h = chain-past nodes n k (next_of nodes x) c e in omega (arith, h)
 
-module _ (families : List Family) (a : AreChained families) (p : ℕ) where
+module _ (nodes : List ChainNode) (a : AreChained nodes) (p : ℕ) where
   -- each calf is reached from the first
-  reached : (m c : ℕ) → parent_of families c ≡ Some p → a.top ≤ m + a.seniority c → (k : ℕ) × (steps families k (first_of families p) ≡ Some c)
+  reached : (m c : ℕ) → parent_of nodes c ≡ Some p → a.top ≤ m + a.seniority c → (k : ℕ) × (steps nodes k (first_of nodes p) ≡ Some c)
   unfolding steps
   reached zero c e h = let b = a.below c in absurd (omega (arith, b, h))
-  reached (suc m) c e h = elim (known (previous_of families c)) [
+  reached (suc m) c e h = elim (known (previous_of nodes c)) [
     | inl none ↦ (0, a.foremost p c e none)
     | inr some ↦
         let on = a.previous some.0 c some.1 in
         let was = a.next some.0 c on in
         let r = was.1.1 in
         let before = reached m some.0 (sym was.1.0 ∙ e) (omega (arith, h, r)) in
-        (suc before.0, step_on families before.0 (first_of families p) some.0 before.1 ∙ on)
+        (suc before.0, step_on nodes before.0 (first_of nodes p) some.0 before.1 ∙ on)
   ]
 
   -- all of them are its calves
-  steps_to : (k c : ℕ) → steps families k (first_of families p) ≡ Some c → parent_of families c ≡ Some p
+  steps_to : (k c : ℕ) → steps nodes k (first_of nodes p) ≡ Some c → parent_of nodes c ≡ Some p
   unfolding steps
   steps_to zero c e = (a.first p c e).0
-  steps_to (suc k) c e = elim (known (steps families k (first_of families p))) [
-    | inl none ↦ let bad : None ≡ Some c = sym (step_past families k (first_of families p) none) ∙ e in absurd (cc)
-    | inr some ↦ (a.next some.0 c (sym (step_on families k (first_of families p) some.0 some.1) ∙ e)).1.0 ∙ steps_to k some.0 some.1
+  steps_to (suc k) c e = elim (known (steps nodes k (first_of nodes p))) [
+    | inl none ↦ let bad : None ≡ Some c = sym (step_past nodes k (first_of nodes p) none) ∙ e in absurd (cc)
+    | inr some ↦ (a.next some.0 c (sym (step_on nodes k (first_of nodes p) some.0 some.1) ∙ e)).1.0 ∙ steps_to k some.0 some.1
   ]
 
   -- those that come later have less seniority
-  falls : (i j : ℕ) (x y : ℕ) → i < j → steps families i (first_of families p) ≡ Some x → steps families j (first_of families p) ≡ Some y → a.seniority y < a.seniority x
+  falls : (i j : ℕ) (x y : ℕ) → i < j → steps nodes i (first_of nodes p) ≡ Some x → steps nodes j (first_of nodes p) ≡ Some y → a.seniority y < a.seniority x
   unfolding steps
   falls i zero x y h e f = absurd (omega (arith, h))
-  falls i (suc j) x y h e f = elim (known (steps families j (first_of families p))) [
-    | inl none ↦ let bad : None ≡ Some y = sym (step_past families j (first_of families p) none) ∙ f in absurd (cc)
+  falls i (suc j) x y h e f = elim (known (steps nodes j (first_of nodes p))) [
+    | inl none ↦ let bad : None ≡ Some y = sym (step_past nodes j (first_of nodes p) none) ∙ f in absurd (cc)
     | inr some ↦
-        let r = (a.next some.0 y (sym (step_on families j (first_of families p) some.0 some.1) ∙ f)).1.1 in
+        let r = (a.next some.0 y (sym (step_on nodes j (first_of nodes p) some.0 some.1) ∙ f)).1.1 in
         elim (cases_eq i j) [
           | inl same ↦
-              let is_x : some.0 ≡ x = same_Some _ _ (sym some.1 ∙ ap (λ k. steps families k (first_of families p)) (sym same) ∙ e) in
+              let is_x : some.0 ≡ x = same_Some _ _ (sym some.1 ∙ ap (λ k. steps nodes k (first_of nodes p)) (sym same) ∙ e) in
               let t = ap (λ v. a.seniority v) is_x in omega (arith, r, t)
           | inr other ↦ let t = falls i j x some.0 (omega (arith, h, other)) e some.1 in omega (arith, r, t)
         ]
   ]
 
   -- a chain goes on without a gap
-  all_before : (k i c : ℕ) → i ≤ k → steps families k (first_of families p) ≡ Some c → (x : ℕ) × (steps families i (first_of families p) ≡ Some x)
-  all_before zero i c h e = (c, ap (λ v. steps families v (first_of families p)) (let is : i ≡ 0 = omega (arith, h) in is) ∙ e)
+  all_before : (k i c : ℕ) → i ≤ k → steps nodes k (first_of nodes p) ≡ Some c → (x : ℕ) × (steps nodes i (first_of nodes p) ≡ Some x)
+  all_before zero i c h e = (c, ap (λ v. steps nodes v (first_of nodes p)) (let is : i ≡ 0 = omega (arith, h) in is) ∙ e)
   all_before (suc k) i c h e = elim (cases_eq i (suc k)) [
-    | inl same ↦ (c, ap (λ v. steps families v (first_of families p)) same ∙ e)
-    | inr other ↦ elim (known (steps families k (first_of families p))) [
-      | inl none ↦ let bad : None ≡ Some c = sym (step_past families k (first_of families p) none) ∙ e in absurd (cc)
+    | inl same ↦ (c, ap (λ v. steps nodes v (first_of nodes p)) same ∙ e)
+    | inr other ↦ elim (known (steps nodes k (first_of nodes p))) [
+      | inl none ↦ let bad : None ≡ Some c = sym (step_past nodes k (first_of nodes p) none) ∙ e in absurd (cc)
       | inr some ↦ all_before k i some.0 (omega (arith, h, other)) some.1
     ]
   ]
 
   at_step : ℕ → ℕ
-  at_step i = unwrap_or (steps families i (first_of families p)) 0
+  at_step i = unwrap_or (steps nodes i (first_of nodes p)) 0
 
-  at_step_is : (i c : ℕ) → steps families i (first_of families p) ≡ Some c → at_step i ≡ c
+  at_step_is : (i c : ℕ) → steps nodes i (first_of nodes p) ≡ Some c → at_step i ≡ c
   unfolding at_step
   at_step_is i c e = ap (λ o. unwrap_or o 0) e
 
   -- so that it has no more calves than there are animals
-  short : (k c : ℕ) → steps families k (first_of families p) ≡ Some c → k < length families
+  short : (k c : ℕ) → steps nodes k (first_of nodes p) ≡ Some c → k < length nodes
   short k c e =
-      let fits = pigeonhole (suc k) (length families) at_step
+      let fits = pigeonhole (suc k) (length nodes) at_step
       (λ i h.
       let x = all_before k i c (omega (arith, h)) e in
       let n = at_step_is i x.0 x.1 in
-      let w = animal-within families x.0 p (steps_to i x.0 x.1) in
+      let w = animal-within nodes x.0 p (steps_to i x.0 x.1) in
       omega (arith, n, w))
       (λ i j h l is.
       let x = all_before k i c (omega (arith, h, l)) e in
@@ -163,25 +163,25 @@ module _ (families : List Family) (a : AreChained families) (p : ℕ) where
       omega (arith, fits)
 
   -- the chain holds just the calves
-  pub calves-told : (c : ℕ) → Contains (chain families (length families) (first_of families p)) c ↔ (parent_at (parents_of families) c ≡ Some p)
+  pub calves-told : (c : ℕ) → Contains (chain nodes (length nodes) (first_of nodes p)) c ↔ (parent_at (parents_of nodes) c ≡ Some p)
   calves-told c =
-      let calves : List ℕ = chain families (length families) (first_of families p) in (
+      let calves : List ℕ = chain nodes (length nodes) (first_of nodes p) in (
         λ is.
             let at : slice_get calves is.0 ≡ Some c = slice_get-get_or calves is.0 c is.1 ∙ ap Some is.2 in
-            let k = chain-past families (length families) is.0 (first_of families p) c at in
-            parents-seen families c ∙ steps_to is.0 c (sym (chain-at families (length families) is.0 (first_of families p) k) ∙ at),
+            let k = chain-past nodes (length nodes) is.0 (first_of nodes p) c at in
+            parents-seen nodes c ∙ steps_to is.0 c (sym (chain-at nodes (length nodes) is.0 (first_of nodes p) k) ∙ at),
         λ e.
-            let r = reached a.top c (sym (parents-seen families c) ∙ e) (omega arith) in
-            let at : slice_get calves r.0 ≡ Some c = chain-at families (length families) r.0 (first_of families p) (short r.0 c r.1) ∙ r.1 in
+            let r = reached a.top c (sym (parents-seen nodes c) ∙ e) (omega arith) in
+            let at : slice_get calves r.0 ≡ Some c = chain-at nodes (length nodes) r.0 (first_of nodes p) (short r.0 c r.1) ∙ r.1 in
             (r.0, slice_get_within calves r.0 c at, get_or_from_slice_get calves r.0 c c at),
       )
 
 -- a parent with no first calf has none
-pub no-calves : (families : List Family) → AreChained families → (p : ℕ) → first_of families p ≡ None → (c : ℕ) → parent_of families c ≡ Some p → ⊥
-no-calves families a p none c e =
-    let r = reached families a p a.top c e (omega arith) in
-    let bad : None ≡ Some c = sym (steps_none families r.0) ∙ ap (λ o. steps families r.0 o) (sym none) ∙ r.1 in absurd (cc)
+pub no-calves : (nodes : List ChainNode) → AreChained nodes → (p : ℕ) → first_of nodes p ≡ None → (c : ℕ) → parent_of nodes c ≡ Some p → ⊥
+no-calves nodes a p none c e =
+    let r = reached nodes a p a.top c e (omega arith) in
+    let bad : None ≡ Some c = sym (steps_none nodes r.0) ∙ ap (λ o. steps nodes r.0 o) (sym none) ∙ r.1 in absurd (cc)
 
 -- the same of what is handed out
-pub calves-shown : (families : List Family) → AreChained families → (p : ℕ) (fs : List Family) (most : ℕ) (first : Option ℕ) → fs ≡ families → most ≡ length families → first ≡ first_of families p → (c : ℕ) → Contains (chain fs most first) c ↔ (parent_at (parents_of families) c ≡ Some p)
-calves-shown families a p fs most first e m f c = rw (e, m, f) (calves-told families a p c)
+pub calves-shown : (nodes : List ChainNode) → AreChained nodes → (p : ℕ) (fs : List ChainNode) (most : ℕ) (first : Option ℕ) → fs ≡ nodes → most ≡ length nodes → first ≡ first_of nodes p → (c : ℕ) → Contains (chain fs most first) c ↔ (parent_at (parents_of nodes) c ≡ Some p)
+calves-shown nodes a p fs most first e m f c = rw (e, m, f) (calves-told nodes a p c)

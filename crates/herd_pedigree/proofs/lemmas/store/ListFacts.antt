@@ -1,9 +1,11 @@
--- What a list holds, and what a filter leaves of it.
-use Rattle.std.proofs.Common.{ℕ, zero, suc, ◌<◌, ◌≡◌, ◌⊎◌, ◌||◌, ⊎_elim, inl, inr, Bool, true, false, filter, Contains, arith, refl, ap, ◌∙◌, subst, List, [], ◌∷◌, Some, get_or, slice_get}
+-- What a list holds, what a filter leaves of it, and what its front is.
+use Rattle.std.proofs.Common.{ℕ, zero, suc, ◌-◌, ◌<◌, ◌≡◌, ◌++◌, ◌∙◌, ◌⊎◌, ◌||◌, ⊎_elim, inl, inr, Bool, true, false, filter, Contains, arith, refl, sym, ap, subst, List, [], ◌∷◌, Some, get_or, length, slice_get, slice_set, take}
 use Rattle.std.specs.List.{list_any}
 use Rattle.std.proofs.lemmas.Bool.{cases_Bool, or_left}
 use Rattle.std.proofs.lemmas.List.Elements.{Contains-append_right, Contains-append_cases}
+use Rattle.std.proofs.lemmas.List.{ext_get_or, get_or-set_other, get_or-take, length-set, length-take-le, length_push, take_at}
 use Rattle.std.proofs.lemmas.Option.{same_Some}
+use Rattle.herd_pedigree.specs.store.Undo.{without_last}
 
 module _ {X : Type 0} where
   pub contains_here : (x : X) (xs : List X) → Contains (x ∷ xs) x
@@ -58,3 +60,23 @@ any_found test (y ∷ ys) (suc k) x at t = later (test y) (list_any test ys) (an
     later : (a b : Bool) → b ≡ true → (a || b) ≡ true
     later true b h = refl
     later false b h = h
+
+-- without the last element that was pushed
+pub without_last-push : {X : Type 0} (xs : List X) (x : X) → without_last (xs ++ x ∷ []) ≡ xs
+without_last-push xs x = let n = length_push xs x in take_at xs (x ∷ []) (length (xs ++ x ∷ []) - 1) (omega (arith, n))
+
+-- what is written behind the part that is left changes nothing
+pub take-set : {X : Type 0} (xs : List X) (n : ℕ) (v : X) → n < length xs → take n (slice_set xs n v) ≡ take n xs
+take-set xs n v h =
+    let m = length-set xs n v in
+    let a = length-take-le n xs (omega (arith, h)) in
+    let b = length-take-le n (slice_set xs n v) (omega (arith, h, m)) in
+    ext_get_or v (take n (slice_set xs n v)) (take n xs) (omega (arith, a, b))
+    (λ i l.
+    let low : i < n = omega (arith, l, b) in
+    get_or-take n (slice_set xs n v) i v low ∙ get_or-set_other xs n i v v (λ is. let bad : i ≡ n = is in absurd (omega (arith, bad, low))) ∙ sym (get_or-take n xs i v low))
+
+-- a list with no elements
+pub nil_unless : {X : Type 0} (xs : List X) → (0 < length xs → ⊥) → xs ≡ []
+nil_unless [] never = refl
+nil_unless (x ∷ xs) never = absurd (never (omega arith))

@@ -1,43 +1,43 @@
 -- The chains of calves once an animal is added at the end, or the last is taken away.
 use Rattle.std.proofs.Common.{take, ℕ, ◌+◌, ◌<◌, ◌^◌, ◌≡◌, ◌≢◌, inl, inr, arith, refl, sym, ap, ◌∙◌, subst, List, [], ◌∷◌, ◌++◌, Option, Some, None, length, slice_set, ⊎_elim}
 use Rattle.std.proofs.lemmas.Bool.{cases_eq, cases_lt}
-use Rattle.std.proofs.lemmas.List.{ext_get_or, get_or-set_same, get_or-set_other, get_or_append_left, get_or_push, get_or_past, get_or-take, length-set, length_push, length-take-le}
-use Rattle.herd_pedigree.specs.declared.store.progeny.Family.{Family}
+use Rattle.std.proofs.lemmas.List.{get_or-set_same, get_or-set_other, get_or_append_left, get_or_push, get_or_past, get_or-take, length_push, length-take-le}
+use Rattle.herd_pedigree.specs.declared.store.progeny.ChainNode.{ChainNode}
 use Rattle.herd_frozen.specs.places.Places.{parent_at}
-use Rattle.herd_pedigree.specs.store.Calves.{AreChained, alone, family_at, first_of, parent_of}
+use Rattle.herd_pedigree.specs.store.Calves.{AreChained, alone, node_at, first_of, parent_of}
 use Rattle.herd_pedigree.proofs.lemmas.store.ProgenyFacts.{chained-same}
 
 -- an animal with no parent, at the end
-pub chained-append : (families : List Family) → AreChained families → length families + 1 < 2 ^ 32 → AreChained (families ++ alone ∷ [])
-chained-append families a few =
-    let n = length_push families alone in
-    let same : (x : ℕ) → family_at (families ++ alone ∷ []) x ≡ family_at families x = λ x.
-    elim (cases_lt x (length families)) [
-      | inl h ↦ get_or_append_left families (alone ∷ []) alone x h
-      | inr h ↦ elim (cases_eq (length families) x) [
-        | inl end ↦ get_or_push families alone alone x end ∙ sym (get_or_past families x alone h)
-        | inr past ↦ get_or_past (families ++ alone ∷ []) x alone (omega (arith, n, h, past)) ∙ sym (get_or_past families x alone h)
+pub chained-append : (nodes : List ChainNode) → AreChained nodes → length nodes + 1 < 2 ^ 32 → AreChained (nodes ++ alone ∷ [])
+chained-append nodes a few =
+    let n = length_push nodes alone in
+    let same : (x : ℕ) → node_at (nodes ++ alone ∷ []) x ≡ node_at nodes x = λ x.
+    elim (cases_lt x (length nodes)) [
+      | inl h ↦ get_or_append_left nodes (alone ∷ []) alone x h
+      | inr h ↦ elim (cases_eq (length nodes) x) [
+        | inl end ↦ get_or_push nodes alone alone x end ∙ sym (get_or_past nodes x alone h)
+        | inr past ↦ get_or_past (nodes ++ alone ∷ []) x alone (omega (arith, n, h, past)) ∙ sym (get_or_past nodes x alone h)
       ]
     ] in
-    chained-same families (families ++ alone ∷ []) a (omega (arith, n, few)) same (λ c p e. let w = a.within c p e in omega (arith, w, n))
+    chained-same nodes (nodes ++ alone ∷ []) a (omega (arith, n, few)) same (λ c p e. let w = a.within c p e in omega (arith, w, n))
 
 -- the last animal, which has neither parent nor calves, is taken away
-pub chained-pop : (families : List Family) → AreChained families → (n : ℕ) → n + 1 ≡ length families → parent_of families n ≡ None → ((c : ℕ) → parent_of families c ≡ Some n → ⊥) → AreChained (take n families)
-chained-pop families a n e none childless =
-    let l : length (take n families) ≡ n = length-take-le n families (omega (arith, e)) in
+pub chained-pop : (nodes : List ChainNode) → AreChained nodes → (n : ℕ) → n + 1 ≡ length nodes → parent_of nodes n ≡ None → ((c : ℕ) → parent_of nodes c ≡ Some n → ⊥) → AreChained (take n nodes)
+chained-pop nodes a n e none childless =
+    let l : length (take n nodes) ≡ n = length-take-le n nodes (omega (arith, e)) in
     let both = a.single n none in
-    let no_first : first_of families n ≡ None = nobody (first_of families n) (λ c f. childless c (a.first n c f).0) in
-    let is_alone : family_at families n ≡ alone = λ i. record { parent = none i; previous = both.1 i; next = both.0 i; first = no_first i } in
-    let same : (x : ℕ) → family_at (take n families) x ≡ family_at families x = λ x.
+    let no_first : first_of nodes n ≡ None = nobody (first_of nodes n) (λ c f. childless c (a.first n c f).0) in
+    let is_alone : node_at nodes n ≡ alone = λ i. record { parent = none i; previous = both.1 i; next = both.0 i; first = no_first i } in
+    let same : (x : ℕ) → node_at (take n nodes) x ≡ node_at nodes x = λ x.
     elim (cases_lt x n) [
-      | inl h ↦ get_or-take n families x alone h
+      | inl h ↦ get_or-take n nodes x alone h
       | inr h ↦ elim (cases_eq x n) [
-        | inl end ↦ get_or_past (take n families) x alone (omega (arith, l, h)) ∙ sym (ap (λ v. family_at families v) end ∙ is_alone)
-        | inr past ↦ get_or_past (take n families) x alone (omega (arith, l, h)) ∙ sym (get_or_past families x alone (omega (arith, e, h, past)))
+        | inl end ↦ get_or_past (take n nodes) x alone (omega (arith, l, h)) ∙ sym (ap (λ v. node_at nodes v) end ∙ is_alone)
+        | inr past ↦ get_or_past (take n nodes) x alone (omega (arith, l, h)) ∙ sym (get_or_past nodes x alone (omega (arith, e, h, past)))
       ]
     ] in
     let few = a.few in
-    chained-same families (take n families) a (omega (arith, few, l, e)) same
+    chained-same nodes (take n nodes) a (omega (arith, few, l, e)) same
     (λ c p h.
     let w = a.within c p h in
     let not : p ≢ n = λ is. childless c (h ∙ ap Some is) in omega (arith, w, l, e, not))
@@ -60,17 +60,6 @@ chained-empty = record {
   previous = λ c d e. absurd (cc);
   single = λ c e. (refl, refl);
 }
-
--- what is written behind the part that is left changes nothing
-pub take-set : {X : Type 0} (xs : List X) (n : ℕ) (v : X) → n < length xs → take n (slice_set xs n v) ≡ take n xs
-take-set xs n v h =
-    let m = length-set xs n v in
-    let a = length-take-le n xs (omega (arith, h)) in
-    let b = length-take-le n (slice_set xs n v) (omega (arith, h, m)) in
-    ext_get_or v (take n (slice_set xs n v)) (take n xs) (omega (arith, a, b))
-    (λ i l.
-    let low : i < n = omega (arith, l, b) in
-    get_or-take n (slice_set xs n v) i v low ∙ get_or-set_other xs n i v v (λ is. let bad : i ≡ n = is in absurd (omega (arith, bad, low))) ∙ sym (get_or-take n xs i v low))
 
 -- an animal with no calves has none either once its own parent is taken away
 pub still_childless : (parents : List (Option ℕ)) (n : ℕ) → n < length parents → ((c : ℕ) → parent_at parents c ≡ Some n → ⊥) → (c : ℕ) → parent_at (slice_set parents n None) c ≡ Some n → ⊥

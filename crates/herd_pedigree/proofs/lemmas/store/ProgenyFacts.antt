@@ -1,11 +1,11 @@
--- The parents of one sex by place, and their families.
+-- The parents of one sex by place, and their nodes.
 use Rattle.std.proofs.Common.{ℕ, ◌<◌, ◌^◌, ◌≡◌, ◌≢◌, ◌⊎◌, inl, inr, arith, refl, sym, ap, ◌∙◌, cond, List, Option, Some, None, length, slice_set, get_or}
 use Rattle.std.proofs.lemmas.Bool.{cases_eq, cases_lt, eq-eqb, ne_eqb}
 use Rattle.std.proofs.lemmas.Option.{same_Some}
 use Rattle.std.proofs.lemmas.List.{ext_get_or, get_or-set_same, get_or-set_other, get_or_past, get_or-map, length-set, length-map}
-use Rattle.herd_pedigree.specs.declared.store.progeny.Family.{Family}
+use Rattle.herd_pedigree.specs.declared.store.progeny.ChainNode.{ChainNode}
 use Rattle.herd_frozen.specs.places.Places.{parent_at}
-use Rattle.herd_pedigree.specs.store.Calves.{AreChained, alone, family_at, first_of, next_of, parent_of, parents_of, previous_of, put}
+use Rattle.herd_pedigree.specs.store.Calves.{AreChained, alone, node_at, first_of, next_of, parent_of, parents_of, previous_of, put}
 
 -- who has a parent is there
 pub parent-within : (parents : List (Option ℕ)) (c p : ℕ) → parent_at parents c ≡ Some p → c < length parents
@@ -39,7 +39,7 @@ pub put_off : (p : ℕ) (value : Option ℕ) (f : ℕ → Option ℕ) (x : ℕ) 
 put_off p value f x n = put_isnt (Some p) value f x (λ e. n (sym (same_Some _ _ e)))
 
 -- what is kept of each stays as it was
-pub chained-same : (old new : List Family) → AreChained old → length new < 2 ^ 32 → ((x : ℕ) → family_at new x ≡ family_at old x) → ((c p : ℕ) → parent_of old c ≡ Some p → p < length new) → AreChained new
+pub chained-same : (old new : List ChainNode) → AreChained old → length new < 2 ^ 32 → ((x : ℕ) → node_at new x ≡ node_at old x) → ((c p : ℕ) → parent_of old c ≡ Some p → p < length new) → AreChained new
 chained-same old new a few e w = record {
   few = few;
   seniority = a.seniority;
@@ -66,23 +66,23 @@ chained-same old new a few e w = record {
     first x = ap (λ f. f.first) (e x)
 
 -- the parents as they are seen from outside
-pub parents-seen : (families : List Family) (x : ℕ) → parent_at (parents_of families) x ≡ parent_of families x
-parents-seen families x =
-    let n = length-map families (λ (family : Family). family.parent) in
-    elim (cases_lt x (length families)) [
-      | inl h ↦ get_or-map (λ (family : Family). family.parent) families x alone None h
-      | inr h ↦ get_or_past (parents_of families) x None (omega (arith, h, n)) ∙ sym (ap (λ (f : Family). f.parent) (get_or_past families x alone h))
+pub parents-seen : (nodes : List ChainNode) (x : ℕ) → parent_at (parents_of nodes) x ≡ parent_of nodes x
+parents-seen nodes x =
+    let n = length-map nodes (λ (node : ChainNode). node.parent) in
+    elim (cases_lt x (length nodes)) [
+      | inl h ↦ get_or-map (λ (node : ChainNode). node.parent) nodes x alone None h
+      | inr h ↦ get_or_past (parents_of nodes) x None (omega (arith, h, n)) ∙ sym (ap (λ (f : ChainNode). f.parent) (get_or_past nodes x alone h))
     ]
 
 -- as many as there are parents
-pub length-families : (families : List Family) (parents : List (Option ℕ)) → parents_of families ≡ parents → length families ≡ length parents
-length-families families parents e = sym (length-map families (λ (family : Family). family.parent)) ∙ ap (λ ps. length ps) e
+pub length-nodes : (nodes : List ChainNode) (parents : List (Option ℕ)) → parents_of nodes ≡ parents → length nodes ≡ length parents
+length-nodes nodes parents e = sym (length-map nodes (λ (node : ChainNode). node.parent)) ∙ ap (λ ps. length ps) e
 
 -- by the parent of each
-pub parents-set : (old new : List Family) (c : ℕ) (o : Option ℕ) → c < length old → length new ≡ length old → ((x : ℕ) → parent_of new x ≡ put (Some c) o (parent_of old) x) → parents_of new ≡ slice_set (parents_of old) c o
+pub parents-set : (old new : List ChainNode) (c : ℕ) (o : Option ℕ) → c < length old → length new ≡ length old → ((x : ℕ) → parent_of new x ≡ put (Some c) o (parent_of old) x) → parents_of new ≡ slice_set (parents_of old) c o
 parents-set old new c o here n e =
-    let l = length-map old (λ (family : Family). family.parent) in
-    let m = length-map new (λ (family : Family). family.parent) in
+    let l = length-map old (λ (node : ChainNode). node.parent) in
+    let m = length-map new (λ (node : ChainNode). node.parent) in
     let k = length-set (parents_of old) c o in
     ext_get_or None (parents_of new) (slice_set (parents_of old) c o) (omega (arith, l, m, n, k))
     (λ x h.
@@ -93,11 +93,11 @@ parents-set old new c o here n e =
     ])
 
 -- who has a parent is an animal
-pub animal-within : (families : List Family) (c p : ℕ) → parent_of families c ≡ Some p → c < length families
-animal-within families c p e =
-    elim (cases_lt c (length families)) [
+pub animal-within : (nodes : List ChainNode) (c p : ℕ) → parent_of nodes c ≡ Some p → c < length nodes
+animal-within nodes c p e =
+    elim (cases_lt c (length nodes)) [
       | inl h ↦ h
-      | inr h ↦ let bad : None ≡ Some p = sym (ap (λ (f : Family). f.parent) (get_or_past families c alone h)) ∙ e in absurd (cc)
+      | inr h ↦ let bad : None ≡ Some p = sym (ap (λ (f : ChainNode). f.parent) (get_or_past nodes c alone h)) ∙ e in absurd (cc)
     ]
 
 pub everywhere : {f g : ℕ → Option ℕ} → ((x : ℕ) → f x ≡ g x) → f ≡ g

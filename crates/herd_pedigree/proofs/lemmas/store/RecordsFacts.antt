@@ -17,7 +17,7 @@ use Rattle.herd_pedigree.specs.store.Undo.{without_last}
 use Rattle.herd_frozen.proofs.lemmas.rules.BookFacts.{entry_from_both, is_some_with, keys-push, length-keys, none_if, push_cases, push_keeps, stands_once, there}
 use Rattle.herd_frozen.proofs.lemmas.places.NumberFacts.{further, number_at-place, number_at-push}
 use Rattle.herd_pedigree.proofs.lemmas.store.SetFacts.{keys-set, length-set-at, set-changed, set_value-cases}
-use Rattle.herd_pedigree.proofs.lemmas.store.UndoFacts.{without_last-push}
+use Rattle.herd_pedigree.proofs.lemmas.store.ListFacts.{nil_unless, without_last-push}
 
 module _ (numbers : List (List ℕ)) where
   pub keys-book_with : (es : List (List ℕ × StoredRecord)) → keys_of (book_with numbers es) ≡ keys_of es
@@ -269,10 +269,6 @@ module _ (es : List (List ℕ × StoredRecord)) (x : List ℕ) (e : StoredRecord
       ∙ sym (without_last-push (book_with (keys_of es ++ x ∷ []) es) (x, animal_of (keys_of es ++ x ∷ []) e))
       ∙ sym (ap (λ l. without_last l) (map_push (λ entry. (entry.0, animal_of (keys_of es ++ x ∷ []) entry.1)) es (x, e)))
       ∙ sym (ap (λ l. without_last (book_with l (es ++ (x, e) ∷ []))) (keys-push es x e))
-
-nil_unless : {X : Type 0} (xs : List X) → (0 < length xs → ⊥) → xs ≡ []
-nil_unless [] never = refl
-nil_unless (x ∷ xs) never = absurd (never (omega arith))
 
 -- the entries that are left once the last was taken away
 pub popped-closed : (old new : List (List ℕ × StoredRecord)) (popped : Option (List ℕ × StoredRecord)) → old ≡ new ++ option_to_list popped → AreClosed old

@@ -1,7 +1,7 @@
 -- What a log of writes takes back.
-use Rattle.std.proofs.Common.{ℕ, ◌-◌, ◌<◌, ◌≤◌, ◌≡◌, ◌≢◌, ⊎_elim, All, slice_index, arith, refl, sym, ap, ◌∙◌, subst, List, [], ◌∷◌, ◌++◌, Option, Some, length, slice_set}
+use Rattle.std.proofs.Common.{ℕ, ◌<◌, ◌≤◌, ◌≡◌, ◌≢◌, ⊎_elim, All, slice_index, arith, refl, sym, ap, ◌∙◌, subst, List, [], ◌∷◌, ◌++◌, Option, Some, length, slice_set}
 use Rattle.std.proofs.lemmas.Bool.{cases_eq}
-use Rattle.std.proofs.lemmas.List.{get_or-set_other, length-set, length_push, set-get_or, set-set, take_at}
+use Rattle.std.proofs.lemmas.List.{get_or-set_other, length-set, set-get_or, set-set}
 use Rattle.std.proofs.lemmas.List.Elements.{All-append, All-cons, All-nil, All-rest}
 use Rattle.std.specs.Map.{keys_of}
 use Rattle.herd_frozen.specs.declared.rules.animal.Animal.{Animal}
@@ -12,6 +12,7 @@ use Rattle.herd_pedigree.specs.store.Records.{animal_of, set_value_at}
 use Rattle.herd_pedigree.specs.declared.store.undo.Undo.{Undo}
 use Rattle.herd_pedigree.specs.declared.store.undo.Undo.TheVariants.{Nothing, Record}
 use Rattle.herd_pedigree.specs.store.Undo.{IsHeld, TakesBack, undone_writes, without_last}
+use Rattle.herd_pedigree.proofs.lemmas.store.ListFacts.{without_last-push}
 
 -- the last write is taken back first
 pub undone-last : (log : List (ℕ × ℕ)) (write : ℕ × ℕ) (depths : List ℕ) → undone_writes (log ++ write ∷ []) depths ≡ undone_writes log (slice_set depths write.0 write.1)
@@ -49,10 +50,6 @@ written-most l (write ∷ log) depths most x before =
     (λ (e : x ≡ write.0). subst (λ v. slice_index depths v ≤ l) (sym e) head)
     (λ (n : x ≢ write.0). written-most l log depths rest x (subst (λ v. v ≤ l) (get_or-set_other (undone_writes log depths) write.0 x write.1 0 n) before))
     (cases_eq x write.0)
-
--- without the last element that was pushed
-pub without_last-push : {X : Type 0} (xs : List X) (x : X) → without_last (xs ++ x ∷ []) ≡ xs
-without_last-push xs x = let n = length_push xs x in take_at xs (x ∷ []) (length (xs ++ x ∷ []) - 1) (omega (arith, n))
 
 -- the view after a birth
 pub birth-view : (was : Pedigree) (book entries : Book) (entry : List ℕ × Animal) → entries ≡ book ++ entry ∷ [] → book ≡ was.book → record { book = entries; before = Some (without_last entries) } ≡ changed_to was (was.book ++ entry ∷ [])

@@ -2,7 +2,7 @@
 use Rattle.herd_pedigree.proofs.pedigree.Pedigree.set_left.Goals as goal
 
 pub set_left_at-requires-clause-exit : goal.set_left_at-requires-clause-exit
-set_left_at-requires-clause-exit g c = rw c.in-Some.ensures.number c.requires
+set_left_at-requires-clause-exit g c = rw c.found-found.ensures.number c.requires
 
 pub returns : goal.returns
-returns g c = rw c.in-Some.ensures.number at c.set_left_at.ensures
+returns g c = rw c.found-found.ensures.number at c.set_left_at.ensures

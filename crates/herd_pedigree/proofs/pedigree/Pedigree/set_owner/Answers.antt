@@ -2,7 +2,7 @@
 use Rattle.herd_pedigree.proofs.pedigree.Pedigree.set_owner.Goals as goal
 
 pub set_owner_at-requires-clause-present : goal.set_owner_at-requires-clause-present
-set_owner_at-requires-clause-present g c = rw c.in-Some.ensures.number c.requires
+set_owner_at-requires-clause-present g c = rw c.found-found.ensures.number c.requires
 
 pub returns : goal.returns
-returns g c = rw c.in-Some.ensures.number at c.set_owner_at.ensures
+returns g c = rw c.found-found.ensures.number at c.set_owner_at.ensures

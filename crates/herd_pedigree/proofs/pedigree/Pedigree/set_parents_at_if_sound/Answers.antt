@@ -1,35 +1,31 @@
 -- `Pedigree::set_parents_at_if_sound`: what `carry_if_shallow` and `write` require, the invariant, and its clauses `fault`, `set` and `by_records`.
-use Rattle.std.proofs.Common.{◌+◌, refl, sym, ap, ◌∙◌, subst, ◌≡◌, ◌<◌, ℕ, List, [], Option, Some, None, IfSome, IsFalse, IsTrue, true, false, All, length, slice_index, slice_get, slice_set}
+use Rattle.std.proofs.Common.{refl, sym, ap, ◌∙◌, subst, ◌≡◌, ◌<◌, ℕ, List, [], Option, Some, None, IfSome, All, length, slice_index, slice_get, slice_set}
 use Rattle.std.specs.Map.{keys_of}
 use Rattle.std.specs.Vec.{with_items}
 use Rattle.std.proofs.lemmas.List.{with_items_is}
-use Rattle.std.proofs.lemmas.Bool.{false≢true, true≢false}
 use Rattle.herd_frozen.specs.declared.rules.animal.Animal.{Animal}
 use Rattle.herd_pedigree.specs.declared.store.records.StoredRecord.{StoredRecord}
 use Rattle.herd_pedigree.specs.declared.store.undo.Undo.TheVariants.{Record}
-use Rattle.herd_frozen.specs.rules.Paths.{has_path}
-use Rattle.herd_frozen.specs.rules.Book.{Book, changed, record_of, with_parents}
+use Rattle.herd_frozen.specs.rules.Book.{Book, changed, with_parents}
 use Rattle.herd_pedigree.specs.Pedigree.{IsCorrection, IsFound, changed_to}
-use Rattle.herd_frozen.specs.rules.ParentFault.{parent_fault}
 use Rattle.herd_frozen.specs.declared.rules.parent_fault.ParentFault.TheVariants.{TooDeep}
 use Rattle.herd_pedigree.specs.store.Carry.{IsSettled}
 use Rattle.herd_pedigree.specs.store.Exchange.{exchanged}
 use Rattle.herd_pedigree.specs.store.Records.{IsStoredAt, animal_of, set_value_at}
 use Rattle.herd_pedigree.specs.store.Undo.{IsHeld, TakesBack}
 use Rattle.herd_frozen.specs.declared.TheConstants.{DEPTH_LIMIT, MOST_ANIMALS}
-use Rattle.herd_frozen.proofs.lemmas.rules.BookFacts.{entry_from_both, lookup_at}
+use Rattle.herd_frozen.proofs.lemmas.rules.BookFacts.{lookup_at}
 use Rattle.herd_pedigree.proofs.lemmas.store.RecordsFacts.{animal_of-parents, stored-entry, stored-parents}
 use Rattle.herd_pedigree.proofs.lemmas.store.SetFacts.{record-view}
-use Rattle.herd_pedigree.proofs.CheckFacts.{correction-depths, correction-sound, fault-first, fault-rest, too_deep-told_by}
+use Rattle.herd_pedigree.proofs.CheckFacts.{correction-depths, correction-sound, fault-deep, fault-first, fault-none}
 use Rattle.herd_pedigree.proofs.FoundFacts.{its-number, shown-found, told-found}
 use Rattle.herd_pedigree.proofs.HeldFacts.{IsHeld-corrected}
 use Rattle.herd_pedigree.proofs.pedigree.Pedigree.set_parents_at_if_sound.Goals as goal
 
 pub returns-in-Err-clause-fault : goal.returns-in-Err-clause-fault
 returns-in-Err-clause-fault g c =
-    let a : Animal = c.animal_at-birth.result in
-    told-found c.self.inside.records.book c.args.self.now.book (ap (λ p. p.book) c.self.view_is) c.self.invariant.kept.lawful.once c.args.found.now c.requires c.animal_at-birth.result c.animal_at-birth.ensures DEPTH_LIMIT c.args.sire c.args.dam (Some c.in-Err.fault)
-    (fault-first DEPTH_LIMIT c.self.inside.records.book c.args.found.now.number a.birth c.args.sire c.args.dam a.embryo c.in-Err.fault c.in-Err.ensures.fault)
+    told-found c.self.inside.records.book c.args.self.now.book (ap (λ p. p.book) c.self.view_is) c.self.invariant.kept.lawful.once c.args.found.now c.requires (animal_of (keys_of c.self.inside.records.book) c.stored_at-was.result) c.stored_at-was.ensures.animal DEPTH_LIMIT c.args.sire c.args.dam (Some c.in-Err.fault)
+    (fault-first DEPTH_LIMIT c.self.inside.records.book c.args.found.now.number c.stored_at-was.result.birth c.args.sire c.args.dam c.stored_at-was.result.embryo c.in-Err.fault c.in-Err.ensures.fault)
 
 pub invariant_of-correction : goal.invariant_of-correction
 invariant_of-correction g c =
@@ -51,14 +47,13 @@ invariant_of-self-in_default g c =
 pub returns-in_default-clause-fault : goal.returns-in_default-clause-fault
 returns-in_default-clause-fault g c =
     let i = c.self.inside in
-    let a : Animal = c.animal_at-birth.result in
-    let place : ℕ = c.args.found.now.place in
+    let found = c.args.found.now in
+    let was : StoredRecord = c.stored_at-was.result in
     let parents = c.in-Ok.parents in
-    let number_at = its-number c.self.inside.records.book c.args.self.now.book (ap (λ p. p.book) c.self.view_is) c.self.invariant.kept.lawful.once c.args.found.now c.requires in
-    let path : (x : ℕ) × IsTrue (has_path (exchanged i.sires.parents i.dams.parents place parents.sire parents.dam) (DEPTH_LIMIT + 1) x) = rw c.in_default.is at c.in_ok-log.ensures.deep in
-    told-found c.self.inside.records.book c.args.self.now.book (ap (λ p. p.book) c.self.view_is) c.self.invariant.kept.lawful.once c.args.found.now c.requires c.animal_at-birth.result c.animal_at-birth.ensures DEPTH_LIMIT c.args.sire c.args.dam (Some TooDeep)
-    (fault-rest DEPTH_LIMIT i.records.book c.args.found.now.number a.birth c.args.sire c.args.dam a.embryo true c.in-Ok.ensures.sound
-    (too_deep-told_by DEPTH_LIMIT MOST_ANIMALS i.records.book i.sires.parents i.dams.parents i.depths.items c.self.invariant.kept c.args.found.now.number place number_at parents.sire parents.dam c.args.sire c.args.dam c.in-Ok.ensures.sire c.in-Ok.ensures.dam true (λ _. path) (λ no. absurd (true≢false no))))
+    let number_at = its-number i.records.book c.args.self.now.book (ap (λ p. p.book) c.self.view_is) c.self.invariant.kept.lawful.once found c.requires in
+    told-found i.records.book c.args.self.now.book (ap (λ p. p.book) c.self.view_is) c.self.invariant.kept.lawful.once found c.requires (animal_of (keys_of i.records.book) was) c.stored_at-was.ensures.animal DEPTH_LIMIT c.args.sire c.args.dam (Some TooDeep)
+    (fault-deep DEPTH_LIMIT MOST_ANIMALS i.records.book i.sires.parents i.dams.parents i.depths.items c.self.invariant.kept found.number found.place number_at parents.sire parents.dam c.args.sire c.args.dam c.in-Ok.ensures.sire c.in-Ok.ensures.dam was.birth was.embryo c.in-Ok.ensures.sound
+    (rw c.in_default.is at c.in_ok-log.ensures.deep))
 
 pub write-requires-clause-sire : goal.write-requires-clause-sire
 write-requires-clause-sire g c = subst (λ (e : StoredRecord). IfSome e.sire (λ p. p < length c.self.inside.records.book)) (sym c.with_parents.ensures) c.in-Ok.ensures.sire_within
@@ -70,14 +65,9 @@ write-requires-clause-dam g c = subst (λ (e : StoredRecord). IfSome e.dam (λ p
 pub invariant_of-self-2 : goal.invariant_of-self-2
 invariant_of-self-2 g c =
     let i = c.self.inside in
-    let a : Animal = c.animal_at-birth.result in
     let place : ℕ = c.args.found.now.place in
     let parents = c.in-Ok.parents in
     let number_at = its-number c.self.inside.records.book c.args.self.now.book (ap (λ p. p.book) c.self.view_is) c.self.invariant.kept.lawful.once c.args.found.now c.requires in
-    let shallow : (x : ℕ) → IsFalse (has_path (exchanged i.sires.parents i.dams.parents place parents.sire parents.dam) (DEPTH_LIMIT + 1) x) = rw c.in-Some.is at c.in_ok-log.ensures.shallow in
-    let fine : None ≡ parent_fault DEPTH_LIMIT i.records.book c.args.found.now.number a.birth c.args.sire c.args.dam a.embryo =
-    fault-rest DEPTH_LIMIT i.records.book c.args.found.now.number a.birth c.args.sire c.args.dam a.embryo false c.in-Ok.ensures.sound
-    (too_deep-told_by DEPTH_LIMIT MOST_ANIMALS i.records.book i.sires.parents i.dams.parents i.depths.items c.self.invariant.kept c.args.found.now.number place number_at parents.sire parents.dam c.args.sire c.args.dam c.in-Ok.ensures.sire c.in-Ok.ensures.dam false (λ yes. absurd (false≢true yes)) (λ _. shallow)) in
     let book : Book = i.records.book in
     let sires : List (Option ℕ) = i.sires.parents in
     let dams : List (Option ℕ) = i.dams.parents in
@@ -88,8 +78,12 @@ invariant_of-self-2 g c =
     let becomes : Animal = with_parents c.args.sire c.args.dam (animal_of (keys_of book) was) in
     let written : c.write.new.self.book ≡ set_value_at book place becomes =
     c.write.ensures ∙ ap (λ v. set_value_at book place v) (ap (λ e. animal_of (keys_of book) e) c.with_parents.ensures ∙ animal_of-parents (keys_of book) was parents.sire parents.dam c.args.sire c.args.dam c.in-Ok.ensures.sire c.in-Ok.ensures.dam) in
-    let there : record_of book c.args.found.now.number ≡ Some a = lookup_at book kept.lawful.once place c.args.found.now.number a (entry_from_both book place c.args.found.now.number a number_at c.animal_at-birth.ensures) in
-    let asked : IsCorrection DEPTH_LIMIT book c.args.found.now.number c.args.sire c.args.dam = record { animal = a; there = there; parents = sym fine } in
+    let asked : IsCorrection DEPTH_LIMIT book c.args.found.now.number c.args.sire c.args.dam = record {
+      animal = animal_of (keys_of book) was;
+      there = lookup_at book kept.lawful.once place c.args.found.now.number (animal_of (keys_of book) was) entry;
+      parents = sym (fault-none DEPTH_LIMIT MOST_ANIMALS book sires dams i.depths.items kept c.args.found.now.number place number_at parents.sire parents.dam c.args.sire c.args.dam c.in-Ok.ensures.sire c.in-Ok.ensures.dam was.birth was.embryo c.in-Ok.ensures.sound
+          (rw c.in-Some.is at c.in_ok-log.ensures.shallow));
+    } in
     let log : List (ℕ × ℕ) = c.in-Some.log.items in
     let after : List ℕ = c.carry_if_shallow.new.depths in
     let long : length after ≡ length i.depths.items = c.carry_if_shallow.auto.depths ∙ ap (λ hs. length hs) c.deref_mut.ensures.value in
@@ -109,15 +103,13 @@ invariant_of-self-2 g c =
 pub returns-clause-fault : goal.returns-clause-fault
 returns-clause-fault g c =
     let i = c.self.inside in
-    let a : Animal = c.animal_at-birth.result in
-    let place : ℕ = c.args.found.now.place in
+    let found = c.args.found.now in
+    let was : StoredRecord = c.stored_at-was.result in
     let parents = c.in-Ok.parents in
-    let number_at = its-number c.self.inside.records.book c.args.self.now.book (ap (λ p. p.book) c.self.view_is) c.self.invariant.kept.lawful.once c.args.found.now c.requires in
-    let shallow : (x : ℕ) → IsFalse (has_path (exchanged i.sires.parents i.dams.parents place parents.sire parents.dam) (DEPTH_LIMIT + 1) x) = rw c.in-Some.is at c.in_ok-log.ensures.shallow in
-    let fine : None ≡ parent_fault DEPTH_LIMIT i.records.book c.args.found.now.number a.birth c.args.sire c.args.dam a.embryo =
-    fault-rest DEPTH_LIMIT i.records.book c.args.found.now.number a.birth c.args.sire c.args.dam a.embryo false c.in-Ok.ensures.sound
-    (too_deep-told_by DEPTH_LIMIT MOST_ANIMALS i.records.book i.sires.parents i.dams.parents i.depths.items c.self.invariant.kept c.args.found.now.number place number_at parents.sire parents.dam c.args.sire c.args.dam c.in-Ok.ensures.sire c.in-Ok.ensures.dam false (λ yes. absurd (false≢true yes)) (λ _. shallow)) in
-    told-found c.self.inside.records.book c.args.self.now.book (ap (λ p. p.book) c.self.view_is) c.self.invariant.kept.lawful.once c.args.found.now c.requires c.animal_at-birth.result c.animal_at-birth.ensures DEPTH_LIMIT c.args.sire c.args.dam None fine
+    let number_at = its-number i.records.book c.args.self.now.book (ap (λ p. p.book) c.self.view_is) c.self.invariant.kept.lawful.once found c.requires in
+    told-found i.records.book c.args.self.now.book (ap (λ p. p.book) c.self.view_is) c.self.invariant.kept.lawful.once found c.requires (animal_of (keys_of i.records.book) was) c.stored_at-was.ensures.animal DEPTH_LIMIT c.args.sire c.args.dam None
+    (fault-none DEPTH_LIMIT MOST_ANIMALS i.records.book i.sires.parents i.dams.parents i.depths.items c.self.invariant.kept found.number found.place number_at parents.sire parents.dam c.args.sire c.args.dam c.in-Ok.ensures.sire c.in-Ok.ensures.dam was.birth was.embryo c.in-Ok.ensures.sound
+    (rw c.in-Some.is at c.in_ok-log.ensures.shallow))
 
 pub returns-clause-set : goal.returns-clause-set
 returns-clause-set g c =
@@ -136,16 +128,16 @@ returns-clause-set g c =
 
 pub returns-in-Err-clause-by_records : goal.returns-in-Err-clause-by_records
 returns-in-Err-clause-by_records g c =
-    shown-found c.self.inside.records.book c.args.self.now.book (ap (λ p. p.book) c.self.view_is) c.self.invariant.kept.lawful.once c.args.found.now c.requires c.animal_at-birth.result c.animal_at-birth.ensures c.args.sire c.args.dam (Some c.in-Err.fault) c.in-Err.ensures.fault _ refl
+    shown-found c.self.inside.records.book c.args.self.now.book (ap (λ p. p.book) c.self.view_is) c.self.invariant.kept.lawful.once c.args.found.now c.requires (animal_of (keys_of c.self.inside.records.book) c.stored_at-was.result) c.stored_at-was.ensures.animal c.args.sire c.args.dam (Some c.in-Err.fault) c.in-Err.ensures.fault _ refl
 
 pub returns-in_default-clause-by_records : goal.returns-in_default-clause-by_records
 returns-in_default-clause-by_records g c =
-    shown-found c.self.inside.records.book c.args.self.now.book (ap (λ p. p.book) c.self.view_is) c.self.invariant.kept.lawful.once c.args.found.now c.requires c.animal_at-birth.result c.animal_at-birth.ensures c.args.sire c.args.dam None c.in-Ok.ensures.sound _ tt
+    shown-found c.self.inside.records.book c.args.self.now.book (ap (λ p. p.book) c.self.view_is) c.self.invariant.kept.lawful.once c.args.found.now c.requires (animal_of (keys_of c.self.inside.records.book) c.stored_at-was.result) c.stored_at-was.ensures.animal c.args.sire c.args.dam None c.in-Ok.ensures.sound _ tt
 
 pub returns-in_err-log-clause-by_records : goal.returns-in_err-log-clause-by_records
 returns-in_err-log-clause-by_records g c =
-    shown-found c.self.inside.records.book c.args.self.now.book (ap (λ p. p.book) c.self.view_is) c.self.invariant.kept.lawful.once c.args.found.now c.requires c.animal_at-birth.result c.animal_at-birth.ensures c.args.sire c.args.dam None c.in-Ok.ensures.sound _ tt
+    shown-found c.self.inside.records.book c.args.self.now.book (ap (λ p. p.book) c.self.view_is) c.self.invariant.kept.lawful.once c.args.found.now c.requires (animal_of (keys_of c.self.inside.records.book) c.stored_at-was.result) c.stored_at-was.ensures.animal c.args.sire c.args.dam None c.in-Ok.ensures.sound _ tt
 
 pub returns-clause-by_records : goal.returns-clause-by_records
 returns-clause-by_records g c =
-    shown-found c.self.inside.records.book c.args.self.now.book (ap (λ p. p.book) c.self.view_is) c.self.invariant.kept.lawful.once c.args.found.now c.requires c.animal_at-birth.result c.animal_at-birth.ensures c.args.sire c.args.dam None c.in-Ok.ensures.sound _ tt
+    shown-found c.self.inside.records.book c.args.self.now.book (ap (λ p. p.book) c.self.view_is) c.self.invariant.kept.lawful.once c.args.found.now c.requires (animal_of (keys_of c.self.inside.records.book) c.stored_at-was.result) c.stored_at-was.ensures.animal c.args.sire c.args.dam None c.in-Ok.ensures.sound _ tt

@@ -1,7 +1,7 @@
 -- `Progeny::calves`: its result.
 use Rattle.std.proofs.Common.{ap, ◌∙◌, subst, ◌≡◌, ◌↔◌, ℕ, List, Some, Contains, length}
-use Rattle.herd_pedigree.specs.declared.store.progeny.Family.{Family}
-use Rattle.herd_pedigree.specs.store.Calves.{chain, family_at, first_of}
+use Rattle.herd_pedigree.specs.declared.store.progeny.ChainNode.{ChainNode}
+use Rattle.herd_pedigree.specs.store.Calves.{chain, node_at, first_of}
 use Rattle.herd_frozen.specs.places.Places.{parent_at}
 use Rattle.herd_pedigree.specs.store.Progeny.{Progeny}
 use Rattle.herd_pedigree.proofs.lemmas.store.ChainFacts.{calves-shown}
@@ -9,9 +9,9 @@ use Rattle.herd_pedigree.proofs.store.progeny.Progeny.calves.Goals as goal
 
 pub returns : goal.returns
 returns g c =
-    let families : List Family = c.self.inside.families.items in
+    let nodes : List ChainNode = c.self.inside.nodes.items in
     let place : ℕ = c.args.place in
-    let first : c.get.result ≡ first_of families place = c.get.ensures ∙ ap (λ (f : Family). f.first) (c.family_at.ensures ∙ ap (λ fs. family_at fs place) c.deref.ensures.value) in
-    let most : c.len.result ≡ length families = c.len.ensures ∙ c.self.inside.families.ok.0 in
+    let first : c.get.result ≡ first_of nodes place = c.get.ensures ∙ ap (λ (f : ChainNode). f.first) (c.node_at.ensures ∙ ap (λ fs. node_at fs place) c.deref.ensures.value) in
+    let most : c.len.result ≡ length nodes = c.len.ensures ∙ c.self.inside.nodes.ok.0 in
     let P : Progeny → Type 0 = λ p. (calf : ℕ) → Contains (chain c.as_slice.result.now c.len.result c.get.result) calf ↔ (parent_at p.parents calf ≡ Some place) in
-    subst P c.self.view_is (calves-shown families c.self.invariant place c.as_slice.result.now c.len.result c.get.result c.as_slice.ensures.value most first)
+    subst P c.self.view_is (calves-shown nodes c.self.invariant place c.as_slice.result.now c.len.result c.get.result c.as_slice.ensures.value most first)

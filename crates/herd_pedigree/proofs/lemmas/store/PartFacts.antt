@@ -1,18 +1,18 @@
--- The chains of calves once an animal is unlinked from its parent.
+-- The chains of calves once an animal parts from its siblings.
 use Rattle.std.proofs.Common.{ℕ, ◌<◌, ◌^◌, ◌≡◌, ◌≢◌, ◌⊎◌, inl, inr, arith, refl, sym, ap, ◌∙◌, subst, List, Option, Some, None, length}
 use Rattle.std.proofs.lemmas.Bool.{cases_eq}
 use Rattle.std.proofs.lemmas.Option.{same_Some}
-use Rattle.herd_pedigree.specs.declared.store.progeny.Family.{Family}
-use Rattle.herd_pedigree.specs.store.Calves.{AreChained, Show, family_at, first_of, next_of, parent_of, previous_of, put}
+use Rattle.herd_pedigree.specs.declared.store.progeny.ChainNode.{ChainNode}
+use Rattle.herd_pedigree.specs.store.Calves.{AreChained, Show, node_at, first_of, next_of, parent_of, previous_of, put}
 use Rattle.herd_pedigree.proofs.lemmas.store.ProgenyFacts.{animal-within, chained-same, everywhere, is_place, known, put_at, put_is, put_isnt, put_off}
 
 -- the place before which a calf stands first, where it does
-pub record IsLedBy (families : List Family) (c p : ℕ) (o : Option ℕ) : Type 0 where
-  pub first : previous_of families c ≡ None → o ≡ Some p
-  pub later : (q : ℕ) → previous_of families c ≡ Some q → o ≡ None
+pub record IsLedBy (nodes : List ChainNode) (c p : ℕ) (o : Option ℕ) : Type 0 where
+  pub first : previous_of nodes c ≡ None → o ≡ Some p
+  pub later : (q : ℕ) → previous_of nodes c ≡ Some q → o ≡ None
 
 -- an animal loses its parent: its neighbours stand beside each other
-module _ (old new : List Family) (a : AreChained old) (c p : ℕ) (has : parent_of old c ≡ Some p) (o : Option ℕ) (led : IsLedBy old c p o)
+module _ (old new : List ChainNode) (a : AreChained old) (c p : ℕ) (has : parent_of old c ≡ Some p) (o : Option ℕ) (led : IsLedBy old c p o)
     (s : Show new (length old) (put (Some c) None (parent_of old)) (put (Some c) None (put (next_of old c) (previous_of old c) (previous_of old))) (put (Some c) None (put (previous_of old c) (next_of old c) (next_of old))) (put o (next_of old c) (first_of old))) where
   gone : parent_of new c ≡ None
   gone = s.parents c ∙ put_at c None (parent_of old)
@@ -155,11 +155,11 @@ module _ (old new : List Family) (a : AreChained old) (c p : ℕ) (has : parent_
         (after_kept x other not_before ∙ both.0, before_kept x other not_behind ∙ both.1)
   ]
 
-  pub chained-unlink : AreChained new
-  chained-unlink = record { few = subst (λ n. n < 2 ^ 32) (sym s.long) a.few; seniority = a.seniority; top = a.top; below = a.below; within = within_from; first = first_from; foremost = foremost_from; next = next_from; previous = previous_from; single = single_from }
+  pub chained-part-some : AreChained new
+  chained-part-some = record { few = subst (λ n. n < 2 ^ 32) (sym s.long) a.few; seniority = a.seniority; top = a.top; below = a.below; within = within_from; first = first_from; foremost = foremost_from; next = next_from; previous = previous_from; single = single_from }
 
 -- the six that part it from its siblings
-pub parted : (old l1 l2 l3 l4 l5 new : List Family) (c : ℕ) (own none o next previous : Option ℕ) → own ≡ Some c → none ≡ None → next ≡ next_of old c → previous ≡ previous_of old c →
+pub parted : (old l1 l2 l3 l4 l5 new : List ChainNode) (c : ℕ) (own none o next previous : Option ℕ) → own ≡ Some c → none ≡ None → next ≡ next_of old c → previous ≡ previous_of old c →
     Show l1 (length old) (parent_of old) (previous_of old) (next_of old) (put o next (first_of old)) →
     Show l2 (length l1) (parent_of l1) (previous_of l1) (put previous next (next_of l1)) (first_of l1) →
     Show l3 (length l2) (parent_of l2) (put next previous (previous_of l2)) (next_of l2) (first_of l2) →
@@ -184,53 +184,53 @@ parted old l1 l2 l3 l4 l5 new c own none o next previous is_own is_none is_next 
     }
 
 -- a place that is shown to be none's, in a chain of nobody
-module _ (families : List Family) (a : AreChained families) (c : ℕ) where
-  pub next-within : (x : ℕ) → next_of families c ≡ Some x → x < length families
-  next-within x e = elim (known (parent_of families c)) [
+module _ (nodes : List ChainNode) (a : AreChained nodes) (c : ℕ) where
+  pub next-within : (x : ℕ) → next_of nodes c ≡ Some x → x < length nodes
+  next-within x e = elim (known (parent_of nodes c)) [
     | inl none ↦ let bad : None ≡ Some x = sym (a.single c none).0 ∙ e in absurd (cc)
-    | inr some ↦ animal-within families x some.0 ((a.next c x e).1.0 ∙ some.1)
+    | inr some ↦ animal-within nodes x some.0 ((a.next c x e).1.0 ∙ some.1)
   ]
 
-  pub previous-within : (x : ℕ) → previous_of families c ≡ Some x → x < length families
-  previous-within x e = elim (known (parent_of families c)) [
+  pub previous-within : (x : ℕ) → previous_of nodes c ≡ Some x → x < length nodes
+  previous-within x e = elim (known (parent_of nodes c)) [
     | inl none ↦ let bad : None ≡ Some x = sym (a.single c none).1 ∙ e in absurd (cc)
-    | inr some ↦ animal-within families x some.0 (sym (a.next x c (a.previous x c e)).1.0 ∙ some.1)
+    | inr some ↦ animal-within nodes x some.0 (sym (a.next x c (a.previous x c e)).1.0 ∙ some.1)
   ]
 
   -- where it has no parent, all stays
-  pub part-alone : (o : Option ℕ) (new : List Family) → parent_of families c ≡ None → o ≡ None →
-      Show new (length families) (put (Some c) None (parent_of families)) (put (Some c) None (put (next_of families c) (previous_of families c) (previous_of families))) (put (Some c) None (put (previous_of families c) (next_of families c) (next_of families))) (put o (next_of families c) (first_of families)) →
-      (x : ℕ) → family_at new x ≡ family_at families x
+  pub part-alone : (o : Option ℕ) (new : List ChainNode) → parent_of nodes c ≡ None → o ≡ None →
+      Show new (length nodes) (put (Some c) None (parent_of nodes)) (put (Some c) None (put (next_of nodes c) (previous_of nodes c) (previous_of nodes))) (put (Some c) None (put (previous_of nodes c) (next_of nodes c) (next_of nodes))) (put o (next_of nodes c) (first_of nodes)) →
+      (x : ℕ) → node_at new x ≡ node_at nodes x
   part-alone o new none off s x =
       let both = a.single c none in
-      let no_next : (value : Option ℕ) (f : ℕ → Option ℕ) → put (next_of families c) value f x ≡ f x = λ value f. ap (λ q. put q value f x) both.0 in
-      let no_previous : (value : Option ℕ) (f : ℕ → Option ℕ) → put (previous_of families c) value f x ≡ f x = λ value f. ap (λ q. put q value f x) both.1 in
-      let first : first_of new x ≡ first_of families x = s.firsts x ∙ ap (λ q. put q (next_of families c) (first_of families) x) off in
+      let no_next : (value : Option ℕ) (f : ℕ → Option ℕ) → put (next_of nodes c) value f x ≡ f x = λ value f. ap (λ q. put q value f x) both.0 in
+      let no_previous : (value : Option ℕ) (f : ℕ → Option ℕ) → put (previous_of nodes c) value f x ≡ f x = λ value f. ap (λ q. put q value f x) both.1 in
+      let first : first_of new x ≡ first_of nodes x = s.firsts x ∙ ap (λ q. put q (next_of nodes c) (first_of nodes) x) off in
       elim (cases_eq x c) [
         | inl same ↦
-            let parent : parent_of new x ≡ parent_of families x = s.parents x ∙ put_is (Some c) None (parent_of families) x (ap Some (sym same)) ∙ sym (ap (λ v. parent_of families v) same ∙ none) in
-            let previous : previous_of new x ≡ previous_of families x = s.before x ∙ put_is (Some c) None (put (next_of families c) (previous_of families c) (previous_of families)) x (ap Some (sym same)) ∙ sym (ap (λ v. previous_of families v) same ∙ both.1) in
-            let next : next_of new x ≡ next_of families x = s.after x ∙ put_is (Some c) None (put (previous_of families c) (next_of families c) (next_of families)) x (ap Some (sym same)) ∙ sym (ap (λ v. next_of families v) same ∙ both.0) in
+            let parent : parent_of new x ≡ parent_of nodes x = s.parents x ∙ put_is (Some c) None (parent_of nodes) x (ap Some (sym same)) ∙ sym (ap (λ v. parent_of nodes v) same ∙ none) in
+            let previous : previous_of new x ≡ previous_of nodes x = s.before x ∙ put_is (Some c) None (put (next_of nodes c) (previous_of nodes c) (previous_of nodes)) x (ap Some (sym same)) ∙ sym (ap (λ v. previous_of nodes v) same ∙ both.1) in
+            let next : next_of new x ≡ next_of nodes x = s.after x ∙ put_is (Some c) None (put (previous_of nodes c) (next_of nodes c) (next_of nodes)) x (ap Some (sym same)) ∙ sym (ap (λ v. next_of nodes v) same ∙ both.0) in
             λ i. record { parent = parent i; previous = previous i; next = next i; first = first i }
         | inr other ↦
-            let parent : parent_of new x ≡ parent_of families x = s.parents x ∙ put_off c None (parent_of families) x other in
-            let previous : previous_of new x ≡ previous_of families x = s.before x ∙ put_off c None (put (next_of families c) (previous_of families c) (previous_of families)) x other ∙ no_next (previous_of families c) (previous_of families) in
-            let next : next_of new x ≡ next_of families x = s.after x ∙ put_off c None (put (previous_of families c) (next_of families c) (next_of families)) x other ∙ no_previous (next_of families c) (next_of families) in
+            let parent : parent_of new x ≡ parent_of nodes x = s.parents x ∙ put_off c None (parent_of nodes) x other in
+            let previous : previous_of new x ≡ previous_of nodes x = s.before x ∙ put_off c None (put (next_of nodes c) (previous_of nodes c) (previous_of nodes)) x other ∙ no_next (previous_of nodes c) (previous_of nodes) in
+            let next : next_of new x ≡ next_of nodes x = s.after x ∙ put_off c None (put (previous_of nodes c) (next_of nodes c) (next_of nodes)) x other ∙ no_previous (next_of nodes c) (next_of nodes) in
             λ i. record { parent = parent i; previous = previous i; next = next i; first = first i }
       ]
 
 -- the parent whose chain it leads is an animal
-pub led-within : (families : List Family) → AreChained families → (c : ℕ) (o : Option ℕ) → (previous_of families c ≡ None → o ≡ parent_of families c) → ((q : ℕ) → previous_of families c ≡ Some q → o ≡ None) → (p : ℕ) → o ≡ Some p → p < length families
-led-within families a c o first later p e = elim (known (previous_of families c)) [
+pub led-within : (nodes : List ChainNode) → AreChained nodes → (c : ℕ) (o : Option ℕ) → (previous_of nodes c ≡ None → o ≡ parent_of nodes c) → ((q : ℕ) → previous_of nodes c ≡ Some q → o ≡ None) → (p : ℕ) → o ≡ Some p → p < length nodes
+led-within nodes a c o first later p e = elim (known (previous_of nodes c)) [
   | inl none ↦ a.within c p (sym (first none) ∙ e)
   | inr some ↦ let bad : None ≡ Some p = sym (later some.0 some.1) ∙ e in absurd (cc)
 ]
 
 -- whether it had a parent or not
-pub chained-part : (old new : List Family) → AreChained old → (c : ℕ) (o : Option ℕ) → (previous_of old c ≡ None → o ≡ parent_of old c) → ((q : ℕ) → previous_of old c ≡ Some q → o ≡ None) →
+pub chained-part : (old new : List ChainNode) → AreChained old → (c : ℕ) (o : Option ℕ) → (previous_of old c ≡ None → o ≡ parent_of old c) → ((q : ℕ) → previous_of old c ≡ Some q → o ≡ None) →
     Show new (length old) (put (Some c) None (parent_of old)) (put (Some c) None (put (next_of old c) (previous_of old c) (previous_of old))) (put (Some c) None (put (previous_of old c) (next_of old c) (next_of old))) (put o (next_of old c) (first_of old)) →
     AreChained new
 chained-part old new a c o first later s = elim (known (parent_of old c)) [
   | inl none ↦ chained-same old new a (subst (λ n. n < 2 ^ 32) (sym s.long) a.few) (part-alone old a c o new none (first (a.single c none).1 ∙ none) s) (λ x p e. let w = a.within x p e in let n = s.long in omega (arith, w, n))
-  | inr some ↦ chained-unlink old new a c some.0 some.1 o (record { first = λ n. first n ∙ some.1; later = later }) s
+  | inr some ↦ chained-part-some old new a c some.0 some.1 o (record { first = λ n. first n ∙ some.1; later = later }) s
 ]

@@ -1,13 +1,13 @@
--- The chains of calves once an animal is linked to a parent.
+-- The chains of calves once an animal joins the calves of a parent.
 use Rattle.std.proofs.Common.{ℕ, ◌+◌, ◌<◌, ◌^◌, ◌≡◌, ◌≢◌, ◌==◌, inl, inr, arith, refl, sym, ap, ◌∙◌, subst, cond, List, Option, Some, None, length}
 use Rattle.std.proofs.lemmas.Bool.{cases_eq, eq-eqb, ne_eqb}
 use Rattle.std.proofs.lemmas.Option.{same_Some}
-use Rattle.herd_pedigree.specs.declared.store.progeny.Family.{Family}
+use Rattle.herd_pedigree.specs.declared.store.progeny.ChainNode.{ChainNode}
 use Rattle.herd_pedigree.specs.store.Calves.{AreChained, Show, first_of, next_of, parent_of, previous_of, put}
 use Rattle.herd_pedigree.proofs.lemmas.store.ProgenyFacts.{everywhere, is_place, put_at, put_is, put_isnt, put_off}
 
 -- an animal gets its first parent: it is the first calf, and that from before the next
-module _ (old new : List Family) (a : AreChained old) (c p : ℕ) (there : p < length old) (none : parent_of old c ≡ None)
+module _ (old new : List ChainNode) (a : AreChained old) (c p : ℕ) (there : p < length old) (none : parent_of old c ≡ None)
     (s : Show new (length old) (put (Some c) (Some p) (parent_of old)) (put (first_of old p) (Some c) (previous_of old)) (put (Some c) (first_of old p) (next_of old)) (put (Some p) (Some c) (first_of old))) where
   seniority_to : ℕ → ℕ
   seniority_to x = cond (x == c) a.top (a.seniority x)
@@ -128,11 +128,11 @@ module _ (old new : List Family) (a : AreChained old) (c p : ℕ) (there : p < l
         (next_off x n ∙ both.0, previous_off x not ∙ both.1)
   ]
 
-  pub chained-link : AreChained new
-  chained-link = record { few = subst (λ n. n < 2 ^ 32) (sym s.long) a.few; seniority = seniority_to; top = a.top + 1; below = below_to; within = within_to; first = first_to; foremost = foremost_to; next = next_to; previous = previous_to; single = single_to }
+  pub chained-join : AreChained new
+  chained-join = record { few = subst (λ n. n < 2 ^ 32) (sym s.long) a.few; seniority = seniority_to; top = a.top + 1; below = below_to; within = within_to; first = first_to; foremost = foremost_to; next = next_to; previous = previous_to; single = single_to }
 
 -- the four writes that join a calf
-pub joined : (old l1 l2 l3 new : List Family) (c p : ℕ) (own shared first : Option ℕ) → own ≡ Some c → shared ≡ Some p → first ≡ first_of old p →
+pub joined : (old l1 l2 l3 new : List ChainNode) (c p : ℕ) (own shared first : Option ℕ) → own ≡ Some c → shared ≡ Some p → first ≡ first_of old p →
     Show l1 (length old) (parent_of old) (previous_of old) (next_of old) (put shared own (first_of old)) →
     Show l2 (length l1) (parent_of l1) (put first own (previous_of l1)) (next_of l1) (first_of l1) →
     Show l3 (length l2) (parent_of l2) (previous_of l2) (put own first (next_of l2)) (first_of l2) →

@@ -1,8 +1,0 @@
--- `family_at`: its result.
-use Rattle.std.proofs.Common.{sym, ◌∙◌}
-use Rattle.std.proofs.lemmas.List.{get_or_default}
-use Rattle.herd_pedigree.specs.store.Calves.{alone}
-use Rattle.herd_pedigree.proofs.store.progeny.family_at.Goals as goal
-
-pub returns : goal.returns
-returns c = c.index-families-place.is ∙ sym (get_or_default c.args.families.now c.args.place alone c.index-families-place.result c.requires)
