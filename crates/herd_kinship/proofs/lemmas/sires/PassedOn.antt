@@ -18,7 +18,7 @@ use Rattle.herd_kinship.proofs.lemmas.sires.ColumnFacts.{column-step, inherited-
 use Rattle.herd_kinship.proofs.lemmas.books.FrozenDepths.{depth-at_most}
 use Rattle.herd_kinship.proofs.lemmas.books.FrozenFacts.{frozen-ranked, ranked-shallow}
 use Rattle.herd_kinship.proofs.lemmas.tracing.KnownFacts.{right-more}
-use Rattle.herd_kinship.proofs.lemmas.books.ParentsFacts.{parents-sire, parents-dam, parents-depth, parents-within}
+use Rattle.herd_kinship.proofs.lemmas.books.ParentsFacts.{parents-sire, parents-dam, parents-within}
 use Rattle.herd_kinship.proofs.lemmas.ancestry.Table.{entry-none_right}
 
 -- where an element that is contained stands
@@ -65,15 +65,15 @@ pub record IsPart (l : ℕ) (rows : List Row) (s j part own deep depth : ℕ) : 
   pub value : part / 2 ^ (deep - depth) * (own * 1) ≡ inherited l rows s j
 
 module _ (l most : ℕ) (rows : List Row) (f : IsFrozen l most rows) (s : ℕ) (ls : s < length rows) where
-  pub part-is : (b j part own : ℕ) (deep : Parents) (depth : ℕ) → l < 128 → 2 ^ suc (2 * l) < 2 ^ 128 → AreParentsAt rows s deep → j < length rows → depth ≡ depth_at rows j → IsNext l rows s b j own →
-      part ≡ mendelian (ancestry_of rows) l (number_of_row rows j) → IsPart l rows s j part own deep.depth depth
-  part-is b j part own deep depth small room at lj there next part_is =
-      let ds = parents-depth rows s deep at in
+  pub part-is : (b j part own deep depth : ℕ) → l < 128 → 2 ^ suc (2 * l) < 2 ^ 128 → deep ≡ depth_at rows s → j < length rows → depth ≡ depth_at rows j → IsNext l rows s b j own →
+      part ≡ mendelian (ancestry_of rows) l (number_of_row rows j) → IsPart l rows s j part own deep depth
+  part-is b j part own deep depth small room here lj there next part_is =
+      let ds : depth_at rows s ≡ deep = sym here in
       let dj : depth_at rows j ≡ depth = sym there in
       let limit = depth-at_most l most rows f s ls in
       let below = inherited-bound l most rows f s ls j lj in
       let one : own * 1 ≡ own = omega arith in
-      let is : part / 2 ^ (deep.depth - depth) * (own * 1) ≡ inherited l rows s j =
+      let is : part / 2 ^ (deep - depth) * (own * 1) ≡ inherited l rows s j =
       rw (← ds, ← dj, one) (inherited-term l most rows f s ls j own part lj next.share_is part_is) in
       record {
         shift = omega (arith, ds, limit);
