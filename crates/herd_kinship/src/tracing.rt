@@ -39,7 +39,7 @@ pub struct Tracing<A: Allocator> {
 impl<A: Allocator + Clone> Tracing<A> {
     /// Of no animal yet, with room for so many.
     pub fn with_room(alloc: A, animals: u32) -> Result<Tracing<A>, AllocError>
-        ensures { IfOk result (λ tracing. IsIdle animals tracing.shares.items tracing.pending.chunks.items) }
+        ensures { IfOk result (IsIdle animals) }
     {
         let shares = vec![in alloc.clone()?; 0u64; animals as usize]?;
         let pending = Pending::with_room(alloc, animals)?;
@@ -56,13 +56,12 @@ impl<A: Allocator> Tracing<A> {
     /// Starts at the animal at a rank, and gives its depth: nobody is met yet.
     pub fn start<F: Allocator>(&mut self, frozen: &Frozen<F>, rank: u32) -> u8
         requires rank { rank < length frozen.now }
-        requires idle { IsIdle (rank + 1) self.old.shares.items self.old.pending.chunks.items }
+        requires idle { IsIdle (rank + 1) self.old }
         ensures rank { self.new.rank ≡ rank }
         ensures border { self.new.border ≡ rank + 1 }
         ensures shares { length self.new.shares.items ≡ length self.old.shares.items }
         ensures marks { length self.new.pending.chunks.items ≡ length self.old.pending.chunks.items }
-        ensures tracing { IsUnderWay DEPTH_LIMIT frozen.now rank (rank + 1)
-            self.new.shares.items self.new.pending.chunks.items }
+        ensures tracing { IsUnderWay DEPTH_LIMIT frozen.now self.new }
         ensures depth { result ≡ depth_at frozen.now rank }
     {
         let depth = frozen.parents(rank).depth;
@@ -75,14 +74,12 @@ impl<A: Allocator> Tracing<A> {
 
     /// Meets the next ancestor, and passes its share on to its parents.
     pub fn meet_next<F: Allocator>(&mut self, frozen: &Frozen<F>, known: &[u128]) -> Option<Met>
-        requires tracing { IsUnderWay DEPTH_LIMIT frozen.now self.old.rank self.old.border self.old.shares.items
-            self.old.pending.chunks.items }
+        requires tracing { IsUnderWay DEPTH_LIMIT frozen.now self.old }
         requires known { KnowsAncestors DEPTH_LIMIT frozen.now known.now self.old.rank }
         ensures same { self.new.rank ≡ self.old.rank }
         ensures shares { length self.new.shares.items ≡ length self.old.shares.items }
         ensures marks { length self.new.pending.chunks.items ≡ length self.old.pending.chunks.items }
-        ensures tracing { IsUnderWay DEPTH_LIMIT frozen.now self.new.rank self.new.border self.new.shares.items
-            self.new.pending.chunks.items }
+        ensures tracing { IsUnderWay DEPTH_LIMIT frozen.now self.new }
         ensures next { IfSome result
             (λ met. IsNext DEPTH_LIMIT frozen.now self.old.rank self.old.border met.rank met.share) }
         ensures met { IfSome result (IsMetAs DEPTH_LIMIT frozen.now) }

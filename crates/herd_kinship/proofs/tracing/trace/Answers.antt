@@ -19,7 +19,7 @@ loop-met-init g c =
     let start = summed-start DEPTH_LIMIT MOST_ANIMALS c.args.frozen.now c.start-depth.ensures.tracing.tracing.book c.args.rank c.requires.rank in
     record {
       same = c.start-depth.ensures.rank;
-      tracing = rw (c.start-depth.ensures.rank, c.start-depth.ensures.border) c.start-depth.ensures.tracing;
+      tracing = c.start-depth.ensures.tracing;
       summed = rw (c.start-depth.ensures.rank, c.start-depth.ensures.border) start;
     }
 

@@ -8,7 +8,7 @@ use Rattle.herd_kinship.proofs.tracing.trace.Given as goal
 abbrev pub invariant-loop-met : goal.invariant-loop-met
 invariant-loop-met g l = record {
   same : l.tracing.rank ≡ l.fn.rank;
-  tracing : IsUnderWay DEPTH_LIMIT l.frozen l.tracing.rank l.tracing.border l.tracing.shares.items l.tracing.pending.chunks.items;
+  tracing : IsUnderWay DEPTH_LIMIT l.frozen l.tracing;
   summed : IsSummed DEPTH_LIMIT l.frozen l.tracing.rank l.tracing.border l.sum;
 }
 
