@@ -34,7 +34,7 @@ link-new rows s i c = record {
 pub linked-other : (rows : List Row) (i : ℕ) (latest earlier : List (Option ℕ)) → ((s : ℕ) → IsCalf rows s i → ⊥) → AreLinked rows i latest earlier →
     AreLinked rows (i + 1) latest earlier
 linked-other rows i latest earlier none are = record {
-  few = are.few;
+  frozen = are.frozen;
   each_sire = are.each_sire;
   each_calf = are.each_calf;
   latest_is = λ s ls. link-kept rows s i (get_or latest s None) (none s) (are.latest_is s ls);
@@ -54,7 +54,7 @@ linked-calf rows i p latest earlier li lp c are =
     let each_calf : length earlier ≡ length rows = are.each_calf in
     let only : (s : ℕ) → IsCalf rows s i → p ≡ s = λ s d. (let e : Some p ≡ Some s = sym c.0 ∙ d.0 in cc) in
     record {
-      few = are.few;
+      frozen = are.frozen;
       each_sire = length-set latest p (Some i) ∙ each_sire;
       each_calf = length-set earlier i (get_or latest p None) ∙ each_calf;
       latest_is = λ s ls.

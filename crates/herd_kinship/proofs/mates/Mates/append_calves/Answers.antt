@@ -31,6 +31,6 @@ pub returns-then-is_empty-clause-calves : goal.returns-then-is_empty-clause-calv
 returns-then-is_empty-clause-calves g c =
     let rows = c.args.frozen.now in
     let make : ℕ → CalfCoefficient = λ x. record { rank = x; numerator = coefficient_at DEPTH_LIMIT rows x } in
-    let none = nil_from_length c.of_sire-mated.result (eqb-true _ _ (sym c.is_empty.ensures ∙ c.if-is_empty.true)) in
+    let none = nil_from_length c.of_sire-its_calves.result (eqb-true _ _ (sym c.is_empty.ensures ∙ c.if-is_empty.true)) in
     goes-on rows c.args.sire (coefficient_at DEPTH_LIMIT rows) make c.args.list.now.items c.args.list.now.items (λ x. refl) (λ x _. refl)
-    (sym (append-nil c.args.list.now.items) ∙ ap (λ xs. c.args.list.now.items ++ map make xs) (sym none ∙ c.of_sire-mated.ensures))
+    (sym (append-nil c.args.list.now.items) ∙ ap (λ xs. c.args.list.now.items ++ map make xs) (sym none ∙ c.of_sire-its_calves.ensures))
