@@ -30,7 +30,7 @@
 //! | A's inverse | `InverseRows`, `Contributions` | `inverse`, `contribution` | `laws`, `advice` |
 //! | fractions and percentages | `Fraction` | `numerators`, `fractions` | `numbers` |
 //!
-//! The folders of `proofs/lemmas/`, from what is used to what uses it:
+//! The folders of `proofs/lemmas/`, beside its lemmas of lists, from what is used to what uses it:
 //!
 //! - `numbers`: sums, whole numbers as differences, sets of distances as bits, and halving to lowest terms.
 //! - `ancestry`: any lawful ancestry: entries, shares, depths, ancestors, bounds and units, and that names don't count.

@@ -119,9 +119,12 @@ pub if-some : (P : ℕ → Type 0) (o : Option ℕ) → is_some o ≡ true → I
 if-some P None some p = absurd (cc)
 if-some P (Some s) some p = (s, p)
 
--- a known dam stands before its calf
-pub dam-older : (l most : ℕ) (rows : List Row) (x : ℕ) (parents : Parents) → IsFrozen l most rows → AreParentsAt rows x parents → (d : ℕ) → parents.dam ≡ Some d → d < x
-dam-older l most rows x parents frozen at d is = (frozen-ranked l most rows frozen).below x d (parents-within rows x parents at) (inr (parents-dam rows x parents at ∙ is))
+-- a known dam stands in the book
+pub dam-within : (l most : ℕ) (rows : List Row) (x : ℕ) (parents : Parents) → IsFrozen l most rows → AreParentsAt rows x parents → (d : ℕ) → parents.dam ≡ Some d → d < length rows
+dam-within l most rows x parents frozen at d is =
+    let here = parents-within rows x parents at in
+    let lower : d < x = (frozen-ranked l most rows frozen).below x d here (inr (parents-dam rows x parents at ∙ is)) in
+    omega arith
 
 pub no-calf : (rows : List Row) (i : ℕ) (parents : Parents) → AreParentsAt rows i parents → (parents.sire ≡ None) ⊎ (parents.dam ≡ None) → (s : ℕ) → IsCalf rows s i → ⊥
 no-calf rows i parents at unknown s calf =

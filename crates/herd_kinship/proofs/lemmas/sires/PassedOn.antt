@@ -2,10 +2,10 @@
 use Rattle.std.proofs.Common.{ℕ, suc, ◌+◌, ◌*◌, ◌-◌, ◌/◌, ◌^◌, ◌<◌, ◌≤◌, ◌≡◌, inl, inr, ⊎_elim, List, length, get_or, set, Option, Some, None, Contains, arith, refl, sym, ◌∙◌, ap, subst}
 use Rattle.std.proofs.lemmas.Bool.{cases_lt, cases_eq}
 use Rattle.std.proofs.lemmas.List.{get_or-set_same, get_or-set_other, length-set}
-use Rattle.std.proofs.lemmas.Option.{get_or_from_slice_get, slice_get-get_or}
 use Rattle.herd_frozen.specs.declared.freezing.frozen.Parents.{Parents}
 use Rattle.herd_frozen.specs.declared.freezing.frozen.Row.{Row}
 use Rattle.herd_frozen.specs.freezing.Frozen.{IsFrozen, depth_at}
+use Rattle.herd_kinship.proofs.lemmas.Lists.{contains-at}
 use Rattle.herd_kinship.specs.Ancestry.{IsParentIn}
 use Rattle.herd_kinship.specs.Columns.{at_parent, related, inherited, passed_to, CanPassTo, HasAll, IsCollection}
 use Rattle.herd_kinship.specs.FrozenAncestry.{ancestry_of, number_of_row}
@@ -20,10 +20,6 @@ use Rattle.herd_kinship.proofs.lemmas.books.FrozenFacts.{frozen-ranked, ranked-s
 use Rattle.herd_kinship.proofs.lemmas.tracing.KnownFacts.{right-more}
 use Rattle.herd_kinship.proofs.lemmas.books.ParentsFacts.{parents-sire, parents-dam, parents-within}
 use Rattle.herd_kinship.proofs.lemmas.ancestry.Table.{entry-none_right}
-
--- where an element that is contained stands
-contains-at : (xs : List ℕ) (p : ℕ) → (c : Contains xs p) → get_or xs c.0 0 ≡ p
-contains-at xs p c = get_or_from_slice_get xs c.0 p 0 (slice_get-get_or xs c.0 p c.1 ∙ ap Some c.2)
 
 -- what all ranks of a collection have, each that is contained has
 pub has-all : (column collected : List ℕ) (f : ℕ → ℕ) (p : ℕ) → HasAll column collected f → Contains collected p → get_or column p 0 ≡ f p

@@ -1,12 +1,12 @@
 -- `trace`: what `start` and `term` require, its loop, that nothing overflows, and its clauses `value` and `unknown`.
 use Rattle.std.proofs.Common.{◌≡◌, ℕ, lit<, false, is_some, true, Some, arith, sym, ◌∙◌}
 use Rattle.herd_frozen.specs.declared.TheConstants.{DEPTH_LIMIT, MOST_ANIMALS}
-use Rattle.herd_frozen.specs.freezing.Frozen.{depth_at}
 use Rattle.herd_kinship.proofs.lemmas.books.FrozenDepths.{depth-at_most}
 use Rattle.herd_kinship.proofs.lemmas.books.FrozenFacts.{frozen-few}
 use Rattle.herd_kinship.proofs.lemmas.sires.CalfFacts.{calf-pair, if-none, if-some, pair-known}
 use Rattle.herd_kinship.proofs.lemmas.tracing.KnownFacts.{entry-one_unknown}
 use Rattle.herd_kinship.proofs.lemmas.tracing.TermSums.{IsAdded, added, summed-start, summed-end}
+use Rattle.herd_kinship.proofs.lemmas.tracing.UnderWayFacts.{met-no_deeper}
 use Rattle.herd_kinship.proofs.tracing.trace.Given.{Over}
 use Rattle.herd_kinship.proofs.tracing.trace.Goals.{In-Some}
 use Rattle.herd_kinship.proofs.tracing.trace.Goals as goal
@@ -37,11 +37,10 @@ overflow_mul-steps-in-Some g c =
 
 pub overflow_sub-steps : goal.overflow_sub-steps
 overflow_sub-steps g c =
-    let rows = c.args.frozen.now in
-    let dx : c.start-depth.result ≡ depth_at rows c.loop-met.tracing.rank = rw c.loop-met.invariant.same c.start-depth.ensures.depth in
-    let dy = c.in-Some.ensures.met.depth in
-    let less = c.in-Some.ensures.next.share_is.less_deep in
-    omega (arith, dx, dy, less)
+    let less =
+    met-no_deeper DEPTH_LIMIT c.args.frozen.now c.loop-met.tracing.rank c.loop-met.tracing.border c.start-depth.result c.in-Some.met
+    (rw c.loop-met.invariant.same c.start-depth.ensures.depth) c.in-Some.ensures.next c.in-Some.ensures.met in
+    omega (arith, less)
 
 -- what is added for the ancestor that is met
 met : (g : Over) (c : In-Some g) →
