@@ -1,3 +1,4 @@
+pub mod Lists
 pub mod numbers
 pub mod ancestry
 pub mod laws

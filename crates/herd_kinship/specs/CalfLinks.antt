@@ -3,6 +3,8 @@
 use Rattle.std.specs.Prelude.{◌≡◌, ℕ, zero, suc, ◌<◌, ◌≤◌, Bool, false, ◌&&◌, cond, is_some, List, [], ◌∷◌, length, nat_eq, slice_index_or, Option, None, Some}
 use Rattle.std.specs.Option.{option_map_or}
 use Rattle.herd_frozen.specs.declared.freezing.frozen.Row.{Row}
+use Rattle.herd_frozen.specs.declared.TheConstants.{DEPTH_LIMIT, MOST_ANIMALS}
+use Rattle.herd_frozen.specs.freezing.Frozen.{IsFrozen}
 use Rattle.herd_kinship.specs.Ranks.{sire_rank, dam_rank}
 use Rattle.herd_kinship.specs.declared.calves.Calves.{Calves}
 
@@ -42,8 +44,9 @@ chain earlier zero calf = []
 chain earlier (suc n) None = []
 chain earlier (suc n) (Some calf) = calf ∷ chain earlier n (slice_index_or earlier calf None)
 
--- the links among the calves below a border
+-- the links among the calves of a frozen book below a border
 pub record AreLinked (rows : List Row) (border : ℕ) (latest earlier : List (Option ℕ)) : Type 0 where
+  pub frozen : IsFrozen DEPTH_LIMIT MOST_ANIMALS rows
   pub each_sire : length latest ≡ length rows
   pub each_calf : length earlier ≡ length rows
   pub latest_is : (s : ℕ) → s < length rows → IsLink rows s border (slice_index_or latest s None)

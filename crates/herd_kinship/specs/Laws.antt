@@ -26,7 +26,8 @@ abbrev pub IsDecomposed : ℕ → List Row → List ℕ → List ℕ → Type 0
 IsDecomposed l rows x y =
     shared (ancestry_of rows) l (Some x) (Some y) ≡ 2 ^ (2 * l) * entry (ancestry_of rows) (2 * l) (Some x) (Some y)
 
--- the rows diagonalise A, so the contributions that they give add up to its inverse
+-- The rows diagonalise A, from which it follows that the contributions that they give add up to its inverse; the sum
+-- itself isn't formed or proved.
 abbrev pub IsDiagonalised : ℕ → List Row → List ℕ → List ℕ → Type 0
 IsDiagonalised l rows i j =
     row_product (ancestry_of rows) l i j ≡ pos (if (ancestry_of rows).same i j then 4 * mendelian (ancestry_of rows) l i else 0)

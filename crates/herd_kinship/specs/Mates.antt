@@ -8,5 +8,5 @@ use Rattle.herd_kinship.specs.Tracing.{IsIdle}
 pub record IsReady {A : Type 0} (animals : ℕ) (mates : Mates A) : Type 0 where
   pub room : animals ≤ 64 * length mates.marked.chunks.items
   pub unmarked : (distance : ℕ) → mark mates.marked.chunks.items distance ≡ 0
-  pub idle : IsIdle animals mates.tracing.shares.items mates.tracing.pending.chunks.items
+  pub idle : IsIdle animals mates.tracing
   pub each : length mates.column.items ≡ animals

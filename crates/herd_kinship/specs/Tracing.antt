@@ -9,6 +9,7 @@ use Rattle.herd_kinship.specs.FrozenAncestry.{ancestry_of, number_of_row}
 use Rattle.herd_kinship.specs.Shares.{share}
 use Rattle.herd_kinship.specs.Table.{mendelian}
 use Rattle.herd_kinship.specs.declared.tracing.Met.{Met}
+use Rattle.herd_kinship.specs.declared.tracing.Tracing.{Tracing}
 use Rattle.herd_kinship.specs.Pending.{mark, Marks}
 use Rattle.herd_kinship.specs.Ranks.{ranked}
 
@@ -60,7 +61,8 @@ pub record IsNext (l : ℕ) (rows : List Row) (x border y own : ℕ) : Type 0 wh
   pub share_is : IsShareOf rows x y own
   pub between : (j : ℕ) → y < j → j < border → share (ranked rows) l (Some x) j ≡ 0
 
--- what is told of an ancestor that is met beside its share: its depth and its Mendelian sampling variance, in unit 2^-2l
+-- what is told of an ancestor that is met beside its share: its depth and its Mendelian sampling variance, in unit
+-- 2^-2l
 pub record IsMetAs (l : ℕ) (rows : List Row) (met : Met) : Type 0 where
   pub within : met.rank < length rows
   pub depth : met.depth ≡ depth_at rows met.rank
@@ -83,14 +85,22 @@ abbrev pub GivesMark : ℕ → List ℕ → List ℕ → Option ℕ → Type 0
 GivesMark x old new None = new ≡ old
 GivesMark x old new (Some p) = Marks old new (x - p) 1
 
--- a tracing whose pending ancestors are marked
-pub record IsUnderWay (l : ℕ) (rows : List Row) (x border : ℕ) (shares chunks : List ℕ) : Type 0 where
+-- the ancestors that are pending from x on, and their marks
+pub record AreUnderWay (l : ℕ) (rows : List Row) (x border : ℕ) (shares chunks : List ℕ) : Type 0 where
   pub tracing : IsTracing l rows x border shares
   pub marks : IsMarked x border shares chunks
 
 -- there is room to trace so many animals, no share is kept, and nobody is marked
-pub record IsIdle (animals : ℕ) (shares chunks : List ℕ) : Type 0 where
+pub record AreIdle (animals : ℕ) (shares chunks : List ℕ) : Type 0 where
   pub room : animals ≤ length shares
   pub marks : animals ≤ 64 * length chunks
   pub nothing : (distance : ℕ) → slice_index shares distance ≡ 0
   pub unmarked : (distance : ℕ) → mark chunks distance ≡ 0
+
+-- a tracing whose pending ancestors are marked
+abbrev pub IsUnderWay : {A : Type 0} → ℕ → List Row → Tracing A → Type 0
+IsUnderWay l rows tracing = AreUnderWay l rows tracing.rank tracing.border tracing.shares.items tracing.pending.chunks.items
+
+-- a tracing of nobody, with room for so many animals
+abbrev pub IsIdle : {A : Type 0} → ℕ → Tracing A → Type 0
+IsIdle animals tracing = AreIdle animals tracing.shares.items tracing.pending.chunks.items

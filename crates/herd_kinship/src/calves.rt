@@ -62,8 +62,8 @@ impl<'a> SireCalves<'a> {
     }
 }
 
-/// The sire, where the dam is known too.
-fn sire_of_pair(parents: Parents) -> Option<u32>
+/// The sire, where both parents are known.
+pub(crate) fn sire_of_pair(parents: Parents) -> Option<u32>
     ensures sire { IfSome result (λ sire. parents.sire ≡ Some sire) }
     ensures dam { IfSome result (λ _. is_some parents.dam ≡ true) }
     ensures unknown { IfNone result ((parents.sire ≡ None) ⊎ (parents.dam ≡ None)) }
@@ -113,7 +113,6 @@ impl<A: Allocator> Calves<A> {
         requires sire { sire < length frozen.now }
         ensures { result ≡ calves_of_sire frozen.now sire }
     {
-        prove!(sire < frozen.len());
         SireCalves {
             earlier: self.earlier.as_slice(),
             next: self.latest[sire as usize].get(),
@@ -126,7 +125,6 @@ impl<A: Allocator> Calves<A> {
         requires sire { sire < length frozen.now }
         ensures { result ≡ calf_count frozen.now sire }
     {
-        prove!(sire < frozen.len());
         self.of_sire(frozen, sire).count() as u32
     }
 }

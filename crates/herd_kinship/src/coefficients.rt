@@ -86,7 +86,6 @@ fn write_calves_of<F: Allocator, C: Allocator, A: Allocator>(
     ensures ready { IfOk result (λ _. IsReady (length frozen.now) mates.new) }
     ensures known { IfOk result (λ _. KnowsReached DEPTH_LIMIT frozen.now (IsBefore (sire + 1)) known.new) }
 {
-    prove!(sire < frozen.len());
     list.clear();
     mates.append_calves(frozen, calves, known, sire, list)?;
     write_calves(list, known);

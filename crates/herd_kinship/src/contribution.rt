@@ -2,7 +2,8 @@ use crate::fractions::Fraction;
 
 /// What one animal adds to one element of the inverse of the numerator relationship matrix.
 ///
-/// Summed by row and column over all animals, and mirrored, the contributions are the inverse (Henderson 1976).
+/// That the contributions of all animals, mirrored and summed by row and column, are the inverse (Henderson 1976)
+/// follows from `laws::inverse_rows`; no call forms the sum, and no clause says it.
 #[derive(Clone, Copy, Debug, PartialEq, Eq)]
 pub struct Contribution {
     /// The rank of the later animal of the two in age order, or of the one animal on the diagonal.

@@ -4,7 +4,8 @@ ghost use Rattle.herd_kinship.specs.Fraction.{halved, IsLowest};
 
 use std::fmt;
 
-/// A number in lowest terms; zero isn't negative and has the denominator 1. Of the two terms one is a power of two.
+/// As `fraction` and `contributions` give it: a number in lowest terms, of which one is a power of two. Zero isn't
+/// negative and has the denominator 1.
 #[derive(Clone, Copy, Debug, PartialEq, Eq)]
 pub struct Fraction {
     /// Whether the number is below 0.

@@ -37,8 +37,8 @@ pub fn decomposition<A: Allocator>(frozen: &Frozen<A>, x: u32, y: u32)
     prove!(x < frozen.len());
 }
 
-/// The rows by which the inverse is made diagonalise A, so that the contributions add up to its inverse (Henderson
-/// 1976).
+/// The rows by which the inverse is made diagonalise A (Henderson 1976). From this it follows that the contributions
+/// add up to its inverse; the sum itself isn't formed or proved.
 pub fn inverse_rows<A: Allocator>(frozen: &Frozen<A>, x: u32, y: u32)
     requires first { x < length frozen.now }
     requires second { y < length frozen.now }

@@ -2,8 +2,8 @@
 //!
 //! The relationship of two animals is their entry in the numerator relationship matrix A, by the tabular method; the
 //! coefficient of inbreeding of an animal is half the relationship of its parents (Wright 1922). All are whole numbers
-//! of units of 2^-120, so that `ONE` is 1: a path of parents has at most 60 steps, the entry of two animals goes back
-//! over at most 120, and each halves. So nothing is rounded, which `laws::unit` proves.
+//! of units of 2^-120, so that `ONE` is 1. A path of parents has at most 60 steps, so from two animals the tabular
+//! method takes at most 120 steps, of which each halves the unit. So nothing is rounded, which `laws::unit` proves.
 //!
 //! Two ways lead to the coefficients, and give the same numbers:
 //!
@@ -16,19 +16,29 @@
 //!   youngest to the oldest; its relationship with itself is the sum of its squared shares in them times their
 //!   Mendelian sampling variances. This needs no more than its ancestors' coefficients, so threads can share it.
 //!
-//! | | definition (`specs/`) | code (`src/`) | proof (`proofs/`) |
+//! | | definition (`specs/`) | code (`src/`) | proof (`proofs/lemmas/`) |
 //! |---|---|---|---|
-//! | A, coefficients, Mendelian sampling variances | `Table` | | `Table`, `Depth`, `Bounds` |
-//! | shares, A = T D T', the laws | `Shares`, `Laws` | `laws` | `Shares`, `Exact`, `Decompose`, `LawFacts` |
-//! | a frozen book as an ancestry | `FrozenAncestry`, `Ranks` | | `BookFacts`, `BookPaths`, `FrozenFacts`, `Renamed` |
-//! | columns of A | `Columns` | `columns` | `PassedOn`, `Collecting` |
-//! | sire by sire | `Mates`, `CalfCoefficients` | `coefficients`, `mates` | `BySires` |
-//! | a sire's calves | `CalfLinks` | `calves` | `CalfFacts`, `CalvesBelow`, `CalfListFacts` |
-//! | animal by animal | `Tracing`, `Pending` | `tracing`, `pending` | `TermSums`, `TracingFacts`, `UnderWayFacts` |
-//! | one animal's relationships | `Columns` | `relationships` | `RelationshipFacts` |
-//! | mating advice | `Mating` | `mating_advice` | `MatingFacts` |
-//! | A's inverse | `InverseRows`, `Contributions` | `inverse`, `contribution` | `RowProducts`, `ContributionFacts` |
-//! | fractions and percentages | `Fraction` | `numerators`, `fractions` | `FractionFacts` |
+//! | A, coefficients, Mendelian sampling variances | `Ancestry`, `Table`, `Coefficients` | | `ancestry` |
+//! | shares, A = T D T', the laws | `Shares`, `InverseRows`, `Laws` | `laws` | `ancestry`, `laws` |
+//! | a frozen book as an ancestry | `FrozenAncestry`, `Ranks` | | `books` |
+//! | columns of A | `Columns` | `columns` | `sires` |
+//! | sire by sire | `Mates`, `CalfCoefficients` | `coefficients`, `mates` | `sires` |
+//! | a sire's calves | `CalfLinks` | `calves` | `sires` |
+//! | animal by animal | `Tracing`, `Pending` | `tracing`, `pending` | `tracing`, `numbers` |
+//! | one animal's relationships | `Columns` | `relationships` | `sires` |
+//! | mating advice | `Mating` | `mating_advice` | `advice` |
+//! | A's inverse | `InverseRows`, `Contributions` | `inverse`, `contribution` | `laws`, `advice` |
+//! | fractions and percentages | `Fraction` | `numerators`, `fractions` | `numbers` |
+//!
+//! The folders of `proofs/lemmas/`, beside its lemmas of lists, from what is used to what uses it:
+//!
+//! - `numbers`: sums, whole numbers as differences, sets of distances as bits, and halving to lowest terms.
+//! - `ancestry`: any lawful ancestry: entries, shares, depths, ancestors, bounds and units, and that names don't count.
+//! - `laws`: A = T D T', the rows that diagonalise A, and the columns of A, in any lawful ancestry.
+//! - `books`: a frozen book is a lawful ancestry, by numbers and by ranks; what its rows say, and its laws.
+//! - `tracing`: what pending shares bring, the steps and the end of a tracing, and what known coefficients give.
+//! - `sires`: columns of a book, collecting and passing on, the calves of each sire, and all coefficients by them.
+//! - `advice`: the faults and the coefficient of a mating, and Henderson's contributions.
 #![tactic(auto)]
 
 mod calf_coefficients;

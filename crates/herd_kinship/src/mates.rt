@@ -97,10 +97,11 @@ impl<A: Allocator> Mates<A> {
         ensures calves { IfOk result (λ _. GoesOnWith frozen.now (λ s. s ≡ sire)
             (coefficient_at DEPTH_LIMIT frozen.now) list.old.items list.new.items) }
     {
-        if calves.of_sire(frozen, sire).is_empty() {
+        let its_calves = calves.of_sire(frozen, sire);
+        if its_calves.is_empty() {
             return Ok(());
         }
-        self.relate_to(frozen, calves.of_sire(frozen, sire), known, sire)?;
+        self.relate_to(frozen, its_calves, known, sire)?;
         append_halves(frozen, calves.of_sire(frozen, sire), &self.column, list)
     }
 }

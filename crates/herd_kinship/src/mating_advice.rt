@@ -89,7 +89,10 @@ fn pair_of<F: Allocator>(
     if is_male(dam) {
         return Err(MatingFault::DamNotFemale);
     }
-    let deeper = frozen.row(sire_rank).depth.max(frozen.row(dam_rank).depth);
+    let deeper = frozen
+        .parents(sire_rank)
+        .depth
+        .max(frozen.parents(dam_rank).depth);
     if deeper >= DEPTH_LIMIT {
         return Err(MatingFault::TooDeep);
     }

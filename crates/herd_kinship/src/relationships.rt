@@ -92,7 +92,7 @@ fn relate_all<F: Allocator, A: Allocator>(
 )
     requires rank { rank < length frozen.now }
     requires known { AreCoefficients DEPTH_LIMIT frozen.now known.now }
-    requires idle { IsIdle (length frozen.now) tracing.old.shares.items tracing.old.pending.chunks.items }
+    requires idle { IsIdle (length frozen.now) tracing.old }
     requires long { length column.old ≡ length frozen.now }
     requires zero { (j : ℕ) → j < length frozen.now → slice_index column.old j ≡ 0 }
     ensures long { length column.new ≡ length column.old }

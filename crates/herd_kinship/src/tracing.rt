@@ -1,4 +1,4 @@
-ghost use Rattle.std.specs.Prelude.{◌≡◌, ℕ, ◌+◌, ◌*◌, ◌-◌, ◌/◌, ◌^◌, ◌<◌, ◌≤◌, ◌&&◌, is_some, length, min, slice_get, slice_index, IfOk, IfSome, IfNone, Some};
+ghost use Rattle.std.specs.Prelude.{◌≡◌, ℕ, ◌+◌, ◌*◌, ◌-◌, ◌/◌, ◌^◌, ◌<◌, ◌≤◌, length, min, slice_get, slice_index, IfOk, IfSome, IfNone, Some};
 ghost use Rattle.std.specs.Option.{ForSome};
 ghost use Rattle.herd_frozen.specs.declared.TheConstants.{DEPTH_LIMIT};
 ghost use Rattle.herd_frozen.specs.freezing.Frozen.{depth_at};
@@ -10,8 +10,9 @@ ghost use Rattle.herd_kinship.specs.Table.{mendelian as mendelian_variance};
 ghost use Rattle.herd_kinship.specs.Tracing.{given, GivesMark, HasRoom, IsIdle, IsMetAs, IsNext, IsUnderWay};
 
 use crate::ONE;
+use crate::calves::sire_of_pair;
 use crate::pending::Pending;
-use herd_frozen::{Frozen, Parents, Row};
+use herd_frozen::{Frozen, Parents};
 use std::alloc::{AllocError, Allocator};
 
 /// An ancestor that is met, and the share that the traced animal has of it, in the unit of their depths' difference.
@@ -38,7 +39,7 @@ pub struct Tracing<A: Allocator> {
 impl<A: Allocator + Clone> Tracing<A> {
     /// Of no animal yet, with room for so many.
     pub fn with_room(alloc: A, animals: u32) -> Result<Tracing<A>, AllocError>
-        ensures { IfOk result (λ tracing. IsIdle animals tracing.shares.items tracing.pending.chunks.items) }
+        ensures { IfOk result (IsIdle animals) }
     {
         let shares = vec![in alloc.clone()?; 0u64; animals as usize]?;
         let pending = Pending::with_room(alloc, animals)?;
@@ -52,34 +53,33 @@ impl<A: Allocator + Clone> Tracing<A> {
 }
 
 impl<A: Allocator> Tracing<A> {
-    /// Starts at the animal at a rank: nobody is met yet.
-    pub fn start<F: Allocator>(&mut self, frozen: &Frozen<F>, rank: u32)
+    /// Starts at the animal at a rank, and gives its depth: nobody is met yet.
+    pub fn start<F: Allocator>(&mut self, frozen: &Frozen<F>, rank: u32) -> u8
         requires rank { rank < length frozen.now }
-        requires idle { IsIdle (rank + 1) self.old.shares.items self.old.pending.chunks.items }
+        requires idle { IsIdle (rank + 1) self.old }
         ensures rank { self.new.rank ≡ rank }
         ensures border { self.new.border ≡ rank + 1 }
         ensures shares { length self.new.shares.items ≡ length self.old.shares.items }
         ensures marks { length self.new.pending.chunks.items ≡ length self.old.pending.chunks.items }
-        ensures tracing { IsUnderWay DEPTH_LIMIT frozen.now rank (rank + 1)
-            self.new.shares.items self.new.pending.chunks.items }
+        ensures tracing { IsUnderWay DEPTH_LIMIT frozen.now self.new }
+        ensures depth { result ≡ depth_at frozen.now rank }
     {
-        prove!(rank < frozen.len());
+        let depth = frozen.parents(rank).depth;
         self.rank = rank;
         self.border = rank + 1;
         self.shares[0] = 1;
         self.pending.insert(0);
+        depth
     }
 
     /// Meets the next ancestor, and passes its share on to its parents.
     pub fn meet_next<F: Allocator>(&mut self, frozen: &Frozen<F>, known: &[u128]) -> Option<Met>
-        requires tracing { IsUnderWay DEPTH_LIMIT frozen.now self.old.rank self.old.border self.old.shares.items
-            self.old.pending.chunks.items }
+        requires tracing { IsUnderWay DEPTH_LIMIT frozen.now self.old }
         requires known { KnowsAncestors DEPTH_LIMIT frozen.now known.now self.old.rank }
         ensures same { self.new.rank ≡ self.old.rank }
         ensures shares { length self.new.shares.items ≡ length self.old.shares.items }
         ensures marks { length self.new.pending.chunks.items ≡ length self.old.pending.chunks.items }
-        ensures tracing { IsUnderWay DEPTH_LIMIT frozen.now self.new.rank self.new.border self.new.shares.items
-            self.new.pending.chunks.items }
+        ensures tracing { IsUnderWay DEPTH_LIMIT frozen.now self.new }
         ensures next { IfSome result
             (λ met. IsNext DEPTH_LIMIT frozen.now self.old.rank self.old.border met.rank met.share) }
         ensures met { IfSome result (IsMetAs DEPTH_LIMIT frozen.now) }
@@ -177,34 +177,6 @@ pub fn term(variance: u128, steps: u8, share: u64, other: u64) -> u128
     (variance >> steps) * (u128::from(share) * u128::from(other))
 }
 
-fn has_both_parents(row: &Row) -> bool
-    ensures { result ≡ (is_some row.now.sire && is_some row.now.dam) }
-{
-    row.sire.is_some() && row.dam.is_some()
-}
-
-/// The squared shares in its ancestors times their Mendelian sampling variances, added up.
-fn trace_ancestors<F: Allocator, A: Allocator + Clone>(
-    alloc: A,
-    frozen: &Frozen<F>,
-    known: &[u128],
-    rank: u32,
-) -> Result<u128, AllocError>
-    requires rank { rank < length frozen.now }
-    requires known { KnowsAncestors DEPTH_LIMIT frozen.now known.now rank }
-    ensures { IfOk result (λ value. value ≡ own_relationship DEPTH_LIMIT frozen.now rank) }
-{
-    let depth = frozen.parents(rank).depth;
-    let mut tracing = Tracing::with_room(alloc, rank + 1)?;
-    tracing.start(frozen, rank);
-    let mut sum = 0;
-    while let Some(met) = tracing.meet_next(frozen, known) {
-        let steps = 2 * depth - 2 * met.depth;
-        sum += term(met.variance, steps, met.share, met.share);
-    }
-    Ok(sum)
-}
-
 /// The relationship of the animal at a rank with itself, by the coefficients of its ancestors (Meuwissen and Luo
 /// 1992).
 ///
@@ -222,12 +194,17 @@ pub fn trace<F: Allocator, A: Allocator + Clone>(
     ensures value { IfOk result (λ value. value ≡ own_relationship DEPTH_LIMIT frozen.now rank) }
     ensures unknown { HasUnknownParent frozen.now rank → result ≡ Ok (2 ^ (2 * DEPTH_LIMIT)) }
 {
-    let row = frozen.row(rank);
-    if has_both_parents(&row) {
-        trace_ancestors(alloc, frozen, known, rank)
-    } else {
-        Ok(ONE)
+    if sire_of_pair(frozen.parents(rank)).is_none() {
+        return Ok(ONE);
     }
+    let mut tracing = Tracing::with_room(alloc, rank + 1)?;
+    let depth = tracing.start(frozen, rank);
+    let mut sum = 0;
+    while let Some(met) = tracing.meet_next(frozen, known) {
+        let steps = 2 * depth - 2 * met.depth;
+        sum += term(met.variance, steps, met.share, met.share);
+    }
+    Ok(sum)
 }
 
 /// The coefficient of an animal in units of 2^-120, by its relationship with itself, as `trace` gives it: less `ONE`.

@@ -1,5 +1,4 @@
 -- A frozen book as an ancestry, by numbers and by ranks.
-pub mod Counts
 pub mod BookFacts
 pub mod BookPaths
 pub mod Ranks

@@ -5,7 +5,7 @@ ghost use Rattle.std.specs.Prelude.{false};
 use super::books::{with_inbred_parents, with_one_parent};
 use herd_animal::AnimalNumber;
 use herd_fixtures::Name::{Bull, Cow};
-use herd_fixtures::frozen_of;
+use herd_fixtures::{Name, frozen_of};
 use herd_frozen::Frozen;
 use herd_kinship::*;
 use std::alloc::Global;
@@ -13,7 +13,50 @@ use std::process::Abort;
 use std::test::Fail;
 
 // A contribution to an element: its ranks, and the sign, numerator and denominator of its value.
-fn at(row: u32, column: u32, negative: bool, numerator: u128, denominator: u128) -> Contribution {
+type Element = (u32, u32, bool, u128, u128);
+
+const FOUNDER: [Element; 1] = [(1, 1, false, 1, 1)];
+
+const SIRE_ALONE: [Element; 3] = [
+    (8, 8, false, 4, 3),
+    (8, 1, true, 2, 3),
+    (1, 1, false, 1, 3),
+];
+
+const BOTH_PARENTS: [Element; 6] = [
+    (4, 4, false, 2, 1),
+    (4, 1, true, 1, 1),
+    (4, 0, true, 1, 1),
+    (1, 1, false, 1, 2),
+    (0, 0, false, 1, 2),
+    (1, 0, false, 1, 2),
+];
+
+const INBRED_SIRE: [Element; 6] = [
+    (7, 7, false, 16, 7),
+    (7, 6, true, 8, 7),
+    (7, 2, true, 8, 7),
+    (6, 6, false, 4, 7),
+    (2, 2, false, 4, 7),
+    (6, 2, false, 4, 7),
+];
+
+const BOTH_INBRED: [Element; 6] = [
+    (6, 6, false, 8, 3),
+    (6, 5, true, 4, 3),
+    (6, 4, true, 4, 3),
+    (5, 5, false, 2, 3),
+    (4, 4, false, 2, 3),
+    (5, 4, false, 2, 3),
+];
+
+const DAM_ALONE: [Element; 3] = [
+    (7, 7, false, 16, 11),
+    (7, 4, true, 8, 11),
+    (4, 4, false, 4, 11),
+];
+
+fn contribution_to((row, column, negative, numerator, denominator): Element) -> Contribution {
     Contribution {
         row,
         column,
@@ -31,7 +74,7 @@ fn contributes(
     alloc: Global,
     frozen: &Frozen<Global>,
     animal: AnimalNumber,
-    expected: &[Contribution],
+    expected: &[Element],
 ) -> Result<(), Fail> {
     let coefficients = coefficients_plain(alloc, frozen)?;
     let rank = frozen.rank(&animal).ok_or("absent")?;
@@ -41,7 +84,10 @@ fn contributes(
     assert_eq!(rt; told.count as usize, expected.len());
     assert_eq!(rt; told.alpha, first.value);
     for (index, contribution) in list.iter().enumerate() {
-        let right = expected.get(index).copied().unwrap_or(first);
+        let right = match expected.get(index) {
+            Some(element) => contribution_to(*element),
+            None => first,
+        };
         assert_eq!(rt; *contribution, right, "{index}");
     }
     Ok(())
@@ -50,50 +96,17 @@ fn contributes(
 #[test]
 fn lists_contributions(rt: HostRuntime) -> Result<(), Fail> {
     let frozen = frozen_of(rt.alloc(), &with_one_parent())?;
-    let founder = [at(1, 1, false, 1, 1)];
-    contributes(&rt, rt.alloc(), &frozen, Bull(1).number(), &founder)?;
-    let sire_alone = [
-        at(8, 8, false, 4, 3),
-        at(8, 1, true, 2, 3),
-        at(1, 1, false, 1, 3),
+    let inbred = frozen_of(rt.alloc(), &with_inbred_parents())?;
+    let animals: [(&Frozen<Global>, Name, &[Element]); 6] = [
+        (&frozen, Bull(1), &FOUNDER),
+        (&frozen, Cow(9), &SIRE_ALONE),
+        (&frozen, Bull(3), &BOTH_PARENTS),
+        (&frozen, Bull(8), &INBRED_SIRE),
+        (&inbred, Bull(8), &BOTH_INBRED),
+        (&inbred, Bull(9), &DAM_ALONE),
     ];
-    contributes(&rt, rt.alloc(), &frozen, Cow(9).number(), &sire_alone)?;
-    let both_parents = [
-        at(4, 4, false, 2, 1),
-        at(4, 1, true, 1, 1),
-        at(4, 0, true, 1, 1),
-        at(1, 1, false, 1, 2),
-        at(0, 0, false, 1, 2),
-        at(1, 0, false, 1, 2),
-    ];
-    contributes(&rt, rt.alloc(), &frozen, Bull(3).number(), &both_parents)?;
-    let inbred_sire = [
-        at(7, 7, false, 16, 7),
-        at(7, 6, true, 8, 7),
-        at(7, 2, true, 8, 7),
-        at(6, 6, false, 4, 7),
-        at(2, 2, false, 4, 7),
-        at(6, 2, false, 4, 7),
-    ];
-    contributes(&rt, rt.alloc(), &frozen, Bull(8).number(), &inbred_sire)
-}
-
-#[test]
-fn lists_contributions_of_inbred_parents(rt: HostRuntime) -> Result<(), Fail> {
-    let frozen = frozen_of(rt.alloc(), &with_inbred_parents())?;
-    let both_inbred = [
-        at(6, 6, false, 8, 3),
-        at(6, 5, true, 4, 3),
-        at(6, 4, true, 4, 3),
-        at(5, 5, false, 2, 3),
-        at(4, 4, false, 2, 3),
-        at(5, 4, false, 2, 3),
-    ];
-    contributes(&rt, rt.alloc(), &frozen, Bull(8).number(), &both_inbred)?;
-    let dam_alone = [
-        at(7, 7, false, 16, 11),
-        at(7, 4, true, 8, 11),
-        at(4, 4, false, 4, 11),
-    ];
-    contributes(&rt, rt.alloc(), &frozen, Bull(9).number(), &dam_alone)
+    for (frozen, name, expected) in animals {
+        contributes(&rt, rt.alloc(), frozen, name.number(), expected)?;
+    }
+    Ok(())
 }

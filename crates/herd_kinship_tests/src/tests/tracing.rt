@@ -32,6 +32,22 @@ struct Shape {
     animals: u32,
     sires: u32,
     dams: u32,
+    ghost some_sires: { 0 < sires },
+    ghost some_dams: { 0 < dams },
+}
+
+impl Shape {
+    fn of(generations: u32, animals: u32, sires: u32, dams: u32) -> Shape
+        requires sires { 0 < sires }
+        requires dams { 0 < dams }
+    {
+        Shape {
+            generations,
+            animals,
+            sires,
+            dams,
+        }
+    }
 }
 
 // The index of an animal by its generation and its position there.
@@ -58,10 +74,7 @@ fn name_in(shape: Shape, generation: u32, position: u32) -> Name {
 }
 
 // The sire is of the generation before, the dam of every third one of the generation before that; some are unknown.
-fn parents_in(shape: Shape, generation: u32, position: u32) -> Pair
-    requires sires { 0 < shape.sires }
-    requires dams { 0 < shape.dams }
-{
+fn parents_in(shape: Shape, generation: u32, position: u32) -> Pair {
     if generation == 0 || index_in(shape, generation, position).is_multiple_of(17) {
         return UNKNOWN;
     }
@@ -78,10 +91,7 @@ fn parents_in(shape: Shape, generation: u32, position: u32) -> Pair
     )
 }
 
-fn shaped(alloc: Global, shape: Shape) -> Result<Frozen<Global>, BirthFault>
-    requires sires { 0 < shape.sires }
-    requires dams { 0 < shape.dams }
-{
+fn shaped(alloc: Global, shape: Shape) -> Result<Frozen<Global>, BirthFault> {
     let mut pedigree = Pedigree::new(alloc);
     for generation in 0..shape.generations {
         for position in 0..shape.animals {
@@ -93,10 +103,7 @@ fn shaped(alloc: Global, shape: Shape) -> Result<Frozen<Global>, BirthFault>
     Ok(pedigree.freeze(alloc)?)
 }
 
-fn agrees_with_tracing(rt: &impl Abort, alloc: Global, shape: Shape) -> Result<(), Fail>
-    requires sires { 0 < shape.sires }
-    requires dams { 0 < shape.dams }
-{
+fn agrees_with_tracing(rt: &impl Abort, alloc: Global, shape: Shape) -> Result<(), Fail> {
     let frozen = shaped(alloc, shape)?;
     let coefficients = coefficients_plain(alloc, &frozen)?;
     let mut inbred_animals = 0u32;
@@ -111,68 +118,24 @@ fn agrees_with_tracing(rt: &impl Abort, alloc: Global, shape: Shape) -> Result<(
     Ok(())
 }
 
-// A closed breed, half sibs, full sibs of many generations, a book of many generations, a broad one, and one in which
-// each animal has two calves by two mates.
 #[test]
 fn agrees_with_tracing_each_animal(rt: HostRuntime) -> Result<(), Fail> {
-    agrees_with_tracing(
-        &rt,
-        rt.alloc(),
-        Shape {
-            generations: 25,
-            animals: 12,
-            sires: 2,
-            dams: 6,
-        },
-    )?;
-    agrees_with_tracing(
-        &rt,
-        rt.alloc(),
-        Shape {
-            generations: 12,
-            animals: 20,
-            sires: 1,
-            dams: 10,
-        },
-    )?;
-    agrees_with_tracing(
-        &rt,
-        rt.alloc(),
-        Shape {
-            generations: 60,
-            animals: 4,
-            sires: 1,
-            dams: 1,
-        },
-    )?;
-    agrees_with_tracing(
-        &rt,
-        rt.alloc(),
-        Shape {
-            generations: 50,
-            animals: 6,
-            sires: 3,
-            dams: 3,
-        },
-    )?;
-    agrees_with_tracing(
-        &rt,
-        rt.alloc(),
-        Shape {
-            generations: 8,
-            animals: 48,
-            sires: 12,
-            dams: 24,
-        },
-    )?;
-    agrees_with_tracing(
-        &rt,
-        rt.alloc(),
-        Shape {
-            generations: 9,
-            animals: 44,
-            sires: 22,
-            dams: 22,
-        },
-    )
+    let books = [
+        // A closed breed.
+        Shape::of(25, 12, 2, 6),
+        // Half sibs.
+        Shape::of(12, 20, 1, 10),
+        // Full sibs of many generations.
+        Shape::of(60, 4, 1, 1),
+        // Many generations.
+        Shape::of(50, 6, 3, 3),
+        // A broad book.
+        Shape::of(8, 48, 12, 24),
+        // Each animal has two calves by two mates.
+        Shape::of(9, 44, 22, 22),
+    ];
+    for shape in books {
+        agrees_with_tracing(&rt, rt.alloc(), shape)?;
+    }
+    Ok(())
 }

@@ -1,19 +1,9 @@
 -- `has_calves`: its loop and its clauses `no` and `yes`.
-use Rattle.std.proofs.Common.{◌≡◌, ℕ, ◌<◌, ◌≤◌, ◌⊎◌, ⊎_elim, false, is_some, IfNone, IfSome, true, Option, None, Some, arith, subst}
+use Rattle.std.proofs.Common.{◌≡◌, ℕ, ◌<◌, ◌≤◌, ◌⊎◌, ⊎_elim, false, is_some, true, None, Some, arith, subst}
 use Rattle.std.proofs.lemmas.Bool.{cases_lt}
 use Rattle.herd_kinship.specs.CalfLinks.{IsCalf}
-use Rattle.herd_kinship.proofs.lemmas.sires.CalfFacts.{calf-pair, calf-within, no-calf}
+use Rattle.herd_kinship.proofs.lemmas.sires.CalfFacts.{calf-pair, calf-within, if-none, if-some, no-calf}
 use Rattle.herd_kinship.proofs.calves.has_calves.Goals as goal
-
--- what holds where there is no sire
-if-none : {P : Type 0} (o : Option ℕ) → is_some o ≡ false → IfNone o P → P
-if-none None none p = p
-if-none (Some s) none p = absurd (cc)
-
--- and what holds where there is one
-if-some : (P : ℕ → Type 0) (o : Option ℕ) → is_some o ≡ true → IfSome o P → (s : ℕ) × P s
-if-some P None some p = absurd (cc)
-if-some P (Some s) some p = (s, p)
 
 pub loop-calf-preserved : goal.loop-calf-preserved
 loop-calf-preserved g c =

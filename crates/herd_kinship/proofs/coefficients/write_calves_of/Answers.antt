@@ -11,7 +11,7 @@ use Rattle.herd_kinship.proofs.coefficients.write_calves_of.Goals as goal
 
 pub append_calves-requires-clause-known : goal.append_calves-requires-clause-known
 append_calves-requires-clause-known g c =
-    reached-ancestors DEPTH_LIMIT MOST_ANIMALS c.args.frozen.now c.len.ensures.frozen c.args.sire c.args.known.now c.requires.sire c.requires.known
+    reached-ancestors DEPTH_LIMIT MOST_ANIMALS c.args.frozen.now c.requires.calves.frozen c.args.sire c.args.known.now c.requires.sire c.requires.known
 
 -- the list has the sire's calves
 listed : (g : Over) (c : In_ok-append_calves g) → AreCalvesWith c.args.frozen.now (λ t. t ≡ c.args.sire) (coefficient_at DEPTH_LIMIT c.args.frozen.now) c.append_calves.new.list.items

@@ -1,8 +1,8 @@
 -- Entries, shares, coefficients and Mendelian sampling variances don't depend on how the animals are named.
-use Rattle.std.proofs.Common.{map, [], ◌∷◌, lit<, All, ⊎_elim, ℕ, zero, suc, ◌+◌, ◌*◌, ◌-◌, ◌≡◌, inl, inr, List, Option, Some, None, refl, Contains, ◌∙◌, ap}
+use Rattle.std.proofs.Common.{map, ⊎_elim, ℕ, zero, suc, ◌+◌, ◌*◌, ◌-◌, ◌≡◌, inl, inr, List, Option, Some, None, refl, Contains, ◌∙◌, ap}
 use Rattle.std.specs.Option.{option_map}
 use Rattle.std.proofs.lemmas.List.Sorted.{Contains-permutation}
-use Rattle.std.proofs.lemmas.List.Elements.{All-contains, All-nil, All-cons, All-weaker, Contains-append_left, Contains-append_right}
+use Rattle.herd_kinship.proofs.lemmas.Lists.{Contains-map}
 use Rattle.herd_kinship.specs.Ancestry.{Ancestry, IsParentIn}
 use Rattle.herd_kinship.specs.Table.{entry, coefficient, mendelian}
 use Rattle.herd_kinship.proofs.lemmas.ancestry.LawfulAncestry.{Path, IsShallow, IsLawful, IsRenamed}
@@ -56,16 +56,6 @@ mendelian-renamed kin g φ w r l x cx =
       entry-renamed kin g φ w r (2 * l - 2) (kin.sire x) (kin.sire x) (known-sire kin w x cx) (known-sire kin w x cx),
       entry-renamed kin g φ w r (2 * l - 2) (kin.dam x) (kin.dam x) (known-dam kin w x cx) (known-dam kin w x cx),
     ) refl
-
-all_mapped : {X Y : Type 0} (f : X → Y) (xs : List X) → All (λ v. Contains (map f xs) (f v)) xs
-all_mapped f [] = All-nil (λ v. Contains [] (f v))
-all_mapped f (x ∷ xs) =
-    All-cons (λ v. Contains (map f (x ∷ xs)) (f v)) x xs (Contains-append_left (f x ∷ []) (map f xs) (f x) (0, lit< tt, refl))
-    (All-weaker (λ v. Contains (map f xs) (f v)) (λ v. Contains (map f (x ∷ xs)) (f v))
-    (λ v c. Contains-append_right (f x ∷ []) (map f xs) (f v) c) xs (all_mapped f xs))
-
-Contains-map : {X Y : Type 0} (f : X → Y) (xs : List X) (x : X) → Contains xs x → Contains (map f xs) (f x)
-Contains-map f xs x c = All-contains (λ v. Contains (map f xs) (f v)) xs x (all_mapped f xs) c
 
 -- paths keep their lengths
 pub path-renamed : {A B : Type 0} (kin : Ancestry A) (g : Ancestry B) (φ : A → B) → IsLawful kin → IsRenamed kin g φ → (n : ℕ) (x : A) → Path kin n x → Path g n (φ x)

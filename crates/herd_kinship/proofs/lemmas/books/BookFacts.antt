@@ -19,7 +19,7 @@ use Rattle.herd_frozen.specs.rules.Lawful.{IsLawful as IsLawfulBook}
 use Rattle.herd_frozen.proofs.lemmas.rules.BookFacts.{bytes_itself, same_bytes}
 use Rattle.herd_kinship.specs.FrozenAncestry.{is_before, book_ancestry}
 use Rattle.herd_kinship.proofs.lemmas.ancestry.LawfulAncestry.{IsLawful}
-use Rattle.herd_kinship.proofs.lemmas.books.Counts.{count-one}
+use Rattle.herd_kinship.proofs.lemmas.Lists.{count-one}
 
 -- Records
 

@@ -48,6 +48,9 @@ pub length-book_of : (rows : List Row) → length (book_of rows) ≡ length rows
 length-book_of [] = refl
 length-book_of (row ∷ rows) = ap suc (length-book_of rows)
 
+pub frozen-few : (l most : ℕ) (rows : List Row) → IsFrozen l most rows → length rows ≤ most
+frozen-few l most rows f = subst (λ n. n ≤ most) (length-book_of rows) f.lawful.few
+
 -- the number at a rank is that of the row
 pub number_of_row-is : (rows : List Row) (i : ℕ) (row : Row) → slice_get rows i ≡ Some row → number_of_row rows i ≡ row.number
 number_of_row-is rows i row e =

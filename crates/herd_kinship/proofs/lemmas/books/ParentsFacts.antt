@@ -1,12 +1,12 @@
 -- What the parents and the depth of a row say of its rank.
-use Rattle.std.proofs.Common.{ℕ, ◌<◌, ◌≤◌, ◌≡◌, List, length, slice_get, Option, Some, None, refl, sym, ◌∙◌, ap, subst}
+use Rattle.std.proofs.Common.{ℕ, ◌<◌, ◌≡◌, List, length, slice_get, Option, Some, None, refl, sym, ◌∙◌, ap}
 use Rattle.std.specs.Option.{option_and_then, option_map}
 use Rattle.std.proofs.lemmas.Option.{slice_get-map, slice_get_within}
 use Rattle.herd_frozen.specs.declared.freezing.frozen.Parents.{Parents}
 use Rattle.herd_frozen.specs.declared.freezing.frozen.Row.{Row}
-use Rattle.herd_frozen.specs.freezing.Frozen.{IsFrozen, depth_at, parents_of}
+use Rattle.herd_frozen.specs.freezing.Frozen.{depth_at, parents_of}
 use Rattle.herd_kinship.specs.Ranks.{AreParentsAt, sire_rank, dam_rank}
-use Rattle.herd_kinship.proofs.lemmas.books.FrozenDepths.{depth_at-row, depth-at_most}
+use Rattle.herd_kinship.proofs.lemmas.books.FrozenDepths.{depth_at-row}
 
 -- the row of a rank, of which these are the parents and the depth
 pub record IsRowAt (rows : List Row) (i : ℕ) (parents : Parents) : Type 0 where
@@ -34,7 +34,3 @@ parents-depth rows i parents at = let r = row-at rows i parents at in depth_at-r
 
 pub parents-within : (rows : List Row) (i : ℕ) (parents : Parents) → AreParentsAt rows i parents → i < length rows
 parents-within rows i parents at = let r = row-at rows i parents at in slice_get_within rows i r.row r.there
-
-pub parents-shallow : (l most : ℕ) (rows : List Row) → IsFrozen l most rows → (i : ℕ) (parents : Parents) → AreParentsAt rows i parents → parents.depth ≤ l
-parents-shallow l most rows f i parents at =
-    subst (λ v. v ≤ l) (parents-depth rows i parents at) (depth-at_most l most rows f i (parents-within rows i parents at))

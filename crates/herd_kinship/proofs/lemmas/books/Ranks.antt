@@ -6,7 +6,7 @@ use Rattle.std.proofs.lemmas.List.FromFn.{length-range_with_len, get_or-range_wi
 use Rattle.herd_kinship.specs.Ancestry.{IsParentIn}
 use Rattle.herd_kinship.specs.Ranks.{ranks}
 use Rattle.herd_kinship.proofs.lemmas.ancestry.LawfulAncestry.{IsLawful}
-use Rattle.herd_kinship.proofs.lemmas.books.Counts.{count-one}
+use Rattle.herd_kinship.proofs.lemmas.Lists.{count-one}
 
 -- parents stand at two different ranks below their offspring's
 pub record AreRanked (n : ℕ) (sire dam : ℕ → Option ℕ) : Type 0 where

@@ -1,5 +1,5 @@
 -- The links from calf to calf: how they are made and read.
-use Rattle.std.proofs.Common.{ℕ, ◌+◌, ◌<◌, ◌≤◌, ◌≡◌, ◌⊎◌, inr, ⊎_elim, true, false, is_some, List, length, get_or, set, slice_get, Option, Some, None, arith, refl, sym, ◌∙◌, ap, subst}
+use Rattle.std.proofs.Common.{ℕ, ◌+◌, ◌<◌, ◌≤◌, ◌≡◌, ◌⊎◌, inr, ⊎_elim, true, false, IfNone, IfSome, is_some, List, length, get_or, set, slice_get, Option, Some, None, arith, refl, sym, ◌∙◌, ap, subst}
 use Rattle.std.proofs.lemmas.Bool.{cases_lt, cases_eq}
 use Rattle.std.proofs.lemmas.List.{get_or-set_same, get_or-set_other, length-set, get_or_read}
 use Rattle.std.proofs.lemmas.Option.{slice_get_within}
@@ -7,7 +7,7 @@ use Rattle.herd_frozen.specs.declared.freezing.frozen.Parents.{Parents}
 use Rattle.herd_frozen.specs.declared.freezing.frozen.Row.{Row}
 use Rattle.herd_frozen.specs.freezing.Frozen.{IsFrozen}
 use Rattle.herd_kinship.specs.CalfLinks.{IsCalf, IsLink, AreLinked}
-use Rattle.herd_kinship.specs.Ranks.{AreParentsAt, sire_rank}
+use Rattle.herd_kinship.specs.Ranks.{AreParentsAt, HasUnknownParent, dam_rank, sire_rank}
 use Rattle.herd_kinship.proofs.lemmas.tracing.Brought.{option_cases}
 use Rattle.herd_kinship.proofs.lemmas.books.FrozenFacts.{frozen-ranked}
 use Rattle.herd_kinship.proofs.lemmas.books.ParentsFacts.{parents-sire, parents-dam, parents-within}
@@ -34,6 +34,7 @@ link-new rows s i c = record {
 pub linked-other : (rows : List Row) (i : ℕ) (latest earlier : List (Option ℕ)) → ((s : ℕ) → IsCalf rows s i → ⊥) → AreLinked rows i latest earlier →
     AreLinked rows (i + 1) latest earlier
 linked-other rows i latest earlier none are = record {
+  frozen = are.frozen;
   each_sire = are.each_sire;
   each_calf = are.each_calf;
   latest_is = λ s ls. link-kept rows s i (get_or latest s None) (none s) (are.latest_is s ls);
@@ -53,6 +54,7 @@ linked-calf rows i p latest earlier li lp c are =
     let each_calf : length earlier ≡ length rows = are.each_calf in
     let only : (s : ℕ) → IsCalf rows s i → p ≡ s = λ s d. (let e : Some p ≡ Some s = sym c.0 ∙ d.0 in cc) in
     record {
+      frozen = are.frozen;
       each_sire = length-set latest p (Some i) ∙ each_sire;
       each_calf = length-set earlier i (get_or latest p None) ∙ each_calf;
       latest_is = λ s ls.
@@ -101,9 +103,28 @@ calf-pair rows i p parents at sire dam =
     (λ there. (parents-sire rows i parents at ∙ sire, there.0, parents-dam rows i parents at ∙ there.1))
     (option_cases parents.dam)
 
--- a known dam stands before its calf
-pub dam-older : (l most : ℕ) (rows : List Row) (x : ℕ) (parents : Parents) → IsFrozen l most rows → AreParentsAt rows x parents → (d : ℕ) → parents.dam ≡ Some d → d < x
-dam-older l most rows x parents frozen at d is = (frozen-ranked l most rows frozen).below x d (parents-within rows x parents at) (inr (parents-dam rows x parents at ∙ is))
+-- no calf of a pair has an unknown parent
+pub pair-known : {P : Type 0} (rows : List Row) (s x : ℕ) → IsCalf rows s x → HasUnknownParent rows x → P
+pair-known rows s x calf unknown =
+    let sire = calf.0 in
+    let dam = calf.2 in
+    ⊎_elim (λ (none : sire_rank rows x ≡ None). absurd (cc)) (λ (none : dam_rank rows x ≡ None). absurd (cc)) unknown
+
+-- what holds where one of the two isn't known, and what holds where both are
+pub if-none : {P : Type 0} (o : Option ℕ) → is_some o ≡ false → IfNone o P → P
+if-none None none p = p
+if-none (Some s) none p = absurd (cc)
+
+pub if-some : (P : ℕ → Type 0) (o : Option ℕ) → is_some o ≡ true → IfSome o P → (s : ℕ) × P s
+if-some P None some p = absurd (cc)
+if-some P (Some s) some p = (s, p)
+
+-- a known dam stands in the book
+pub dam-within : (l most : ℕ) (rows : List Row) (x : ℕ) (parents : Parents) → IsFrozen l most rows → AreParentsAt rows x parents → (d : ℕ) → parents.dam ≡ Some d → d < length rows
+dam-within l most rows x parents frozen at d is =
+    let here = parents-within rows x parents at in
+    let lower : d < x = (frozen-ranked l most rows frozen).below x d here (inr (parents-dam rows x parents at ∙ is)) in
+    omega arith
 
 pub no-calf : (rows : List Row) (i : ℕ) (parents : Parents) → AreParentsAt rows i parents → (parents.sire ≡ None) ⊎ (parents.dam ≡ None) → (s : ℕ) → IsCalf rows s i → ⊥
 no-calf rows i parents at unknown s calf =

@@ -2,20 +2,15 @@
 use Rattle.std.proofs.Common.{ℕ, ◌+◌, ◌<◌, ◌≡◌, ◌++◌, [], ◌⊎◌, inl, inr, ⊎_elim, List, length, get_or, map, set, take, arith, refl, sym, ◌∙◌, ap, subst}
 use Rattle.std.specs.List.{All, Any}
 use Rattle.std.proofs.lemmas.Bool.{cases_eq}
-use Rattle.std.proofs.lemmas.List.{get_or-append-add, get_or-map, get_or-set_other, get_or-set_same, get_or_append_left, length-append, length-map}
+use Rattle.std.proofs.lemmas.List.{get_or-map, get_or-set_other, get_or-set_same, length-map}
 use Rattle.std.proofs.lemmas.List.Elements.{All-append, All-contains, All-map, All-more, All-nil, All-same, All-weaker}
+use Rattle.herd_kinship.proofs.lemmas.Lists.{any-left, any-right}
 use Rattle.herd_frozen.specs.declared.freezing.frozen.Row.{Row}
 use Rattle.herd_kinship.specs.CalfCoefficients.{AreCalvesWith, GoesOnWith, HasWritten, IsCalfWith}
 use Rattle.herd_kinship.specs.CalfLinks.{calves_of_sire, IsCalf}
 use Rattle.herd_kinship.specs.declared.calf_coefficients.CalfCoefficient.{CalfCoefficient}
 use Rattle.herd_kinship.proofs.lemmas.sires.CalfFacts.{calf-within}
 use Rattle.herd_kinship.proofs.lemmas.sires.CalvesBelow.{below-all, below-each}
-
-any-left : {X : Type 0} (P : X → Type 0) (xs ys : List X) → Any P xs → Any P (xs ++ ys)
-any-left P xs ys (k, x, low, at, is) = (k, x, let n = length-append xs ys in omega (arith, low), get_or_append_left xs ys x k low ∙ at, is)
-
-any-right : {X : Type 0} (P : X → Type 0) (xs ys : List X) → Any P ys → Any P (xs ++ ys)
-any-right P xs ys (k, x, low, at, is) = (length xs + k, x, let n = length-append xs ys in omega (arith, low), get_or-append-add xs ys k x ∙ at, is)
 
 module _ (rows : List Row) where
   -- other sires without calves, or fewer of them

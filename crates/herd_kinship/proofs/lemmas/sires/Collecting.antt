@@ -151,6 +151,7 @@ module _ (l most : ℕ) (rows : List Row) (f : IsFrozen l most rows) (last : ℕ
         all = λ p lp m. held p lp (so_far.all p lp m);
       }
 
+module _ (rows : List Row) (last : ℕ) (ll : last < length rows) (start : List ℕ) where
   all_held : (chunks xs : List ℕ) → ((e : ℕ) → mark chunks e ≡ 0) → (p : ℕ) → IsHeld last chunks xs p → Contains xs p
   all_held chunks xs empty p h = ⊎_elim (λ (c : Contains xs p). c) (λ (m : mark chunks (last - p) ≡ 1). let none = empty (last - p) in absurd (omega (arith, none, m))) h
 

@@ -2,10 +2,10 @@
 use Rattle.std.proofs.Common.{ℕ, suc, ◌+◌, ◌*◌, ◌-◌, ◌/◌, ◌^◌, ◌<◌, ◌≤◌, ◌≡◌, inl, inr, ⊎_elim, List, length, get_or, set, Option, Some, None, Contains, arith, refl, sym, ◌∙◌, ap, subst}
 use Rattle.std.proofs.lemmas.Bool.{cases_lt, cases_eq}
 use Rattle.std.proofs.lemmas.List.{get_or-set_same, get_or-set_other, length-set}
-use Rattle.std.proofs.lemmas.Option.{get_or_from_slice_get, slice_get-get_or}
 use Rattle.herd_frozen.specs.declared.freezing.frozen.Parents.{Parents}
 use Rattle.herd_frozen.specs.declared.freezing.frozen.Row.{Row}
 use Rattle.herd_frozen.specs.freezing.Frozen.{IsFrozen, depth_at}
+use Rattle.herd_kinship.proofs.lemmas.Lists.{contains-at}
 use Rattle.herd_kinship.specs.Ancestry.{IsParentIn}
 use Rattle.herd_kinship.specs.Columns.{at_parent, related, inherited, passed_to, CanPassTo, HasAll, IsCollection}
 use Rattle.herd_kinship.specs.FrozenAncestry.{ancestry_of, number_of_row}
@@ -18,12 +18,8 @@ use Rattle.herd_kinship.proofs.lemmas.sires.ColumnFacts.{column-step, inherited-
 use Rattle.herd_kinship.proofs.lemmas.books.FrozenDepths.{depth-at_most}
 use Rattle.herd_kinship.proofs.lemmas.books.FrozenFacts.{frozen-ranked, ranked-shallow}
 use Rattle.herd_kinship.proofs.lemmas.tracing.KnownFacts.{right-more}
-use Rattle.herd_kinship.proofs.lemmas.books.ParentsFacts.{parents-sire, parents-dam, parents-depth, parents-within}
+use Rattle.herd_kinship.proofs.lemmas.books.ParentsFacts.{parents-sire, parents-dam, parents-within}
 use Rattle.herd_kinship.proofs.lemmas.ancestry.Table.{entry-none_right}
-
--- where an element that is contained stands
-contains-at : (xs : List ℕ) (p : ℕ) → (c : Contains xs p) → get_or xs c.0 0 ≡ p
-contains-at xs p c = get_or_from_slice_get xs c.0 p 0 (slice_get-get_or xs c.0 p c.1 ∙ ap Some c.2)
 
 -- what all ranks of a collection have, each that is contained has
 pub has-all : (column collected : List ℕ) (f : ℕ → ℕ) (p : ℕ) → HasAll column collected f → Contains collected p → get_or column p 0 ≡ f p
@@ -65,15 +61,15 @@ pub record IsPart (l : ℕ) (rows : List Row) (s j part own deep depth : ℕ) : 
   pub value : part / 2 ^ (deep - depth) * (own * 1) ≡ inherited l rows s j
 
 module _ (l most : ℕ) (rows : List Row) (f : IsFrozen l most rows) (s : ℕ) (ls : s < length rows) where
-  pub part-is : (b j part own : ℕ) (deep : Parents) (depth : ℕ) → l < 128 → 2 ^ suc (2 * l) < 2 ^ 128 → AreParentsAt rows s deep → j < length rows → depth ≡ depth_at rows j → IsNext l rows s b j own →
-      part ≡ mendelian (ancestry_of rows) l (number_of_row rows j) → IsPart l rows s j part own deep.depth depth
-  part-is b j part own deep depth small room at lj there next part_is =
-      let ds = parents-depth rows s deep at in
+  pub part-is : (b j part own deep depth : ℕ) → l < 128 → 2 ^ suc (2 * l) < 2 ^ 128 → deep ≡ depth_at rows s → j < length rows → depth ≡ depth_at rows j → IsNext l rows s b j own →
+      part ≡ mendelian (ancestry_of rows) l (number_of_row rows j) → IsPart l rows s j part own deep depth
+  part-is b j part own deep depth small room here lj there next part_is =
+      let ds : depth_at rows s ≡ deep = sym here in
       let dj : depth_at rows j ≡ depth = sym there in
       let limit = depth-at_most l most rows f s ls in
       let below = inherited-bound l most rows f s ls j lj in
       let one : own * 1 ≡ own = omega arith in
-      let is : part / 2 ^ (deep.depth - depth) * (own * 1) ≡ inherited l rows s j =
+      let is : part / 2 ^ (deep - depth) * (own * 1) ≡ inherited l rows s j =
       rw (← ds, ← dj, one) (inherited-term l most rows f s ls j own part lj next.share_is part_is) in
       record {
         shift = omega (arith, ds, limit);

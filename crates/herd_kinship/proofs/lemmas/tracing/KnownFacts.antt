@@ -1,5 +1,5 @@
 -- What follows where the coefficients at an animal's ancestors are known.
-use Rattle.std.proofs.Common.{ℕ, suc, ◌+◌, ◌*◌, ◌-◌, ◌/◌, ◌^◌, ◌<◌, ◌≤◌, ◌≡◌, ◌⊎◌, ⊎_elim, inl, inr, List, length, slice_get, get_or, set, min, Option, Some, None, is_some, ◌&&◌, false, true, arith, sym, ◌∙◌, ap, subst, refl}
+use Rattle.std.proofs.Common.{ℕ, suc, ◌+◌, ◌*◌, ◌-◌, ◌/◌, ◌^◌, ◌<◌, ◌≤◌, ◌≡◌, ◌⊎◌, ⊎_elim, inl, inr, List, length, slice_get, get_or, set, min, Option, Some, None, arith, sym, ◌∙◌, ap, subst, refl}
 use Rattle.std.specs.Option.{ForSome}
 use Rattle.herd_frozen.specs.declared.freezing.frozen.Parents.{Parents}
 use Rattle.herd_frozen.specs.declared.freezing.frozen.Row.{Row}
@@ -11,7 +11,7 @@ use Rattle.herd_kinship.specs.FrozenAncestry.{ancestry_of, number_of_row}
 use Rattle.herd_kinship.specs.Coefficients.{IsKnownParent, KnowsAncestors, own_relationship, quarter_of}
 use Rattle.herd_kinship.specs.Ranks.{AreParentsAt, HasUnknownParent, sire_rank, dam_rank, ranked}
 use Rattle.herd_kinship.specs.Tracing.{IsNext}
-use Rattle.herd_kinship.proofs.lemmas.books.ParentsFacts.{parents-within, row-at}
+use Rattle.herd_kinship.proofs.lemmas.books.ParentsFacts.{parents-dam, parents-sire, parents-within, row-at}
 use Rattle.herd_kinship.proofs.lemmas.ancestry.Ancestors.{share-reached, ancestor-before, path-joined}
 use Rattle.herd_kinship.proofs.lemmas.ancestry.Bounds.{entry-itself, coefficient-bound, inbred-is, quarter-is, coefficient-none}
 use Rattle.herd_kinship.proofs.lemmas.ancestry.Depth.{Below, Below-shallow, Below-sire, Below-dam, known_some}
@@ -22,7 +22,6 @@ use Rattle.herd_kinship.proofs.lemmas.ancestry.Renamed.{entry-renamed, mendelian
 use Rattle.herd_kinship.proofs.lemmas.ancestry.Table.{entry-none_left}
 use Rattle.std.proofs.lemmas.Bool.{ltb-true, cases_eq}
 use Rattle.std.proofs.lemmas.List.{get_or-set_same, get_or-set_other}
-use Rattle.std.proofs.lemmas.Option.{slice_get_within}
 
 -- numerators that are right below a rank are right up to it, once the rank's is written
 pub right-more : (xs : List ℕ) (f : ℕ → ℕ) (i v : ℕ) → i < length xs → v ≡ f i → ((p : ℕ) → p < i → get_or xs p 0 ≡ f p) →
@@ -194,26 +193,10 @@ module _ (l most : ℕ) (rows : List Row) (f : IsFrozen l most rows) where
       entry-itself (ancestry_of rows) (frozen-lawful l most rows f) l (number_of_row rows x) (below_limit x lx)
       ∙ (ap (λ v. 2 ^ (2 * l) + v) (coefficient-unknown x lx none) ∙ omega arith)
 
-  no_parent : (s d : Option ℕ) → (is_some s && is_some d) ≡ false → (s ≡ None) ⊎ (d ≡ None)
-  no_parent None d e = inl refl
-  no_parent (Some s) None e = inr refl
-  no_parent (Some s) (Some d) e = absurd (cc)
-
-  both-known : (s d : Option ℕ) → (is_some s && is_some d) ≡ true → (s ≡ None) ⊎ (d ≡ None) → ⊥
-  both-known None d both none = absurd (cc)
-  both-known (Some s) None both none = absurd (cc)
-  both-known (Some s) (Some d) both none = ⊎_elim (λ (e : Some s ≡ None). absurd (cc)) (λ (e : Some d ≡ None). absurd (cc)) none
-
-  -- a row that names both parents
-  pub row-known : (x : ℕ) (row : Row) → slice_get rows x ≡ Some row → (is_some row.sire && is_some row.dam) ≡ true → HasUnknownParent rows x → ⊥
-  row-known x row e both none = both-known row.sire row.dam both (⊎_elim (λ s. inl (sym (sire-row x row e) ∙ s)) (λ d. inr (sym (dam-row x row e) ∙ d)) none)
-
-  -- the same, by the row
-  pub entry-row_unknown : (x : ℕ) (row : Row) → slice_get rows x ≡ Some row → (is_some row.sire && is_some row.dam) ≡ false →
-      own_relationship l rows x ≡ 2 ^ (2 * l)
-  entry-row_unknown x row e none =
-      entry-unknown x (slice_get_within rows x row e)
-      (⊎_elim (λ s. inl (sire-row x row e ∙ s)) (λ d. inr (dam-row x row e ∙ d)) (no_parent row.sire row.dam none))
+  -- the same, by the parents that are read
+  pub entry-one_unknown : (x : ℕ) (parents : Parents) → AreParentsAt rows x parents → (parents.sire ≡ None) ⊎ (parents.dam ≡ None) → own_relationship l rows x ≡ 2 ^ (2 * l)
+  entry-one_unknown x parents at none =
+      entry-unknown x (parents-within rows x parents at) (⊎_elim (λ s. inl (parents-sire rows x parents at ∙ s)) (λ d. inr (parents-dam rows x parents at ∙ d)) none)
 
   -- an ancestor stands below
   ancestor-below : (x p : ℕ) → x < length rows → p < length rows → IsAncestor (ancestry_of rows) (number_of_row rows p) (number_of_row rows x) → p < x

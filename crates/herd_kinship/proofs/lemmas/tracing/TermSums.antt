@@ -5,14 +5,13 @@ use Rattle.std.proofs.Math.Nat.{mul-le-mul_left}
 use Rattle.std.proofs.Math.Pow.{pow_pos}
 use Rattle.std.proofs.lemmas.Bool.{cases_lt, lt-ltb, le-ltb}
 use Rattle.std.proofs.lemmas.List.Sums.{sum_by-le-sum_by}
-use Rattle.herd_frozen.specs.declared.freezing.frozen.Parents.{Parents}
 use Rattle.herd_frozen.specs.declared.freezing.frozen.Row.{Row}
 use Rattle.herd_frozen.specs.freezing.Frozen.{IsFrozen, depth_at}
 use Rattle.herd_kinship.specs.Coefficients.{own_relationship}
 use Rattle.herd_kinship.specs.Table.{entry, mendelian}
 use Rattle.herd_kinship.specs.Shares.{share, shared}
 use Rattle.herd_kinship.specs.FrozenAncestry.{ancestry_of, number_of_row}
-use Rattle.herd_kinship.specs.Ranks.{AreParentsAt, sire_rank, dam_rank, ranked}
+use Rattle.herd_kinship.specs.Ranks.{sire_rank, dam_rank, ranked}
 use Rattle.herd_kinship.specs.Tracing.{IsNext}
 use Rattle.herd_kinship.proofs.lemmas.tracing.Brought.{cancel, later_none}
 use Rattle.herd_kinship.proofs.lemmas.laws.Decompose.{decomposition}
@@ -22,7 +21,6 @@ use Rattle.herd_kinship.proofs.lemmas.ancestry.Exact.{term-exact}
 use Rattle.herd_kinship.proofs.lemmas.books.FrozenDepths.{ranked-depth, ranked-below_depth, depth-at_most}
 use Rattle.herd_kinship.proofs.lemmas.books.FrozenFacts.{frozen-ranked, ranked-lawful, ranked-shallow}
 use Rattle.herd_kinship.proofs.lemmas.tracing.KnownFacts.{entry-rank, mendelian-rank}
-use Rattle.herd_kinship.proofs.lemmas.books.ParentsFacts.{parents-depth}
 use Rattle.herd_kinship.proofs.lemmas.books.Ranks.{rank-in}
 use Rattle.herd_kinship.proofs.lemmas.ancestry.Table.{entry-bound}
 
@@ -87,20 +85,20 @@ module _ (l most : ℕ) (rows : List Row) (f : IsFrozen l most rows) (x : ℕ) (
       (cases_lt sum (2 ^ suc (2 * l)))
 
   -- the term of the next ancestor is added
-  pub added : (b j part own sum : ℕ) (deep : Parents) (depth : ℕ) → 2 * l < 128 → 2 ^ suc (2 * l) < 2 ^ 128 → AreParentsAt rows x deep → j < length rows → depth ≡ depth_at rows j →
+  pub added : (b j part own sum deep depth : ℕ) → 2 * l < 128 → 2 ^ suc (2 * l) < 2 ^ 128 → deep ≡ depth_at rows x → j < length rows → depth ≡ depth_at rows j →
       IsNext l rows x b j own → part ≡ mendelian (ancestry_of rows) l (number_of_row rows j) → IsSummed l rows x b sum →
-      IsAdded l rows x j part own sum deep.depth depth
-  added b j part own sum deep depth small room at lj there next part_is so_far =
-      let dx = parents-depth rows x deep at in
+      IsAdded l rows x j part own sum deep depth
+  added b j part own sum deep depth small room here lj there next part_is so_far =
+      let dx : depth_at rows x ≡ deep = sym here in
       let dj : depth_at rows j ≡ depth = sym there in
       let limit = depth-at_most l most rows f x lx in
-      let steps : 2 * deep.depth - 2 * depth ≡ depth_at rows x + depth_at rows x - 2 * depth_at rows j = omega (arith, dx, dj) in
-      let term : part / 2 ^ (2 * deep.depth - 2 * depth) * (own * own)
+      let steps : 2 * deep - 2 * depth ≡ depth_at rows x + depth_at rows x - 2 * depth_at rows j = omega (arith, dx, dj) in
+      let term : part / 2 ^ (2 * deep - 2 * depth) * (own * own)
       ≡ own * own * (mendelian (ranked rows) l j / 2 ^ (depth_at rows x + depth_at rows x - 2 * depth_at rows j)) =
       rw (steps, part_is, ← mendelian-rank l most rows f j lj) (omega arith) in
-      let summed : IsSummed l rows x j (sum + part / 2 ^ (2 * deep.depth - 2 * depth) * (own * own)) =
+      let summed : IsSummed l rows x j (sum + part / 2 ^ (2 * deep - 2 * depth) * (own * own)) =
       rw term (summed-next b j own sum lj next so_far) in
-      let below = summed-bound j (sum + part / 2 ^ (2 * deep.depth - 2 * depth) * (own * own)) summed in
+      let below = summed-bound j (sum + part / 2 ^ (2 * deep - 2 * depth) * (own * own)) summed in
       record {
         shift = omega (arith, dx, limit);
         fits = omega (arith, below, room);

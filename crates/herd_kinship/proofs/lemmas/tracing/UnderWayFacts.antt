@@ -9,17 +9,18 @@ use Rattle.herd_frozen.specs.declared.TheConstants.{MOST_ANIMALS}
 use Rattle.herd_frozen.specs.declared.freezing.frozen.Parents.{Parents}
 use Rattle.herd_frozen.specs.declared.freezing.frozen.Row.{Row}
 use Rattle.herd_frozen.specs.freezing.Frozen.{IsFrozen, depth_at, parents_of}
+use Rattle.herd_kinship.specs.declared.tracing.Met.{Met}
 use Rattle.herd_kinship.specs.Pending.{mark, Marks}
 use Rattle.herd_kinship.specs.Ranks.{AreParentsAt, ranked}
 use Rattle.herd_kinship.specs.Shares.{share}
-use Rattle.herd_kinship.specs.Tracing.{given, GivesMark, HasRoom, IsIdle, IsMarked, IsNext, IsPendingAt, IsTracing, IsUnderWay}
+use Rattle.herd_kinship.specs.Tracing.{given, GivesMark, HasRoom, AreIdle, IsMarked, IsMetAs, IsNext, IsPendingAt, IsTracing, AreUnderWay}
 use Rattle.herd_kinship.proofs.lemmas.numbers.PendingFacts.{IsNearest}
 use Rattle.herd_kinship.proofs.lemmas.books.ParentsFacts.{row-at}
 use Rattle.herd_kinship.proofs.lemmas.tracing.TracingFacts.{IsLower, IsStep, length-given, lowered-to, share-none_kept, step-is, step-room_sire, step-room_dam, step-lower_sire, step-lower_dam, step-next, tracing-start}
 
 -- the animal itself alone is pending at first
-pub under_way-start : (l : ℕ) (rows : List Row) (x : ℕ) (nothing empty chunks : List ℕ) → IsFrozen l MOST_ANIMALS rows → x < length rows → IsIdle (x + 1) nothing empty →
-    Marks empty chunks 0 1 → IsUnderWay l rows x (x + 1) (set nothing 0 1) chunks
+pub under_way-start : (l : ℕ) (rows : List Row) (x : ℕ) (nothing empty chunks : List ℕ) → IsFrozen l MOST_ANIMALS rows → x < length rows → AreIdle (x + 1) nothing empty →
+    Marks empty chunks 0 1 → AreUnderWay l rows x (x + 1) (set nothing 0 1) chunks
 under_way-start l rows x nothing empty chunks f lx idle marks =
     let start : List ℕ = set nothing 0 1 in
     let long = idle.room in
@@ -102,9 +103,9 @@ pub record IsMet (l : ℕ) (rows : List Row) (x b : ℕ) (shares chunks' : List 
   pub room_sire : (p : ℕ) → parents.sire ≡ Some p → HasRoom l rows x (set shares d 0) (x - d) own p
   pub room_dam : (p : ℕ) → parents.dam ≡ Some p → HasRoom l rows x (given rows x (set shares d 0) (x - d) own parents.sire) (x - d) own p
   pub under_way : (after last : List ℕ) → GivesMark x chunks' after parents.sire → GivesMark x after last parents.dam →
-      IsUnderWay l rows x (x - d) (given rows x (given rows x (set shares d 0) (x - d) own parents.sire) (x - d) own parents.dam) last
+      AreUnderWay l rows x (x - d) (given rows x (given rows x (set shares d 0) (x - d) own parents.sire) (x - d) own parents.dam) last
 
-module _ (l : ℕ) (rows : List Row) (x b : ℕ) (shares chunks : List ℕ) (way : IsUnderWay l rows x b shares chunks) where
+module _ (l : ℕ) (rows : List Row) (x b : ℕ) (shares chunks : List ℕ) (way : AreUnderWay l rows x b shares chunks) where
   -- nothing is kept for a rank below the border that isn't marked
   none-kept : (j : ℕ) → j < b → mark chunks (x - j) ≡ 0 → get_or shares (x - j) 0 ≡ 0
   none-kept j low none =
@@ -114,7 +115,7 @@ module _ (l : ℕ) (rows : List Row) (x b : ℕ) (shares chunks : List ℕ) (way
       (cases_lt 0 (get_or shares (x - j) 0))
 
   -- where nothing is marked all is met
-  pub under_way-end : ((d : ℕ) → mark chunks d ≡ 0) → IsUnderWay l rows x 0 shares chunks
+  pub under_way-end : ((d : ℕ) → mark chunks d ≡ 0) → AreUnderWay l rows x 0 shares chunks
   under_way-end none = record {
     tracing =
         lowered-to l rows x 0 b shares (subst (λ v. IsTracing l rows x v shares) (let e : b ≡ b + 0 = omega arith in e) way.tracing)
@@ -221,9 +222,16 @@ module _ (l : ℕ) (rows : List Row) (x b : ℕ) (shares chunks : List ℕ) (way
         } in
         subst (λ v. IsMet l rows x b shares chunks' d own v) (sym at.same) met
 
+-- who is met is no deeper than the animal that is traced
+pub met-no_deeper : (l : ℕ) (rows : List Row) (x b depth : ℕ) (met : Met) → depth ≡ depth_at rows x → IsNext l rows x b met.rank met.share → IsMetAs l rows met → met.depth ≤ depth
+met-no_deeper l rows x b depth met here next is =
+    let there = is.depth in
+    let less = next.share_is.less_deep in
+    omega arith
+
 -- a tracing whose animals are all met leaves nothing behind
-pub under_way-idle : (l : ℕ) (rows : List Row) (x animals : ℕ) (shares chunks : List ℕ) → IsUnderWay l rows x 0 shares chunks →
-    animals ≤ length shares → animals ≤ 64 * length chunks → IsIdle animals shares chunks
+pub under_way-idle : (l : ℕ) (rows : List Row) (x animals : ℕ) (shares chunks : List ℕ) → AreUnderWay l rows x 0 shares chunks →
+    animals ≤ length shares → animals ≤ 64 * length chunks → AreIdle animals shares chunks
 under_way-idle l rows x animals shares chunks way room marks = record {
   room = room;
   marks = marks;
@@ -237,14 +245,14 @@ under_way-idle l rows x animals shares chunks way room marks = record {
 }
 
 -- room for many is room for fewer
-pub idle-fewer : (animals fewer : ℕ) (shares chunks : List ℕ) → fewer ≤ animals → IsIdle animals shares chunks → IsIdle fewer shares chunks
+pub idle-fewer : (animals fewer : ℕ) (shares chunks : List ℕ) → fewer ≤ animals → AreIdle animals shares chunks → AreIdle fewer shares chunks
 idle-fewer animals fewer shares chunks less idle =
     let room = idle.room in
     let marks = idle.marks in
     record { room = omega arith; marks = omega arith; nothing = idle.nothing; unmarked = idle.unmarked }
 
 -- at first there is 0 everywhere
-pub idle-start : (animals : ℕ) (chunks : List ℕ) → animals ≤ 64 * length chunks → ((d : ℕ) → mark chunks d ≡ 0) → IsIdle animals (replicate animals 0) chunks
+pub idle-start : (animals : ℕ) (chunks : List ℕ) → animals ≤ 64 * length chunks → ((d : ℕ) → mark chunks d ≡ 0) → AreIdle animals (replicate animals 0) chunks
 idle-start animals chunks marks none = record {
   room = let e : length (replicate {A = ℕ} animals 0) ≡ animals = length-replicate animals 0 in omega (arith, e);
   marks = marks;

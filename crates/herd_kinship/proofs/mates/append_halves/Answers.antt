@@ -5,14 +5,13 @@ use Rattle.herd_frozen.specs.declared.TheConstants.{DEPTH_LIMIT, MOST_ANIMALS}
 use Rattle.herd_kinship.specs.CalfCoefficients.{with_half}
 use Rattle.herd_kinship.specs.Columns.{at_parent}
 use Rattle.herd_kinship.specs.declared.calf_coefficients.CalfCoefficient.{CalfCoefficient}
-use Rattle.herd_kinship.proofs.lemmas.books.ParentsFacts.{parents-dam, parents-within}
-use Rattle.herd_kinship.proofs.lemmas.sires.CalfFacts.{dam-older}
+use Rattle.herd_kinship.proofs.lemmas.books.ParentsFacts.{parents-dam}
+use Rattle.herd_kinship.proofs.lemmas.sires.CalfFacts.{dam-within}
 use Rattle.herd_kinship.proofs.mates.append_halves.Goals as goal
 
 pub with_parent-numerator-requires : goal.with_parent-numerator-requires
 with_parent-numerator-requires g c = λ d e.
-    let lower = dam-older DEPTH_LIMIT MOST_ANIMALS c.args.frozen.now c.in-Some.rank c.parents.result c.parents.ensures.frozen c.parents.ensures.parents d e in
-    let here = parents-within c.args.frozen.now c.in-Some.rank c.parents.result c.parents.ensures.parents in
+    let within = dam-within DEPTH_LIMIT MOST_ANIMALS c.args.frozen.now c.in-Some.rank c.parents.result c.parents.ensures.frozen c.parents.ensures.parents d e in
     let column = c.requires.column in
     omega arith
 

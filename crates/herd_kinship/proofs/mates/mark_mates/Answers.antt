@@ -5,15 +5,14 @@ use Rattle.herd_frozen.specs.declared.TheConstants.{DEPTH_LIMIT, MOST_ANIMALS}
 use Rattle.herd_kinship.specs.Pending.{mark}
 use Rattle.herd_kinship.specs.Ranks.{dam_rank}
 use Rattle.herd_kinship.specs.Tracing.{GivesMark}
-use Rattle.herd_kinship.proofs.lemmas.books.ParentsFacts.{parents-dam, parents-within}
-use Rattle.herd_kinship.proofs.lemmas.sires.CalfFacts.{dam-older}
+use Rattle.herd_kinship.proofs.lemmas.books.ParentsFacts.{parents-dam}
+use Rattle.herd_kinship.proofs.lemmas.sires.CalfFacts.{dam-within}
 use Rattle.herd_kinship.proofs.lemmas.sires.Collecting.{gives-from, gives-it, gives-kept, gives-room}
 use Rattle.herd_kinship.proofs.mates.mark_mates.Goals as goal
 
 pub mark_parent-requires-clause-older : goal.mark_parent-requires-clause-older
 mark_parent-requires-clause-older g c = λ d e.
-    let lower = dam-older DEPTH_LIMIT MOST_ANIMALS c.args.frozen.now c.in-Some.calf c.parents.result c.parents.ensures.frozen c.parents.ensures.parents d e in
-    let here = parents-within c.args.frozen.now c.in-Some.calf c.parents.result c.parents.ensures.parents in
+    let within = dam-within DEPTH_LIMIT MOST_ANIMALS c.args.frozen.now c.in-Some.calf c.parents.result c.parents.ensures.frozen c.parents.ensures.parents d e in
     let last = c.requires.last in
     omega arith
 

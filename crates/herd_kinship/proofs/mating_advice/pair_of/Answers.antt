@@ -5,7 +5,7 @@ use Rattle.herd_frozen.specs.declared.TheConstants.{DEPTH_LIMIT}
 use Rattle.herd_frozen.specs.rules.Book.{is_there}
 use Rattle.herd_frozen.specs.freezing.Frozen.{book_of, depth_at}
 use Rattle.herd_kinship.specs.Mating.{is_deepest}
-use Rattle.herd_kinship.proofs.lemmas.books.FrozenDepths.{depth_at-row}
+use Rattle.herd_kinship.proofs.lemmas.books.ParentsFacts.{parents-depth}
 use Rattle.herd_kinship.proofs.lemmas.advice.MatingFacts.{sire-missing, dam-missing, sire-not_male, dam-not_female, too-deep, no-fault, rank-there, rank-within, rank-number, deepest-true, deepest-false}
 use Rattle.herd_kinship.proofs.mating_advice.pair_of.Given.{Over}
 use Rattle.herd_kinship.proofs.mating_advice.pair_of.Goals.{In-Some-rank, After-max-deeper}
@@ -31,8 +31,8 @@ there g c = (
 deeper : (g : Over) (c : After-max-deeper g) → c.max-deeper.result ≡ max (depth_at c.args.frozen.now c.in-Some.sire_rank) (depth_at c.args.frozen.now c.in-Some-rank.dam_rank)
 deeper g c =
     rw (
-      depth_at-row c.args.frozen.now c.in-Some.sire_rank c.row.result c.row.ensures.row,
-      depth_at-row c.args.frozen.now c.in-Some-rank.dam_rank c.row-2.result c.row-2.ensures.row,
+      parents-depth c.args.frozen.now c.in-Some.sire_rank c.parents.result c.parents.ensures.parents,
+      parents-depth c.args.frozen.now c.in-Some-rank.dam_rank c.parents-2.result c.parents-2.ensures.parents,
     ) c.max-deeper.ensures
 
 pub returns-then-not-is_male-clause-fault : goal.returns-then-not-is_male-clause-fault

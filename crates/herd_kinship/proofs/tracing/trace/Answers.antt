@@ -1,14 +1,99 @@
--- `trace`: its clauses `value` and `unknown`.
-use Rattle.std.proofs.Common.{sym, ◌∙◌}
+-- `trace`: what `start` and `term` require, its loop, that nothing overflows, and its clauses `value` and `unknown`.
+use Rattle.std.proofs.Common.{◌≡◌, ℕ, lit<, false, is_some, true, Some, arith, sym, ◌∙◌}
 use Rattle.herd_frozen.specs.declared.TheConstants.{DEPTH_LIMIT, MOST_ANIMALS}
-use Rattle.herd_kinship.proofs.lemmas.tracing.KnownFacts.{entry-row_unknown, row-known}
+use Rattle.herd_kinship.proofs.lemmas.books.FrozenDepths.{depth-at_most}
+use Rattle.herd_kinship.proofs.lemmas.books.FrozenFacts.{frozen-few}
+use Rattle.herd_kinship.proofs.lemmas.sires.CalfFacts.{calf-pair, if-none, if-some, pair-known}
+use Rattle.herd_kinship.proofs.lemmas.tracing.KnownFacts.{entry-one_unknown}
+use Rattle.herd_kinship.proofs.lemmas.tracing.TermSums.{IsAdded, added, summed-start, summed-end}
+use Rattle.herd_kinship.proofs.lemmas.tracing.UnderWayFacts.{met-no_deeper}
+use Rattle.herd_kinship.proofs.tracing.trace.Given.{Over}
+use Rattle.herd_kinship.proofs.tracing.trace.Goals.{In-Some}
 use Rattle.herd_kinship.proofs.tracing.trace.Goals as goal
 
-pub returns-else-has_both_parents-clause-value : goal.returns-else-has_both_parents-clause-value
-returns-else-has_both_parents-clause-value g c =
-    sym (entry-row_unknown DEPTH_LIMIT MOST_ANIMALS c.args.frozen.now c.row-row.ensures.frozen c.args.rank c.row-row.result c.row-row.ensures.row
-    (sym c.has_both_parents.ensures ∙ c.if-has_both_parents.false))
+pub meet_next-requires-clause-known : goal.meet_next-requires-clause-known
+meet_next-requires-clause-known g c = rw c.loop-met.invariant.same c.requires.known
 
-pub returns-then-has_both_parents-clause-unknown : goal.returns-then-has_both_parents-clause-unknown
-returns-then-has_both_parents-clause-unknown g c = λ none.
-    absurd (row-known DEPTH_LIMIT MOST_ANIMALS c.args.frozen.now c.row-row.ensures.frozen c.args.rank c.row-row.result c.row-row.ensures.row (sym c.has_both_parents.ensures ∙ c.if-has_both_parents.true) none)
+pub loop-met-init : goal.loop-met-init
+loop-met-init g c =
+    let start = summed-start DEPTH_LIMIT MOST_ANIMALS c.args.frozen.now c.start-depth.ensures.tracing.tracing.book c.args.rank c.requires.rank in
+    record {
+      same = c.start-depth.ensures.rank;
+      tracing = c.start-depth.ensures.tracing;
+      summed = rw (c.start-depth.ensures.rank, c.start-depth.ensures.border) start;
+    }
+
+pub overflow_mul-steps : goal.overflow_mul-steps
+overflow_mul-steps g c =
+    let shallow = depth-at_most DEPTH_LIMIT MOST_ANIMALS c.args.frozen.now c.start-depth.ensures.tracing.tracing.book c.args.rank c.requires.rank in
+    let depth = c.start-depth.ensures.depth in
+    omega arith
+
+pub overflow_mul-steps-in-Some : goal.overflow_mul-steps-in-Some
+overflow_mul-steps-in-Some g c =
+    let met = c.in-Some.ensures.met in
+    let shallow = depth-at_most DEPTH_LIMIT MOST_ANIMALS c.args.frozen.now c.loop-met.invariant.tracing.tracing.book c.in-Some.met.rank met.within in
+    omega (arith, met.depth, shallow)
+
+pub overflow_sub-steps : goal.overflow_sub-steps
+overflow_sub-steps g c =
+    let less =
+    met-no_deeper DEPTH_LIMIT c.args.frozen.now c.loop-met.tracing.rank c.loop-met.tracing.border c.start-depth.result c.in-Some.met
+    (rw c.loop-met.invariant.same c.start-depth.ensures.depth) c.in-Some.ensures.next c.in-Some.ensures.met in
+    omega (arith, less)
+
+-- what is added for the ancestor that is met
+met : (g : Over) (c : In-Some g) →
+    IsAdded DEPTH_LIMIT c.args.frozen.now c.loop-met.tracing.rank c.in-Some.met.rank c.in-Some.met.variance c.in-Some.met.share c.loop-met.sum
+    c.start-depth.result c.in-Some.met.depth
+met g c =
+    let rows = c.args.frozen.now in
+    let x : ℕ = c.loop-met.tracing.rank in
+    added DEPTH_LIMIT MOST_ANIMALS rows c.loop-met.invariant.tracing.tracing.book x c.loop-met.invariant.tracing.tracing.rank c.loop-met.tracing.border c.in-Some.met.rank c.in-Some.met.variance c.in-Some.met.share c.loop-met.sum
+    c.start-depth.result c.in-Some.met.depth (lit< tt) (lit< tt) (rw c.loop-met.invariant.same c.start-depth.ensures.depth) c.in-Some.ensures.met.within c.in-Some.ensures.met.depth c.in-Some.ensures.next c.in-Some.ensures.met.variance c.loop-met.invariant.summed
+
+pub term-sum-requires-clause-shift : goal.term-sum-requires-clause-shift
+term-sum-requires-clause-shift g c = (met g (goal.at.term-sum-requires-clause-shift g c).In-Some).shift
+
+pub term-sum-requires-clause-fits : goal.term-sum-requires-clause-fits
+term-sum-requires-clause-fits g c = (met g (goal.at.term-sum-requires-clause-fits g c).In-Some).fits
+
+pub overflow_add-sum : goal.overflow_add-sum
+overflow_add-sum g c =
+    let fits = (met g (goal.at.overflow_add-sum g c).In-Some).sum_fits in
+    rw c.term-sum.ensures (omega (arith, fits))
+
+pub loop-met-preserved : goal.loop-met-preserved
+loop-met-preserved g c =
+    let rank : c.meet_next.new.self.rank ≡ c.loop-met.tracing.rank = c.meet_next.ensures.same in
+    record {
+      same = rank ∙ c.loop-met.invariant.same;
+      tracing = c.meet_next.ensures.tracing;
+      summed = rw (rank, c.in-Some.ensures.border, c.term-sum.ensures) (met g (goal.at.loop-met-preserved g c).In-Some).summed;
+    }
+
+pub returns-clause-value : goal.returns-clause-value
+returns-clause-value g c =
+    let x : ℕ = c.loop-met.tracing.rank in
+    rw (← c.loop-met.invariant.same)
+    (summed-end DEPTH_LIMIT MOST_ANIMALS c.args.frozen.now c.parents.ensures.frozen x c.loop-met.invariant.tracing.tracing.rank c.loop-met.tracing.border c.loop-met.sum
+    c.in_default.ensures.all c.loop-met.invariant.summed)
+
+pub returns-clause-unknown : goal.returns-clause-unknown
+returns-clause-unknown g c = λ unknown.
+    let rows = c.args.frozen.now in
+    let parents = c.parents.result in
+    let some : is_some c.sire_of_pair.result ≡ true = cc in
+    let sire = if-some (λ s. parents.sire ≡ Some s) c.sire_of_pair.result some c.sire_of_pair.ensures.sire in
+    let dam = if-some (λ s. is_some parents.dam ≡ true) c.sire_of_pair.result some c.sire_of_pair.ensures.dam in
+    let pair = calf-pair rows c.args.rank sire.0 parents c.parents.ensures.parents sire.1 dam.1 in
+    pair-known rows sire.0 c.args.rank pair unknown
+
+pub returns-then-is_none-clause-value : goal.returns-then-is_none-clause-value
+returns-then-is_none-clause-value g c =
+    let none : is_some c.sire_of_pair.result ≡ false = cc in
+    sym (entry-one_unknown DEPTH_LIMIT MOST_ANIMALS c.args.frozen.now c.parents.ensures.frozen c.args.rank c.parents.result c.parents.ensures.parents
+    (if-none c.sire_of_pair.result none c.sire_of_pair.ensures.unknown))
+
+pub overflow_add-rank : goal.overflow_add-rank
+overflow_add-rank g c = let few = frozen-few DEPTH_LIMIT MOST_ANIMALS c.args.frozen.now c.parents.ensures.frozen in let within = c.requires.rank in omega arith

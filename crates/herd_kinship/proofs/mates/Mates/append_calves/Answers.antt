@@ -14,7 +14,7 @@ use Rattle.herd_kinship.proofs.mates.Mates.append_calves.Goals as goal
 pub append_halves-requires-clause-calves : goal.append_halves-requires-clause-calves
 append_halves-requires-clause-calves g c =
     let rows = c.args.frozen.now in
-    subst (λ xs. All (λ calf. calf < length rows) xs) (sym c.of_sire-3.ensures) (below-within rows c.args.sire (length rows))
+    subst (λ xs. All (λ calf. calf < length rows) xs) (sym c.of_sire.ensures) (below-within rows c.args.sire (length rows))
 
 pub returns-clause-calves : goal.returns-clause-calves
 returns-clause-calves g c =
@@ -23,14 +23,14 @@ returns-clause-calves g c =
     let old = c.args.list.now.items in
     let new = c.append_halves.new.list.items in
     let values = c.in_ok-relate_to.ensures.halves in
-    IfOk-weaker c.append_halves.result (λ _. new ≡ old ++ map make c.of_sire-3.result) (λ _. GoesOnWith rows (λ s. s ≡ c.args.sire) (coefficient_at DEPTH_LIMIT rows) old new)
-    (λ _ push. goes-on rows c.args.sire (coefficient_at DEPTH_LIMIT rows) make old new (λ x. refl) (λ x calf. rw c.deref.ensures.value (values x calf)) (push ∙ ap (λ xs. old ++ map make xs) c.of_sire-3.ensures))
+    IfOk-weaker c.append_halves.result (λ _. new ≡ old ++ map make c.of_sire.result) (λ _. GoesOnWith rows (λ s. s ≡ c.args.sire) (coefficient_at DEPTH_LIMIT rows) old new)
+    (λ _ push. goes-on rows c.args.sire (coefficient_at DEPTH_LIMIT rows) make old new (λ x. refl) (λ x calf. rw c.deref.ensures.value (values x calf)) (push ∙ ap (λ xs. old ++ map make xs) c.of_sire.ensures))
     c.append_halves.ensures
 
 pub returns-then-is_empty-clause-calves : goal.returns-then-is_empty-clause-calves
 returns-then-is_empty-clause-calves g c =
     let rows = c.args.frozen.now in
     let make : ℕ → CalfCoefficient = λ x. record { rank = x; numerator = coefficient_at DEPTH_LIMIT rows x } in
-    let none = nil_from_length c.of_sire.result (eqb-true _ _ (sym c.is_empty.ensures ∙ c.if-is_empty.true)) in
+    let none = nil_from_length c.of_sire-its_calves.result (eqb-true _ _ (sym c.is_empty.ensures ∙ c.if-is_empty.true)) in
     goes-on rows c.args.sire (coefficient_at DEPTH_LIMIT rows) make c.args.list.now.items c.args.list.now.items (λ x. refl) (λ x _. refl)
-    (sym (append-nil c.args.list.now.items) ∙ ap (λ xs. c.args.list.now.items ++ map make xs) (sym none ∙ c.of_sire.ensures))
+    (sym (append-nil c.args.list.now.items) ∙ ap (λ xs. c.args.list.now.items ++ map make xs) (sym none ∙ c.of_sire-its_calves.ensures))
