@@ -6,4 +6,4 @@ pub mod Passes
 pub mod Writes
 -- the calves of a level's sires
 pub mod SireFacts
-pub mod CrewFacts
+pub mod WorthFacts

@@ -8,7 +8,8 @@ use Rattle.herd_kinship.specs.Coefficients.{coefficient_at}
 abbrev pub block_of : ℕ → ℕ → List ℕ → List ℕ
 block_of len number ranks = take len (drop (number * len) ranks)
 
--- The numerators of a frozen book on the way: there is one for each animal, and those of less depth have their coefficient
+-- The numerators of a frozen book on the way: there is one for each animal, and those of less depth have their
+-- coefficient
 pub record KnowsBelow (l most : ℕ) (rows : List Row) (known : List ℕ) (depth : ℕ) : Type 0 where
   pub frozen : IsFrozen l most rows
   pub each : length known ≡ length rows

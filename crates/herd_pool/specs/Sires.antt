@@ -1,6 +1,5 @@
 -- What is known and computed where a level's sires are gone through. l is the limit of depths.
 use Rattle.std.specs.Prelude.{◌≡◌, ℕ, ◌+◌, ◌/◌, ◌<◌, All, List, count_by, length, min, nat_lt, slice_index, sum_by}
-use Rattle.std.specs.Int.{div_ceil}
 use Rattle.std.specs.List.{range_with_len}
 use Rattle.herd_frozen.specs.declared.freezing.frozen.Row.{Row}
 use Rattle.herd_frozen.specs.freezing.Frozen.{IsFrozen, level_of}
@@ -12,8 +11,8 @@ use Rattle.herd_kinship.specs.declared.calves.Calves.{Calves}
 use Rattle.herd_pool.specs.Levels.{block_of}
 use Rattle.herd_pool.specs.declared.limits.TheConstants.{CALVES_FOR_A_WORKER}
 
--- The numerators of a frozen book on the way: there is one for each animal, and the calves of all sires of less depth have their
--- coefficient
+-- The numerators of a frozen book on the way: there is one for each animal, and the calves of all sires of less depth
+-- have their coefficient
 pub record KnowsCalvesBelow {C : Type 0} (l most : ℕ) (rows : List Row) (calves : Calves C) (known : List ℕ) (depth : ℕ) : Type 0 where
   pub frozen : IsFrozen l most rows
   pub linked : AreCalvesOf rows calves
@@ -51,9 +50,8 @@ busy_among rows depth len n = count_by (λ number. nat_lt 0 (calves_of rows dept
 abbrev pub calves_among : List Row → ℕ → ℕ → ℕ → ℕ
 calves_among rows depth len n = sum_by (calves_of rows depth len) (range_with_len 0 n)
 
--- How many workers a level is worth, at most so many: no more than it has blocks with a sire that has calves, and but one more for
--- each so many calves
-abbrev pub crew_of : List Row → ℕ → ℕ → ℕ → ℕ
-crew_of rows depth len workers =
-    let blocks = div_ceil (length (level_of depth rows)) len in
+-- How many of these workers the first blocks of a level are worth: at most one for each block in which a sire has
+-- calves, and at most one more than their calves divided by CALVES_FOR_A_WORKER
+abbrev pub worth_of : List Row → ℕ → ℕ → ℕ → ℕ → ℕ
+worth_of rows depth len blocks workers =
     min (min workers (busy_among rows depth len blocks)) (1 + calves_among rows depth len blocks / CALVES_FOR_A_WORKER)

@@ -1,15 +1,15 @@
 //! The threads of a level.
 ghost use denote.Param.Send.{Frees, IsSend, IsSync};
 ghost use Rattle.std.specs.Prelude.{◌≡◌, ℕ, ◌+◌, ◌-◌, ◌<◌, ◌≤◌, All, IfOk, IfErr, [], length, vec_capacity, vec_len, get_or, vec_items};
-ghost use Rattle.crossbeam_deque.specs.Handles.{stealer_deque, worker_deque, worker_view};
-ghost use Rattle.herd_pool.specs.Workers.{AreBlocks, IsWorkerOutput, IsStarter, IsBlockPass};
+ghost use Rattle.crossbeam_deque.specs.Handles.{worker_view};
+ghost use Rattle.herd_pool.specs.Workers.{AreBlocks, IsWorkerOutput, IsStarterOf, IsBlockPass};
 ghost use Rattle.herd_pool.specs.declared.pool_fault.PoolFault.{PoolFault};
 
 use crate::pool_fault::PoolFault;
-use crate::queue::{BlockPass, ForWorker, filled};
+use crate::queue::{BlockPass, BlockStealer, ForWorker, filled};
 use crate::starter::{Starter, hire, take_blocks};
 use crate::work::{ComputedBlock, Work};
-use crate::worker::{Task, WorkerOutput, work};
+use crate::worker::{Task, WorkerOutput, steal_blocks};
 use std::alloc::{AllocError, Allocator};
 use std::sync::Wait;
 use std::thread;
@@ -21,8 +21,7 @@ impl<'a, A: Allocator, W: Work<A>> Promise<
     ghost use Rattle.std.specs.Prelude.{IfOk};
     ghost use Rattle.herd_pool.specs.Workers.{IsWorkerOutput};
 
-    ghost kept_by = { λ task result. IfOk result
-        (IsWorkerOutput (W.is_ready task.work.now) (W.is_computed task.work.now) task.stealer.now) };
+    ghost kept_by = { λ task result. IfOk result (IsWorkerOutput W.Work task.work.now task.stealer.now) };
 }
 
 /// A worker's thread, which promises to bring back what its task asks for.
@@ -35,15 +34,15 @@ pub type WorkerThread<'a, W, S, O, A> = PromisedHandle<
 pub fn compute_blocks<R: Threads + Wait + Sync, A: Allocator + Copy + Send + Sync, W: Work<A>>(
     rt: &R,
     alloc: A,
-    on: &W,
+    work: &W,
     count: u32,
     workers: u32,
     idle: Vec<W::Scratch, A>,
 ) -> Result<(Vec<ComputedBlock<W::Output>, A>, Vec<W::Scratch, A>), PoolFault>
-    requires knows { W.knows on.now }
-    requires idle { All (W.is_ready on.now) idle.items }
-    ensures blocks { IfOk result (λ r. AreBlocks (W.is_computed on.now) count r.0.items) }
-    ensures idle { IfOk result (λ r. All (W.is_ready on.now) r.1.items) }
+    requires knows { W.knows work.now }
+    requires idle { All (W.is_ready work.now) idle.items }
+    ensures blocks { IfOk result (λ r. AreBlocks (W.is_computed work.now) count r.0.items) }
+    ensures idle { IfOk result (λ r. All (W.is_ready work.now) r.1.items) }
     ensures one_worker { workers ≤ 1 → IfErr result (λ fault. fault ≡ PoolFault.Memory) }
 {
     let blocks = Vec::new(alloc);
@@ -57,12 +56,8 @@ pub fn compute_blocks<R: Threads + Wait + Sync, A: Allocator + Copy + Send + Syn
         blocks,
         idle,
     };
-    let task = Task {
-        work: on,
-        stealer: &stealer,
-    };
-    let starter = share(rt, alloc, task, starter, workers)?;
-    let Starter { blocks, idle, .. } = take_blocks(rt, alloc, on, starter)?;
+    let starter = share(rt, alloc, work, &stealer, starter, workers)?;
+    let Starter { blocks, idle, .. } = take_blocks(rt, alloc, work, starter)?;
     Ok((blocks, idle))
 }
 
@@ -72,39 +67,34 @@ pub fn compute_blocks<R: Threads + Wait + Sync, A: Allocator + Copy + Send + Syn
 fn share<R: Threads + Wait + Sync, A: Allocator + Copy + Send + Sync, W: Work<A>>(
     rt: &R,
     alloc: A,
-    task: Task<'_, W, A>,
+    work: &W,
+    stealer: &BlockStealer<A>,
     starter: Starter<W::Scratch, W::Output, A>,
     workers: u32,
 ) -> Result<Starter<W::Scratch, W::Output, A>, PoolFault>
-    requires knows { W.knows task.work.now }
-    requires deque { worker_deque starter.queue ≡ stealer_deque task.stealer.now }
-    requires starter { IsStarter (W.is_ready task.work.now) (W.is_computed task.work.now) 0
-        (worker_view starter.queue).pushed starter }
-    ensures starter { IfOk result (IsStarter (W.is_ready task.entry.work.now) (W.is_computed task.entry.work.now) 0
-        (worker_view starter.queue).pushed) }
+    requires knows { W.knows work.now }
+    requires starter { IsStarterOf W.Work work.now stealer.now 0 (worker_view starter.queue).pushed starter }
+    ensures starter { IfOk result (IsStarterOf W.Work work.now stealer.now 0 (worker_view starter.queue).pushed) }
     ensures one_worker { workers ≤ 1 → IfErr result (λ fault. fault ≡ PoolFault.Memory) }
 {
     if workers <= 1 {
         return Ok(starter);
     }
     let threads = workers as usize - 1;
-    let Task { work: on, stealer } = task;
     thread::scope(
         thread::scope_env(),
         rt,
         |scope| -> Result<Starter<W::Scratch, W::Output, A>, PoolFault>
             requires shared { IsSync W.row × IsSync A.row × IsSend A.row × IsSend W.Scratch.row × IsSend W.Output.row
                 × Frees A.Allocator A.dealloc_token }
-            requires knows { W.knows on.now }
-            requires deque { worker_deque starter.queue ≡ stealer_deque stealer.now }
-            requires starter { IsStarter (W.is_ready on.now) (W.is_computed on.now) 0
-                (worker_view starter.queue).pushed starter }
-            ensures { IfOk result (IsStarter (W.is_ready on.entry.now) (W.is_computed on.entry.now) 0
-                (worker_view starter.queue).pushed) }
+            requires knows { W.knows work.now }
+            requires starter { IsStarterOf W.Work work.now stealer.now 0 (worker_view starter.queue).pushed starter }
+            ensures { IfOk result
+                (IsStarterOf W.Work work.entry.now stealer.entry.now 0 (worker_view starter.queue).pushed) }
         {
-            let task = Task { work: on, stealer };
+            let task = Task { work, stealer };
             let (starter, started) = start_all(scope, rt, alloc, task, starter, threads)?;
-            let starter = take_blocks(rt, alloc, on, starter)?;
+            let starter = take_blocks(rt, alloc, work, starter)?;
             Ok(join_all(rt, task, started, starter)?)
         },
     )
@@ -126,12 +116,9 @@ fn start_all<'s, E, R: Wait + Sync, A: Allocator + Copy + Send + Sync, W: Work<A
     PoolFault,
 >
     requires knows { W.knows task.work.now }
-    requires deque { worker_deque starter.queue ≡ stealer_deque task.stealer.now }
-    requires starter { IsStarter (W.is_ready task.work.now) (W.is_computed task.work.now) 0
-        (worker_view starter.queue).pushed starter }
-    ensures deque { IfOk result (λ r. worker_deque r.0.queue ≡ worker_deque starter.queue) }
-    ensures starter { IfOk result (λ r. IsStarter (W.is_ready task.entry.work.now) (W.is_computed task.entry.work.now)
-        (vec_len r.1) (worker_view starter.queue).pushed r.0) }
+    requires starter { IsStarterOf W.Work task.work.now task.stealer.now 0 (worker_view starter.queue).pushed starter }
+    ensures starter { IfOk result (λ r. IsStarterOf W.Work task.entry.work.now task.entry.stealer.now (vec_len r.1)
+        (worker_view starter.queue).pushed r.0) }
     ensures task { IfOk result
         (λ r. (k : ℕ) (d : _) → k < vec_len r.1 → (get_or (vec_items r.1) k d).promise ≡ task.entry) }
 {
@@ -159,18 +146,17 @@ fn start_one<'s, E, R: Wait + Sync, A: Allocator + Copy + Send + Sync, W: Work<A
     ensures task { IfOk result (λ worker. worker.promise ≡ task.entry) }
     ensures fault { IfErr result (λ fault. fault ≡ PoolFault.NoThread) }
 {
-    let Task { work: on, stealer } = task;
+    let Task { work, stealer } = task;
     let started = scope.spawn_with(
         task,
         move || -> Result<WorkerOutput<W::Scratch, W::Output, A>, AllocError>
-            requires knows { W.knows on.now }
+            requires knows { W.knows work.now }
             requires pass { IsBlockPass stealer.now pass [] }
-            requires ready { W.is_ready on.now scratch }
-            ensures { IfOk result
-                (IsWorkerOutput (W.is_ready on.entry.now) (W.is_computed on.entry.now) stealer.entry.now) }
+            requires ready { W.is_ready work.now scratch }
+            ensures { IfOk result (IsWorkerOutput W.Work work.entry.now stealer.entry.now) }
         {
-            let task = Task { work: on, stealer };
-            work(rt, alloc, task, pass, scratch)
+            let task = Task { work, stealer };
+            steal_blocks(rt, alloc, task, pass, scratch)
         },
     );
     match started {
@@ -187,10 +173,9 @@ fn join_all<'s, R: Threads, A: Allocator + Copy, W: Work<A>>(
     mut starter: Starter<W::Scratch, W::Output, A>,
 ) -> Result<Starter<W::Scratch, W::Output, A>, AllocError>
     requires task { (k : ℕ) (d : _) → k < vec_len started → (get_or (vec_items started) k d).promise ≡ task }
-    requires deque { worker_deque starter.queue ≡ stealer_deque task.stealer.now }
-    requires starter { IsStarter (W.is_ready task.work.now) (W.is_computed task.work.now) (vec_len started)
+    requires starter { IsStarterOf W.Work task.work.now task.stealer.now (vec_len started)
         (worker_view starter.queue).pushed starter }
-    ensures { IfOk result (IsStarter (W.is_ready task.entry.work.now) (W.is_computed task.entry.work.now) 0
+    ensures { IfOk result (IsStarterOf W.Work task.entry.work.now task.entry.stealer.now 0
         (worker_view starter.queue).pushed) }
 {
     for worker in started {

@@ -6,23 +6,34 @@ ghost use Rattle.herd_frozen.specs.declared.TheConstants.{DEPTH_LIMIT, MOST_ANIM
 ghost use Rattle.herd_pool.specs.Levels.{block_of};
 
 use herd_frozen::Frozen;
-use std::alloc::Allocator;
+use std::alloc::{AllocError, Allocator};
 
 /// The animals of a depth, cut into blocks.
-#[derive_where(Clone, Copy)]
 pub struct Level<'a, F: Allocator> {
     pub frozen: &'a Frozen<F>,
     /// The steps of the longest path of parents of each of its animals.
     pub depth: u8,
-    /// How many animals a block has, at least 1. The last may have fewer.
+    /// How many animals a block has. The last may have fewer.
     pub block: u32,
+    pub ghost some: { 0 < block },
 }
+
+impl<'a, F: Allocator> Clone for Level<'a, F> {
+    ghost use Rattle.std.specs.Prelude.{◌≡◌};
+
+    ghost is_clone = { λ level copy. copy ≡ level };
+
+    fn clone(&self) -> Result<Level<'a, F>, AllocError> {
+        Ok(*self)
+    }
+}
+
+impl<'a, F: Allocator> Copy for Level<'a, F> {}
 
 impl<'a, F: Allocator> Level<'a, F> {
     /// How many blocks there are.
     pub fn blocks(&self) -> u32
-        requires frozen { IsFrozen DEPTH_LIMIT MOST_ANIMALS self.now.frozen.now }
-        requires block { 0 < self.now.block }
+        requires { IsFrozen DEPTH_LIMIT MOST_ANIMALS self.now.frozen.now }
         ensures { result ≡ div_ceil (length (level_of self.now.depth self.now.frozen.now)) self.now.block }
     {
         let ranks = self.frozen.level(self.depth).len();

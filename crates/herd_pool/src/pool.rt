@@ -1,4 +1,4 @@
-ghost use Rattle.std.specs.Prelude.{◌≡◌, ◌+◌, ◌<◌, ◌≤◌, All, length, IfOk, IfErr, OnOk};
+ghost use Rattle.std.specs.Prelude.{◌≡◌, ◌+◌, ◌≤◌, All, length, IfOk, IfErr, OnOk};
 ghost use Rattle.herd_frozen.specs.declared.TheConstants.{DEPTH_LIMIT, MOST_ANIMALS};
 ghost use Rattle.herd_kinship.specs.Coefficients.{AreCoefficients};
 ghost use Rattle.herd_kinship.specs.Mates.{IsReady};
@@ -71,7 +71,6 @@ fn add_level<
     gate: &G,
 ) -> Result<(), PoolFault>
     requires known { KnowsBelow DEPTH_LIMIT MOST_ANIMALS level.frozen.now known.old level.depth }
-    requires block { 0 < level.block }
     ensures known { OnOk result
         (KnowsBelow DEPTH_LIMIT MOST_ANIMALS level.entry.frozen.now known.new (level.entry.depth + 1)) }
     ensures one_worker { workers ≡ 1 → IfErr result (λ fault. fault ≡ PoolFault.Memory) }
@@ -134,7 +133,6 @@ fn add_calves<R: Threads + Wait + Sync, F: Allocator + Sync, A: Allocator + Copy
 ) -> Result<Vec<Mates<A>, A>, PoolFault>
     requires known { KnowsCalvesBelow DEPTH_LIMIT MOST_ANIMALS level.frozen.now calves.now known.old level.depth }
     requires idle { All (IsReady (length level.frozen.now)) idle.items }
-    requires block { 0 < level.block }
     ensures known { IfOk result
         (λ _. KnowsCalvesBelow DEPTH_LIMIT MOST_ANIMALS level.entry.frozen.now calves.now known.new
         (level.entry.depth + 1)) }
@@ -147,8 +145,8 @@ fn add_calves<R: Threads + Wait + Sync, F: Allocator + Sync, A: Allocator + Copy
         calves,
     };
     let count = level.blocks();
-    let crew = sires.crew(workers);
-    let (blocks, idle) = compute_blocks(rt, alloc, &sires, count, crew, idle)?;
+    let workers = sires.worth(count, workers);
+    let (blocks, idle) = compute_blocks(rt, alloc, &sires, count, workers, idle)?;
     write_calves_of(known, &blocks);
     Ok(idle)
 }

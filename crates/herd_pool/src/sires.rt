@@ -1,10 +1,10 @@
 //! A level whose sires are gone through: each has its relationships with its mates, half of which their calves have for
 //! coefficient.
-ghost use Rattle.std.specs.Prelude.{◌≡◌, ◌<◌};
+ghost use Rattle.std.specs.Prelude.{◌≡◌};
 ghost use Rattle.herd_frozen.specs.declared.TheConstants.{DEPTH_LIMIT, MOST_ANIMALS};
 ghost use Rattle.herd_frozen.specs.freezing.Frozen.{IsFrozen};
 ghost use Rattle.herd_kinship.specs.CalfLinks.{AreCalvesOf};
-ghost use Rattle.herd_pool.specs.Sires.{calves_of, crew_of};
+ghost use Rattle.herd_pool.specs.Sires.{calves_of, worth_of};
 
 use crate::level::Level;
 use crate::limits::CALVES_FOR_A_WORKER;
@@ -22,17 +22,16 @@ pub struct SireLevel<'a, F: Allocator, A: Allocator> {
 }
 
 impl<'a, F: Allocator, A: Allocator> SireLevel<'a, F, A> {
-    /// How many workers it is worth, at most so many: no more than it has blocks with a sire that has calves, and but
-    /// one more for each so many calves.
-    pub fn crew(&self, workers: u32) -> u32
+    /// How many of these workers the first blocks of the level, so many, are worth: at most one for each block in which
+    /// a sire has calves, and at most one more than their calves divided by `CALVES_FOR_A_WORKER`.
+    pub fn worth(&self, blocks: u32, workers: u32) -> u32
         requires frozen { IsFrozen DEPTH_LIMIT MOST_ANIMALS self.now.level.frozen.now }
         requires calves { AreCalvesOf self.now.level.frozen.now self.now.calves.now }
-        requires block { 0 < self.now.level.block }
-        ensures { result ≡ crew_of self.now.level.frozen.now self.now.level.depth self.now.level.block workers }
+        ensures { result ≡ worth_of self.now.level.frozen.now self.now.level.depth self.now.level.block blocks workers }
     {
         let mut busy = 0;
         let mut calves = 0;
-        for number in 0..self.level.blocks() {
+        for number in 0..blocks {
             let more = self.count_calves(number);
             if more > 0 {
                 busy += 1;

@@ -22,16 +22,16 @@ pub struct Starter<S, O, A: Allocator> {
 /// The scratch for one more worker.
 pub fn hire<A: Allocator, W: Work<A>>(
     alloc: A,
-    on: &W,
+    work: &W,
     idle: &mut Vec<W::Scratch, A>,
 ) -> Result<W::Scratch, AllocError>
-    requires { All (W.is_ready on.now) idle.old.items }
-    ensures ready { IfOk result (W.is_ready on.now) }
-    ensures idle { All (W.is_ready on.now) idle.new.items }
+    requires { All (W.is_ready work.now) idle.old.items }
+    ensures ready { IfOk result (W.is_ready work.now) }
+    ensures idle { All (W.is_ready work.now) idle.new.items }
 {
     match idle.pop() {
         Some(scratch) => Ok(scratch),
-        None => on.scratch(alloc),
+        None => work.scratch(alloc),
     }
 }
 
@@ -39,14 +39,14 @@ pub fn hire<A: Allocator, W: Work<A>>(
 pub fn take_blocks<R: Wait, A: Allocator + Copy, W: Work<A>>(
     rt: &R,
     alloc: A,
-    on: &W,
+    work: &W,
     starter: Starter<W::Scratch, W::Output, A>,
 ) -> Result<Starter<W::Scratch, W::Output, A>, AllocError>
-    requires knows { W.knows on.now }
-    requires starter { IsStarter (W.is_ready on.now) (W.is_computed on.now) (worker_view starter.queue).out
-        (worker_view starter.queue).pushed starter }
+    requires knows { W.knows work.now }
+    requires starter { IsStarter W.Work work.now (worker_view starter.queue).out (worker_view starter.queue).pushed
+        starter }
     ensures deque { IfOk result (λ r. worker_deque r.queue ≡ worker_deque starter.queue) }
-    ensures starter { IfOk result (IsStarter (W.is_ready on.now) (W.is_computed on.now) (worker_view starter.queue).out
+    ensures starter { IfOk result (IsStarter W.Work work.now (worker_view starter.queue).out
         (worker_view starter.queue).pushed) }
     ensures each_once { IfOk result (λ r. (worker_view starter.queue).out ≡ 0 → (number : ℕ)
         → count_by (λ n. n == number) (numbers r.blocks.items) ≡ once_below number (worker_view starter.queue).pushed) }
@@ -56,10 +56,10 @@ pub fn take_blocks<R: Wait, A: Allocator + Copy, W: Work<A>>(
         mut blocks,
         mut idle,
     } = starter;
-    let mut scratch = hire(alloc, on, &mut idle)?;
+    let mut scratch = hire(alloc, work, &mut idle)?;
     for _ in rt.forever() {
         match queue.pop_as::<Popped>() {
-            Some(number) => blocks.push(on.compute(alloc, &mut scratch, number)?)?,
+            Some(number) => blocks.push(work.compute(alloc, &mut scratch, number)?)?,
             None => break,
         }
     }

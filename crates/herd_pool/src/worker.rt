@@ -24,7 +24,7 @@ pub struct WorkerOutput<S, O, A: Allocator> {
 }
 
 /// Takes blocks until the queue is empty, and computes each.
-pub fn work<R: Wait, A: Allocator + Copy, W: Work<A>>(
+pub fn steal_blocks<R: Wait, A: Allocator + Copy, W: Work<A>>(
     rt: &R,
     alloc: A,
     task: Task<'_, W, A>,
@@ -34,8 +34,7 @@ pub fn work<R: Wait, A: Allocator + Copy, W: Work<A>>(
     requires knows { W.knows task.work.now }
     requires pass { IsBlockPass task.stealer.now pass [] }
     requires ready { W.is_ready task.work.now scratch }
-    ensures { IfOk result
-        (IsWorkerOutput (W.is_ready task.entry.work.now) (W.is_computed task.entry.work.now) task.entry.stealer.now) }
+    ensures { IfOk result (IsWorkerOutput W.Work task.entry.work.now task.entry.stealer.now) }
 {
     let mut blocks = Vec::new(alloc);
     for _ in rt.forever() {

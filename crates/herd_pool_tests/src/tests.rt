@@ -111,7 +111,7 @@ fn three_workers_enter_before_any_leaves(rt: HostRuntime) -> Result<(), Fail> {
     let gate = AtBlocks(Meeting::of(3, LONG));
     let found = coefficients(&rt, rt.alloc(), &frozen, 3, 1, &gate)?;
     assert_eq!(rt; found.list(), [0, 0, 0].as_slice());
-    assert!(rt; !gate.0.is_late());
+    assert!(rt; gate.0.is_met());
     Ok(())
 }
 
@@ -126,7 +126,7 @@ fn two_workers_trace_at_once(rt: HostRuntime) -> Result<(), Fail> {
         };
         let found = coefficients(&rt, rt.alloc(), &frozen, 2, 1, &gate)?;
         assert_eq!(rt; found.list(), FIVE_GENERATIONS.as_slice());
-        assert!(rt; !gate.meeting.is_late());
+        assert!(rt; gate.meeting.is_met());
     }
     Ok(())
 }
@@ -144,7 +144,7 @@ fn expect_traced_where_entered<R: Threads + Wait + Abort + Sync>(
     for block in 0..2 {
         let gate = OtherHeld::of(level, block, length, LONG);
         coefficients(rt, alloc, frozen, 2, length, &gate)?;
-        assert!(rt; !gate.is_late(), "level {level}, block {block}");
+        assert!(rt; gate.is_met(), "level {level}, block {block}");
     }
     Ok(())
 }
@@ -170,7 +170,7 @@ fn one_worker_waits_in_vain(rt: HostRuntime) -> Result<(), Fail> {
     };
     let found = coefficients(&rt, rt.alloc(), &frozen, 1, 1, &gate)?;
     assert_eq!(rt; found.list(), FIVE_GENERATIONS.as_slice());
-    assert!(rt; gate.meeting.is_late());
+    assert!(rt; !gate.meeting.is_met());
     Ok(())
 }
 
@@ -181,7 +181,7 @@ fn a_free_worker_takes_the_next_block(rt: HostRuntime) -> Result<(), Fail> {
     let gate = ThirdFirst(Meeting::of(1, LONG));
     let found = coefficients(&rt, rt.alloc(), &frozen, 2, 1, &gate)?;
     assert_eq!(rt; found.list(), [0, 0, 0].as_slice());
-    assert!(rt; !gate.0.is_late());
+    assert!(rt; gate.0.is_met());
     Ok(())
 }
 
@@ -221,24 +221,5 @@ fn memory_refused_to_a_tracing(rt: HostRuntime) -> Result<(), Fail> {
         let found = coefficients(&rt, rt.alloc(), &frozen, 2, 1, &gate)?;
         assert_eq!(rt; found.list(), FIVE_GENERATIONS.as_slice());
     }
-    Ok(())
-}
-
-// Where memory was refused, a second call gives the list.
-#[test]
-fn once_more_with_memory(rt: HostRuntime) -> Result<(), Fail> {
-    let Ok(frozen) = generations(rt.alloc(), 5) else {
-        return Ok(());
-    };
-    let found = match coefficients(&rt, rt.alloc(), &frozen, 2, 1, &NoGate) {
-        Ok(found) => found,
-        Err(_) => coefficients(&rt, rt.alloc(), &frozen, 2, 1, &NoGate)?,
-    };
-    assert_eq!(rt; found.list(), FIVE_GENERATIONS.as_slice());
-    let found = match coefficients_by_sires(&rt, rt.alloc(), &frozen, 2, 1) {
-        Ok(found) => found,
-        Err(_) => coefficients_by_sires(&rt, rt.alloc(), &frozen, 2, 1)?,
-    };
-    assert_eq!(rt; found.list(), FIVE_GENERATIONS.as_slice());
     Ok(())
 }

@@ -24,9 +24,9 @@ impl Meeting {
         }
     }
 
-    /// Someone has waited for all turns, and fewer have come.
-    pub(crate) fn is_late(&self) -> bool {
-        self.late.load(Ordering::SeqCst)
+    /// So many have come, and nobody has waited for all turns before.
+    pub(crate) fn is_met(&self) -> bool {
+        self.arrived.load(Ordering::SeqCst) >= self.expected && !self.late.load(Ordering::SeqCst)
     }
 
     fn arrive(&self) {
@@ -130,9 +130,9 @@ impl OtherHeld {
         }
     }
 
-    /// Someone has waited for all turns, in vain.
-    pub(crate) fn is_late(&self) -> bool {
-        self.entered.is_late() || self.traced.is_late()
+    /// Both blocks were entered and all animals of the one traced, and nobody has waited in vain.
+    pub(crate) fn is_met(&self) -> bool {
+        self.entered.is_met() && self.traced.is_met()
     }
 }
 
@@ -172,7 +172,7 @@ pub struct Counts {
     block: u32,
     entered: Vec<AtomicU64>,
     traced: Vec<AtomicU64>,
-    /// Blocks and animals beyond these, and animals of blocks that hadn't begun.
+    /// Blocks beyond those of their level, animals beyond these, and animals of blocks that hadn't begun.
     others: AtomicU64,
 }
 
@@ -215,6 +215,10 @@ impl Counts {
 
 impl Gate for Counts {
     fn enter(&self, level: u8, block: u32) {
+        if block >= self.blocks_of_level {
+            self.others.fetch_add(1, Ordering::SeqCst);
+            return;
+        }
         let before = self.blocks_of_level.wrapping_mul(u32::from(level));
         self.count(&self.entered, before.wrapping_add(block));
     }

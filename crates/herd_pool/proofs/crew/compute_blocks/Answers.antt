@@ -6,7 +6,7 @@ use Rattle.herd_pool.proofs.crew.compute_blocks.Goals as goal
 
 pub returns-clause-blocks : goal.returns-clause-blocks
 returns-clause-blocks g c =
-    let begun = c.in_ok-starter.ensures.starter.view in
+    let begun = c.in_ok-starter.ensures.starter.starter.view in
     let pushed = ap (λ (v : PassView). v.pushed) begun ∙ ap (λ (v : PassView). v.pushed) c.in_ok-queue.ensures.view in
     record {
       each_once = λ number. c.in_ok-blocks.ensures.each_once (ap (λ (v : PassView). v.out) begun) number ∙ ap (once_below number) pushed;

@@ -1,12 +1,11 @@
 use Rattle.std.proofs.Common.{◌≡◌, ℕ, ◌<◌, get_or, vec_capacity, vec_items, vec_len}
-use Rattle.crossbeam_deque.specs.Handles.{worker_deque, worker_view}
-use Rattle.herd_pool.specs.Workers.{IsStarter}
+use Rattle.crossbeam_deque.specs.Handles.{worker_view}
+use Rattle.herd_pool.specs.Workers.{IsStarterOf}
 use Rattle.herd_pool.proofs.crew.start_all.Given as goal
 
 abbrev pub invariant-loop : goal.invariant-loop
 invariant-loop g l = record {
-  deque : worker_deque l.starter.queue ≡ worker_deque l.initial.starter.queue;
-  starter : IsStarter (g.W.Work.is_ready l.task.work.now) (g.W.Work.is_computed l.task.work.now) l.counter (worker_view l.initial.starter.queue).pushed l.starter;
+  starter : IsStarterOf g.W.Work l.task.work.now l.task.stealer.now l.counter (worker_view l.initial.starter.queue).pushed l.starter;
   count : vec_len l.workers ≡ l.counter;
   room : vec_capacity l.workers ≡ vec_capacity l.initial.workers;
   task : (k : ℕ) (d : _) → k < l.counter → (get_or (vec_items l.workers) k d).promise ≡ l.fn.task;

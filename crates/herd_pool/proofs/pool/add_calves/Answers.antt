@@ -28,5 +28,5 @@ returns-clause-known g c =
     let blocks = c.in_ok-blocks.blocks.items in
     let values = blocks_values DEPTH_LIMIT rows level.depth level.block blocks are.computed in
     let wrote = c.write_calves_of.ensures f (subst (λ (bs : List (ComputedBlock (Vec CalfCoefficient _))). All (λ block. HaveValues f block.output.items) bs) (sym c.deref.ensures.value) values) in
-    calves_known DEPTH_LIMIT MOST_ANIMALS rows c.args.calves.now c.args.known.now new level.depth level.block blocks c.requires.block (omega arith) c.requires.known (λ number. are.each_once number ∙ ap (once_below number) c.blocks-count.ensures) are.computed wrote.0
+    calves_known DEPTH_LIMIT MOST_ANIMALS rows c.args.calves.now c.args.known.now new level.depth level.block blocks level.some (omega arith) c.requires.known (λ number. are.each_once number ∙ ap (once_below number) c.blocks-count.ensures) are.computed wrote.0
     (subst (λ (bs : List (ComputedBlock (Vec CalfCoefficient _))). All (λ block. AreWritten f new block.output.items) bs) c.deref.ensures.value wrote.1)

@@ -13,4 +13,4 @@ returns-clause-known g c =
     let rows = level.frozen.now in
     let new = c.write_traced.new.known in
     let written = subst (HasBlocks (coefficient_at DEPTH_LIMIT rows) level.block (level_of level.depth rows) new) c.deref.ensures.value c.write_traced.ensures.written in
-    level_known DEPTH_LIMIT MOST_ANIMALS rows c.args.known.now new level.depth level.block c.in_ok-blocks.blocks.items c.requires.block (omega arith) c.requires.known (λ number. c.in_ok-blocks.ensures.blocks.each_once number ∙ ap (once_below number) c.blocks-count.ensures) c.write_traced.ensures.kept written
+    level_known DEPTH_LIMIT MOST_ANIMALS rows c.args.known.now new level.depth level.block c.in_ok-blocks.blocks.items level.some (omega arith) c.requires.known (λ number. c.in_ok-blocks.ensures.blocks.each_once number ∙ ap (once_below number) c.blocks-count.ensures) c.write_traced.ensures.kept written

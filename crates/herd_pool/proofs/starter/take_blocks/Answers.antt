@@ -17,7 +17,7 @@ loop-preserved g c =
     let was = c.loop.invariant in
     let block = c.in_ok-compute-in-Some-pop_as.field-0 in
     let joined : c.push.new.self.items ≡ c.loop.blocks.items ++ block ∷ [] = search rules in
-    let IsRight : ComputedBlock _ → Type 0 = g.W.Work.is_computed c.args.on.now in
+    let IsRight : ComputedBlock _ → Type 0 = g.W.Work.is_computed c.args.work.now in
     record {
       deque = search rules;
       fifo = search rules;

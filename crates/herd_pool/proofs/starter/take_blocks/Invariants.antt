@@ -11,6 +11,6 @@ invariant-loop g l = record {
   fifo : worker_flavor l.queue ≡ 0;
   first : worker_port l.queue ≡ 0;
   view : worker_view l.queue ≡ pass_view (worker_view l.initial.queue).out (worker_view l.initial.queue).pushed (numbers l.blocks.items);
-  computed : All (g.W.Work.is_computed l.on) l.blocks.items;
-  ready : g.W.Work.is_ready l.on l.scratch;
+  computed : All (g.W.Work.is_computed l.work) l.blocks.items;
+  ready : g.W.Work.is_ready l.work l.scratch;
 }

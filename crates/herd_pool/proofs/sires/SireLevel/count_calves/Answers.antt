@@ -5,7 +5,7 @@ use Rattle.std.proofs.lemmas.List.{take_all}
 use Rattle.std.proofs.lemmas.List.Sums.{sum_by_more, sum_by_more_le}
 use Rattle.herd_kinship.specs.CalfLinks.{calf_count}
 use Rattle.herd_pool.proofs.LevelFacts.{block_of-ranks}
-use Rattle.herd_pool.proofs.CrewFacts.{calves-few}
+use Rattle.herd_pool.proofs.WorthFacts.{calves-few}
 use Rattle.herd_pool.proofs.sires.SireLevel.count_calves.Goals as goal
 
 pub count-calves-requires-clause-sire : goal.count-calves-requires-clause-sire

@@ -1,5 +1,5 @@
--- `SireLevelWork::compute`: what `append_calves` requires and its loop.
-use Rattle.std.proofs.Common.{arith, slice_index, sym, subst}
+-- `SireLevelWork::compute`: what `append_calves` requires, its loop, and its clause `computed`.
+use Rattle.std.proofs.Common.{◌≡◌, ℕ, List, arith, length, slice_index, sym, subst}
 use Rattle.herd_frozen.specs.declared.TheConstants.{DEPTH_LIMIT, MOST_ANIMALS}
 use Rattle.herd_kinship.proofs.lemmas.sires.BySires.{less_deep-ancestors}
 use Rattle.herd_pool.specs.Sires.{AreCalvesAmong}
@@ -37,3 +37,12 @@ loop-sire-preserved g c = record {
   ready = c.in_ok-append_calves.ensures.ready;
   calves = calves_further DEPTH_LIMIT c.args.self.now.level.frozen.now c.ranks-sire-items.result.now c.loop-sire.sire-index c.loop-sire.output.items c.append_calves.new.list.items c.loop-sire.invariant.calves c.in_ok-append_calves.ensures.calves;
 }
+
+pub returns-clause-computed : goal.returns-clause-computed
+returns-clause-computed g c =
+    let rows = c.args.self.now.level.frozen.now in
+    let ranks = c.ranks-sire-items.result.now in
+    let calves = c.loop-sire.output.items in
+    let all : c.loop-sire.sire-index ≡ length ranks = omega arith in
+    subst (λ (xs : List ℕ). AreCalvesAmong DEPTH_LIMIT rows xs (length xs) calves) c.ranks-sire-items.ensures
+    (subst (λ (n : ℕ). AreCalvesAmong DEPTH_LIMIT rows ranks n calves) all c.loop-sire.invariant.calves)

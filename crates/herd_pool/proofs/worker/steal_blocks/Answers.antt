@@ -1,9 +1,9 @@
--- `work`: what `steal_as` requires and its loop.
+-- `steal_blocks`: what `steal_as` requires and its loop.
 use Rattle.std.proofs.Common.{rules, arith, inr, ap, ◌≡◌, ◌++◌, [], ◌∷◌}
 use Rattle.std.proofs.lemmas.List.Elements.{All-push, All-same}
 use Rattle.herd_pool.specs.declared.work.ComputedBlock.{ComputedBlock}
 use Rattle.herd_pool.proofs.Passes.{one_more, takes}
-use Rattle.herd_pool.proofs.worker.work.Goals as goal
+use Rattle.herd_pool.proofs.worker.steal_blocks.Goals as goal
 
 pub steal_as-requires-clause-takes : goal.steal_as-requires-clause-takes
 steal_as-requires-clause-takes g c = let out = ap (λ v. v.out) c.loop.invariant.pass.view in takes _ _ (inr (omega arith))

@@ -1,6 +1,6 @@
 use Rattle.std.proofs.Common.{◌≡◌}
 use Rattle.herd_pool.specs.Sires.{busy_among, calves_among}
-use Rattle.herd_pool.proofs.sires.SireLevel.crew.Given as goal
+use Rattle.herd_pool.proofs.sires.SireLevel.worth.Given as goal
 
 abbrev pub invariant-loop-number : goal.invariant-loop-number
 invariant-loop-number g l = record {

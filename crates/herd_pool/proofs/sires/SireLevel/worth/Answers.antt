@@ -1,9 +1,9 @@
--- `SireLevel::crew`: that nothing overflows and its loop.
+-- `SireLevel::worth`: that nothing overflows and its loop.
 use Rattle.std.proofs.Common.{◌<◌, ◌≤◌, arith}
 use Rattle.herd_pool.specs.Sires.{calves_of}
-use Rattle.herd_pool.proofs.CrewFacts.{busy_among-few, busy_among-no, busy_among-yes, calves_among-few, calves_among-more}
-use Rattle.herd_pool.proofs.sires.SireLevel.crew.Goals.{then-more-gt0, else-more-gt0}
-use Rattle.herd_pool.proofs.sires.SireLevel.crew.Goals as goal
+use Rattle.herd_pool.proofs.WorthFacts.{busy_among-few, busy_among-no, busy_among-yes, calves_among-few, calves_among-more}
+use Rattle.herd_pool.proofs.sires.SireLevel.worth.Goals.{then-more-gt0, else-more-gt0}
+use Rattle.herd_pool.proofs.sires.SireLevel.worth.Goals as goal
 
 pub overflow_add-busy : goal.overflow_add-busy
 overflow_add-busy g c =

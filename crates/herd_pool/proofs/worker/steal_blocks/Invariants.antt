@@ -1,6 +1,6 @@
 use Rattle.std.specs.List.{All}
 use Rattle.herd_pool.specs.Workers.{IsBlockPass, numbers}
-use Rattle.herd_pool.proofs.worker.work.Given as goal
+use Rattle.herd_pool.proofs.worker.steal_blocks.Given as goal
 
 abbrev pub invariant-loop : goal.invariant-loop
 invariant-loop g l = record {
