@@ -37,8 +37,8 @@ standing inside desk =
       shown = state_of inside.copies.writer.desk.shown.value;
     }
 
--- a call was answered: the desk's step stands behind the journal with the reply of one thread, and was counted once; the
--- history that the desk held begins the journal that was there, and now the desk and the slip hold the new one
+-- a call was answered: the desk's step stands behind the journal with the reply of one thread, and was counted once;
+-- the history that the desk held begins the journal that was there, and now the desk and the slip hold the new one
 pub record IsFiled {N : Type 0} (limits : Limits) (command : Command) (old new : Standing) (filed : Filed N) : Type 0 where
   pub stored : new.journal ≡ with_step_of old.journal old.number command filed.reply
   pub reply : filed.reply ≡ answer_after limits old.journal command
@@ -50,8 +50,8 @@ pub record IsFiled {N : Type 0} (limits : Limits) (command : Command) (old new :
   pub slip : filed.slip.history ≡ new.journal
   pub legal : IsLegal limits filed.slip.history
 
--- why a call isn't answered, and the claim that it leaves: where the desk's history isn't longer than the journal, a refused
--- growth leaves the step claimed, and copies give no reading where it isn't
+-- why a call isn't answered, and the claim that it leaves: where the desk's history isn't longer than the journal, a
+-- refused growth leaves the step claimed, and copies give no reading where it isn't
 abbrev pub Refuses : {C : Type 0} → ℕ → Standing → Option C → FileFault → Type 0
 Refuses most old claim JournalFull = length old.journal ≡ most
 Refuses most old claim Memory = (length old.history ≤ length old.journal) × IsSome claim

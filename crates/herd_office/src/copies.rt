@@ -31,7 +31,7 @@ pub struct Held<R: Wait + Drop> {
 impl<R: Wait + Drop> Drop for Held<R> {
     fn drop(self) {
         let Self { writer, rt } = self;
-        drop(writer.take(&rt));
+        free_both(writer, &rt);
     }
 }
 
@@ -43,11 +43,16 @@ impl<R: Wait + Drop> Held<R> {
         Held { writer, rt }
     }
 
-    /// Frees both copies.
+    /// Frees both copies, and waits by this handle for readers that are in one.
     pub fn free<W: Wait>(self, rt: &W) {
         let Held { writer, rt: _own } = self;
-        drop(writer.take(rt));
+        free_both(writer, rt);
     }
+}
+
+// Waits until no reader is in a copy, and frees both.
+fn free_both<W: Wait>(copies: Copies, rt: &W) {
+    drop(copies.take(rt));
 }
 
 /// A pair of these copies, with so many seats for readers.
@@ -81,7 +86,7 @@ fn introduced<R: Wait>(rt: &R, copies: Copies) -> Copies
     publish(copies, rt).0
 }
 
-/// Shows readers a copy that has each operation. It is never refused.
+/// Shows readers a copy to which every appended operation was applied. It always succeeds.
 pub fn publish<R: Wait>(copies: Copies, rt: &R) -> (Copies, Result<(), AllocError>)
     requires { let s = after (state_of copies.desk.shown.value) (drop copies.behind copies.log.items) in
         (office_of s.1 ≡ office_of copies.desk.shown.value.past) × IsTold s.0 s.1 }

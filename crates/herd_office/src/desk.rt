@@ -100,7 +100,7 @@ impl<N: OfficeName> Desk<N> {
     /// Files a command. After a fault the desk is as it was.
     ///
     /// `JournalFull` is told where the journal has as many steps as the limits allow, `Memory` where a growth of memory
-    /// is refused, and `NoReading` where `file_on` tells it: no office meets that.
+    /// is refused, and `NoReading` where `file_on` tells it: no office is known to meet that.
     pub fn file<W: Wait, R: Wait + Drop, A: Allocator + Copy>(
         &mut self,
         rt: &W,

@@ -28,7 +28,7 @@ pub(crate) fn make_desks<N: OfficeName, A: Allocator>(
     let mut desks = Vec::new(alloc);
     for number in 0..count {
         let desk = make_desk(number + 1, rest.split_off(1, 0), history);
-        desks.push(desk).map_err(|_| OpenFault::Memory)?;
+        desks.push(desk)?;
     }
     Ok(desks)
 }
@@ -76,7 +76,7 @@ fn has_none<N: OfficeName>(desks: &[Desk<N>], number: u16) -> bool
     }
 }
 
-/// The shares of these desks as one. What the desks have no part of is lent, and tells the ledger.
+/// The shares of these desks as one. The sum begins with an empty share, which `rest` gives.
 pub(crate) fn share_of_all<N: OfficeName, A: Allocator>(
     mut desks: Vec<Desk<N>, A>,
     rest: &mut Share<N>,

@@ -9,7 +9,7 @@ use crate::copy_update::CopyUpdate;
 use crate::desk::{Desk, Filed};
 use crate::inside::Inside;
 use crate::name::OfficeName;
-use herd_register::{Command, FileFault, MOST_STEPS, Register, Step};
+use herd_register::{Command, FileFault, Register, Step};
 use std::alloc::Allocator;
 use std::sync::Wait;
 
@@ -37,7 +37,6 @@ pub fn file_on<N: OfficeName, W: Wait, R: Wait + Drop, A: Allocator + Copy>(
     if register.is_full() {
         return Err(FileFault::JournalFull);
     }
-    prove!(register.limits().steps <= MOST_STEPS);
     let steps = register.journal().len();
     if !desk.history.begins(&keeper.history) {
         return Err(FileFault::NoReading);
@@ -86,7 +85,5 @@ fn file_in<A: Allocator + Copy>(
         register.withdraw();
         return Err(FileFault::Memory);
     }
-    // `journal` ensures that what it gives is legal; here that is the journal with the step.
-    let _legal = register.journal();
     Ok(step)
 }

@@ -24,7 +24,7 @@ pub struct Inside<N: OfficeName, R: Wait + Drop, A: Allocator = Global> {
     pub(crate) register: Register<A>,
     /// How many calls were answered in all.
     pub(crate) ledger: Book<N>,
-    /// What the desks have no part of: nothing.
+    /// The share of the ledger that no desk has, which is empty.
     pub(crate) rest: Share<N>,
     pub(crate) keeper: Keeper<N>,
     pub(crate) copies: Held<R>,

@@ -16,7 +16,8 @@
 //! journal, and that nothing is pending. One event of the office is one call of `file_on` under the lock: the journal's
 //! end is asked, the step that follows is claimed, the register files the command, the step is appended for the copies,
 //! added to the history and published, and the call is counted. What may be refused comes before the history grows:
-//! where the append is refused, the step is withdrawn.
+//! where the append of the step is refused, the step is withdrawn. Only the append of the grown history comes after, and
+//! it has its room (no clause says so).
 //!
 //! # One history
 //!
@@ -42,7 +43,7 @@
 //! - `close`, and a drop of parts, of an office or of what wasn't closed, wait for inspectors that are reading, and
 //!   free both copies. For the drop the office keeps a handle of its own.
 //! - `open` takes no handle. Where it fails it drops the parts, and waits by the handle that they keep: for nobody,
-//!   since no inspector was handed out.
+//!   since no inspector was handed out (by reading; no clause says so).
 //!
 //! # Names
 //!
@@ -56,11 +57,11 @@
 //! |---|---|---|---|
 //! | a name's parts | `Parts` | `name`, `parts` | |
 //! | opening, closing | `Opening`, `Closing` | `office`, `staff` | `Counting`, `Stored` |
-//! | what lies under the lock; all desks | `Beginnings`, `Histories` | `inside`, `desks` | `Counting`, `Stored` |
+//! | what lies under the lock; all desks | `Beginnings`, `Histories` | `inside`, `desks` | `Counting`, `ListFacts` |
 //! | a desk's call, its slip | `Filing`, `Histories`, `Standing` | `desk`, `filing` | `Stored`, `Counting` |
 //! | the history: its rule, claims, beginnings of it | `Keeping` | `history`, `keeper` | `Claiming`, `Fronts` |
 //! | the readers' copies, what is sent to them | `Copies`, `Shelves` | `copies`, `copy_update`, `shown` | `Sides` |
-//! | reading a copy with no lock | `Copies`, `Keeping` | `inspector` | `Sides`, `Stored` |
+//! | reading a copy with no lock | `Copies`, `Keeping` | `inspector` | `Sides`, `ListFacts` |
 //! | why an office isn't opened or closed, or a copy not frozen; the limits | | `faults`, `limits` | |
 #![tactic(auto)]
 

@@ -83,7 +83,7 @@ impl<N: OfficeName, R: Wait + Drop, A: Allocator + Copy> Office<N, R, A> {
     ///
     /// `DeskMissing` is told exactly where there are fewer desks than were opened, and `InspectorMissing` where there
     /// are enough desks and fewer inspectors than were opened. `NoReading` is told where a history isn't a beginning of
-    /// the journal, or two desks have one number: no office meets it.
+    /// the journal, or two desks have one number: no office is known to meet it.
     pub fn close<W: Wait>(
         self,
         rt: &W,

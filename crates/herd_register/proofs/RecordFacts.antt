@@ -5,6 +5,7 @@ use Rattle.std.specs.List.{list_any, position}
 use Rattle.std.specs.Map.{keys_of}
 use Rattle.std.specs.Str.{bytes_eq}
 use Rattle.std.proofs.lemmas.Bool.{le-ltb, lt-ltb}
+use Rattle.std.proofs.lemmas.List.{length-set}
 use Rattle.std.proofs.lemmas.List.Quantifiers.{position-Some}
 use Rattle.herd_frozen.specs.declared.rules.animal.Animal.{Animal}
 use Rattle.herd_frozen.specs.rules.Book.{Book, changed, is_there, record_of}
@@ -41,11 +42,6 @@ keys_of-set : (book : Book) (place : ℕ) (entry : List ℕ × Animal) (animal :
 keys_of-set [] place entry animal at = refl
 keys_of-set (first ∷ book) zero entry animal at = ap (λ (e : List ℕ × Animal). e.0 ∷ keys_of book) at
 keys_of-set (first ∷ book) (suc place) entry animal at = ap (λ (keys : List (List ℕ)). first.0 ∷ keys) (keys_of-set book place entry animal at)
-
-length-set_at : (book : Book) (place : ℕ) (entry : List ℕ × Animal) → length (set book place entry) ≡ length book
-length-set_at [] place entry = refl
-length-set_at (first ∷ book) zero entry = refl
-length-set_at (first ∷ book) (suc place) entry = ap suc (length-set_at book place entry)
 
 key_at : (book : Book) (place : ℕ) (entry : List ℕ × Animal) → entry ≡ get_or book place entry → entry.0 ≡ get_or (keys_of book) place entry.0
 key_at [] place entry at = refl
@@ -87,5 +83,5 @@ pub AreInRoom-set : {most capacity spare : ℕ} {numbers : List (List ℕ)} (boo
 AreInRoom-set book place entry animal is at = record {
   same_order = is.same_order ∙ sym (keys_of-set book place entry animal at);
   entries_room = is.entries_room;
-  numbers_room = let room = is.numbers_room in rw (length-set_at book place (entry.0, animal)) room;
+  numbers_room = let room = is.numbers_room in rw (length-set book place (entry.0, animal)) room;
 }

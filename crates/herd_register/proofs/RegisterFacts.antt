@@ -1,6 +1,6 @@
 -- What a register keeps, once a step is filed or withdrawn.
 use Rattle.std.proofs.Common.{◌≡◌, ◌<◌, ◌≤◌, true, false, List, [], ◌∷◌, ◌++◌, length, Some, refl, sym, ap, ◌∙◌, subst, arith}
-use Rattle.std.proofs.lemmas.List.{length-append}
+use Rattle.std.proofs.lemmas.List.{length-append, same_from_push}
 use Rattle.herd_frozen.specs.rules.Book.{Book}
 use Rattle.herd_pedigree.specs.Pedigree.{Pedigree}
 use Rattle.herd_register.specs.declared.reply.Reply.{Reply}
@@ -8,7 +8,7 @@ use Rattle.herd_register.specs.declared.reply.Reply.TheVariants.{Accepted, Refus
 use Rattle.herd_register.specs.declared.step.Step.{Step}
 use Rattle.herd_register.specs.Register.{IsRegister, Register, register_of, with_step}
 use Rattle.herd_register.specs.Run.{answer, commands_of, IsLegal, next, run_book}
-use Rattle.herd_register.proofs.RunLemmas.{append-apart, IsLegal-append, IsLegal-front, length-run_book, next-answered, run_book-append}
+use Rattle.herd_register.proofs.RunLemmas.{IsLegal-append, IsLegal-front, length-run_book, next-answered, run_book-append}
 
 -- the book has at most as many animals as the limits allow
 pub few_animals : (register : Register) (pedigree : Pedigree) → IsRegister register pedigree → length pedigree.book ≤ register.limits.animals
@@ -26,7 +26,7 @@ IsRegister-with_step register old new step is room reply book before =
       before = λ _. record {
         some = rw (length-append steps (step ∷ [])) (omega arith);
         book = λ earlier last whole accepted.
-            let apart = append-apart steps earlier step last whole in
+            let apart = same_from_push steps earlier step last whole in
             let was : step.reply ≡ Accepted = ap (λ (s : Step). s.reply) apart.1 ∙ accepted in
             before was ∙ ap Some (is.book ∙ ap (λ (s : List Step). run_book limits (commands_of s)) apart.0);
       };

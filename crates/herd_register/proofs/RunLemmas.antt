@@ -1,6 +1,6 @@
 -- Runs of one command more, and of legal steps.
 use Rattle.std.proofs.Common.{◌≡◌, ◌≤◌, List, [], ◌∷◌, ◌++◌, length, Option, None, Some, refl, sym, ap, ◌∙◌, arith}
-use Rattle.std.proofs.lemmas.List.{length-append, map-append}
+use Rattle.std.proofs.lemmas.List.{length-append, map-append, same_from_push}
 use Rattle.herd_frozen.specs.rules.Book.{Book, with_left, with_owner, with_parents}
 use Rattle.herd_frozen.proofs.lemmas.rules.BookFacts.{length-changed}
 use Rattle.herd_register.specs.declared.command.Command.{Command}
@@ -55,22 +55,10 @@ IsLegal-append limits steps step legal is =
     ∙ (ap (λ reply. run_replies limits (commands_of steps) ++ reply ∷ []) is
     ∙ sym (run_replies-append limits steps step)))
 
--- two lists that are equal are equal but for their last elements, and these are
-pub append-apart : {A : Type 0} (xs ys : List A) (x y : A) → xs ++ x ∷ [] ≡ ys ++ y ∷ [] → (xs ≡ ys) × (x ≡ y)
-append-apart [] [] x y e = (refl, cc (e))
-append-apart [] (b ∷ []) x y e = absurd (cc (e))
-append-apart [] (b ∷ c ∷ ys) x y e = absurd (cc (e))
-append-apart (a ∷ []) [] x y e = absurd (cc (e))
-append-apart (a ∷ b ∷ xs) [] x y e = absurd (cc (e))
-append-apart (a ∷ xs) (b ∷ ys) x y e =
-    let heads : a ≡ b = cc (e) in
-    let rest = append-apart xs ys x y (cc (e)) in
-    (cc (heads, rest.0), rest.1)
-
 -- legal steps are legal without the last, which was answered as one thread answers it
 pub IsLegal-front : (limits : Limits) (steps : List Step) (step : Step) → IsLegal limits (steps ++ step ∷ []) → IsLegal limits steps × (step.reply ≡ answer limits (run_book limits (commands_of steps)) step.command)
 IsLegal-front limits steps step legal =
-    append-apart (replies_of steps) (run_replies limits (commands_of steps)) step.reply (answer limits (run_book limits (commands_of steps)) step.command)
+    same_from_push (replies_of steps) (run_replies limits (commands_of steps)) step.reply (answer limits (run_book limits (commands_of steps)) step.command)
     (sym (replies_of-append steps step) ∙ (legal ∙ run_replies-append limits steps step))
 
 -- a birth that has no fault is of a new number, and finds room

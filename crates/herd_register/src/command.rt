@@ -7,7 +7,7 @@ use herd_frozen::Animal;
 /// What a clerk files.
 #[derive(Clone, Copy, Debug, PartialEq, Eq)]
 pub enum Command {
-    /// An animal is born, or is the first known of its line.
+    /// An animal is born, or enters the book as a founder, whose parents are unknown.
     Birth {
         /// The number that it gets.
         animal: AnimalNumber,

@@ -1,4 +1,5 @@
 ghost use Rattle.std.specs.Prelude.{◌<◌, ◌≤◌, IsFalse, IsTrue};
+ghost use Rattle.herd_register.specs.declared.limits.TheConstants.{MOST_STEPS};
 
 use std::marker::Model;
 
@@ -31,6 +32,7 @@ impl Limits {
     pub(crate) fn are_reached_by(&self, steps: usize) -> bool
         ensures full { IsTrue result → self.now.steps ≤ steps }
         ensures room { IsFalse result → steps < self.now.steps }
+        ensures few { IsFalse result → steps < MOST_STEPS }
     {
         steps >= self.steps as usize
     }

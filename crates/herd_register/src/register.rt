@@ -1,5 +1,6 @@
 ghost use Rattle.std.specs.Option.{option_copied};
-ghost use Rattle.std.specs.Prelude.{◌≡◌, ◌≢◌, ◌≤◌, ◌↔◌, IsTrue, IfOk, OnErr, OnOk, length};
+ghost use Rattle.std.specs.Prelude.{◌≡◌, ◌≢◌, ◌<◌, ◌≤◌, ◌↔◌, IsFalse, IsTrue, IfOk, OnErr, OnOk, length};
+ghost use Rattle.herd_register.specs.declared.limits.TheConstants.{MOST_STEPS};
 ghost use Rattle.herd_register.specs.declared.reply.Refusal.{Refusal};
 ghost use Rattle.herd_register.specs.Register.{register_book, new_register, step_at, with_step, without_last_step};
 ghost use Rattle.herd_register.specs.Run.{IsLegal, answer, next, step_of};
@@ -55,6 +56,7 @@ impl<A: Allocator + Copy> Register<A> {
         ensures reply { IfOk result (λ reply. reply ≡ answer self.old.limits (register_book self.old) command) }
         ensures stored { IfOk result (λ reply. self.new ≡ with_step self.old (step_of desk command reply)) }
         ensures book { OnOk result (register_book self.new ≡ next self.old.limits (register_book self.old) command) }
+        ensures legal { OnOk result (IsLegal self.new.limits self.new.journal) }
         ensures refused { (refusal : Refusal) → result ≡ Ok (Reply.Refused refusal)
             → register_book self.new ≡ register_book self.old }
 
@@ -112,7 +114,8 @@ impl<A: Allocator> Register<A> {
 
     /// Whether the journal has as many steps as the limits allow.
     pub fn is_full(&self) -> bool
-        ensures { IsTrue result ↔ (length self.now.journal ≡ self.now.limits.steps) }
+        ensures full { IsTrue result ↔ (length self.now.journal ≡ self.now.limits.steps) }
+        ensures room { IsFalse result → length self.now.journal < MOST_STEPS }
     {
         self.limits.are_reached_by(self.journal.len())
     }

@@ -62,8 +62,7 @@ pub fn file_beside<N: OfficeName + Send + Sync, R: Threads + Wait + Clock + Sync
 }
 
 // Files the births from one place to before another, and times each call. The desk, how many were accepted, and what
-// the
-// calls took.
+// the calls took.
 fn file_timed<N: OfficeName, R: Wait + Clock>(
     rt: &R,
     office: &Office<N, &R>,
