@@ -7,7 +7,7 @@ ghost use Rattle.herd_report.specs.writing.Certificate.{ancestor_line, ancestors
 
 use crate::writing::output::Text;
 use herd_animal::AnimalNumber;
-use herd_frozen::{Frozen, Row};
+use herd_frozen::{Frozen, Parents};
 use std::alloc::{AllocError, Allocator};
 
 /// One of an animal's two parents.
@@ -48,12 +48,12 @@ impl Parent {
     }
 
     // Its rank in the book, where it is known.
-    fn rank_in(self, row: &Row) -> Option<u32>
-        ensures { result ≡ parent_rank self row.now }
+    fn rank_in(self, parents: Parents) -> Option<u32>
+        ensures { result ≡ parent_rank self parents }
     {
         match self {
-            Sire => row.sire,
-            Dam => row.dam,
+            Sire => parents.sire,
+            Dam => parents.dam,
         }
     }
 }
@@ -125,7 +125,7 @@ fn ancestor<F: Allocator>(frozen: &Frozen<F>, start: u32, path: &[Parent]) -> Op
 {
     let mut rank = start;
     for parent in path {
-        rank = parent.rank_in(&frozen.row(rank))?;
+        rank = parent.rank_in(frozen.parents(rank))?;
     }
-    Some(frozen.row(rank).number)
+    Some(frozen.number(rank))
 }

@@ -38,7 +38,7 @@ pub fn write_inbreeding<W: Write, A: Allocator, F: Allocator, C: Allocator>(
         let coefficient = Coefficient {
             numerator: coefficients.numerator(rank),
         };
-        push_line(&mut output, &mut end, frozen.row(rank).number, coefficient)?;
+        push_line(&mut output, &mut end, frozen.number(rank), coefficient)?;
     }
     output.finish(writer)
 }
