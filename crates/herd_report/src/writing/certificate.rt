@@ -1,11 +1,11 @@
-ghost use Rattle.std.specs.Prelude.{◌≡◌, ◌↔◌, ◌<◌, ◌++◌, false, true, codes, length, Err, OnErr, OnOk};
+ghost use Rattle.std.specs.Prelude.{◌≡◌, ◌<◌, ◌++◌, false, true, codes, length, IfErr, IfOk, OnErr, OnOk};
 ghost use Rattle.std.specs.Io.KnownBytes.{Appends};
 ghost use Rattle.herd_frozen.specs.rules.Book.{is_there};
 ghost use Rattle.herd_frozen.specs.freezing.Frozen.{book_of};
 ghost use Rattle.herd_frozen.specs.declared.TheConstants.{DEPTH_LIMIT};
 ghost use Rattle.herd_kinship.specs.Coefficients.{AreCoefficients};
 ghost use Rattle.herd_kinship.specs.FrozenAncestry.{number_of_row};
-ghost use Rattle.herd_report.specs.writing.Certificate.{animal_text, certificate_of, labelled_line, left_text, sex_text};
+ghost use Rattle.herd_report.specs.writing.Certificate.{EndsCertificate, IsCertified, animal_text, certificate_of, labelled_line, left_text, sex_text};
 ghost use Rattle.herd_report.specs.writing.CoefficientText.{coefficient_text};
 ghost use Rattle.herd_report.specs.writing.Output.{AppendsFront};
 
@@ -30,21 +30,33 @@ pub fn write_certificate<W: Write, A: Allocator, F: Allocator, C: Allocator>(
     writer: &mut W,
 ) -> Result<(), CertificateFault>
     requires { AreCoefficients DEPTH_LIMIT frozen.now coefficients.now }
-    ensures ok { OnOk result
-        (Appends (W.contents writer.old) (W.contents writer.new) (certificate_of frozen.now number)) }
-    ensures err { is_there (book_of frozen.now) number ≡ true → OnErr result
-        (AppendsFront (W.contents writer.old) (W.contents writer.new) (certificate_of frozen.now number)) }
-    ensures absent { (result ≡ Err CertificateFault.NotRegistered) ↔ (is_there (book_of frozen.now) number ≡ false) }
+    ensures ok { OnOk result (IsCertified frozen.now number (W.contents writer.old) (W.contents writer.new)) }
+    ensures err { IfErr result (EndsCertificate frozen.now number (W.contents writer.old) (W.contents writer.new)) }
     ensures untouched { is_there (book_of frozen.now) number ≡ false → writer.new ≡ writer.old }
 {
-    let Some(rank) = frozen.rank(&number) else {
-        return Err(CertificateFault::NotRegistered);
-    };
+    let rank = rank_for(frozen, &number)?;
     Ok(write_certificate_at(alloc, frozen, coefficients, rank, writer)?)
 }
 
-// Writes the certificate of the animal at a rank.
-fn write_certificate_at<W: Write, A: Allocator, F: Allocator, C: Allocator>(
+/// The rank of the animal that a certificate is asked for.
+pub(crate) fn rank_for<F: Allocator>(
+    frozen: &Frozen<F>,
+    number: &AnimalNumber,
+) -> Result<u32, CertificateFault>
+    ensures within { IfOk result (λ rank. rank < length frozen.now) }
+    ensures own { IfOk result (λ rank. number_of_row frozen.now rank ≡ number.now) }
+    ensures there { OnOk result (is_there (book_of frozen.now) number.now ≡ true) }
+    ensures absent { IfErr result
+        (λ fault. (fault ≡ CertificateFault.NotRegistered) × (is_there (book_of frozen.now) number.now ≡ false)) }
+{
+    match frozen.rank(number) {
+        Some(rank) => Ok(rank),
+        None => Err(CertificateFault::NotRegistered),
+    }
+}
+
+/// Writes the certificate of the animal at a rank.
+pub(crate) fn write_certificate_at<W: Write, A: Allocator, F: Allocator, C: Allocator>(
     alloc: A,
     frozen: &Frozen<F>,
     coefficients: &Coefficients<C>,

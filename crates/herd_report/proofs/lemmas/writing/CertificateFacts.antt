@@ -35,18 +35,13 @@ certificate_made rows numerators frozen are rank row there numerator read =
     ∙ sym text)
 
 -- the number that stands at a rank is there
-number_is_there : (rows : List Row) (rank : ℕ) (number : List ℕ) → slice_get (numbers_of rows) rank ≡ Some number
+pub number_is_there : (rows : List Row) (rank : ℕ) (number : List ℕ) → slice_get (numbers_of rows) rank ≡ Some number
     → is_there (book_of rows) number ≡ true
 number_is_there rows rank number there =
     let found = get_or_from_slice_get (numbers_of rows) rank number [] there in
     let among : Contains (keys_of (book_of rows)) number =
     rw (← numbers_are_keys rows, ← found) (Contains-get_or (numbers_of rows) rank [] (slice_get_within (numbers_of rows) rank number there)) in
     ap is_some (record_there (book_of rows) number among).1
-
--- so it isn't absent
-pub not_absent : (rows : List Row) (rank : ℕ) (number : List ℕ) → slice_get (numbers_of rows) rank ≡ Some number
-    → is_there (book_of rows) number ≡ false → ⊥
-not_absent rows rank number there absent = absurd (false≢true (sym absent ∙ number_is_there rows rank number there))
 
 -- the row at the rank of a number has that number
 pub number_at_rank : (rows : List Row) (rank : ℕ) (number : List ℕ) → slice_get (numbers_of rows) rank ≡ Some number
