@@ -19,7 +19,7 @@ use Rattle.herd_pool.specs.declared.pool_fault.PoolFault.TheVariants as pool
 use Rattle.herd_report.specs.reading.CommandFile.{CommandFile, IsRead, IsReadBefore, commands, commands_from}
 use Rattle.herd_report.specs.reading.LineCause.{is_interruption}
 use Rattle.herd_report.specs.writing.Certificate.{EndsCertificate, IsCertified}
-use Rattle.herd_report.specs.writing.Output.{AppendsFront}
+use Rattle.herd_report.specs.writing.Text.{AppendsFront}
 use Rattle.herd_report.specs.writing.Replies.{reply_line, reply_lines_from, replies_text}
 use Rattle.herd_report.specs.Run.{EndsBy, HasFiled, IsAnswered, IsFiledFile, IsFrozenFile, IsReport, IsThere, NeedsMemory, StopsWriting, filed_from, replies_to, wanted}
 use Rattle.herd_report.specs.RunFault.{EndsListing, EndsReport, run_fault_of, run_fault_of_certificate, run_fault_of_pool}
@@ -32,7 +32,7 @@ use Rattle.herd_report.specs.declared.orders.Order.{Order}
 use Rattle.herd_report.specs.declared.orders.Order.TheVariants.{File, Inbreeding, Certificate}
 use Rattle.herd_report.specs.declared.run_fault.RunFault.{RunFault}
 use Rattle.herd_report.specs.declared.run_fault.RunFault.TheVariants.{Line, NotRegistered, NoThread, Memory, Write}
-use Rattle.herd_report.proofs.lemmas.writing.OutputFacts.{passes_before, some_before}
+use Rattle.herd_report.proofs.lemmas.writing.TextFacts.{passes_before, some_before}
 
 -- ---- commands that are filed one after the other
 

@@ -17,7 +17,7 @@ use Rattle.herd_kinship.specs.Table.{coefficient}
 use Rattle.herd_report.specs.declared.writing.ancestors.Parent.{Parent}
 use Rattle.herd_report.specs.writing.Ancestors.{ancestor_of, letter_of, three_generations}
 use Rattle.herd_report.specs.writing.CoefficientText.{coefficient_text}
-use Rattle.herd_report.specs.writing.Output.{AppendsFront}
+use Rattle.herd_report.specs.writing.Text.{AppendsFront}
 use Rattle.herd_report.specs.declared.writing.certificate_fault.CertificateFault.{CertificateFault}
 use Rattle.herd_report.specs.declared.writing.certificate_fault.CertificateFault.TheVariants.{NotRegistered, Report}
 

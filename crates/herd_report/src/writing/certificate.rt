@@ -7,13 +7,13 @@ ghost use Rattle.herd_kinship.specs.Coefficients.{AreCoefficients};
 ghost use Rattle.herd_kinship.specs.FrozenAncestry.{number_of_row};
 ghost use Rattle.herd_report.specs.writing.Certificate.{EndsCertificate, IsCertified, animal_text, certificate_of, labelled_line, left_text, sex_text};
 ghost use Rattle.herd_report.specs.writing.CoefficientText.{coefficient_text};
-ghost use Rattle.herd_report.specs.writing.Output.{AppendsFront};
+ghost use Rattle.herd_report.specs.writing.Text.{AppendsFront};
 
 use crate::writing::ancestors::push_ancestors;
 use crate::writing::certificate_fault::CertificateFault;
 use crate::writing::coefficient_text::{Coefficient, push_coefficient};
-use crate::writing::output::Text;
 use crate::writing::report_fault::ReportFault;
+use crate::writing::text::Text;
 use herd_animal::{AnimalNumber, Day, Sex};
 use herd_frozen::{Frozen, Row};
 use herd_kinship::Coefficients;
@@ -70,72 +70,72 @@ pub(crate) fn write_certificate_at<W: Write, A: Allocator, F: Allocator, C: Allo
     ensures err { OnErr result (AppendsFront (W.contents writer.old) (W.contents writer.new)
         (certificate_of frozen.now (number_of_row frozen.now rank))) }
 {
-    let mut output = Text::new(alloc);
-    push_certificate(&mut output, frozen, coefficients, rank)?;
-    output.finish(writer)
+    let mut text = Text::new(alloc);
+    push_certificate(&mut text, frozen, coefficients, rank)?;
+    text.finish(writer)
 }
 
 // Adds the certificate of the animal at a rank.
 fn push_certificate<A: Allocator, F: Allocator, C: Allocator>(
-    output: &mut Text<A>,
+    text: &mut Text<A>,
     frozen: &Frozen<F>,
     coefficients: &Coefficients<C>,
     rank: u32,
 ) -> Result<(), AllocError>
     requires rank { rank < length frozen.now }
     requires coefficients { AreCoefficients DEPTH_LIMIT frozen.now coefficients.now }
-    ensures { OnOk result (output.new ≡ output.old ++ certificate_of frozen.now (number_of_row frozen.now rank)) }
+    ensures { OnOk result (text.new ≡ text.old ++ certificate_of frozen.now (number_of_row frozen.now rank)) }
 {
     let coefficient = Coefficient {
         numerator: coefficients.numerator(rank),
     };
-    push_animal(output, &frozen.row(rank), coefficient)?;
-    push_ancestors(output, frozen, rank)
+    push_animal(text, &frozen.row(rank), coefficient)?;
+    push_ancestors(text, frozen, rank)
 }
 
 // Adds the lines on the animal itself.
 #[tactic(auto, using(std::proofs::Common::append_assoc))]
 fn push_animal<A: Allocator>(
-    output: &mut Text<A>,
+    text: &mut Text<A>,
     row: &Row,
     coefficient: Coefficient,
 ) -> Result<(), AllocError>
     ensures { OnOk result
-        (output.new ≡ output.old ++ animal_text row.now.number row.now.animal coefficient.numerator) }
+        (text.new ≡ text.old ++ animal_text row.now.number row.now.animal coefficient.numerator) }
 {
     let animal = row.animal;
-    push_entry(output, b"animal", &row.number.bytes())?;
-    push_entry(output, b"sex", sex_word(row.number.sex()))?;
-    push_entry(output, b"born", &animal.birth.text())?;
+    push_entry(text, b"animal", &row.number.bytes())?;
+    push_entry(text, b"sex", sex_word(row.number.sex()))?;
+    push_entry(text, b"born", &animal.birth.text())?;
     push_entry(
-        output,
+        text,
         b"herd",
         Buffer::new().format(animal.herd.number()).as_bytes(),
     )?;
-    push_entry(output, b"since", &animal.since.text())?;
-    push_left(output, animal.left)?;
-    push_inbreeding(output, coefficient)
+    push_entry(text, b"since", &animal.since.text())?;
+    push_left(text, animal.left)?;
+    push_inbreeding(text, coefficient)
 }
 
-fn push_left<A: Allocator>(output: &mut Text<A>, left: Option<Day>) -> Result<(), AllocError>
-    ensures { OnOk result (output.new ≡ output.old ++ labelled_line (codes "left") (left_text left)) }
+fn push_left<A: Allocator>(text: &mut Text<A>, left: Option<Day>) -> Result<(), AllocError>
+    ensures { OnOk result (text.new ≡ text.old ++ labelled_line (codes "left") (left_text left)) }
 {
     match left {
-        Some(day) => push_entry(output, b"left", &day.text()),
-        None => push_entry(output, b"left", b"-"),
+        Some(day) => push_entry(text, b"left", &day.text()),
+        None => push_entry(text, b"left", b"-"),
     }
 }
 
 fn push_inbreeding<A: Allocator>(
-    output: &mut Text<A>,
+    text: &mut Text<A>,
     coefficient: Coefficient,
 ) -> Result<(), AllocError>
-    ensures { let text = coefficient_text (codes " ") coefficient.numerator in
-        OnOk result (output.new ≡ output.old ++ labelled_line (codes "inbreeding") text) }
+    ensures { let value = coefficient_text (codes " ") coefficient.numerator in
+        OnOk result (text.new ≡ text.old ++ labelled_line (codes "inbreeding") value) }
 {
-    output.push(b"inbreeding ")?;
-    push_coefficient(output, coefficient, b" ")?;
-    output.push(b"\n")
+    text.push(b"inbreeding ")?;
+    push_coefficient(text, coefficient, b" ")?;
+    text.push(b"\n")
 }
 
 fn sex_word(sex: Sex) -> &'static [u8]
@@ -148,15 +148,11 @@ fn sex_word(sex: Sex) -> &'static [u8]
 }
 
 // Adds a line of a name and a value.
-fn push_entry<A: Allocator>(
-    output: &mut Text<A>,
-    name: &[u8],
-    value: &[u8],
-) -> Result<(), AllocError>
-    ensures { OnOk result (output.new ≡ output.old ++ labelled_line name.now value.now) }
+fn push_entry<A: Allocator>(text: &mut Text<A>, name: &[u8], value: &[u8]) -> Result<(), AllocError>
+    ensures { OnOk result (text.new ≡ text.old ++ labelled_line name.now value.now) }
 {
-    output.push(name)?;
-    output.push(b" ")?;
-    output.push(value)?;
-    output.push(b"\n")
+    text.push(name)?;
+    text.push(b" ")?;
+    text.push(value)?;
+    text.push(b"\n")
 }

@@ -2,7 +2,7 @@
 use Rattle.std.proofs.Common.{refl}
 use Rattle.std.proofs.lemmas.Result.{err_from_is_err_and}
 use Rattle.herd_report.proofs.lemmas.writing.CertificateFacts.{some_certificate}
-use Rattle.herd_report.proofs.lemmas.writing.OutputFacts.{front_nothing}
+use Rattle.herd_report.proofs.lemmas.writing.TextFacts.{front_nothing}
 use Rattle.herd_report.proofs.orders.certify.Goals as goal
 
 pub returns-in_err-rank-clause-err : goal.returns-in_err-rank-clause-err

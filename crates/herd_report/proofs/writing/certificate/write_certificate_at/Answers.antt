@@ -1,7 +1,7 @@
 -- Where the certificate isn't made, nothing is written.
 use Rattle.std.proofs.lemmas.Result.{err_from_is_err_and}
 use Rattle.herd_report.proofs.lemmas.writing.CertificateFacts.{some_certificate_at}
-use Rattle.herd_report.proofs.lemmas.writing.OutputFacts.{front_nothing}
+use Rattle.herd_report.proofs.lemmas.writing.TextFacts.{front_nothing}
 use Rattle.herd_report.proofs.writing.certificate.write_certificate_at.Goals as goal
 
 pub returns-in_err-push_certificate-clause-err : goal.returns-in_err-push_certificate-clause-err

@@ -7,7 +7,7 @@ use Rattle.herd_kinship.specs.FrozenAncestry.{ancestry_of}
 use Rattle.herd_kinship.specs.Table.{coefficient}
 use Rattle.herd_report.proofs.lemmas.writing.CertificateFacts.{row_at_rank}
 use Rattle.herd_report.proofs.lemmas.writing.CoefficientFacts.{numerator_is, some_coefficient_line}
-use Rattle.herd_report.proofs.lemmas.writing.OutputFacts.{front_passed, front_waiting, holds_passed}
+use Rattle.herd_report.proofs.lemmas.writing.TextFacts.{front_passed, front_waiting, holds_passed}
 use Rattle.herd_report.proofs.lemmas.writing.Pieces.{holds_element, some_left}
 use Rattle.herd_report.specs.writing.CoefficientText.{coefficient_line}
 use Rattle.herd_report.proofs.writing.inbreeding_list.write_inbreeding.Goals as goal

@@ -2,7 +2,7 @@
 use Rattle.std.proofs.Common.{arith}
 use Rattle.std.proofs.lemmas.Result.{err_from_is_err_and, on_err_weaker}
 use Rattle.herd_frozen.specs.freezing.Frozen.{book_of}
-use Rattle.herd_report.proofs.lemmas.writing.OutputFacts.{front_nothing, front_passed, front_waiting, holds_passed}
+use Rattle.herd_report.proofs.lemmas.writing.TextFacts.{front_nothing, front_passed, front_waiting, holds_passed}
 use Rattle.herd_report.proofs.lemmas.writing.Pieces.{holds_element, slice_get-item, some_left}
 use Rattle.herd_report.proofs.lemmas.writing.MatingFacts.{some_mating_line, some_mating_text}
 use Rattle.herd_report.specs.writing.MatingList.{mating_line}

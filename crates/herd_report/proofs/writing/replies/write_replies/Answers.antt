@@ -1,7 +1,7 @@
 -- `write_replies`: its loop and its clause `err`.
 use Rattle.std.proofs.Common.{◌+◌, drop}
 use Rattle.std.proofs.lemmas.Result.{err_from_is_err_and, on_err_weaker}
-use Rattle.herd_report.proofs.lemmas.writing.OutputFacts.{front_passed, front_waiting, holds_passed, holds_piece, some_before}
+use Rattle.herd_report.proofs.lemmas.writing.TextFacts.{front_passed, front_waiting, holds_passed, holds_piece, some_before}
 use Rattle.herd_report.proofs.lemmas.writing.ReplyLines.{reply_lines_from-drop, some_reply_line}
 use Rattle.herd_report.specs.writing.Replies.{reply_line, reply_lines_from}
 use Rattle.herd_report.proofs.writing.replies.write_replies.Goals as goal
