@@ -37,8 +37,8 @@ use std::thread::Threads;
 pub enum Order<'a> {
     /// The reply to each command.
     File,
-    /// The coefficient of inbreeding of each animal, computed by 1 to `MOST_WORKERS` workers. More than one
-    /// share blocks of so many animals, each on a thread of its own.
+    /// The coefficient of inbreeding of each animal, computed by 1 to `MOST_WORKERS` workers. More than one share
+    /// blocks of so many animals: the calling thread is one of them, and a level with little work starts no other.
     Inbreeding {
         workers: u32,
         block: u32,
