@@ -36,7 +36,7 @@ abbrev pub EndsTelling : Option (List ℕ) → Option (List ℕ) → List ℕ �
 EndsTelling old new text Memory = new ≡ old
 EndsTelling old new text Write = AppendsFront old new text
 
--- a summary has these counts of desks, and the steps and animals of a register, whose steps were all seen
+-- a summary has these counts of desks, and the steps and animals of a register, and tells all its steps as seen
 pub record CountsOf (register : Register) (desks : List DeskCount) (summary : Summary) : Type 0 where
   pub desks_are : summary.desks.items ≡ desks
   pub steps_are : summary.steps ≡ length register.journal

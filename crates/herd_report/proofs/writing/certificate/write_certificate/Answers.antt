@@ -1,18 +1,16 @@
 -- The certificate at the rank of a number is that of the number.
 use Rattle.std.proofs.Common.{refl}
-use Rattle.std.proofs.lemmas.Result.{err_from_is_err_and}
+use Rattle.herd_report.proofs.lemmas.Exits.{if_err}
 use Rattle.herd_report.proofs.writing.certificate.write_certificate.Goals as goal
 
 pub returns-in_err-rank-clause-err : goal.returns-in_err-rank-clause-err
 returns-in_err-rank-clause-err g c =
-    let exit = err_from_is_err_and c.from_residual.result c.from_residual.ensures.1 in
     let absent = c.in_err-rank.ensures.absent in
-    rw (exit.1, exit.2, absent.0) (absent.1, refl)
+    if_err c.from_residual.result _ _ c.from_residual.ensures.1 (rw absent.0 (absent.1, refl))
 
 pub returns-in_err-write_certificate_at-clause-err : goal.returns-in_err-write_certificate_at-clause-err
 returns-in_err-write_certificate_at-clause-err g c =
-    let exit = err_from_is_err_and c.from_residual-in_err-write_certificate_at.result c.from_residual-in_err-write_certificate_at.ensures.1 in
-    rw (exit.1, exit.2) (c.in_ok-rank.ensures.there, rw c.in_ok-rank.ensures.own at c.in_err-write_certificate_at.ensures.err)
+    if_err c.from_residual-in_err-write_certificate_at.result _ _ c.from_residual-in_err-write_certificate_at.ensures.1 (c.in_ok-rank.ensures.there, rw c.in_ok-rank.ensures.own at c.in_err-write_certificate_at.ensures.err)
 
 pub returns-clause-ok : goal.returns-clause-ok
 returns-clause-ok g c = (c.in_ok-rank.ensures.there, rw c.in_ok-rank.ensures.own at c.in_ok-write_certificate_at.ensures.ok)
