@@ -19,6 +19,10 @@ pub record IsReady {R : Type 0} (most given : ℕ) (reader : CommandReader R) : 
   pub within : given ≤ most
   pub few : most ≤ MOST_STEPS
 
+-- a reader that may be asked for the next command
+abbrev pub IsOpen : {R : Type 0} → CommandReader R → Type 0
+IsOpen reader = IsReady reader.most reader.given reader
+
 -- a reader of a known file that gave its first commands, and has the others still to give
 pub record HasGiven {R : Type 0} (remaining : R → Option (List ℕ)) (file : CommandFile) (list : List Command) (reader : CommandReader R) : Type 0 where
   pub rest : List Fields
