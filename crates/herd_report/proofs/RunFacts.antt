@@ -1,7 +1,7 @@
 -- What a run files and writes, and how it ends.
-use Rattle.std.proofs.Common.{◌≡◌, ◌↔◌, inl, inr, ℕ, ◌+◌, ◌<◌, arith, true, false, MatchBool, Option, Some, None, Result, Err, List, [], ◌∷◌, ◌++◌, refl, ap, sym, subst, ◌∙◌, ⊎_elim, append_assoc, append-nil, length, length-append}
+use Rattle.std.proofs.Common.{◌≡◌, inl, inr, ℕ, ◌+◌, ◌<◌, arith, true, false, MatchBool, Option, Some, None, List, [], ◌∷◌, ◌++◌, refl, ap, sym, subst, ◌∙◌, ⊎_elim, append_assoc, append-nil, length, length-append}
 use Rattle.std.proofs.lemmas.List.Sorted.{IsPermutation-sym}
-use Rattle.std.specs.Prelude.{Bool, is_some}
+use Rattle.std.specs.Prelude.{is_some}
 use Rattle.std.specs.Io.KnownBytes.{Appends}
 use Rattle.herd_frozen.specs.rules.Book.{Book, is_there}
 use Rattle.herd_frozen.specs.freezing.Frozen.{IsFrozenFrom, book_of}
@@ -18,7 +18,8 @@ use Rattle.herd_pool.specs.declared.pool_fault.PoolFault.{PoolFault}
 use Rattle.herd_pool.specs.declared.pool_fault.PoolFault.TheVariants as pool
 use Rattle.herd_report.specs.reading.CommandFile.{CommandFile, IsRead, IsReadBefore, commands, commands_from}
 use Rattle.herd_report.specs.reading.LineCause.{is_interruption}
-use Rattle.herd_report.specs.writing.Output.{AppendsFront}
+use Rattle.herd_report.specs.writing.Certificate.{EndsCertificate, IsCertified}
+use Rattle.herd_report.specs.writing.Text.{AppendsFront}
 use Rattle.herd_report.specs.writing.Replies.{reply_line, reply_lines_from, replies_text}
 use Rattle.herd_report.specs.Run.{EndsBy, HasFiled, IsAnswered, IsFiledFile, IsFrozenFile, IsReport, IsThere, NeedsMemory, StopsWriting, filed_from, replies_to, wanted}
 use Rattle.herd_report.specs.RunFault.{EndsListing, EndsReport, run_fault_of, run_fault_of_certificate, run_fault_of_pool}
@@ -31,7 +32,7 @@ use Rattle.herd_report.specs.declared.orders.Order.{Order}
 use Rattle.herd_report.specs.declared.orders.Order.TheVariants.{File, Inbreeding, Certificate}
 use Rattle.herd_report.specs.declared.run_fault.RunFault.{RunFault}
 use Rattle.herd_report.specs.declared.run_fault.RunFault.TheVariants.{Line, NotRegistered, NoThread, Memory, Write}
-use Rattle.herd_report.proofs.lemmas.writing.OutputFacts.{passes_before, some_before}
+use Rattle.herd_report.proofs.lemmas.writing.TextFacts.{passes_before, some_before}
 
 -- ---- commands that are filed one after the other
 
@@ -208,14 +209,6 @@ pub there-frozen : (book : Book) (rows : List Row) (number : List ℕ) → IsFro
 there-frozen book rows number frozen =
     sym (ap is_some (record_of-permuted (book_of rows) book frozen.frozen.lawful.once (IsPermutation-sym book (book_of rows) frozen.same) number))
 
-true_else_false : (b : Bool) → (b ≡ false → ⊥) → b ≡ true
-true_else_false true other = refl
-true_else_false false other = absurd (other refl)
-
--- an error tells one thing
-pub err_same : {T E : Type 0} (x y : E) → ◌≡◌ {A = Result T E} (Err x) (Err y) → x ≡ y
-err_same x y e = cc
-
 -- where a front of a report was written, that is how it ended early
 ends_report : (old new : Option (List ℕ)) (text : List ℕ) (fault : ReportFault) → AppendsFront old new text → EndsReport old new text fault
 ends_report old new text report.Write front = front
@@ -223,16 +216,12 @@ ends_report old new text report.Memory front = inr front
 
 -- a run for a certificate that ends early
 pub stops_certifying : (limits : Limits) (number : List ℕ) (file : CommandFile) (rows : List Row) (old new : Option (List ℕ)) (fault : CertificateFault) →
-    IsFrozenFile limits file rows → (is_there (book_of rows) number ≡ true → AppendsFront old new (wanted (Certificate number) limits file.commands rows)) →
-    (fault ≡ certificate.NotRegistered ↔ is_there (book_of rows) number ≡ false) → (is_there (book_of rows) number ≡ false → new ≡ old) →
-    EndsBy limits (Certificate number) file old new (run_fault_of_certificate fault)
-stops_certifying limits number file rows old new certificate.NotRegistered made front absent untouched =
-    let gone = absent.0 refl in
-    (made.faultless, sym (there-frozen (run_book limits file.commands) rows number made.frozen) ∙ gone, untouched gone)
-stops_certifying limits number file rows old new (certificate.Report fault) made front absent untouched =
-    let there : is_there (book_of rows) number ≡ true = true_else_false (is_there (book_of rows) number) (λ gone. absurd (cc (absent.1 gone))) in
-    stops_reporting limits (Certificate number) file rows old new fault made (sym (there-frozen (run_book limits file.commands) rows number made.frozen) ∙ there) tt
-    (ends_report old new (wanted (Certificate number) limits file.commands rows) fault (front there))
+    IsFrozenFile limits file rows → EndsCertificate rows number old new fault → EndsBy limits (Certificate number) file old new (run_fault_of_certificate fault)
+stops_certifying limits number file rows old new certificate.NotRegistered made ends =
+    (made.faultless, sym (there-frozen (run_book limits file.commands) rows number made.frozen) ∙ ends.0, ends.1)
+stops_certifying limits number file rows old new (certificate.Report fault) made ends =
+    stops_reporting limits (Certificate number) file rows old new fault made (sym (there-frozen (run_book limits file.commands) rows number made.frozen) ∙ ends.0) tt
+    (ends_report old new (wanted (Certificate number) limits file.commands rows) fault ends.1)
 
 -- a run for a report that comes to its end
 pub reported : (limits : Limits) (order : Order) (file : CommandFile) (rows : List Row) (old new : Option (List ℕ)) →
@@ -243,8 +232,6 @@ reported limits order file rows old new made there written =
 
 -- a run for a certificate that comes to its end
 pub certified : (limits : Limits) (number : List ℕ) (file : CommandFile) (rows : List Row) (old new : Option (List ℕ)) →
-    IsFrozenFile limits file rows → (is_there (book_of rows) number ≡ false → ⊥) → Appends old new (wanted (Certificate number) limits file.commands rows) →
-    IsAnswered limits (Certificate number) file old new
-certified limits number file rows old new made other written =
-    let there = sym (there-frozen (run_book limits file.commands) rows number made.frozen) ∙ true_else_false (is_there (book_of rows) number) other in
-    reported limits (Certificate number) file rows old new made there written
+    IsFrozenFile limits file rows → IsCertified rows number old new → IsAnswered limits (Certificate number) file old new
+certified limits number file rows old new made written =
+    reported limits (Certificate number) file rows old new made (sym (there-frozen (run_book limits file.commands) rows number made.frozen) ∙ written.0) written.1

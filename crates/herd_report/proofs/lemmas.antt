@@ -1,2 +1,3 @@
+pub mod Exits
 pub mod reading
 pub mod writing

@@ -18,7 +18,7 @@ use Rattle.herd_report.specs.reading.CommandFile.{CommandFile, IsRead}
 use Rattle.herd_report.specs.writing.InbreedingList.{inbreeding_text}
 use Rattle.herd_report.specs.writing.InverseList.{inverse_text}
 use Rattle.herd_report.specs.writing.MatingList.{mating_text}
-use Rattle.herd_report.specs.writing.Output.{AppendsFront}
+use Rattle.herd_report.specs.writing.Text.{AppendsFront}
 use Rattle.herd_report.specs.writing.Replies.{replies_text}
 use Rattle.herd_report.specs.declared.reading.line_fault.LineFault.{LineFault}
 use Rattle.herd_report.specs.declared.orders.Order.{Order}

@@ -4,7 +4,7 @@ use Rattle.herd_pool.specs.declared.pool_fault.PoolFault.{PoolFault}
 use Rattle.herd_pool.specs.declared.pool_fault.PoolFault.TheVariants as pool
 use Rattle.herd_register.specs.Limits.{Limits}
 use Rattle.herd_report.specs.reading.CommandFile.{CommandFile, IsReadUpTo}
-use Rattle.herd_report.specs.writing.Output.{AppendsFront}
+use Rattle.herd_report.specs.writing.Text.{AppendsFront}
 use Rattle.herd_report.specs.declared.writing.certificate_fault.CertificateFault.{CertificateFault}
 use Rattle.herd_report.specs.declared.writing.certificate_fault.CertificateFault.TheVariants as certificate
 use Rattle.herd_report.specs.declared.reading.line_fault.LineFault.{LineFault}

@@ -1,5 +1,5 @@
 -- What is printed, as text.
-pub mod Output
+pub mod Text
 pub mod RefusedText
 pub mod Replies
 pub mod CoefficientText

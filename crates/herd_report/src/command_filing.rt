@@ -5,7 +5,7 @@ ghost use Rattle.herd_register.specs.Register.{register_book, with_step};
 ghost use Rattle.herd_register.specs.Run.{answer, commands_of, step_of};
 ghost use Rattle.herd_register.specs.declared.command.Command.{Command};
 ghost use Rattle.herd_report.specs.reading.CommandFile.{CommandFile, IsRead, IsReadUpTo, commands};
-ghost use Rattle.herd_report.specs.reading.CommandReader.{HasGiven, IsReady};
+ghost use Rattle.herd_report.specs.reading.CommandReader.{HasGiven, IsOpen, IsReady};
 ghost use Rattle.herd_report.specs.reading.LineCause.{is_interruption};
 ghost use Rattle.herd_report.specs.Run.{HasFiled, IsFiledFile};
 ghost use Rattle.herd_report.specs.RunFault.{CanEndFreezing, EndsFreezing, IfLine};
@@ -122,7 +122,7 @@ fn file_each<R: Read>(
 
 // The first fault in the rest of a file, which is read and not filed.
 fn fault_of_rest<R: Read>(commands: &mut CommandReader<R>) -> Option<LineFault>
-    requires { IsReady commands.old.most commands.old.given commands.old }
+    requires { IsOpen commands.old }
     ensures file { (file : CommandFile) → (list : List Command) → HasGiven R.remaining file list commands.old
         → IsReadUpTo commands.old.most file result }
     ensures record_number { IfSome result (λ fault. fault.record_number ≡ commands.new.given + 1) }

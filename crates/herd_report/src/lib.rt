@@ -24,7 +24,7 @@
 //! | a command file, and where it goes wrong | `CommandFile`, `LineCause` | `command_file`, `line_fault` | |
 //! | its commands, one at a time | `CommandReader` | `command_reader` | `CommandReaderFacts` |
 //! | filing them | `Run` (`HasFiled`) | `command_filing` | `RunFacts` |
-//! | how a text goes to a writer | `Output` | `output` | `OutputFacts`, `Pieces` |
+//! | how a text goes to a writer | `Text` | `text` | `TextFacts`, `Pieces` |
 //! | replies | `Replies` | `replies` | `ReplyLines` |
 //! | refusals, in replies and in advice | `RefusedText` | `refused_text` | |
 //! | fractions and percentages | `CoefficientText` | `coefficient_text` | `CoefficientFacts` |
@@ -53,6 +53,6 @@ pub use writing::certificate_fault::CertificateFault;
 pub use writing::inbreeding_list::write_inbreeding;
 pub use writing::inverse_list::write_inverse;
 pub use writing::mating_list::write_mating;
-pub use writing::output::write_all;
 pub use writing::replies::write_replies;
 pub use writing::report_fault::ReportFault;
+pub use writing::text::write_all;

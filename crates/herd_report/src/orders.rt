@@ -1,23 +1,21 @@
-ghost use Rattle.std.specs.Prelude.{◌≡◌, ◌<◌, ◌↔◌, false, true, Err, IfErr, IfOk, IfSome, OnErr, OnOk};
+ghost use Rattle.std.specs.Prelude.{◌≡◌, ◌<◌, IfErr, IfOk, IfSome, OnOk};
 ghost use Rattle.std.specs.Io.KnownBytes.{Appends};
-ghost use Rattle.herd_frozen.specs.rules.Book.{is_there};
 ghost use Rattle.herd_frozen.specs.freezing.Frozen.{book_of};
 ghost use Rattle.herd_frozen.specs.declared.TheConstants.{DEPTH_LIMIT};
 ghost use Rattle.herd_kinship.specs.Coefficients.{AreCoefficients};
 ghost use Rattle.herd_kinship.specs.FrozenAncestry.{ancestry_of};
 ghost use Rattle.herd_kinship.specs.Table.{coefficient};
-ghost use Rattle.herd_report.specs.writing.Certificate.{certificate_of};
+ghost use Rattle.herd_report.specs.writing.Certificate.{EndsCertificate, IsCertified};
 ghost use Rattle.herd_report.specs.reading.CommandFile.{commands};
 ghost use Rattle.herd_report.specs.writing.InbreedingList.{inbreeding_text};
 ghost use Rattle.herd_report.specs.writing.InverseList.{inverse_text};
 ghost use Rattle.herd_report.specs.writing.MatingList.{mating_text};
-ghost use Rattle.herd_report.specs.writing.Output.{AppendsFront};
 ghost use Rattle.herd_report.specs.Run.{CanEndBy, EndsBy, IsAnswered, IsFrozenFile, IsOrder};
 ghost use Rattle.herd_report.specs.RunFault.{CanEndFreezing, EndsFreezing, EndsListing, EndsReport};
 
 use crate::command_filing::{file_commands, file_faultless};
 use crate::run_fault::RunFault;
-use crate::writing::certificate::write_certificate;
+use crate::writing::certificate::{rank_for, write_certificate_at};
 use crate::writing::certificate_fault::CertificateFault;
 use crate::writing::inbreeding_list::write_inbreeding;
 use crate::writing::inverse_list::write_inverse;
@@ -39,8 +37,8 @@ use std::thread::Threads;
 pub enum Order<'a> {
     /// The reply to each command.
     File,
-    /// The coefficient of inbreeding of each animal, computed by 1 to `MOST_WORKERS` workers. More than one
-    /// share blocks of so many animals, each on a thread of its own.
+    /// The coefficient of inbreeding of each animal, computed by 1 to `MOST_WORKERS` workers. More than one share
+    /// blocks of so many animals: the calling thread is one of them, and a level with little work starts no other.
     Inbreeding {
         workers: u32,
         block: u32,
@@ -143,19 +141,12 @@ fn certify<W: Write>(
     number: AnimalNumber,
     writer: &mut W,
 ) -> Result<(), CertificateFault>
-    ensures ok { OnOk result
-        (Appends (W.contents writer.old) (W.contents writer.new) (certificate_of frozen.now number)) }
-    ensures err { is_there (book_of frozen.now) number ≡ true
-        → OnErr result (AppendsFront (W.contents writer.old) (W.contents writer.new)
-        (certificate_of frozen.now number)) }
-    ensures absent { (result ≡ Err CertificateFault.NotRegistered) ↔ (is_there (book_of frozen.now) number ≡ false) }
-    ensures untouched { is_there (book_of frozen.now) number ≡ false → writer.new ≡ writer.old }
+    ensures ok { OnOk result (IsCertified frozen.now number (W.contents writer.old) (W.contents writer.new)) }
+    ensures err { IfErr result (EndsCertificate frozen.now number (W.contents writer.old) (W.contents writer.new)) }
 {
-    let Some(_rank) = frozen.rank(&number) else {
-        return Err(CertificateFault::NotRegistered);
-    };
+    let rank = rank_for(frozen, &number)?;
     let coefficients = coefficients_plain(alloc, frozen)?;
-    write_certificate(alloc, frozen, &coefficients, number, writer)
+    Ok(write_certificate_at(alloc, frozen, &coefficients, rank, writer)?)
 }
 
 // Writes mating advice for a dam.

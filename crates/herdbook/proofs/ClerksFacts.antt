@@ -5,7 +5,7 @@ use Rattle.herd_register.specs.declared.command.Command.{Command}
 use Rattle.herd_register.specs.Limits.{Limits}
 use Rattle.herd_report.specs.RunFault.{run_fault_of}
 use Rattle.herd_report.specs.reading.CommandFile.{CommandFile, IsRead}
-use Rattle.herd_report.specs.writing.Output.{AppendsFront}
+use Rattle.herd_report.specs.writing.Text.{AppendsFront}
 use Rattle.herd_report.specs.declared.writing.report_fault.ReportFault.{ReportFault}
 use Rattle.herd_report.specs.declared.writing.report_fault.ReportFault.TheVariants as report
 use Rattle.herdbook.specs.Clerks.{CanEndClerks, EndsClerks, IsTold, office_limits, told_of}

@@ -9,7 +9,7 @@ use Rattle.herd_office.specs.declared.faults.OpenFault.TheVariants as opening
 use Rattle.herd_office.specs.declared.faults.FreezeFault.{FreezeFault}
 use Rattle.herd_office.specs.declared.faults.FreezeFault.TheVariants as freezing
 use Rattle.herd_report.specs.reading.CommandFile.{CommandFile, IsRead}
-use Rattle.herd_report.specs.writing.Output.{AppendsFront}
+use Rattle.herd_report.specs.writing.Text.{AppendsFront}
 use Rattle.herd_report.specs.declared.reading.line_fault.LineFault.{LineFault}
 use Rattle.herd_report.specs.declared.run_fault.RunFault.TheVariants.{Line, NotRegistered, NoThread, Memory, Write}
 use Rattle.herd_register.specs.declared.command.Command.{Command}

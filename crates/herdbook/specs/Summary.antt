@@ -7,7 +7,7 @@ use Rattle.herd_register.specs.declared.command.Command.{Command}
 use Rattle.herd_register.specs.Limits.{Limits}
 use Rattle.herd_register.specs.declared.step.Step.{Step}
 use Rattle.herd_office.specs.Histories.{of_desk}
-use Rattle.herd_report.specs.writing.Output.{AppendsFront}
+use Rattle.herd_report.specs.writing.Text.{AppendsFront}
 use Rattle.herd_report.specs.declared.writing.report_fault.ReportFault.{ReportFault}
 use Rattle.herd_report.specs.declared.writing.report_fault.ReportFault.TheVariants.{Memory, Write}
 use Rattle.herdbook.specs.Deal.{commands_at, dealt}
@@ -36,17 +36,17 @@ abbrev pub EndsTelling : Option (List ℕ) → Option (List ℕ) → List ℕ �
 EndsTelling old new text Memory = new ≡ old
 EndsTelling old new text Write = AppendsFront old new text
 
--- a summary has these counts of desks, and the steps and animals of a register, whose steps were all seen
+-- a summary has these counts of desks, and the steps and animals of a register, and tells all its steps as seen
 pub record CountsOf (register : Register) (desks : List DeskCount) (summary : Summary) : Type 0 where
   pub desks_are : summary.desks.items ≡ desks
   pub steps_are : summary.steps ≡ length register.journal
   pub animals_are : summary.animals ≡ length (register_book register)
   pub all_seen : summary.seen ≡ summary.steps
 
--- a summary of the closed office of so many desks for commands of which the first ones fell to desk 1: a legal journal is
--- as long as all are, and each desk's steps in it are of the commands that fell to it, in their order; there is a count
--- for each desk, from 1 on, of its steps; the animals are those of the journal's book, and an inspector has seen as many
--- steps as there are; in which order different desks filed is left open
+-- a summary of the closed office of so many desks for commands of which the first ones fell to desk 1: a legal journal
+-- is as long as all are, and each desk's steps in it are of the commands that fell to it, in their order; there is a
+-- count for each desk, from 1 on, of its steps; the animals are those of the journal's book, and the number told as seen
+-- is that of all steps; in which order different desks filed is left open
 pub record IsSummaryOf (limits : Limits) (desks : ℕ) (first rest : List Command) (summary : Summary) : Type 0 where
   pub journal : List Step
   pub legal : IsLegal limits journal

@@ -12,8 +12,8 @@ use std::sync::Wait;
 use std::thread;
 use std::thread::{Promise, PromisedHandle, Scope, Threads};
 
-/// What a clerk's thread is started for: that all that falls to the desk of this number is filed there, the first
-/// commands included.
+/// What a clerk's thread is started for: at its end the desk of this number has filed all that falls to it. At desk 1
+/// that includes the first commands, which are filed before the thread is started.
 #[derive(Clone, Copy)]
 pub struct DeskTask<'a> {
     pub number: u16,

@@ -1,5 +1,5 @@
 -- How a text is made and written, piece by piece.
-pub mod OutputFacts
+pub mod TextFacts
 pub mod ReplyLines
 pub mod Pieces
 pub mod CoefficientFacts

@@ -48,7 +48,8 @@ commands bytes most = commands_under_header most (records default_config (strip_
 abbrev pub IsNextRecord : List Command → ℕ → Type 0
 IsNextRecord list record_number = ((record_number ≡ 0) × (list ≡ [])) ⊎ (record_number ≡ length list + 1)
 
--- commands are those before the record of this number: none before the header, or else those before the records from it on
+-- commands are those before the record of this number: none before the header, or else those before the records from it
+-- on
 abbrev pub IsReadBefore : ℕ → ℕ → List Command → CommandFile → Type 0
 IsReadBefore most record_number list file =
     ((record_number ≡ 0) × (list ≡ []))

@@ -19,6 +19,10 @@ pub record IsReady {R : Type 0} (most given : ℕ) (reader : CommandReader R) : 
   pub within : given ≤ most
   pub few : most ≤ MOST_STEPS
 
+-- a reader that may be asked for the next command
+abbrev pub IsOpen : {R : Type 0} → CommandReader R → Type 0
+IsOpen reader = IsReady reader.most reader.given reader
+
 -- a reader of a known file that gave its first commands, and has the others still to give
 pub record HasGiven {R : Type 0} (remaining : R → Option (List ℕ)) (file : CommandFile) (list : List Command) (reader : CommandReader R) : Type 0 where
   pub rest : List Fields
@@ -37,7 +41,8 @@ abbrev pub Opens : {R : Type 0} → (R → Option (List ℕ)) → ℕ → Comman
 Opens remaining most file (Ok reader) = HasGiven remaining file [] reader
 Opens remaining most file (Err fault) = IsRead most file [] (Some fault)
 
--- where the records to come are known, the first of them, of this number, is this command, or there is none, or it is a fault
+-- where the records to come are known, the first of them, of this number, is this command, or there is none, or it is a
+-- fault
 abbrev pub TakesNext : Version → ℕ → ℕ → Option (List Fields) → Option (List Fields) → Result (Option Command) LineCause → Type 0
 TakesNext version most record_number old new (Ok (Some command)) =
     IfSome old (λ records. (rest : List Fields) × (new ≡ Some rest) × (commands_from version most record_number records ≡ followed_by (command ∷ []) (commands_from version most (record_number + 1) rest)))

@@ -1,7 +1,7 @@
 -- Ancestors, by the paths of parents that lead to them.
 use Rattle.std.specs.Prelude.{ℕ, zero, suc, List, [], ◌∷◌, ◌++◌, map, Option, Some}
 use Rattle.std.specs.Option.{option_and_then}
-use Rattle.herd_frozen.specs.declared.freezing.frozen.Row.{Row}
+use Rattle.herd_frozen.specs.declared.freezing.frozen.Parents.{Parents}
 use Rattle.herd_frozen.specs.rules.Book.{Book, sire_of, dam_of}
 use Rattle.herd_report.specs.declared.writing.ancestors.Parent.{Parent}
 use Rattle.herd_report.specs.declared.writing.ancestors.Parent.TheVariants.{Sire, Dam}
@@ -11,10 +11,10 @@ abbrev pub parent_of : Book → Parent → List ℕ → Option (List ℕ)
 parent_of book Sire number = sire_of book number
 parent_of book Dam number = dam_of book number
 
--- its rank in a frozen row, where it is known
-abbrev pub parent_rank : Parent → Row → Option ℕ
-parent_rank Sire row = row.sire
-parent_rank Dam row = row.dam
+-- its rank among those of a row's parents, where it is known
+abbrev pub parent_rank : Parent → Parents → Option ℕ
+parent_rank Sire parents = parents.sire
+parent_rank Dam parents = parents.dam
 
 -- the ancestor to which a path of parents leads from an animal, the nearest parent first
 abbrev pub ancestor_of : Book → List ℕ → List Parent → Option (List ℕ)

@@ -4,7 +4,7 @@ ghost use Rattle.csv.specs.Reading.{has_failed};
 ghost use Rattle.herd_register.specs.declared.command.Command.{Command};
 ghost use Rattle.herd_register.specs.declared.limits.TheConstants.{MOST_STEPS};
 ghost use Rattle.herd_report.specs.reading.CommandFile.{CommandFile, TakesHeader, commands};
-ghost use Rattle.herd_report.specs.reading.CommandReader.{Gives, HasGiven, IsReady, Opens, TakesNext};
+ghost use Rattle.herd_report.specs.reading.CommandReader.{Gives, HasGiven, IsOpen, IsReady, Opens, TakesNext};
 ghost use Rattle.herd_report.specs.reading.LineCause.{is_interruption};
 ghost use Rattle.herd_report.specs.reading.Upcoming.{IsSetUp, ReadsOne, upcoming};
 
@@ -63,7 +63,7 @@ impl<R: Read> CommandReader<R> {
     // Inlined: the command is moved once.
     #[inline(always)]
     pub(crate) fn next_command(&mut self) -> Result<Option<Command>, LineFault>
-        requires { IsReady self.old.most self.old.given self.old }
+        requires { IsOpen self.old }
         ensures ready { IfOk result (λ given. IfSome given (λ _. IsReady self.old.most (self.old.given + 1) self.new)) }
         ensures gives { (file : CommandFile) → (list : List Command) → HasGiven R.remaining file list self.old
             → Gives R.remaining self.old.most file list self.new result }
@@ -87,7 +87,7 @@ impl<R: Read> CommandReader<R> {
     // The command of the next record, if there is one.
     #[inline(always)]
     fn read_command(&mut self) -> Result<Option<Command>, LineCause>
-        requires { IsReady self.old.most self.old.given self.old }
+        requires { IsOpen self.old }
         ensures version { self.new.version ≡ self.old.version }
         ensures most { self.new.most ≡ self.old.most }
         ensures given { self.new.given ≡ self.old.given }

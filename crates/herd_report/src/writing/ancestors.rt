@@ -5,9 +5,9 @@ ghost use Rattle.herd_kinship.specs.FrozenAncestry.{number_of_row};
 ghost use Rattle.herd_report.specs.writing.Ancestors.{ancestor_of, letter_of, parent_rank};
 ghost use Rattle.herd_report.specs.writing.Certificate.{ancestor_line, ancestors_text};
 
-use crate::writing::output::Text;
+use crate::writing::text::Text;
 use herd_animal::AnimalNumber;
-use herd_frozen::{Frozen, Row};
+use herd_frozen::{Frozen, Parents};
 use std::alloc::{AllocError, Allocator};
 
 /// One of an animal's two parents.
@@ -48,12 +48,12 @@ impl Parent {
     }
 
     // Its rank in the book, where it is known.
-    fn rank_in(self, row: &Row) -> Option<u32>
-        ensures { result ≡ parent_rank self row.now }
+    fn rank_in(self, parents: Parents) -> Option<u32>
+        ensures { result ≡ parent_rank self parents }
     {
         match self {
-            Sire => row.sire,
-            Dam => row.dam,
+            Sire => parents.sire,
+            Dam => parents.dam,
         }
     }
 }
@@ -61,59 +61,59 @@ impl Parent {
 /// Adds the lines of the ancestors of the animal at a rank, up to three parents away.
 #[tactic(auto, unfolding(crate::specs::writing::Certificate::ancestors_text))]
 pub(crate) fn push_ancestors<A: Allocator, F: Allocator>(
-    output: &mut Text<A>,
+    text: &mut Text<A>,
     frozen: &Frozen<F>,
     rank: u32,
 ) -> Result<(), AllocError>
     requires { rank < length frozen.now }
     ensures { OnOk result
-        (output.new ≡ output.old ++ ancestors_text (book_of frozen.now) (number_of_row frozen.now rank)) }
+        (text.new ≡ text.old ++ ancestors_text (book_of frozen.now) (number_of_row frozen.now rank)) }
 {
-    push_lines(output, frozen, rank, &PATHS)
+    push_lines(text, frozen, rank, &PATHS)
 }
 
 // Adds the lines of the ancestors to which some paths lead.
 fn push_lines<A: Allocator, F: Allocator>(
-    output: &mut Text<A>,
+    text: &mut Text<A>,
     frozen: &Frozen<F>,
     rank: u32,
     paths: &[&[Parent]],
 ) -> Result<(), AllocError>
     requires { rank < length frozen.now }
-    ensures { OnOk result (output.new ≡ output.old
+    ensures { OnOk result (text.new ≡ text.old
         ++ flat_map (λ path. ancestor_line (book_of frozen.now) (number_of_row frozen.now rank) path.now) paths.now) }
 {
     for path in paths {
-        push_ancestor(output, frozen, rank, path)?;
+        push_ancestor(text, frozen, rank, path)?;
     }
     Ok(())
 }
 
 #[tactic(auto, unfolding(crate::specs::writing::Certificate::labelled_line))]
 fn push_ancestor<A: Allocator, F: Allocator>(
-    output: &mut Text<A>,
+    text: &mut Text<A>,
     frozen: &Frozen<F>,
     rank: u32,
     path: &[Parent],
 ) -> Result<(), AllocError>
     requires { rank < length frozen.now }
     ensures { OnOk result
-        (output.new ≡ output.old ++ ancestor_line (book_of frozen.now) (number_of_row frozen.now rank) path.now) }
+        (text.new ≡ text.old ++ ancestor_line (book_of frozen.now) (number_of_row frozen.now rank) path.now) }
 {
-    push_letters(output, path)?;
-    output.push(b" ")?;
+    push_letters(text, path)?;
+    text.push(b" ")?;
     match ancestor(frozen, rank, path) {
-        Some(number) => output.push(&number.bytes())?,
-        None => output.push(b"0")?,
+        Some(number) => text.push(&number.bytes())?,
+        None => text.push(b"0")?,
     }
-    output.push(b"\n")
+    text.push(b"\n")
 }
 
-fn push_letters<A: Allocator>(output: &mut Text<A>, path: &[Parent]) -> Result<(), AllocError>
-    ensures { OnOk result (output.new ≡ output.old ++ map letter_of path.now) }
+fn push_letters<A: Allocator>(text: &mut Text<A>, path: &[Parent]) -> Result<(), AllocError>
+    ensures { OnOk result (text.new ≡ text.old ++ map letter_of path.now) }
 {
     for parent in path {
-        output.push(&[parent.letter()])?;
+        text.push(&[parent.letter()])?;
     }
     Ok(())
 }
@@ -125,7 +125,7 @@ fn ancestor<F: Allocator>(frozen: &Frozen<F>, start: u32, path: &[Parent]) -> Op
 {
     let mut rank = start;
     for parent in path {
-        rank = parent.rank_in(&frozen.row(rank))?;
+        rank = parent.rank_in(frozen.parents(rank))?;
     }
-    Some(frozen.row(rank).number)
+    Some(frozen.number(rank))
 }

@@ -4,7 +4,7 @@ ghost use Rattle.herd_kinship.specs.Fraction.{fraction_text};
 ghost use Rattle.herd_report.specs.writing.CoefficientText.{coefficient_line, coefficient_text, percentage_text};
 
 use crate::writing::line_end::LastValue;
-use crate::writing::output::Text;
+use crate::writing::text::Text;
 use herd_animal::AnimalNumber;
 use herd_kinship::{Fraction, fraction, hundredths};
 use std::alloc::{AllocError, Allocator};
@@ -24,62 +24,62 @@ impl LastValue for Coefficient {
 
     ghost alike = { Prim.search rules };
 
-    fn push_line_end<A: Allocator>(self, output: &mut Text<A>) -> Result<(), AllocError> {
-        output.push(b",")?;
-        push_coefficient(output, self, b",")?;
-        output.push(b"\n")
+    fn push_line_end<A: Allocator>(self, text: &mut Text<A>) -> Result<(), AllocError> {
+        text.push(b",")?;
+        push_coefficient(text, self, b",")?;
+        text.push(b"\n")
     }
 }
 
 /// Adds the line of an animal and its coefficient.
 pub(crate) fn push_coefficient_line<A: Allocator>(
-    output: &mut Text<A>,
+    text: &mut Text<A>,
     number: AnimalNumber,
     coefficient: Coefficient,
 ) -> Result<(), AllocError>
-    ensures { OnOk result (output.new ≡ output.old ++ coefficient_line number coefficient.numerator) }
+    ensures { OnOk result (text.new ≡ text.old ++ coefficient_line number coefficient.numerator) }
 {
-    output.push(&number.bytes())?;
-    coefficient.push_line_end(output)
+    text.push(&number.bytes())?;
+    coefficient.push_line_end(text)
 }
 
 /// Adds a coefficient: the fraction, a separator, and the percentage.
 #[tactic(auto, unfolding(crate::specs::writing::CoefficientText::coefficient_text))]
 pub(crate) fn push_coefficient<A: Allocator>(
-    output: &mut Text<A>,
+    text: &mut Text<A>,
     coefficient: Coefficient,
     separator: &[u8],
 ) -> Result<(), AllocError>
-    ensures { OnOk result (output.new ≡ output.old ++ coefficient_text separator.now coefficient.numerator) }
+    ensures { OnOk result (text.new ≡ text.old ++ coefficient_text separator.now coefficient.numerator) }
 {
-    push_fraction(output, fraction(coefficient.numerator))?;
-    output.push(separator)?;
-    push_percentage(output, hundredths(coefficient.numerator))
+    push_fraction(text, fraction(coefficient.numerator))?;
+    text.push(separator)?;
+    push_percentage(text, hundredths(coefficient.numerator))
 }
 
 /// Adds a fraction that is in lowest terms.
 pub(crate) fn push_fraction<A: Allocator>(
-    output: &mut Text<A>,
+    text: &mut Text<A>,
     fraction: Fraction,
 ) -> Result<(), AllocError>
-    ensures { OnOk result (output.new ≡ output.old ++ fraction_text fraction) }
+    ensures { OnOk result (text.new ≡ text.old ++ fraction_text fraction) }
 {
     if fraction.negative {
-        output.push(b"-")?;
+        text.push(b"-")?;
     }
-    output.push_number(fraction.numerator)?;
+    text.push_number(fraction.numerator)?;
     if fraction.denominator != 1 {
-        output.push(b"/")?;
-        output.push_number(fraction.denominator)?;
+        text.push(b"/")?;
+        text.push_number(fraction.denominator)?;
     }
     Ok(())
 }
 
 // Adds hundredths of a percent.
-fn push_percentage<A: Allocator>(output: &mut Text<A>, hundredths: u32) -> Result<(), AllocError>
-    ensures { OnOk result (output.new ≡ output.old ++ percentage_text hundredths) }
+fn push_percentage<A: Allocator>(text: &mut Text<A>, hundredths: u32) -> Result<(), AllocError>
+    ensures { OnOk result (text.new ≡ text.old ++ percentage_text hundredths) }
 {
     let part = (hundredths % 100) as u8;
-    output.push_number(hundredths / 100)?;
-    output.push(&[b'.', b'0' + part / 10, b'0' + part % 10])
+    text.push_number(hundredths / 100)?;
+    text.push(&[b'.', b'0' + part / 10, b'0' + part % 10])
 }

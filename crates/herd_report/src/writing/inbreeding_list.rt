@@ -6,12 +6,12 @@ ghost use Rattle.herd_kinship.specs.FrozenAncestry.{ancestry_of};
 ghost use Rattle.herd_kinship.specs.Table.{coefficient};
 ghost use Rattle.herd_report.specs.writing.CoefficientText.{coefficient_line};
 ghost use Rattle.herd_report.specs.writing.InbreedingList.{inbreeding_text};
-ghost use Rattle.herd_report.specs.writing.Output.{AppendsFront};
+ghost use Rattle.herd_report.specs.writing.Text.{AppendsFront};
 
 use crate::writing::coefficient_text::Coefficient;
 use crate::writing::line_end::LineEnd;
-use crate::writing::output::Text;
 use crate::writing::report_fault::ReportFault;
+use crate::writing::text::Text;
 use herd_animal::AnimalNumber;
 use herd_frozen::Frozen;
 use herd_kinship::Coefficients;
@@ -31,27 +31,27 @@ pub fn write_inbreeding<W: Write, A: Allocator, F: Allocator, C: Allocator>(
     ensures err { OnErr result (AppendsFront (W.contents writer.old) (W.contents writer.new)
         (inbreeding_text (coefficient (ancestry_of frozen.now) DEPTH_LIMIT) frozen.now)) }
 {
-    let mut output = Text::new(&alloc);
+    let mut text = Text::new(&alloc);
     let mut end = LineEnd::new(&alloc);
     for rank in 0..frozen.len() {
-        output.pass_on(writer)?;
+        text.pass_on(writer)?;
         let coefficient = Coefficient {
             numerator: coefficients.numerator(rank),
         };
-        push_line(&mut output, &mut end, frozen.row(rank).number, coefficient)?;
+        push_line(&mut text, &mut end, frozen.number(rank), coefficient)?;
     }
-    output.finish(writer)
+    text.finish(writer)
 }
 
 // Adds the line of an animal.
 fn push_line<A: Allocator>(
-    output: &mut Text<A>,
+    text: &mut Text<A>,
     end: &mut LineEnd<Coefficient, A>,
     number: AnimalNumber,
     coefficient: Coefficient,
 ) -> Result<(), AllocError>
-    ensures { OnOk result (output.new ≡ output.old ++ coefficient_line number coefficient.numerator) }
+    ensures { OnOk result (text.new ≡ text.old ++ coefficient_line number coefficient.numerator) }
 {
-    output.push(&number.bytes())?;
-    end.push_to(output, coefficient)
+    text.push(&number.bytes())?;
+    end.push_to(text, coefficient)
 }

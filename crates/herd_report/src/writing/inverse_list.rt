@@ -5,12 +5,12 @@ ghost use Rattle.herd_frozen.specs.declared.TheConstants.{DEPTH_LIMIT};
 ghost use Rattle.herd_kinship.specs.Coefficients.{AreCoefficients};
 ghost use Rattle.herd_kinship.specs.FrozenAncestry.{number_of_row};
 ghost use Rattle.herd_report.specs.writing.InverseList.{contribution_line, contributions_text, inverse_text, IsWithin};
-ghost use Rattle.herd_report.specs.writing.Output.{AppendsFront};
+ghost use Rattle.herd_report.specs.writing.Text.{AppendsFront};
 
 use crate::writing::coefficient_text::push_fraction;
 use crate::writing::line_end::{LastValue, LineEnd};
-use crate::writing::output::Text;
 use crate::writing::report_fault::ReportFault;
+use crate::writing::text::Text;
 use herd_animal::AnimalNumber;
 use herd_frozen::Frozen;
 use herd_kinship::{Coefficients, Contribution, Fraction, contributions};
@@ -29,18 +29,18 @@ pub fn write_inverse<W: Write, A: Allocator, F: Allocator, C: Allocator>(
     ensures err { OnErr result
         (AppendsFront (W.contents writer.old) (W.contents writer.new) (inverse_text frozen.now)) }
 {
-    let mut output = Text::new(&alloc);
+    let mut text = Text::new(&alloc);
     let mut end = LineEnd::new(&alloc);
     for rank in 0..frozen.len() {
-        output.pass_on(writer)?;
-        push_contributions(&mut output, &mut end, frozen, coefficients, rank)?;
+        text.pass_on(writer)?;
+        push_contributions(&mut text, &mut end, frozen, coefficients, rank)?;
     }
-    output.finish(writer)
+    text.finish(writer)
 }
 
 // Adds the lines of what the animal at a rank contributes.
 fn push_contributions<A: Allocator, F: Allocator, C: Allocator>(
-    output: &mut Text<A>,
+    text: &mut Text<A>,
     end: &mut LineEnd<Fraction, A>,
     frozen: &Frozen<F>,
     coefficients: &Coefficients<C>,
@@ -48,45 +48,45 @@ fn push_contributions<A: Allocator, F: Allocator, C: Allocator>(
 ) -> Result<(), AllocError>
     requires rank { rank < length frozen.now }
     requires coefficients { AreCoefficients DEPTH_LIMIT frozen.now coefficients.now }
-    ensures { OnOk result (output.new ≡ output.old ++ contributions_text frozen.now rank) }
+    ensures { OnOk result (text.new ≡ text.old ++ contributions_text frozen.now rank) }
 {
     let number = frozen.number(rank);
     let listed = contributions(frozen, coefficients, rank);
     let elements = &listed.list[..listed.count as usize];
-    push_elements(output, end, frozen, number, elements)
+    push_elements(text, end, frozen, number, elements)
 }
 
 // Adds the lines of some elements of an animal.
 fn push_elements<A: Allocator, F: Allocator>(
-    output: &mut Text<A>,
+    text: &mut Text<A>,
     end: &mut LineEnd<Fraction, A>,
     frozen: &Frozen<F>,
     number: AnimalNumber,
     elements: &[Contribution],
 ) -> Result<(), AllocError>
     requires { All (IsWithin frozen.now) elements.now }
-    ensures { OnOk result (output.new ≡ output.old ++ flat_map (contribution_line frozen.now number) elements.now) }
+    ensures { OnOk result (text.new ≡ text.old ++ flat_map (contribution_line frozen.now number) elements.now) }
 {
     for element in elements {
-        push_element(output, end, frozen, number, *element)?;
+        push_element(text, end, frozen, number, *element)?;
     }
     Ok(())
 }
 
 fn push_element<A: Allocator, F: Allocator>(
-    output: &mut Text<A>,
+    text: &mut Text<A>,
     end: &mut LineEnd<Fraction, A>,
     frozen: &Frozen<F>,
     number: AnimalNumber,
     element: Contribution,
 ) -> Result<(), AllocError>
     requires { IsWithin frozen.now element }
-    ensures { OnOk result (output.new ≡ output.old ++ contribution_line frozen.now number element) }
+    ensures { OnOk result (text.new ≡ text.old ++ contribution_line frozen.now number element) }
 {
-    output.push(&with_comma(number))?;
-    push_number_at(output, frozen, element.row)?;
-    push_number_at(output, frozen, element.column)?;
-    end.push_to(output, element.value)
+    text.push(&with_comma(number))?;
+    push_number_at(text, frozen, element.row)?;
+    push_number_at(text, frozen, element.column)?;
+    end.push_to(text, element.value)
 }
 
 impl LastValue for Fraction {
@@ -97,22 +97,22 @@ impl LastValue for Fraction {
 
     ghost alike = { Prim.search rules };
 
-    fn push_line_end<A: Allocator>(self, output: &mut Text<A>) -> Result<(), AllocError> {
-        push_fraction(output, self)?;
-        output.push(b"\n")
+    fn push_line_end<A: Allocator>(self, text: &mut Text<A>) -> Result<(), AllocError> {
+        push_fraction(text, self)?;
+        text.push(b"\n")
     }
 }
 
 // Adds the number of the animal at a rank, and a comma.
 fn push_number_at<A: Allocator, F: Allocator>(
-    output: &mut Text<A>,
+    text: &mut Text<A>,
     frozen: &Frozen<F>,
     rank: u32,
 ) -> Result<(), AllocError>
     requires { rank < length frozen.now }
-    ensures { OnOk result (output.new ≡ output.old ++ number_of_row frozen.now rank ++ codes ",") }
+    ensures { OnOk result (text.new ≡ text.old ++ number_of_row frozen.now rank ++ codes ",") }
 {
-    output.push(&with_comma(frozen.number(rank)))
+    text.push(&with_comma(frozen.number(rank)))
 }
 
 // A number and a comma.

@@ -1,7 +1,7 @@
 ghost use Rattle.std.specs.Prelude.{◌≡◌, ◌++◌, OnOk};
 ghost use Rattle.std.specs.Option.{ForSome};
 
-use crate::writing::output::Text;
+use crate::writing::text::Text;
 use std::alloc::{AllocError, Allocator};
 
 /// A value that the lines of a list end with.
@@ -12,8 +12,8 @@ pub(crate) trait LastValue: Copy + PartialEq {
     ghost line_end: { Self → List ℕ };
 
     /// Adds the end of a line with it.
-    fn push_line_end<A: Allocator>(self, output: &mut Text<A>) -> Result<(), AllocError>
-        ensures { OnOk result (output.new ≡ output.old ++ line_end self) };
+    fn push_line_end<A: Allocator>(self, text: &mut Text<A>) -> Result<(), AllocError>
+        ensures { OnOk result (text.new ≡ text.old ++ line_end self) };
 
     /// Lines with equal values end alike.
     ghost alike: { (a b : Self) → Self.eq a b ≡ true → line_end a ≡ line_end b };
@@ -37,11 +37,11 @@ impl<V: LastValue, A: Allocator> LineEnd<V, A> {
     }
 
     /// Adds the end of a line with this value.
-    pub(crate) fn push_to(&mut self, output: &mut Text<A>, value: V) -> Result<(), AllocError>
-        ensures { OnOk result (output.new ≡ output.old ++ V.line_end value) }
+    pub(crate) fn push_to(&mut self, text: &mut Text<A>, value: V) -> Result<(), AllocError>
+        ensures { OnOk result (text.new ≡ text.old ++ V.line_end value) }
     {
         self.make(value)?;
-        output.push(self.text.bytes())
+        text.push(self.text.bytes())
     }
 
     // Makes the end of a line with this value, where the one that is there isn't of an equal value.

@@ -5,12 +5,12 @@ ghost use Rattle.herd_frozen.specs.freezing.Frozen.{book_of};
 ghost use Rattle.herd_kinship.specs.Coefficients.{AreCoefficients};
 ghost use Rattle.herd_kinship.specs.Mating.{AreRelationshipsOf};
 ghost use Rattle.herd_report.specs.writing.MatingList.{mating_line, mating_text, refused_line};
-ghost use Rattle.herd_report.specs.writing.Output.{AppendsFront};
+ghost use Rattle.herd_report.specs.writing.Text.{AppendsFront};
 
 use crate::writing::coefficient_text::{Coefficient, push_coefficient_line};
-use crate::writing::output::Text;
 use crate::writing::refused_text::push_refused_line_end;
 use crate::writing::report_fault::ReportFault;
+use crate::writing::text::Text;
 use herd_animal::AnimalNumber;
 use herd_frozen::Frozen;
 use herd_kinship::{Coefficients, MatingFault, Relationships, mating_by};
@@ -38,38 +38,38 @@ pub fn write_mating<W: Write, A: Allocator + Clone, F: Allocator, C: Allocator>(
         return Ok(());
     }
     let relationships = Relationships::of_number(alloc.clone()?, frozen, coefficients, &dam)?;
-    let mut output = Text::new(&alloc);
+    let mut text = Text::new(&alloc);
     for sire in sires {
-        output.pass_on(writer)?;
-        push_advice(&mut output, frozen, &relationships, *sire, dam)?;
+        text.pass_on(writer)?;
+        push_advice(&mut text, frozen, &relationships, *sire, dam)?;
     }
-    output.finish(writer)
+    text.finish(writer)
 }
 
 // Adds the line of a sire.
 fn push_advice<A: Allocator, F: Allocator, R: Allocator>(
-    output: &mut Text<A>,
+    text: &mut Text<A>,
     frozen: &Frozen<F>,
     relationships: &Relationships<R>,
     sire: AnimalNumber,
     dam: AnimalNumber,
 ) -> Result<(), AllocError>
     requires { AreRelationshipsOf DEPTH_LIMIT frozen.now dam relationships.now }
-    ensures { OnOk result (output.new ≡ output.old ++ mating_line (book_of frozen.now) dam sire) }
+    ensures { OnOk result (text.new ≡ text.old ++ mating_line (book_of frozen.now) dam sire) }
 {
     match mating_by(frozen, relationships, &sire, &dam) {
-        Ok(numerator) => push_coefficient_line(output, sire, Coefficient { numerator }),
-        Err(fault) => push_refused(output, sire, fault),
+        Ok(numerator) => push_coefficient_line(text, sire, Coefficient { numerator }),
+        Err(fault) => push_refused(text, sire, fault),
     }
 }
 
 fn push_refused<A: Allocator>(
-    output: &mut Text<A>,
+    text: &mut Text<A>,
     sire: AnimalNumber,
     fault: MatingFault,
 ) -> Result<(), AllocError>
-    ensures { OnOk result (output.new ≡ output.old ++ refused_line sire fault) }
+    ensures { OnOk result (text.new ≡ text.old ++ refused_line sire fault) }
 {
-    output.push(&sire.bytes())?;
-    push_refused_line_end(output, fault.number())
+    text.push(&sire.bytes())?;
+    push_refused_line_end(text, fault.number())
 }

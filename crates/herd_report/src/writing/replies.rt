@@ -1,11 +1,11 @@
 ghost use Rattle.std.specs.Prelude.{◌≡◌, ◌++◌, OnErr, OnOk};
 ghost use Rattle.std.specs.Io.KnownBytes.{Appends};
-ghost use Rattle.herd_report.specs.writing.Output.{AppendsFront};
+ghost use Rattle.herd_report.specs.writing.Text.{AppendsFront};
 ghost use Rattle.herd_report.specs.writing.Replies.{reply_line, replies_text};
 
-use crate::writing::output::Text;
 use crate::writing::refused_text::push_refused_line_end;
 use crate::writing::report_fault::ReportFault;
+use crate::writing::text::Text;
 use herd_register::{Reply, Step};
 use std::alloc::{AllocError, Allocator};
 use std::io::Write;
@@ -19,24 +19,24 @@ pub fn write_replies<W: Write, A: Allocator>(
     ensures ok { OnOk result (Appends (W.contents writer.old) (W.contents writer.new) (replies_text steps.now)) }
     ensures err { OnErr result (AppendsFront (W.contents writer.old) (W.contents writer.new) (replies_text steps.now)) }
 {
-    let mut output = Text::new(alloc);
+    let mut text = Text::new(alloc);
     for (place, step) in steps.iter().enumerate() {
-        output.pass_on(writer)?;
-        push_reply(&mut output, place + 1, step.reply)?;
+        text.pass_on(writer)?;
+        push_reply(&mut text, place + 1, step.reply)?;
     }
-    output.finish(writer)
+    text.finish(writer)
 }
 
 fn push_reply<A: Allocator>(
-    output: &mut Text<A>,
+    text: &mut Text<A>,
     serial: usize,
     reply: Reply,
 ) -> Result<(), AllocError>
-    ensures { OnOk result (output.new ≡ output.old ++ reply_line serial reply) }
+    ensures { OnOk result (text.new ≡ text.old ++ reply_line serial reply) }
 {
-    output.push_number(serial)?;
+    text.push_number(serial)?;
     match reply {
-        Reply::Accepted => output.push(b",accepted\n"),
-        Reply::Refused(refusal) => push_refused_line_end(output, refusal.number()),
+        Reply::Accepted => text.push(b",accepted\n"),
+        Reply::Refused(refusal) => push_refused_line_end(text, refusal.number()),
     }
 }

@@ -74,7 +74,8 @@ step-between cfg st.InComment c =
 step-between cfg st.AfterCr c =
     ends_between-if (c == line_feed) (st.StartRecord, act.Skip) (start_record cfg c) (goes_on _ _ refl) (start_record-between cfg c)
 
--- a record that was read from a state leaves the machine between two records, and leaves fewer bytes where it was between two
+-- a record that was read from a state leaves the machine between two records, and leaves fewer bytes where it was
+-- between two
 record IsAfterRecord (s : State) (xs : List ℕ) (p : Read) : Type 0 where
   between : ends_at_end p.1 ≡ false
   no_longer : length p.2 ≤ length xs

@@ -1,11 +1,14 @@
 -- Following a path of parents through a frozen book.
-use Rattle.std.proofs.Common.{◌≡◌, ◌∙◌, ℕ, ◌<◌, List, [], ◌∷◌, length, slice_get, Option, Some, None, ap, sym, refl}
+use Rattle.std.proofs.Common.{◌≡◌, ◌∙◌, ℕ, ◌<◌, List, [], ◌∷◌, length, slice_get, Option, Some, None, ap, subst, sym, refl}
 use Rattle.std.proofs.lemmas.Option.{slice_get_within, get_or_from_slice_get}
 use Rattle.std.specs.Option.{option_and_then}
 use Rattle.herd_frozen.specs.declared.freezing.frozen.Row.{Row}
-use Rattle.herd_frozen.specs.freezing.Frozen.{IsFrozen, IsRankOf, book_of, numbers_of}
+use Rattle.herd_frozen.specs.declared.freezing.frozen.Parents.{Parents}
+use Rattle.herd_frozen.specs.freezing.Frozen.{IsFrozen, IsRankOf, book_of, numbers_of, parents_of}
 use Rattle.herd_kinship.specs.FrozenAncestry.{number_of_row}
+use Rattle.herd_kinship.specs.Ranks.{AreParentsAt}
 use Rattle.herd_kinship.proofs.lemmas.books.FrozenFacts.{length-numbers_of, number_of_row-is, record_at-row}
+use Rattle.herd_kinship.proofs.lemmas.books.ParentsFacts.{row-at}
 use Rattle.herd_report.specs.declared.writing.ancestors.Parent.{Parent}
 use Rattle.herd_report.specs.declared.writing.ancestors.Parent.TheVariants.{Sire, Dam}
 use Rattle.herd_report.specs.writing.Ancestors.{ancestor_of, parent_of, parent_rank}
@@ -15,11 +18,29 @@ pub record LeadsFrom (rows : List Row) (start : ℕ) (path : List Parent) (rank 
   pub within : rank < length rows
   pub same : ancestor_of (book_of rows) (number_of_row rows start) path ≡ ancestor_of (book_of rows) (number_of_row rows rank) rest
 
--- a row tells the rank of its animal's parent
-pub parent_at : (l most : ℕ) (rows : List Row) → IsFrozen l most rows → (rank : ℕ) (row : Row) → slice_get rows rank ≡ Some row
-    → (parent : Parent) → IsRankOf rows (parent_rank parent row) (parent_of (book_of rows) parent row.number)
-parent_at l most rows frozen rank row there Sire = rw (record_at-row l most rows frozen rank row there) (frozen.each rank row there).sire
-parent_at l most rows frozen rank row there Dam = rw (record_at-row l most rows frozen rank row there) (frozen.each rank row there).dam
+-- the rank of a parent of the animal there, and who that parent is
+record IsParentAt (rows : List Row) (rank : ℕ) (parent : Parent) (told : Option ℕ) : Type 0 where
+  known : Option (List ℕ)
+  is_rank : IsRankOf rows told known
+  is_parent : parent_of (book_of rows) parent (number_of_row rows rank) ≡ known
+
+rank_told : (l most : ℕ) (rows : List Row) → IsFrozen l most rows → (rank : ℕ) (row : Row) → slice_get rows rank ≡ Some row
+    → (parent : Parent) → IsRankOf rows (parent_rank parent (parents_of row)) (parent_of (book_of rows) parent row.number)
+rank_told l most rows frozen rank row there Sire = rw (record_at-row l most rows frozen rank row there) (frozen.each rank row there).sire
+rank_told l most rows frozen rank row there Dam = rw (record_at-row l most rows frozen rank row there) (frozen.each rank row there).dam
+
+-- the parents at a rank tell it
+parent_at : (l most : ℕ) (rows : List Row) → IsFrozen l most rows → (rank : ℕ) (parents : Parents) → AreParentsAt rows rank parents
+    → (parent : Parent) → IsParentAt rows rank parent (parent_rank parent parents)
+parent_at l most rows frozen rank parents there parent =
+    let at = row-at rows rank parents there in
+    record {
+      known = parent_of (book_of rows) parent at.row.number;
+      is_rank =
+          subst (λ (p : Parents). IsRankOf rows (parent_rank parent p) (parent_of (book_of rows) parent at.row.number)) (sym at.same)
+          (rank_told l most rows frozen rank at.row at.there parent);
+      is_parent = ap (parent_of (book_of rows) parent) (number_of_row-is rows rank at.row at.there);
+    }
 
 -- the parent whose rank is told is known, and stands there
 rank_known : (rows : List Row) (next : ℕ) (rank : Option ℕ) (known : Option (List ℕ)) → IsRankOf rows rank known → rank ≡ Some next
@@ -39,24 +60,21 @@ rank_unknown rows None (Some number) is at = absurd is
 rank_unknown rows (Some p) (Some number) is at = absurd (cc)
 
 -- the first parent of the path is known
-pub leads_on : {l most : ℕ} {rows : List Row} {start rank : ℕ} {path : List Parent} (parent : Parent) (rest : List Parent) (row : Row) (next : ℕ)
-    → IsFrozen l most rows → LeadsFrom rows start path rank (parent ∷ rest) → slice_get rows rank ≡ Some row → parent_rank parent row ≡ Some next
+pub leads_on : {l most : ℕ} {rows : List Row} {start rank : ℕ} {path : List Parent} (parent : Parent) (rest : List Parent) (parents : Parents) (next : ℕ)
+    → IsFrozen l most rows → LeadsFrom rows start path rank (parent ∷ rest) → AreParentsAt rows rank parents → parent_rank parent parents ≡ Some next
     → LeadsFrom rows start path next rest
-leads_on {l} {most} {rows} {start} {rank} {path} parent rest row next frozen leads there at =
+leads_on {l} {most} {rows} {start} {rank} {path} parent rest parents next frozen leads there told =
     let book = book_of rows in
-    let is = parent_at l most rows frozen rank row there parent in
-    let known = rank_known rows next (parent_rank parent row) (parent_of book parent row.number) is at in
-    let step : ancestor_of book (number_of_row rows rank) (parent ∷ rest) ≡ ancestor_of book (number_of_row rows next) rest =
-    rw (number_of_row-is rows rank row there) (ap (option_and_then (λ n. ancestor_of book n rest)) known.1) in
-    record { within = known.0; same = leads.same ∙ step }
+    let at = parent_at l most rows frozen rank parents there parent in
+    let known = rank_known rows next (parent_rank parent parents) at.known at.is_rank told in
+    record { within = known.0; same = leads.same ∙ ap (option_and_then (λ n. ancestor_of book n rest)) (at.is_parent ∙ known.1) }
 
 -- the first parent of the path is unknown
-pub leads_nowhere : {l most : ℕ} {rows : List Row} {start rank : ℕ} {path : List Parent} (parent : Parent) (rest : List Parent) (row : Row)
-    → IsFrozen l most rows → LeadsFrom rows start path rank (parent ∷ rest) → slice_get rows rank ≡ Some row → parent_rank parent row ≡ None
+pub leads_nowhere : {l most : ℕ} {rows : List Row} {start rank : ℕ} {path : List Parent} (parent : Parent) (rest : List Parent) (parents : Parents)
+    → IsFrozen l most rows → LeadsFrom rows start path rank (parent ∷ rest) → AreParentsAt rows rank parents → parent_rank parent parents ≡ None
     → ancestor_of (book_of rows) (number_of_row rows start) path ≡ None
-leads_nowhere {l} {most} {rows} {start} {rank} {path} parent rest row frozen leads there at =
+leads_nowhere {l} {most} {rows} {start} {rank} {path} parent rest parents frozen leads there told =
     let book = book_of rows in
-    let unknown = rank_unknown rows (parent_rank parent row) (parent_of book parent row.number) (parent_at l most rows frozen rank row there parent) at in
-    let step : ancestor_of book (number_of_row rows rank) (parent ∷ rest) ≡ None =
-    rw (number_of_row-is rows rank row there) (ap (option_and_then (λ n. ancestor_of book n rest)) unknown) in
-    leads.same ∙ step
+    let at = parent_at l most rows frozen rank parents there parent in
+    let unknown = rank_unknown rows (parent_rank parent parents) at.known at.is_rank told in
+    leads.same ∙ ap (option_and_then (λ n. ancestor_of book n rest)) (at.is_parent ∙ unknown)

@@ -14,7 +14,7 @@ use Rattle.herd_kinship.specs.Coefficients.{AreCoefficients}
 use Rattle.herd_kinship.specs.FrozenAncestry.{ancestry_of, number_of_row}
 use Rattle.herd_kinship.specs.Table.{coefficient}
 use Rattle.herd_kinship.proofs.lemmas.books.BookFacts.{record_there}
-use Rattle.herd_kinship.proofs.lemmas.books.FrozenFacts.{length-numbers_of, number_of_row-is, numbers_are_keys, record_at-row}
+use Rattle.herd_kinship.proofs.lemmas.books.FrozenFacts.{length-numbers_of, number_of_row-is, numbers_are_keys, record_at-row, row_at}
 use Rattle.herd_report.proofs.lemmas.writing.CoefficientFacts.{numerator_is}
 use Rattle.herd_report.specs.writing.Certificate.{ancestors_text, animal_text, certificate_of, labelled_line}
 
@@ -35,7 +35,7 @@ certificate_made rows numerators frozen are rank row there numerator read =
     ∙ sym text)
 
 -- the number that stands at a rank is there
-number_is_there : (rows : List Row) (rank : ℕ) (number : List ℕ) → slice_get (numbers_of rows) rank ≡ Some number
+pub number_is_there : (rows : List Row) (rank : ℕ) (number : List ℕ) → slice_get (numbers_of rows) rank ≡ Some number
     → is_there (book_of rows) number ≡ true
 number_is_there rows rank number there =
     let found = get_or_from_slice_get (numbers_of rows) rank number [] there in
@@ -43,15 +43,18 @@ number_is_there rows rank number there =
     rw (← numbers_are_keys rows, ← found) (Contains-get_or (numbers_of rows) rank [] (slice_get_within (numbers_of rows) rank number there)) in
     ap is_some (record_there (book_of rows) number among).1
 
--- so it isn't absent
-pub not_absent : (rows : List Row) (rank : ℕ) (number : List ℕ) → slice_get (numbers_of rows) rank ≡ Some number
-    → is_there (book_of rows) number ≡ false → ⊥
-not_absent rows rank number there absent = absurd (false≢true (sym absent ∙ number_is_there rows rank number there))
-
 -- the row at the rank of a number has that number
 pub number_at_rank : (rows : List Row) (rank : ℕ) (number : List ℕ) → slice_get (numbers_of rows) rank ≡ Some number
     → number_of_row rows rank ≡ number
 number_at_rank rows rank number there = get_or_from_slice_get (numbers_of rows) rank number [] there
+
+-- and there is such a row
+pub row_at_rank : (rows : List Row) (rank : ℕ) (number : List ℕ) → slice_get (numbers_of rows) rank ≡ Some number
+    → (row : Row) × (slice_get rows rank ≡ Some row) × (number ≡ row.number)
+row_at_rank rows rank number there =
+    let within : rank < length rows = rw (← length-numbers_of rows) (slice_get_within (numbers_of rows) rank number there) in
+    let row = row_at rows rank within in
+    (row.0, row.1, sym (number_at_rank rows rank number there) ∙ number_of_row-is rows rank row.0 row.1)
 
 some_text : (book : Book) (numerator : ℕ) (number : List ℕ) (found : Option Animal) → is_some found ≡ true
     → 0 < length (option_map_or (λ (animal : Animal). animal_text number animal numerator ++ ancestors_text book number) found [])

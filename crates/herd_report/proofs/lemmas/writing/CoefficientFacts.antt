@@ -6,7 +6,7 @@ use Rattle.herd_kinship.specs.Coefficients.{AreCoefficients}
 use Rattle.herd_kinship.specs.FrozenAncestry.{ancestry_of}
 use Rattle.herd_kinship.specs.Table.{coefficient}
 use Rattle.herd_kinship.proofs.lemmas.books.FrozenFacts.{number_of_row-is}
-use Rattle.herd_report.proofs.lemmas.writing.OutputFacts.{some_after}
+use Rattle.herd_report.proofs.lemmas.writing.TextFacts.{some_after}
 use Rattle.herd_report.specs.writing.CoefficientText.{coefficient_line, coefficient_line_end}
 
 -- the numerator at a rank is the coefficient of the row there

@@ -13,7 +13,7 @@ use Rattle.herd_kinship.specs.Ranks.{sire_rank, dam_rank}
 use Rattle.herd_kinship.proofs.lemmas.books.FrozenFacts.{sire_at, dam_at}
 use Rattle.herd_kinship.specs.FrozenAncestry.{number_of_row}
 use Rattle.herd_kinship.specs.Fraction.{fraction_text}
-use Rattle.herd_report.proofs.lemmas.writing.OutputFacts.{some_after, some_before}
+use Rattle.herd_report.proofs.lemmas.writing.TextFacts.{some_after, some_before}
 use Rattle.herd_report.specs.writing.InverseList.{IsWithin, contribution_line, contributions_text, value_line_end}
 
 -- of the six elements the first ones are those that count

@@ -4,7 +4,7 @@ use Rattle.std.specs.List.{flat_map, range_with_len}
 use Rattle.std.proofs.lemmas.List.{drop_more}
 use Rattle.std.proofs.lemmas.List.FromFn.{get_or-range_with_len, length-range_with_len}
 use Rattle.std.proofs.lemmas.Option.{slice_get_within, slice_get-get_or, get_or_from_slice_get}
-use Rattle.herd_report.proofs.lemmas.writing.OutputFacts.{Holds, holds_piece, some_before}
+use Rattle.herd_report.proofs.lemmas.writing.TextFacts.{Holds, holds_piece, some_before}
 
 -- the element that a loop over the list reads stands at the rank
 pub slice_get-item : {X : Type 0} (xs : List X) (rank : ℕ) (x : X) → rank < length xs → x ≡ get_or xs rank x → slice_get xs rank ≡ Some x

@@ -1,16 +1,23 @@
--- Where there are no coefficients, nothing is written, and the animal is in the book.
-use Rattle.std.proofs.lemmas.Result.{err_from_is_err_and}
-use Rattle.herd_report.proofs.lemmas.writing.CertificateFacts.{not_absent, some_certificate}
-use Rattle.herd_report.proofs.lemmas.writing.OutputFacts.{front_nothing}
+-- The certificate at the rank of a number is that of the number. Where there are no coefficients, nothing is written.
+use Rattle.std.proofs.Common.{refl}
+use Rattle.herd_report.proofs.lemmas.Exits.{if_err}
+use Rattle.herd_report.proofs.lemmas.writing.CertificateFacts.{some_certificate}
+use Rattle.herd_report.proofs.lemmas.writing.TextFacts.{front_nothing}
 use Rattle.herd_report.proofs.orders.certify.Goals as goal
+
+pub returns-in_err-rank-clause-err : goal.returns-in_err-rank-clause-err
+returns-in_err-rank-clause-err g c =
+    let absent = c.in_err-rank.ensures.absent in
+    if_err c.from_residual.result _ _ c.from_residual.ensures.1 (rw absent.0 (absent.1, refl))
 
 pub returns-in_err-coefficients-clause-err : goal.returns-in_err-coefficients-clause-err
 returns-in_err-coefficients-clause-err g c =
-    let exit = err_from_is_err_and c.from_residual.result c.from_residual.ensures.1 in
-    rw exit.1 (λ there. front_nothing _ _ (some_certificate c.args.frozen.now c.args.number there))
+    let there = c.in_ok-rank.ensures.there in
+    if_err c.from_residual-in_err-coefficients.result _ _ c.from_residual-in_err-coefficients.ensures.1 (there, front_nothing _ _ (some_certificate c.args.frozen.now c.args.number there))
 
-pub returns-in_err-coefficients-clause-absent : goal.returns-in_err-coefficients-clause-absent
-returns-in_err-coefficients-clause-absent g c =
-    let exit = err_from_is_err_and c.from_residual.result c.from_residual.ensures.1 in
-    let there = not_absent c.args.frozen.now c.in-Some._rank c.args.number c.in-Some.ensures.rank in
-    (λ told. absurd (cc (exit.1, exit.2, told)), λ absent. absurd (there absent))
+pub returns-in_err-write_certificate_at-clause-err : goal.returns-in_err-write_certificate_at-clause-err
+returns-in_err-write_certificate_at-clause-err g c =
+    if_err c.from_residual-in_err-write_certificate_at.result _ _ c.from_residual-in_err-write_certificate_at.ensures.1 (c.in_ok-rank.ensures.there, rw c.in_ok-rank.ensures.own at c.in_err-write_certificate_at.ensures.err)
+
+pub returns-clause-ok : goal.returns-clause-ok
+returns-clause-ok g c = (c.in_ok-rank.ensures.there, rw c.in_ok-rank.ensures.own at c.in_ok-write_certificate_at.ensures.ok)

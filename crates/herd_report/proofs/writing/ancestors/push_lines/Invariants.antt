@@ -7,4 +7,4 @@ use Rattle.herd_report.proofs.writing.ancestors.push_lines.Given as goal
 
 abbrev pub invariant-loop-path : goal.invariant-loop-path
 invariant-loop-path g l =
-    l.output ≡ l.fn.output ++ flat_map (λ path. ancestor_line (book_of l.frozen) (number_of_row l.frozen l.rank) path.now) (take l.path-index l.paths)
+    l.text ≡ l.fn.text ++ flat_map (λ path. ancestor_line (book_of l.frozen) (number_of_row l.frozen l.rank) path.now) (take l.path-index l.paths)

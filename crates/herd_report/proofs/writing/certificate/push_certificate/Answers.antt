@@ -16,4 +16,4 @@ returns g c =
     let made = certificate_made rows c.args.coefficients.now c.row.ensures.frozen c.requires.coefficients c.args.rank row c.row.ensures.row
     c.numerator.result c.numerator.ensures.value in
     IfOk-equal c.push_ancestors.result _ _ _ c.push_ancestors.ensures
-    (rw c.in_ok-push_animal.ensures (append_assoc c.args.output.now own ancestors ∙ ap (λ (text : List ℕ). c.args.output.now ++ text) made))
+    (rw c.in_ok-push_animal.ensures (append_assoc c.args.text.now own ancestors ∙ ap (λ (text : List ℕ). c.args.text.now ++ text) made))

@@ -3,26 +3,24 @@ use Rattle.std.proofs.Common.{◌<◌, ◌≤◌, length, arith}
 use Rattle.std.specs.List.{range_with_len}
 use Rattle.std.proofs.lemmas.List.{drop_all}
 use Rattle.std.proofs.lemmas.List.FromFn.{length-range_with_len}
-use Rattle.std.proofs.lemmas.Result.{err_from_is_err_and, on_err_weaker, on_ok_weaker}
-use Rattle.herd_report.proofs.lemmas.writing.OutputFacts.{appends_waiting, front_passed, front_waiting, holds_passed}
+use Rattle.std.proofs.lemmas.Result.{on_err_weaker, on_ok_weaker}
+use Rattle.herd_report.proofs.lemmas.Exits.{on_err}
+use Rattle.herd_report.proofs.lemmas.writing.TextFacts.{appends_waiting, front_passed, front_waiting, holds_passed}
 use Rattle.herd_report.proofs.lemmas.writing.Pieces.{holds_element, slice_get-range, some_left}
 use Rattle.herd_report.proofs.lemmas.writing.ContributionFacts.{some_contributions_text}
 use Rattle.herd_report.specs.writing.InverseList.{contributions_text}
 use Rattle.herd_report.proofs.writing.inverse_list.write_inverse.Goals as goal
 
 pub returns-in_err-pass_on-clause-err : goal.returns-in_err-pass_on-clause-err
-returns-in_err-pass_on-clause-err g c =
-    let exit = err_from_is_err_and c.from_residual.result c.from_residual.ensures.1 in
-    rw exit.1 (front_waiting c.loop-rank.invariant c.in_err-pass_on.ensures.err)
+returns-in_err-pass_on-clause-err g c = on_err c.from_residual.result (front_waiting c.loop-rank.invariant c.in_err-pass_on.ensures.err)
 
 pub returns-in_err-push_contributions-clause-err : goal.returns-in_err-push_contributions-clause-err
 returns-in_err-push_contributions-clause-err g c =
-    let exit = err_from_is_err_and c.from_residual-in_err-push_contributions.result c.from_residual-in_err-push_contributions.ensures.1 in
     let rows = c.args.frozen.now in
     let rank = c.loop-rank.rank in
     let within : rank < length rows = omega arith in
     let some = some_left (contributions_text rows) (range_with_len 0 (length rows)) rank rank (slice_get-range (length rows) rank within) (some_contributions_text rows rank) in
-    rw exit.1 (front_passed (holds_passed c.loop-rank.invariant c.in_ok-pass_on.ensures.ok) some)
+    on_err c.from_residual-in_err-push_contributions.result (front_passed (holds_passed c.loop-rank.invariant c.in_ok-pass_on.ensures.ok) some)
 
 pub loop-rank-preserved : goal.loop-rank-preserved
 loop-rank-preserved g c =

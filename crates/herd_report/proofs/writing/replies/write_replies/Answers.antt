@@ -1,25 +1,23 @@
 -- `write_replies`: its loop and its clause `err`.
 use Rattle.std.proofs.Common.{◌+◌, drop}
-use Rattle.std.proofs.lemmas.Result.{err_from_is_err_and, on_err_weaker}
-use Rattle.herd_report.proofs.lemmas.writing.OutputFacts.{front_passed, front_waiting, holds_passed, holds_piece, some_before}
+use Rattle.std.proofs.lemmas.Result.{on_err_weaker}
+use Rattle.herd_report.proofs.lemmas.Exits.{on_err}
+use Rattle.herd_report.proofs.lemmas.writing.TextFacts.{front_passed, front_waiting, holds_passed, holds_piece, some_before}
 use Rattle.herd_report.proofs.lemmas.writing.ReplyLines.{reply_lines_from-drop, some_reply_line}
 use Rattle.herd_report.specs.writing.Replies.{reply_line, reply_lines_from}
 use Rattle.herd_report.proofs.writing.replies.write_replies.Goals as goal
 
 pub returns-in_err-pass_on-clause-err : goal.returns-in_err-pass_on-clause-err
-returns-in_err-pass_on-clause-err g c =
-    let exit = err_from_is_err_and c.from_residual.result c.from_residual.ensures.1 in
-    rw exit.1 (front_waiting c.loop-place.invariant c.in_err-pass_on.ensures.err)
+returns-in_err-pass_on-clause-err g c = on_err c.from_residual.result (front_waiting c.loop-place.invariant c.in_err-pass_on.ensures.err)
 
 pub returns-in_err-push_reply-clause-err : goal.returns-in_err-push_reply-clause-err
 returns-in_err-push_reply-clause-err g c =
-    let exit = err_from_is_err_and c.from_residual-in_err-push_reply.result c.from_residual-in_err-push_reply.ensures.1 in
     let place = c.loop-place.place in
     let step = c.index-steps-place.result in
     let after = reply_lines_from (place + 1 + 1) (drop (place + 1) c.args.steps.now) in
     let split = reply_lines_from-drop c.args.steps.now place step c.loop-place-test.true c.index-steps-place.is in
     let some = some_before (reply_line (place + 1) step.reply) after (some_reply_line (place + 1) step.reply) in
-    rw exit.1 (front_passed (holds_passed c.loop-place.invariant c.in_ok-pass_on.ensures.ok) (rw split some))
+    on_err c.from_residual-in_err-push_reply.result (front_passed (holds_passed c.loop-place.invariant c.in_ok-pass_on.ensures.ok) (rw split some))
 
 pub loop-place-preserved : goal.loop-place-preserved
 loop-place-preserved g c =

@@ -1,6 +1,6 @@
 ghost use Rattle.std.specs.Prelude.{◌≡◌, [], ◌++◌, IfErr, OnErr, OnOk};
 ghost use Rattle.std.specs.Io.KnownBytes.{Appends};
-ghost use Rattle.herd_report.specs.writing.Output.{AppendsFront, PassesOn};
+ghost use Rattle.herd_report.specs.writing.Text.{AppendsFront, PassesOn};
 
 use crate::writing::report_fault::ReportFault;
 use itoa::{Buffer, Integer};

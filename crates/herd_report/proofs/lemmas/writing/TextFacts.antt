@@ -4,7 +4,7 @@ use Rattle.std.proofs.KnownBytes.{Appends-nil, Appends-trans}
 use Rattle.std.proofs.Math.Seq.{take-length}
 use Rattle.std.proofs.lemmas.List.{append-nil, length-drop, take-append-drop}
 use Rattle.std.specs.Io.KnownBytes.{Appends}
-use Rattle.herd_report.specs.writing.Output.{AppendsFront, PassesOn}
+use Rattle.herd_report.specs.writing.Text.{AppendsFront, PassesOn}
 
 -- nothing is written yet
 pub passes_nothing : (known : Option (List ℕ)) (text : List ℕ) → PassesOn known known text text
