@@ -33,7 +33,6 @@ impl<'a, F: Allocator> Copy for Level<'a, F> {}
 impl<'a, F: Allocator> Level<'a, F> {
     /// How many blocks there are.
     pub fn blocks(&self) -> u32
-        requires { IsFrozen DEPTH_LIMIT MOST_ANIMALS self.now.frozen.now }
         ensures { result ≡ div_ceil (length (level_of self.now.depth self.now.frozen.now)) self.now.block }
     {
         let ranks = self.frozen.level(self.depth).len();
