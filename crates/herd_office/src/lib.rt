@@ -16,8 +16,8 @@
 //! journal, and that nothing is pending. One event of the office is one call of `file_on` under the lock: the journal's
 //! end is asked, the step that follows is claimed, the register files the command, the step is appended for the copies,
 //! added to the history and published, and the call is counted. What may be refused comes before the history grows:
-//! where the append of the step is refused, the step is withdrawn. Only the append of the grown history comes after, and
-//! it has its room (no clause says so).
+//! where the append of the step is refused, the step is withdrawn. Only the append of the grown history comes after,
+//! and it has its room (no clause says so).
 //!
 //! # One history
 //!
