@@ -196,12 +196,3 @@ fn refused_memory_leaves_no_trace(rt: HostRuntime) -> Result<(), Fail> {
     assert!(rt; 0 < opening && 0 < filing && 0 < freezing);
     Ok(())
 }
-
-// Each growth may be refused once from outside.
-#[test]
-fn the_systems_memory_is_enough(rt: HostRuntime) -> Result<(), Fail> {
-    let mut none = Crowd::of(rt.alloc(), None);
-    let (opening, filing, freezing) = use_in_time(&rt, rt.alloc(), rt.alloc(), &mut none)?;
-    assert!(rt; opening.wrapping_add(filing).wrapping_add(freezing) < 2);
-    Ok(())
-}

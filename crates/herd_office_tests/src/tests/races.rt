@@ -14,15 +14,22 @@ use std::sync::Wait;
 use std::test::*;
 use std::thread::Threads;
 
-// What two desks file at once, once bull, cow and calf are born, and how it ends by the desk whose command comes first:
-// what the other desk is told, and the record of the animal that both are about.
+// What two desks file at once, once bull, cow and calf are born, and how it ends by the desk whose command comes first.
 #[derive(Clone, Copy)]
 struct Duel {
     one: Command,
     two: Command,
     animal: Name,
-    one_first: (Reply, Animal),
-    two_first: (Reply, Animal),
+    one_first: End,
+    two_first: End,
+}
+
+// What the other desk is told, the record of the animal that both are about, and how many animals the book has.
+#[derive(Clone, Copy)]
+struct End {
+    other: Reply,
+    record: Animal,
+    animals: u32,
 }
 
 const BULL: Birth = Birth(Bull(1), *b"2000-01-01", UNKNOWN);
@@ -46,20 +53,22 @@ impl Duel {
                 dam: Some(COW.0.number()),
             },
             animal: CALF.0,
-            one_first: (
-                Reply::Accepted,
-                Animal {
+            one_first: End {
+                other: Reply::Accepted,
+                record: Animal {
                     dam: Some(COW.0.number()),
                     ..born(rt, CALF)
                 },
-            ),
-            two_first: (
-                Reply::Accepted,
-                Animal {
+                animals: 3,
+            },
+            two_first: End {
+                other: Reply::Accepted,
+                record: Animal {
                     sire: Some(BULL.0.number()),
                     ..born(rt, CALF)
                 },
-            ),
+                animals: 3,
+            },
         }
     }
 
@@ -70,26 +79,35 @@ impl Duel {
             one: exit(rt, COW.0, b"2003-03-01"),
             two: birth(rt, calf),
             animal: COW.0,
-            one_first: (
-                Reply::Refused(Refusal::DamGone),
-                Animal {
+            one_first: End {
+                other: Reply::Refused(Refusal::DamGone),
+                record: Animal {
                     left: Some(day(rt, b"2003-03-01")),
                     ..born(rt, COW)
                 },
-            ),
-            two_first: (Reply::Refused(Refusal::CalvedLater), born(rt, COW)),
+                animals: 3,
+            },
+            two_first: End {
+                other: Reply::Refused(Refusal::CalvedLater),
+                record: born(rt, COW),
+                animals: 4,
+            },
         }
     }
 
     // The bull goes to herd 2 or to herd 3.
     fn of_sale(rt: &impl Abort) -> Duel {
-        let not_owner = Reply::Refused(Refusal::NotOwner);
+        let sold_to = |herd| End {
+            other: Reply::Refused(Refusal::NotOwner),
+            record: sold(rt, herd),
+            animals: 3,
+        };
         Duel {
             one: transfer(rt, BULL.0, herd_of(2)),
             two: transfer(rt, BULL.0, herd_of(3)),
             animal: BULL.0,
-            one_first: (not_owner, sold(rt, herd_of(2))),
-            two_first: (not_owner, sold(rt, herd_of(3))),
+            one_first: sold_to(herd_of(2)),
+            two_first: sold_to(herd_of(3)),
         }
     }
 
@@ -121,18 +139,22 @@ impl Duel {
         let [_, _, _, earlier, later] = raced.register.journal() else {
             panic!(rt; "a race without two steps");
         };
-        let one = accepted(1, self.one);
-        let two = accepted(2, self.two);
-        let (steps, record) = if earlier.desk == 1 {
-            let (reply, record) = self.one_first;
-            ([one, Step { reply, ..two }], record)
+        let (first, second, end) = if earlier.desk == 1 {
+            (accepted(1, self.one), accepted(2, self.two), self.one_first)
         } else {
-            let (reply, record) = self.two_first;
-            ([two, Step { reply, ..one }], record)
+            (accepted(2, self.two), accepted(1, self.one), self.two_first)
         };
-        assert_eq!(rt; [*earlier, *later], steps);
-        let found = raced.register.pedigree().get(&self.animal.number());
-        assert_eq!(rt; (found, raced.full), (Some(record), 0));
+        let second = Step {
+            reply: end.other,
+            ..second
+        };
+        assert_eq!(rt; [*earlier, *later], [first, second]);
+        let pedigree = raced.register.pedigree();
+        let found = pedigree.get(&self.animal.number());
+        assert_eq!(rt;
+            (found, pedigree.len(), raced.full),
+            (Some(end.record), end.animals, 0)
+        );
         earlier.desk
     }
 }
@@ -172,7 +194,8 @@ fn two_desks_are_about_one_animal(rt: HostRuntime) -> Result<(), Fail> {
 
 #[test]
 fn sixteen_desks_file_one_birth(rt: HostRuntime) -> Result<(), Fail> {
-    let turn = [founder(&rt, Bull(1))];
+    let birth = founder(&rt, Bull(1));
+    let turn = [birth];
     let turns: [&[Command]; MOST_DESKS as usize] = [&turn; MOST_DESKS as usize];
     let race = Race {
         steps: 20,
@@ -182,7 +205,7 @@ fn sixteen_desks_file_one_birth(rt: HostRuntime) -> Result<(), Fail> {
     let mut winners = Winners::None;
     for count in 0..MOST_RACES {
         let raced = race.run(&rt, rt.alloc(), count % 2 == 1)?;
-        winners = winners.add(expect_one_birth(&rt, &raced));
+        winners = winners.add(expect_one_birth(&rt, &raced, &birth));
         if winners == Winners::More {
             break;
         }
@@ -191,19 +214,32 @@ fn sixteen_desks_file_one_birth(rt: HostRuntime) -> Result<(), Fail> {
     Ok(())
 }
 
-// The desk whose birth was accepted, the first of sixteen.
-fn expect_one_birth(rt: &impl Abort, raced: &Raced) -> u16 {
-    let [first, rest @ ..] = raced.register.journal() else {
+// The desk whose birth was accepted, the first of sixteen. Each of the others was told that the animal is there.
+fn expect_one_birth(rt: &impl Abort, raced: &Raced, birth: &Command) -> u16 {
+    let journal = raced.register.journal();
+    let [first, rest @ ..] = journal else {
         panic!(rt; "a race without a step");
     };
-    let there = Reply::Refused(Refusal::AlreadyThere);
-    assert_eq!(rt; first.reply, Reply::Accepted);
-    assert!(rt; rest.iter().all(|step| step.reply == there));
-    assert_eq!(rt;
-        (rest.len(), raced.full, raced.register.pedigree().len()),
-        (15, 0, 1)
-    );
+    assert_eq!(rt; *first, accepted(first.desk, *birth));
+    for step in rest {
+        let there = Step {
+            reply: Reply::Refused(Refusal::AlreadyThere),
+            ..accepted(step.desk, *birth)
+        };
+        assert_eq!(rt; *step, there);
+    }
+    expect_each_once(rt, journal);
+    assert_eq!(rt; (raced.full, raced.register.pedigree().len()), (0, 1));
     first.desk
+}
+
+// Each of the sixteen desks has one step, and there are no others.
+fn expect_each_once(rt: &impl Abort, journal: &[Step]) {
+    assert_eq!(rt; journal.len(), usize::from(MOST_DESKS));
+    for desk in 1..=MOST_DESKS {
+        let count = journal.iter().filter(|step| step.desk == desk).count();
+        assert_eq!(rt; count, 1);
+    }
 }
 
 #[test]
