@@ -1,5 +1,5 @@
 -- Entries, shares, coefficients and Mendelian sampling variances don't depend on how the animals are named.
-use Rattle.std.proofs.Common.{map, ⊎_elim, ℕ, zero, suc, ◌+◌, ◌*◌, ◌-◌, ◌≡◌, inl, inr, List, Option, Some, None, refl, Contains, ◌∙◌, ap}
+use Rattle.std.proofs.Common.{map, ⊎_elim, ℕ, zero, suc, ◌+◌, ◌*◌, ◌-◌, ◌≡◌, inl, inr, Option, Some, None, refl, Contains, ◌∙◌, ap}
 use Rattle.std.specs.Option.{option_map}
 use Rattle.std.proofs.lemmas.List.Sorted.{Contains-permutation}
 use Rattle.herd_kinship.proofs.lemmas.Lists.{Contains-map}
