@@ -51,7 +51,7 @@ class Herdbook:
             )
         if not named and (TOP / "crates").exists() and not (TOP / "crates/herdbook/out/herdbook").exists():
             print(
-                "society: the program herdbook is built first, which takes half an hour or more",
+                "society: the program herdbook is built first, which takes 20 to 30 minutes",
                 file=sys.stderr,
                 flush=True,
             )
@@ -60,6 +60,11 @@ class Herdbook:
     def version(self, tell: bool = False) -> str:
         done = self.start(["--version"], subprocess.DEVNULL, None if tell else subprocess.PIPE)
         text = done.communicate()[0]
+        if done.returncode and tell:
+            raise Mistake(
+                "the program herdbook isn't built, for what is told above: mend that, or put the path of a built one into "
+                "the variable HERDBOOK"
+            )
         if done.returncode:
             raise Mistake(f"{self.path} --version ended with status {done.returncode}: is it the program herdbook?")
         return text.decode(errors="replace").strip()
