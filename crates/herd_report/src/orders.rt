@@ -1,5 +1,6 @@
-ghost use Rattle.std.specs.Prelude.{◌≡◌, ◌<◌, IfErr, IfOk, IfSome, OnOk};
+ghost use Rattle.std.specs.Prelude.{◌≡◌, ◌<◌, false, IfErr, IfOk, IfSome, OnOk};
 ghost use Rattle.std.specs.Io.KnownBytes.{Appends};
+ghost use Rattle.herd_frozen.specs.rules.Book.{is_there};
 ghost use Rattle.herd_frozen.specs.freezing.Frozen.{book_of};
 ghost use Rattle.herd_frozen.specs.declared.TheConstants.{DEPTH_LIMIT};
 ghost use Rattle.herd_kinship.specs.Coefficients.{AreCoefficients};
@@ -143,6 +144,7 @@ fn certify<W: Write>(
 ) -> Result<(), CertificateFault>
     ensures ok { OnOk result (IsCertified frozen.now number (W.contents writer.old) (W.contents writer.new)) }
     ensures err { IfErr result (EndsCertificate frozen.now number (W.contents writer.old) (W.contents writer.new)) }
+    ensures untouched { is_there (book_of frozen.now) number ≡ false → writer.new ≡ writer.old }
 {
     let rank = rank_for(frozen, &number)?;
     let coefficients = coefficients_plain(alloc, frozen)?;

@@ -134,11 +134,12 @@ fn stops_where_the_writer_does(rt: HostRuntime) -> Result<(), Fail> {
     expect_stops(&rt, |writer| run_order!(rt, Order::Inverse, writer))
 }
 
-// Where the animal isn't registered, the writer isn't asked to take anything.
+// Where the animal isn't registered, nothing is written.
 #[test]
 fn writes_nothing_of_an_unknown_animal(rt: HostRuntime) {
     let number = Bull(9).number();
-    let mut writer = StopsAfter::new(rt.alloc(), 0, Then::Fails);
+    let mut writer = StopsAfter::new(rt.alloc(), 1, Then::Fails);
     let outcome = run_order!(rt, Order::Certificate(number), &mut writer);
     assert_eq!(rt; outcome, Err(RunFault::NotRegistered));
+    assert!(rt; writer.taken.is_empty());
 }

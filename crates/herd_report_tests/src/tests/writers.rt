@@ -1,5 +1,6 @@
 //! The text of each writer, or want of memory with nothing written.
 
+use super::stops_after::{StopsAfter, Then};
 use herd_animal::Day;
 use herd_fixtures::Name::{Bull, Cow};
 use herd_fixtures::{founders, frozen_of, full_sibs};
@@ -107,6 +108,9 @@ fn writes_a_certificate(rt: HostRuntime) -> Result<(), Fail> {
     let frozen = frozen_of(rt.alloc(), &full_sibs())?;
     let coefficients = coefficients_plain(rt.alloc(), &frozen)?;
     let number = Bull(5).number();
+    let mut broken = StopsAfter::new(rt.alloc(), 0, Then::Fails);
+    let outcome = write_certificate(rt.alloc(), &frozen, &coefficients, number, &mut broken);
+    assert_eq!(rt; outcome, Err(ReportFault::Write.into()));
     expect_memory_or_text(&rt, CERTIFICATE, |alloc, writer| {
         write_certificate(alloc, &frozen, &coefficients, number, writer)
     })

@@ -21,3 +21,12 @@ returns-in_err-write_certificate_at-clause-err g c =
 
 pub returns-clause-ok : goal.returns-clause-ok
 returns-clause-ok g c = (c.in_ok-rank.ensures.there, rw c.in_ok-rank.ensures.own at c.in_ok-write_certificate_at.ensures.ok)
+
+pub returns-in_err-coefficients-clause-untouched : goal.returns-in_err-coefficients-clause-untouched
+returns-in_err-coefficients-clause-untouched g c = let there = c.in_ok-rank.ensures.there in λ absent. absurd (cc)
+
+pub returns-in_err-write_certificate_at-clause-untouched : goal.returns-in_err-write_certificate_at-clause-untouched
+returns-in_err-write_certificate_at-clause-untouched g c = let there = c.in_ok-rank.ensures.there in λ absent. absurd (cc)
+
+pub returns-clause-untouched : goal.returns-clause-untouched
+returns-clause-untouched g c = let there = c.in_ok-rank.ensures.there in λ absent. absurd (cc)
