@@ -18,8 +18,8 @@ use crate::clerk_fault::ClerkFault;
 use crate::crew::file_in_turn;
 use crate::deal::Deal;
 use crate::plans::DeskPlan;
+use crate::request_fault::RequestFault;
 use crate::summary::{DeskCount, Summary, text_of};
-use crate::task_fault::TaskFault;
 use herd_office::{Desk, Inspector, Office, OfficeName, OfficeParts};
 use herd_register::{Command, Limits, Register};
 use herd_report::{ReportFault, RunFault, read_commands, write_all};
@@ -42,7 +42,7 @@ pub fn clerks<H: Threads + Wait + Sync, R: Read + Drop, W: Write>(
     plan: DeskPlan,
     reader: R,
     writer: &mut W,
-) -> Result<(), TaskFault>
+) -> Result<(), RequestFault>
     ensures ok { OnOk result (IfSome (R.remaining reader)
         (λ bytes. IsFiledBy limits plan.desks plan.base (commands bytes limits.steps)
         (W.contents writer.old) (W.contents writer.new))) }
@@ -53,7 +53,7 @@ pub fn clerks<H: Threads + Wait + Sync, R: Read + Drop, W: Write>(
 {
     let commands = read_commands(alloc, reader, limits.steps);
     match commands.fault {
-        Some(fault) => Err(TaskFault::Run(RunFault::Line(fault))),
+        Some(fault) => Err(RequestFault::Run(RunFault::Line(fault))),
         None => file_all(rt, alloc, limits, plan, commands.list.as_slice(), writer),
     }
 }
@@ -66,7 +66,7 @@ fn file_all<H: Threads + Wait + Sync, W: Write>(
     plan: DeskPlan,
     commands: &[Command],
     writer: &mut W,
-) -> Result<(), TaskFault>
+) -> Result<(), RequestFault>
     requires { length commands.now ≤ limits.steps }
     ensures ok { OnOk result ((file : CommandFile) → IsRead limits.steps file commands.now None
         → IsFiledBy limits plan.desks plan.base file (W.contents writer.old) (W.contents writer.new)) }

@@ -1,12 +1,12 @@
-//! Why a task ended early.
+//! Why a request ended early.
 ghost use Rattle.std.specs.Prelude.{◌≡◌};
-ghost use Rattle.herdbook.specs.declared.task_fault.TaskFault.TheVariants.{Run};
+ghost use Rattle.herdbook.specs.declared.request_fault.RequestFault.TheVariants.{Run};
 
 use herd_report::{ReportFault, RunFault};
 
-/// Why a task ended early.
+/// Why a request ended early.
 #[derive(Clone, Copy, Debug, PartialEq, Eq, Drop)]
-pub enum TaskFault {
+pub enum RequestFault {
     /// As a run may end.
     Run(RunFault),
     /// The clerks' office lacked a seat for a reader or room for a step, gave no reading, wasn't closed, or its
@@ -14,20 +14,20 @@ pub enum TaskFault {
     NoPlace,
 }
 
-impl From<RunFault> for TaskFault {
+impl From<RunFault> for RequestFault {
     ghost from_gives = { λ fault told. told ≡ Run fault };
 
-    fn from(fault: RunFault) -> TaskFault {
-        TaskFault::Run(fault)
+    fn from(fault: RunFault) -> RequestFault {
+        RequestFault::Run(fault)
     }
 }
 
-impl From<ReportFault> for TaskFault {
+impl From<ReportFault> for RequestFault {
     ghost use Rattle.herd_report.specs.RunFault.{run_fault_of};
 
     ghost from_gives = { λ fault told. told ≡ Run (run_fault_of fault) };
 
-    fn from(fault: ReportFault) -> TaskFault {
-        TaskFault::Run(RunFault::from(fault))
+    fn from(fault: ReportFault) -> RequestFault {
+        RequestFault::Run(RunFault::from(fault))
     }
 }
