@@ -22,7 +22,7 @@ use crate::request_fault::RequestFault;
 use crate::summary::{DeskCount, Summary, text_of};
 use herd_office::{Desk, Inspector, Office, OfficeName, OfficeParts};
 use herd_register::{Command, Limits, Register};
-use herd_report::{ReportFault, RunFault, read_commands, write_all};
+use herd_report::{ReportFault, list_commands, write_all};
 use std::alloc::{AllocError, Global};
 use std::io::{Read, Write};
 use std::marker::Brand;
@@ -51,11 +51,9 @@ pub fn clerks<H: Threads + Wait + Sync, R: Read + Drop, W: Write>(
         (W.contents writer.old) (W.contents writer.new) fault)) }
     ensures fault { IfErr result CanEndClerks }
 {
-    let commands = read_commands(alloc, reader, limits.steps);
-    match commands.fault {
-        Some(fault) => Err(RequestFault::Run(RunFault::Line(fault))),
-        None => file_all(rt, alloc, limits, plan, commands.list.as_slice(), writer),
-    }
+    let mut list = Vec::new(alloc);
+    list_commands(alloc, reader, limits.steps, &mut list)?;
+    file_all(rt, alloc, limits, plan, list.as_slice(), writer)
 }
 
 // Has the commands of a file without a fault filed, and writes the summary.

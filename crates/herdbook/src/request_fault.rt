@@ -2,7 +2,7 @@
 ghost use Rattle.std.specs.Prelude.{◌≡◌};
 ghost use Rattle.herdbook.specs.declared.request_fault.RequestFault.TheVariants.{Run};
 
-use herd_report::{ReportFault, RunFault};
+use herd_report::{LineFault, ReportFault, RunFault};
 
 /// Why a request ended early.
 #[derive(Clone, Copy, Debug, PartialEq, Eq, Drop)]
@@ -19,6 +19,16 @@ impl From<RunFault> for RequestFault {
 
     fn from(fault: RunFault) -> RequestFault {
         RequestFault::Run(fault)
+    }
+}
+
+impl From<LineFault> for RequestFault {
+    ghost use Rattle.herd_report.specs.declared.run_fault.RunFault.TheVariants.{Line};
+
+    ghost from_gives = { λ fault told. told ≡ Run (Line fault) };
+
+    fn from(fault: LineFault) -> RequestFault {
+        RequestFault::Run(RunFault::Line(fault))
     }
 }
 
