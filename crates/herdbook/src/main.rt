@@ -12,7 +12,7 @@
 //! | what the program does for its words | `Program` | `program` | `ProgramFacts` |
 //! | how it ends, and what is told on standard error | `Ending`, `FaultText` | `ending`, `request_fault`, `fault_text` | |
 //! | clerks, their threads, one at a desk | `Clerks`, `Deal` | `desks`, `crew`, `clerk` | `DealFacts`, `SummaryFacts` |
-//! | the desk of each command, a desk's turn | `Deal` | `deal` | `DealFacts` |
+//! | the desk of each command, a desk's turn | `Deal` | `deal` | `DealFacts`, `Lists` |
 //! | how clerks end early | `Clerks` | `clerk_fault` | `ClerksFacts` |
 //! | what each desk answered, as text | `Summary` | `summary` | `SummaryFacts` |
 #![tactic(auto)]
