@@ -111,7 +111,7 @@ fn summary_of<H: Threads + Wait + Sync>(
     filed_in::<Brand, H>(rt, alloc, parts, Deal::of(plan, commands))
 }
 
-// The summary of the office that has these parts.
+// The summary of the office that has these parts, once the commands are filed.
 fn filed_in<N: OfficeName + Send + Sync, H: Threads + Wait + Sync>(
     rt: &H,
     alloc: Global,
@@ -123,25 +123,8 @@ fn filed_in<N: OfficeName + Send + Sync, H: Threads + Wait + Sync>(
     ensures { IfOk result (IsSummaryOfDeal N.limits deal.entry) }
 {
     let (office, desks, inspectors) = Office::<N, &H>::open(alloc, parts)?;
-    filed_at(rt, alloc, office, desks, inspectors, deal)
-}
-
-// The summary of an office that has these desks and inspectors, once the commands are filed.
-fn filed_at<N: OfficeName + Send + Sync, H: Threads + Wait + Sync, R: Wait + Drop + Send + Sync>(
-    rt: &H,
-    alloc: Global,
-    office: Office<N, R>,
-    desks: Vec<Desk<N>>,
-    inspectors: Vec<Inspector<N>>,
-    deal: Deal<'_>,
-) -> Result<Summary, ClerkFault>
-    requires all { N.all ≡ deal.desks }
-    requires desks { vec_len desks ≡ deal.desks }
-    requires fresh { AreFresh desks.items }
-    ensures { IfOk result (IsSummaryOfDeal N.limits deal.entry) }
-{
-    let desks = all_filed(rt, alloc, &office, desks, deal)?;
-    closed(rt, alloc, office, desks, inspectors)
+    let filed = all_filed(rt, alloc, &office, desks, deal)?;
+    closed(rt, alloc, office, filed, inspectors)
 }
 
 // The desks, once the commands are filed.
