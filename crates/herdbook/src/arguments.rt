@@ -1,20 +1,22 @@
 //! The words of the command line.
 
-ghost use Rattle.std.specs.Prelude.{◌≡◌, [], IfErr, IfOk, codes, false, map, string_bytes};
-ghost use Rattle.clap.specs.Words.{App, Rule, app_of, fault_of, found_of, new_app, rows_of, subcommand_of, subcommand_rows_of, with_rule};
+ghost use Rattle.std.specs.Prelude.{◌≡◌, ◌≤◌, [], IfErr, IfOk, codes, false, map, string_bytes};
+ghost use Rattle.clap.specs.Words.{App, Rule, app_of, fault_of, found_of, new_app, one_of, rows_of, subcommand_of, subcommand_rows_of, with_rule};
 ghost use Rattle.herd_animal.specs.AnimalNumber.{IsAnimalNumber};
 ghost use Rattle.herd_animal.specs.NumberFault.{IsNumberFault};
-ghost use Rattle.herdbook.specs.CommandLine.{IsArgumentOf, IsCommandOf, certificate_line, clerks_line, command_line, dam_rule, file_line, inbreeding_line, inverse_line, line_with, mating_line, program, runs_line, sires_rule};
+ghost use Rattle.herdbook.specs.CommandLine.{IsArgumentOf, IsCommandOf, certificate_line, clerks_line, command_line, dam_rule, file_line, inbreeding_line, inverse_line, line_with, mating_line, number_option, program, runs_line, sires_rule};
 ghost use Rattle.herd_report.specs.Run.{IsOrder};
-ghost use Rattle.herdbook.specs.Words.{IsAsked, IsDeskPlanOf, IsFirstFault, IsOrderFor, IsRefused, IsUnread, IsWorkPlanOf, IsWrongNumber, text_of, texts_of};
+ghost use Rattle.herdbook.specs.Words.{IsAsked, IsDeskPlanOf, IsFirstFault, IsNumberOr, IsOrderFor, IsRefused, IsUnread, IsWorkPlanOf, IsWrongNumber, text_of, texts_of};
 
 use crate::help;
-use crate::number_option::{BASE, BLOCK, DESKS, WORKERS};
 use crate::plans::{DeskPlan, WorkPlan};
+use crate::program::LIMITS;
 use clap::{Arg, ArgAction, ArgMatches, Command};
 use herd_animal::{AnimalNumber, NumberFault};
+use herd_office::MOST_DESKS;
+use herd_pool::{DEFAULT_BLOCK, MOST_WORKERS};
 use herd_report::Order;
-use std::alloc::{AllocError, AllocFailed, Global};
+use std::alloc::{AllocError, Global};
 
 /// What the words ask for.
 #[derive(Drop)]
@@ -70,16 +72,6 @@ impl From<AllocError> for WordsFault {
 
     fn from(error: AllocError) -> WordsFault {
         WordsFault::Words(clap::Error::from(error))
-    }
-}
-
-impl<T: Drop> From<AllocFailed<T>> for WordsFault {
-    ghost use Rattle.herdbook.specs.Words.{IsOutOfMemory};
-
-    ghost from_gives = { λ _ fault. IsOutOfMemory fault };
-
-    fn from(_refused: AllocFailed<T>) -> WordsFault {
-        WordsFault::from(AllocError)
     }
 }
 
@@ -154,8 +146,8 @@ fn work_plan_of(given: &ArgMatches<'_>) -> WorkPlan
     ensures { IsWorkPlanOf (rows_of (found_of given.now)) result }
 {
     WorkPlan {
-        workers: WORKERS.number_in(given),
-        block: BLOCK.number_in(given),
+        workers: option_or(given, "workers", 1, MOST_WORKERS, 1),
+        block: option_or(given, "block", 1, LIMITS.animals, DEFAULT_BLOCK),
     }
 }
 
@@ -163,8 +155,20 @@ fn desk_plan_of(given: &ArgMatches<'_>) -> DeskPlan
     ensures { IsDeskPlanOf (rows_of (found_of given.now)) result }
 {
     DeskPlan {
-        desks: DESKS.number_in(given) as u16,
-        base: BASE.number_in(given),
+        desks: option_or(given, "desks", 1, MOST_DESKS as u32, 2) as u16,
+        base: option_or(given, "base", 0, LIMITS.steps, 0),
+    }
+}
+
+// The number of an option from `least` to `most`, and another where the words give none.
+fn option_or(given: &ArgMatches<'_>, id: &str, least: u32, most: u32, other: u32) -> u32
+    requires { (least ≤ other) × (other ≤ most) }
+    ensures given { IsNumberOr least most other (one_of id.now (rows_of (found_of given.now))) result }
+    ensures within { (least ≤ result) × (result ≤ most) }
+{
+    match given.get_one::<u32>(id) {
+        Some(number) if least <= number && number <= most => number,
+        _ => other,
     }
 }
 
@@ -182,7 +186,7 @@ fn numbers_of(alloc: Global, texts: &[&str]) -> Result<Vec<AnimalNumber>, WordsF
     let mut numbers = Vec::new(alloc);
     for text in texts {
         let number = AnimalNumber::parse(text.as_bytes())?;
-        numbers.push(number)?;
+        numbers.push(number).map_err(AllocError::from)?;
     }
     Ok(numbers)
 }
@@ -278,15 +282,34 @@ fn named<'a>(alloc: Global, name: &'a str, about: &'a str, more: &'a str) -> Com
     Command::new(alloc, name).about(about).after_help(more)
 }
 
+// An option of a number from `least` to `most`, with no help yet: its name, what help calls its number, and the number
+// where it isn't given.
+fn number_option<'a>(
+    alloc: Global,
+    name: &'a str,
+    value: &'a str,
+    least: u32,
+    most: u32,
+    default: &'a str,
+) -> Arg<'a>
+    ensures { IsArgumentOf (number_option name.entry.now least most default.entry.now) result }
+{
+    Arg::new(alloc, name)
+        .long(name)
+        .value_name(value)
+        .value_parser(clap::value_parser!(u32).range(least as i64..=most as i64))
+        .default_value(default)
+}
+
 fn inbreeding<'a>(alloc: Global) -> Result<Command<'a>, AllocError>
     ensures { IfOk result (IsCommandOf inbreeding_line) }
 {
-    let workers = WORKERS
-        .argument(alloc)
-        .help("How many threads, from 1 to 16");
-    let block = BLOCK
-        .argument(alloc)
-        .help("Animals in a thread's block, 1 to 60,000");
+    let workers = number_option(alloc, "workers", "N", 1, MOST_WORKERS, "1").help(
+        "How many threads, from 1 to 16",
+    );
+    let block = number_option(alloc, "block", "N", 1, LIMITS.animals, "256").help(
+        "Animals in a thread's block, 1 to 60,000",
+    );
     let bare = named(
         alloc,
         "inbreeding",
@@ -349,12 +372,12 @@ fn sires_argument<'a>(alloc: Global) -> Arg<'a>
 fn clerks<'a>(alloc: Global) -> Result<Command<'a>, AllocError>
     ensures { IfOk result (IsCommandOf clerks_line) }
 {
-    let desks = DESKS
-        .argument(alloc)
-        .help("How many desks, from 1 to 16");
-    let base = BASE
-        .argument(alloc)
-        .help("Commands that desk 1 files first, to 1,000,000");
+    let desks = number_option(alloc, "desks", "K", 1, MOST_DESKS as u32, "2").help(
+        "How many desks, from 1 to 16",
+    );
+    let base = number_option(alloc, "base", "M", 0, LIMITS.steps, "0").help(
+        "Commands that desk 1 files first, to 1,000,000",
+    );
     let bare = named(
         alloc,
         "clerks",

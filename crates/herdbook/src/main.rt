@@ -7,7 +7,7 @@
 //!
 //! | | definition (`specs/`) | code (`src/`) | proof (`proofs/`) |
 //! |---|---|---|---|
-//! | the words, what they ask for | `CommandLine`, `Words` | `arguments`, `number_option`, `plans` | `CommandFacts`, `WordsFacts` |
+//! | the words, what they ask for | `CommandLine`, `Words` | `arguments`, `plans` | `CommandFacts`, `WordsFacts` |
 //! | the texts of help and of the version | | `help` | |
 //! | what the program does for its words | `Program` | `program` | `ProgramFacts` |
 //! | how it ends, and what is told on standard error | `Ending`, `FaultText` | `ending`, `request_fault`, `fault_text` | |
@@ -26,7 +26,6 @@ mod desks;
 mod ending;
 mod fault_text;
 mod help;
-mod number_option;
 mod plans;
 mod program;
 mod request_fault;

@@ -9,6 +9,6 @@ pub returns : goal.returns
 unfolding clerks_line
 returns c =
     let bare = new_app (codes "clerks") in
-    let desks = helped _ c.help-desks.result desks_rule _ c.argument.ensures c.help-desks.ensures in
-    let base = helped _ c.help-base.result base_rule _ c.argument-2.ensures c.help-base.ensures in
+    let desks = helped _ c.help-desks.result desks_rule _ c.number_option.ensures c.help-desks.ensures in
+    let base = helped _ c.help-base.result base_rule _ c.number_option-2.ensures c.help-base.ensures in
     c.with_argument-2.ensures (with_rule bare desks_rule) base_rule (c.with_argument.ensures bare desks_rule c.named-bare.ensures desks) base

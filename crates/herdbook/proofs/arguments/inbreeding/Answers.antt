@@ -9,6 +9,6 @@ pub returns : goal.returns
 unfolding inbreeding_line
 returns c =
     let bare = new_app (codes "inbreeding") in
-    let workers = helped _ c.help-workers.result workers_rule _ c.argument.ensures c.help-workers.ensures in
-    let block = helped _ c.help-block.result block_rule _ c.argument-2.ensures c.help-block.ensures in
+    let workers = helped _ c.help-workers.result workers_rule _ c.number_option.ensures c.help-workers.ensures in
+    let block = helped _ c.help-block.result block_rule _ c.number_option-2.ensures c.help-block.ensures in
     c.with_argument-2.ensures (with_rule bare workers_rule) block_rule (c.with_argument.ensures bare workers_rule c.named-bare.ensures workers) block
