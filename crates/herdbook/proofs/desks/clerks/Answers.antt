@@ -1,5 +1,5 @@
 -- What was read is what the file says.
-use Rattle.std.proofs.Common.{◌≡◌, ℕ, List, None, Option, IfSome, refl, subst, sym}
+use Rattle.std.proofs.Common.{◌≡◌, ℕ, List, None, Option, IfSome, Some, refl, subst, sym}
 use Rattle.std.proofs.lemmas.Option.{IfSome_then}
 use Rattle.std.proofs.lemmas.Result.{IfErr-weaker, err_from_is_err_and, on_ok_weaker}
 use Rattle.herd_register.specs.declared.command.Command.{Command}
@@ -22,7 +22,7 @@ returns-in_err-list_commands-clause-err g c =
     let exit = err_from_is_err_and c.from_residual.result c.from_residual.ensures.1 in
     let list = c.list_commands.new.list.items in
     rw (exit.1, exit.2)
-    (IfSome_then (g.R.Read.remaining c.args.reader) (read_within _ c.args.limits _ list _ c.limits.view_is c.in_err-list_commands.ensures.file)
+    (IfSome_then (g.R.Read.remaining c.args.reader) (read_within _ c.args.limits _ list (Some c.in_err-list_commands.field-0.0) c.limits.view_is c.in_err-list_commands.ensures.file)
     (λ bytes read. record { commands = list; read = read; unwritten = refl }))
 
 pub returns-in_err-list_commands-clause-fault : goal.returns-in_err-list_commands-clause-fault
@@ -35,7 +35,7 @@ returns-clause-ok g c =
     let steps = c.args.limits.steps in
     let list = c.list_commands.new.list.items in
     on_ok_weaker c.file_all.result
-    (λ filed. IfSome_then (g.R.Read.remaining c.args.reader) (read_within _ c.args.limits _ list _ c.limits.view_is c.in_ok-list_commands.ensures.file)
+    (λ filed. IfSome_then (g.R.Read.remaining c.args.reader) (read_within _ c.args.limits _ list None c.limits.view_is c.in_ok-list_commands.ensures.file)
     (λ bytes read. filed (commands bytes steps) (as_read steps (commands bytes steps) list c.as_slice.result.now c.as_slice.ensures.value read)))
     c.file_all.ensures.ok
 
@@ -44,6 +44,6 @@ returns-clause-err g c =
     let steps = c.args.limits.steps in
     let list = c.list_commands.new.list.items in
     IfErr-weaker c.file_all.result _ _
-    (λ fault ends. IfSome_then (g.R.Read.remaining c.args.reader) (read_within _ c.args.limits _ list _ c.limits.view_is c.in_ok-list_commands.ensures.file)
+    (λ fault ends. IfSome_then (g.R.Read.remaining c.args.reader) (read_within _ c.args.limits _ list None c.limits.view_is c.in_ok-list_commands.ensures.file)
     (λ bytes read. ends (commands bytes steps) (as_read steps (commands bytes steps) list c.as_slice.result.now c.as_slice.ensures.value read)))
     c.file_all.ensures.err
