@@ -44,6 +44,8 @@ mod run_fault;
 mod writing;
 
 pub use orders::{Order, run};
+#[doc(hidden)]
+pub use reading::command_file::list_commands;
 pub use reading::command_file::{Commands, read_commands};
 pub use reading::line_fault::{LineCause, LineFault};
 pub use reading::version::Version;

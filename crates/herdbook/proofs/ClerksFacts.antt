@@ -13,7 +13,7 @@ use Rattle.herdbook.specs.Summary.{EndsTelling, IsSummaryOf, TellsOf, summary_te
 use Rattle.herdbook.specs.declared.clerk_fault.ClerkFault.{ClerkFault}
 use Rattle.herdbook.specs.declared.clerk_fault.ClerkFault.TheVariants as clerk
 use Rattle.herdbook.specs.declared.summary.Summary.{Summary}
-use Rattle.herdbook.specs.declared.task_fault.TaskFault.TheVariants.{Run}
+use Rattle.herdbook.specs.declared.request_fault.RequestFault.TheVariants.{Run}
 
 -- before the summary is there nothing is written
 pub ends-unwritten : (limits : Limits) (desks base : ℕ) (file : CommandFile) (old : Option (List ℕ)) (fault : ClerkFault)

@@ -5,7 +5,6 @@ use Rattle.std.proofs.lemmas.Bool.Decides.{nat_tests}
 use Rattle.std.proofs.lemmas.Grind.{common_steps}
 use Rattle.std.proofs.lemmas.List.Elements.{All-cons, All-nil, filter-append}
 use Rattle.std.proofs.lemmas.List.Sums.{length-filter, sum_by-cons}
-use Rattle.std.proofs.lemmas.Option.{get_or_from_slice_get, slice_get_within}
 use mathlib.Core.List.{IsPrefix}
 use Rattle.herd_register.specs.declared.command.Command.{Command}
 use Rattle.herd_register.specs.declared.reply.Reply.{Reply}
@@ -21,6 +20,7 @@ use Rattle.herdbook.specs.Deal.{HasBegun, HasFiled, commands_at, dealt, dealt_fi
 use Rattle.herdbook.specs.Summary.{count_of}
 use Rattle.herdbook.specs.declared.deal.Deal.{Deal}
 use Rattle.herdbook.specs.declared.summary.DeskCount.{DeskCount}
+use Rattle.herdbook.proofs.Lists.{none_of, range_sum, shorter_front, up_to, up_to-first, up_to-nothing, up_to-plus, up_to-same}
 
 -- ---- turns
 
@@ -59,10 +59,6 @@ commands_at-append number xs ys = ap (map (λ (s : Step). s.command)) (filter-ap
 of_desk-append : (number : ℕ) (xs ys : List Step) → of_desk number (xs ++ ys) ≡ of_desk number xs + of_desk number ys
 of_desk-append number xs ys = search (arith, common_steps)
 
-none_of : {A : Type 0} (xs : List A) → length xs ≡ 0 → xs ≡ []
-none_of [] is = refl
-none_of (x ∷ xs) is = absurd (omega (arith, is))
-
 none_at : (number : ℕ) (steps : List Step) → of_desk number steps ≡ 0 → commands_at number steps ≡ []
 none_at number steps none =
     ap (map (λ (s : Step). s.command)) (none_of (filter (λ (s : Step). s.desk == number) steps) (length-filter (λ (s : Step). s.desk == number) steps ∙ none))
@@ -83,16 +79,6 @@ shown desk longer commands filed begins all =
 -- a desk at which nothing was filed
 pub filed_none : {N : Type 0} {O : office_name.Ghosts N} (desk : Desk N O) → desk.answered ≡ 0 → desk.history ≡ [] → HasFiled desk []
 filed_none desk none empty = record { counted = none; known = λ _. ap (commands_at desk.number) empty }
-
--- a front of a list with one element more is one of the list, where it is no longer than that
-shorter_front : {A : Type 0} (front list : List A) (last : A) → IsPrefix front (list ++ last ∷ []) → length front ≤ length list → IsPrefix front list
-shorter_front [] list last begins le = (list, refl)
-shorter_front (x ∷ front) [] last begins le = absurd (omega (arith, le))
-shorter_front {A} (x ∷ front) (y ∷ list) last begins le =
-    let same : x ≡ y = cc (begins.1) in
-    let rest : front ++ begins.0 ≡ list ++ last ∷ [] = cc (begins.1) in
-    let more = shorter_front front list last (begins.0, rest) (omega (arith, le)) in
-    (more.0, ap (λ l. x ∷ l) more.1 ∙ ap (λ (z : A). z ∷ list) same)
 
 own_step : (number : ℕ) (step : Step) → step.desk ≡ number → commands_at number (step ∷ []) ≡ step.command ∷ []
 own_step number step is = let own : (step.desk == number) ≡ true = grind (arith, nat_tests) in rw own refl
@@ -125,36 +111,6 @@ filed_more old new before command reply same answered begins more ends filed =
     }
 
 -- ---- what falls to all desks together
-
--- the sum of the values at 0 and so many numbers more, which end before a bound
-abbrev up_to : (ℕ → ℕ) → ℕ → ℕ
-up_to f zero = 0
-up_to f (suc bound) = up_to f bound + f bound
-
-up_to-first : (f : ℕ → ℕ) (bound : ℕ) → up_to f (suc bound) ≡ f 0 + up_to (λ k. f (suc k)) bound
-up_to-first f zero = omega arith
-up_to-first f (suc bound) = omega (arith, up_to-first f bound)
-
-up_to-plus : (f g : ℕ → ℕ) (bound : ℕ) → up_to (λ k. f k + g k) bound ≡ up_to f bound + up_to g bound
-up_to-plus f g zero = refl
-up_to-plus f g (suc bound) = omega (arith, up_to-plus f g bound)
-
-up_to-same : (f g : ℕ → ℕ) → ((k : ℕ) → f k ≡ g k) → (bound : ℕ) → up_to f bound ≡ up_to g bound
-up_to-same f g same zero = refl
-up_to-same f g same (suc bound) = omega (arith, up_to-same f g same bound, same bound)
-
-up_to-nothing : (f : ℕ → ℕ) → ((k : ℕ) → f k ≡ 0) → (bound : ℕ) → up_to f bound ≡ 0
-up_to-nothing f none zero = refl
-up_to-nothing f none (suc bound) = omega (arith, up_to-nothing f none bound, none bound)
-
--- a sum over a range
-range_sum : (f : ℕ → ℕ) (from count : ℕ) → sum_by f (range_with_len from count) ≡ up_to (λ k. f (from + k)) count
-range_sum f from zero = refl
-range_sum f from (suc count) =
-    let later : sum_by f (range_with_len (from + 1) count) ≡ up_to (λ k. f (from + suc k)) count =
-    range_sum f (from + 1) count ∙ up_to-same (λ k. f (from + 1 + k)) (λ k. f (from + suc k)) (λ k. ap f (omega arith)) count in
-    let front : f (from + 0) ≡ f from = ap f (omega arith) in
-    omega (arith, sum_by-cons f from (range_with_len (from + 1) count), up_to-first (λ k. f (from + k)) count, later, front)
 
 -- turns of all desks have every command once
 turns : (desks : ℕ) (rest : List Command) → 1 ≤ desks → up_to (λ k. length (every desks k rest)) desks ≡ length rest
@@ -252,10 +208,6 @@ all_begun {N} {O} deal (old ∷ more) desk fresh one filed =
     All-cons (λ (d : Desk N O). HasBegun deal d) desk more (subst (HasFiled desk) all filed)
     (others deal.first.now 2 more (omega arith)
     (λ place d there. let known = fresh (suc place) d there in (omega (arith, known.0), known.1, known.2)))
-
--- what holds of all holds of the one at a place
-pub all_at : {D : Type 0} (P : D → Type 0) (desks : List D) → All P desks → (place : ℕ) (desk : D) → slice_get desks place ≡ Some desk → P desk
-all_at P desks all place desk is = subst P (get_or_from_slice_get desks place desk desk is) (all place desk (slice_get_within desks place desk is))
 
 -- in the journal of a closed office each desk has the steps of what it has filed
 pub each-dealt : {N : Type 0} {O : office_name.Ghosts N} (fell : ℕ → List Command) (journal : List Step) (desks : List (Desk N O))

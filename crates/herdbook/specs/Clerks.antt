@@ -16,8 +16,8 @@ use Rattle.herd_register.specs.declared.command.Command.{Command}
 use Rattle.herdbook.specs.Summary.{TellsOf}
 use Rattle.herdbook.specs.declared.clerk_fault.ClerkFault.{ClerkFault}
 use Rattle.herdbook.specs.declared.clerk_fault.ClerkFault.TheVariants as clerk
-use Rattle.herdbook.specs.declared.task_fault.TaskFault.{TaskFault}
-use Rattle.herdbook.specs.declared.task_fault.TaskFault.TheVariants.{Run, NoPlace}
+use Rattle.herdbook.specs.declared.request_fault.RequestFault.{RequestFault}
+use Rattle.herdbook.specs.declared.request_fault.RequestFault.TheVariants.{Run, NoPlace}
 
 -- the fault of clerks for one of opening an office
 abbrev pub fault_of_opening : OpenFault → ClerkFault
@@ -35,8 +35,8 @@ abbrev pub fault_of_freezing : FreezeFault → ClerkFault
 fault_of_freezing freezing.Memory = clerk.Memory
 fault_of_freezing freezing.NoReading = clerk.NoPlace
 
--- the fault of a task for one of clerks
-abbrev pub told_of : ClerkFault → TaskFault
+-- the fault of a request for one of clerks
+abbrev pub told_of : ClerkFault → RequestFault
 told_of clerk.NoThread = Run NoThread
 told_of clerk.Memory = Run Memory
 told_of clerk.NoPlace = NoPlace
@@ -63,7 +63,7 @@ pub record EndsByLine (limits : Limits) (file : CommandFile) (fault : LineFault)
   pub unwritten : new ≡ old
 
 -- how clerks may end early
-abbrev pub EndsClerks : Limits → ℕ → ℕ → CommandFile → Option (List ℕ) → Option (List ℕ) → TaskFault → Type 0
+abbrev pub EndsClerks : Limits → ℕ → ℕ → CommandFile → Option (List ℕ) → Option (List ℕ) → RequestFault → Type 0
 EndsClerks limits desks base file old new (Run (Line fault)) = EndsByLine limits file fault old new
 EndsClerks limits desks base file old new (Run NotRegistered) = ⊥
 EndsClerks limits desks base file old new (Run NoThread) = (file.fault ≡ None) × (new ≡ old)
@@ -72,7 +72,7 @@ EndsClerks limits desks base file old new (Run Write) = IsTold limits desks base
 EndsClerks limits desks base file old new NoPlace = (file.fault ≡ None) × (new ≡ old)
 
 -- the faults that clerks can end by, whatever is read
-abbrev pub CanEndClerks : TaskFault → Type 0
+abbrev pub CanEndClerks : RequestFault → Type 0
 CanEndClerks (Run (Line fault)) = ⊤
 CanEndClerks (Run NotRegistered) = ⊥
 CanEndClerks (Run NoThread) = ⊤

@@ -3,13 +3,13 @@ use Rattle.std.specs.Prelude.{◌≡◌, ◌≢◌, ◌⊎◌, ℕ, Bool, true, 
 use Rattle.clap.specs.Words.{kind_of}
 use Rattle.clap.specs.declared.error.kind.ErrorKind.TheVariants.{DisplayHelp, DisplayVersion, OutOfMemory}
 use Rattle.herd_report.specs.declared.run_fault.RunFault.TheVariants.{Memory, Write}
-use Rattle.herdbook.specs.FaultText.{number_fault_text, task_fault_text}
+use Rattle.herdbook.specs.FaultText.{number_fault_text, request_fault_text}
 use Rattle.herdbook.specs.declared.arguments.WordsFault.{WordsFault}
 use Rattle.herdbook.specs.declared.arguments.WordsFault.TheVariants.{Words, Number as NotNumber}
 use Rattle.herdbook.specs.declared.ending.Ending.{Ending}
 use Rattle.herdbook.specs.declared.ending.Ending.TheVariants.{Done, Shown, Usage, NotText, Number, Early}
-use Rattle.herdbook.specs.declared.task_fault.TaskFault.{TaskFault}
-use Rattle.herdbook.specs.declared.task_fault.TaskFault.TheVariants.{Run}
+use Rattle.herdbook.specs.declared.request_fault.RequestFault.{RequestFault}
+use Rattle.herdbook.specs.declared.request_fault.RequestFault.TheVariants.{Run}
 
 abbrev pub status_of : Ending → ℕ
 status_of Done = 0
@@ -26,7 +26,7 @@ told (Shown error) = Some []
 told (Usage error) = None
 told NotText = Some (codes "herdbook: a word isn't UTF-8 text\n")
 told (Number fault) = Some (codes "herdbook: " ++ number_fault_text fault ++ codes "\n")
-told (Early fault) = Some (codes "herdbook: " ++ task_fault_text fault ++ codes "\n")
+told (Early fault) = Some (codes "herdbook: " ++ request_fault_text fault ++ codes "\n")
 
 -- the end where the words can't be read: memory ran out, or one isn't UTF-8
 abbrev pub end_of_unread : Bool → Ending
@@ -34,9 +34,9 @@ end_of_unread true = Early (Run Memory)
 end_of_unread false = NotText
 
 -- the end after what was asked for was begun
-abbrev pub end_of_task : {T : Type 0} → Result T TaskFault → Ending
-end_of_task (Ok done) = Done
-end_of_task (Err fault) = Early fault
+abbrev pub end_of_request : {T : Type 0} → Result T RequestFault → Ending
+end_of_request (Ok done) = Done
+end_of_request (Err fault) = Early fault
 
 -- the end after what the words ask to be shown was printed, or couldn't be
 abbrev pub end_of_shown : Bool → Ending

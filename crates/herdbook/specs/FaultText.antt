@@ -7,8 +7,8 @@ use Rattle.herd_report.specs.declared.reading.line_fault.LineCause.{LineCause}
 use Rattle.herd_report.specs.declared.reading.line_fault.LineCause.TheVariants.{Header, Fields, Kind, Animal, Day, Sire, Dam, FromHerd, ToHerd, FieldNotUsed, Read, TooMany, Memory as NoMemory, Embryo}
 use Rattle.herd_report.specs.declared.run_fault.RunFault.{RunFault}
 use Rattle.herd_report.specs.declared.run_fault.RunFault.TheVariants.{Line, NotRegistered, NoThread, Memory, Write}
-use Rattle.herdbook.specs.declared.task_fault.TaskFault.{TaskFault}
-use Rattle.herdbook.specs.declared.task_fault.TaskFault.TheVariants.{Run, NoPlace}
+use Rattle.herdbook.specs.declared.request_fault.RequestFault.{RequestFault}
+use Rattle.herdbook.specs.declared.request_fault.RequestFault.TheVariants.{Run, NoPlace}
 
 abbrev pub cause_name : LineCause → List ℕ
 cause_name Header = codes "Header"
@@ -34,9 +34,9 @@ run_fault_text NoThread = codes "no thread"
 run_fault_text Memory = codes "no memory"
 run_fault_text Write = codes "write fault"
 
-abbrev pub task_fault_text : TaskFault → List ℕ
-task_fault_text (Run fault) = run_fault_text fault
-task_fault_text NoPlace = codes "no reader's place"
+abbrev pub request_fault_text : RequestFault → List ℕ
+request_fault_text (Run fault) = run_fault_text fault
+request_fault_text NoPlace = codes "no reader's place"
 
 abbrev pub number_fault_code : NumberFault → ℕ
 number_fault_code Length = 1

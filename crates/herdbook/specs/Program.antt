@@ -15,8 +15,8 @@ use Rattle.herdbook.specs.declared.arguments.Request.TheVariants as request
 use Rattle.herdbook.specs.declared.arguments.WordsFault.{WordsFault}
 use Rattle.herdbook.specs.declared.ending.Ending.{Ending}
 use Rattle.herdbook.specs.declared.ending.Ending.TheVariants.{Done, Early}
-use Rattle.herdbook.specs.declared.task_fault.TaskFault.{TaskFault}
-use Rattle.herdbook.specs.declared.task_fault.TaskFault.TheVariants.{Run, NoPlace}
+use Rattle.herdbook.specs.declared.request_fault.RequestFault.{RequestFault}
+use Rattle.herdbook.specs.declared.request_fault.RequestFault.TheVariants.{Run, NoPlace}
 
 -- an order that is lent for one that owns its sires, and of which a fact holds
 pub record Lends (asked : OwnedOrder) (Holds : Order → Type 0) : Type 0 where
@@ -30,13 +30,13 @@ IsServed (request.Run asked) limits file old new = Lends asked (λ order. IsAnsw
 IsServed (request.Clerks plan) limits file old new = IsFiledBy limits plan.desks plan.base file old new
 
 -- how it may end early
-abbrev pub EndsServing : Request → Limits → CommandFile → Option (List ℕ) → Option (List ℕ) → TaskFault → Type 0
+abbrev pub EndsServing : Request → Limits → CommandFile → Option (List ℕ) → Option (List ℕ) → RequestFault → Type 0
 EndsServing (request.Run asked) limits file old new (Run fault) = Lends asked (λ order. EndsBy limits order file old new fault)
 EndsServing (request.Run asked) limits file old new NoPlace = ⊥
 EndsServing (request.Clerks plan) limits file old new fault = EndsClerks limits plan.desks plan.base file old new fault
 
 -- the faults that it can end by, whatever is read
-abbrev pub CanEndServing : Request → TaskFault → Type 0
+abbrev pub CanEndServing : Request → RequestFault → Type 0
 CanEndServing (request.Run asked) (Run fault) = Lends asked (λ order. CanEndBy order fault)
 CanEndServing (request.Run asked) NoPlace = ⊥
 CanEndServing (request.Clerks plan) fault = CanEndClerks fault

@@ -3,7 +3,7 @@ ghost use Rattle.std.specs.Prelude.{◌≡◌};
 ghost use Rattle.herdbook.specs.Clerks.{fault_of_filing, fault_of_freezing, fault_of_opening, told_of};
 ghost use Rattle.herdbook.specs.declared.clerk_fault.ClerkFault.TheVariants.{Memory};
 
-use crate::task_fault::TaskFault;
+use crate::request_fault::RequestFault;
 use herd_office::{FreezeFault, OpenFault};
 use herd_register::FileFault;
 use herd_report::RunFault;
@@ -21,14 +21,14 @@ pub enum ClerkFault {
     NoPlace,
 }
 
-impl From<ClerkFault> for TaskFault {
+impl From<ClerkFault> for RequestFault {
     ghost from_gives = { λ fault told. told ≡ told_of fault };
 
-    fn from(fault: ClerkFault) -> TaskFault {
+    fn from(fault: ClerkFault) -> RequestFault {
         match fault {
-            ClerkFault::NoThread => TaskFault::Run(RunFault::NoThread),
-            ClerkFault::Memory => TaskFault::Run(RunFault::Memory),
-            ClerkFault::NoPlace => TaskFault::NoPlace,
+            ClerkFault::NoThread => RequestFault::Run(RunFault::NoThread),
+            ClerkFault::Memory => RequestFault::Run(RunFault::Memory),
+            ClerkFault::NoPlace => RequestFault::NoPlace,
         }
     }
 }

@@ -18,11 +18,11 @@ use crate::clerk_fault::ClerkFault;
 use crate::crew::file_in_turn;
 use crate::deal::Deal;
 use crate::plans::DeskPlan;
+use crate::request_fault::RequestFault;
 use crate::summary::{DeskCount, Summary, text_of};
-use crate::task_fault::TaskFault;
 use herd_office::{Desk, Inspector, Office, OfficeName, OfficeParts};
 use herd_register::{Command, Limits, Register};
-use herd_report::{ReportFault, RunFault, read_commands, write_all};
+use herd_report::{ReportFault, list_commands, write_all};
 use std::alloc::{AllocError, Global};
 use std::io::{Read, Write};
 use std::marker::Brand;
@@ -42,7 +42,7 @@ pub fn clerks<H: Threads + Wait + Sync, R: Read + Drop, W: Write>(
     plan: DeskPlan,
     reader: R,
     writer: &mut W,
-) -> Result<(), TaskFault>
+) -> Result<(), RequestFault>
     ensures ok { OnOk result (IfSome (R.remaining reader)
         (λ bytes. IsFiledBy limits plan.desks plan.base (commands bytes limits.steps)
         (W.contents writer.old) (W.contents writer.new))) }
@@ -51,11 +51,9 @@ pub fn clerks<H: Threads + Wait + Sync, R: Read + Drop, W: Write>(
         (W.contents writer.old) (W.contents writer.new) fault)) }
     ensures fault { IfErr result CanEndClerks }
 {
-    let commands = read_commands(alloc, reader, limits.steps);
-    match commands.fault {
-        Some(fault) => Err(TaskFault::Run(RunFault::Line(fault))),
-        None => file_all(rt, alloc, limits, plan, commands.list.as_slice(), writer),
-    }
+    let mut list = Vec::new(alloc);
+    list_commands(alloc, reader, limits.steps, &mut list)?;
+    file_all(rt, alloc, limits, plan, list.as_slice(), writer)
 }
 
 // Has the commands of a file without a fault filed, and writes the summary.
@@ -66,7 +64,7 @@ fn file_all<H: Threads + Wait + Sync, W: Write>(
     plan: DeskPlan,
     commands: &[Command],
     writer: &mut W,
-) -> Result<(), TaskFault>
+) -> Result<(), RequestFault>
     requires { length commands.now ≤ limits.steps }
     ensures ok { OnOk result ((file : CommandFile) → IsRead limits.steps file commands.now None
         → IsFiledBy limits plan.desks plan.base file (W.contents writer.old) (W.contents writer.new)) }
@@ -113,7 +111,7 @@ fn summary_of<H: Threads + Wait + Sync>(
     filed_in::<Brand, H>(rt, alloc, parts, Deal::of(plan, commands))
 }
 
-// The summary of the office that has these parts.
+// The summary of the office that has these parts, once the commands are filed.
 fn filed_in<N: OfficeName + Send + Sync, H: Threads + Wait + Sync>(
     rt: &H,
     alloc: Global,
@@ -125,25 +123,8 @@ fn filed_in<N: OfficeName + Send + Sync, H: Threads + Wait + Sync>(
     ensures { IfOk result (IsSummaryOfDeal N.limits deal.entry) }
 {
     let (office, desks, inspectors) = Office::<N, &H>::open(alloc, parts)?;
-    filed_at(rt, alloc, office, desks, inspectors, deal)
-}
-
-// The summary of an office that has these desks and inspectors, once the commands are filed.
-fn filed_at<N: OfficeName + Send + Sync, H: Threads + Wait + Sync, R: Wait + Drop + Send + Sync>(
-    rt: &H,
-    alloc: Global,
-    office: Office<N, R>,
-    desks: Vec<Desk<N>>,
-    inspectors: Vec<Inspector<N>>,
-    deal: Deal<'_>,
-) -> Result<Summary, ClerkFault>
-    requires all { N.all ≡ deal.desks }
-    requires desks { vec_len desks ≡ deal.desks }
-    requires fresh { AreFresh desks.items }
-    ensures { IfOk result (IsSummaryOfDeal N.limits deal.entry) }
-{
-    let desks = all_filed(rt, alloc, &office, desks, deal)?;
-    closed(rt, alloc, office, desks, inspectors)
+    let filed = all_filed(rt, alloc, &office, desks, deal)?;
+    closed(rt, alloc, office, filed, inspectors)
 }
 
 // The desks, once the commands are filed.

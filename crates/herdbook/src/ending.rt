@@ -1,11 +1,11 @@
 //! How the program ends: with which status, and what it tells on standard error.
 
 ghost use Rattle.std.specs.Prelude.{◌≡◌};
-ghost use Rattle.herdbook.specs.Ending.{Explains, end_of_shown, end_of_task, end_of_unread, status_of};
+ghost use Rattle.herdbook.specs.Ending.{Explains, end_of_shown, end_of_request, end_of_unread, status_of};
 
 use crate::arguments::WordsFault;
-use crate::fault_text::{NumberFaultText, TaskFaultText};
-use crate::task_fault::TaskFault;
+use crate::fault_text::{NumberFaultText, RequestFaultText};
+use crate::request_fault::RequestFault;
 use clap::error::ErrorKind;
 use herd_animal::NumberFault;
 use herd_report::RunFault;
@@ -25,7 +25,7 @@ pub enum Ending {
     /// A word is no animal number.
     Number(NumberFault),
     /// What was asked for ended early, or the words couldn't be read or answered for want of memory or a failed write.
-    Early(TaskFault),
+    Early(RequestFault),
 }
 
 impl Ending {
@@ -34,7 +34,7 @@ impl Ending {
         ensures { result ≡ end_of_unread is_memory }
     {
         if is_memory {
-            Ending::Early(TaskFault::Run(RunFault::Memory))
+            Ending::Early(RequestFault::Run(RunFault::Memory))
         } else {
             Ending::NotText
         }
@@ -46,7 +46,7 @@ impl Ending {
     {
         match fault {
             WordsFault::Words(error) => match error.kind() {
-                ErrorKind::OutOfMemory => Ending::Early(TaskFault::Run(RunFault::Memory)),
+                ErrorKind::OutOfMemory => Ending::Early(RequestFault::Run(RunFault::Memory)),
                 ErrorKind::DisplayHelp | ErrorKind::DisplayVersion => Ending::Shown(error),
                 _ => Ending::Usage(error),
             },
@@ -55,8 +55,8 @@ impl Ending {
     }
 
     /// The end after what was asked for was begun.
-    pub fn of_task(ended: Result<(), TaskFault>) -> Ending
-        ensures { result ≡ end_of_task ended }
+    pub fn of_request(ended: Result<(), RequestFault>) -> Ending
+        ensures { result ≡ end_of_request ended }
     {
         match ended {
             Ok(()) => Ending::Done,
@@ -71,7 +71,7 @@ impl Ending {
         if is_printed {
             Ending::Done
         } else {
-            Ending::Early(TaskFault::Run(RunFault::Write))
+            Ending::Early(RequestFault::Run(RunFault::Write))
         }
     }
 
@@ -103,7 +103,7 @@ impl fmt::Display for Ending {
                 write!(f, "herdbook: {text}\n")
             }
             Ending::Early(fault) => {
-                let text = TaskFaultText(*fault);
+                let text = RequestFaultText(*fault);
                 write!(f, "herdbook: {text}\n")
             }
         }

@@ -3,24 +3,24 @@
 ghost use Rattle.std.specs.Prelude.{◌≡◌};
 ghost use Rattle.herdbook.specs.FaultText.{cause_name, number_fault_code, number_fault_name};
 
-use crate::task_fault::TaskFault;
+use crate::request_fault::RequestFault;
 use herd_animal::NumberFault;
 use herd_report::{LineCause, LineFault, RunFault};
 use std::fmt;
 
-/// Why a task ended early.
+/// Why a request ended early.
 #[derive(Clone, Copy)]
-pub struct TaskFaultText(pub TaskFault);
+pub struct RequestFaultText(pub RequestFault);
 
-impl fmt::Display for TaskFaultText {
+impl fmt::Display for RequestFaultText {
     ghost use Rattle.std.specs.Prelude.{Some};
-    ghost use Rattle.herdbook.specs.FaultText.{task_fault_text};
+    ghost use Rattle.herdbook.specs.FaultText.{request_fault_text};
 
-    ghost output = { λ told. Some (task_fault_text told.0) };
+    ghost output = { λ told. Some (request_fault_text told.0) };
 
     fn fmt<W: fmt::Write>(&self, f: &mut fmt::Formatter<W>) -> fmt::Result {
         match self.0 {
-            TaskFault::Run(
+            RequestFault::Run(
                 RunFault::Line(
                     LineFault {
                         record_number,
@@ -31,11 +31,11 @@ impl fmt::Display for TaskFaultText {
                 let (code, name) = (cause.number(), name_of(cause));
                 write!(f, "record {record_number}: fault {code} {name}")
             }
-            TaskFault::Run(RunFault::NotRegistered) => f.write_str("not registered"),
-            TaskFault::Run(RunFault::NoThread) => f.write_str("no thread"),
-            TaskFault::Run(RunFault::Memory) => f.write_str("no memory"),
-            TaskFault::Run(RunFault::Write) => f.write_str("write fault"),
-            TaskFault::NoPlace => f.write_str("no reader's place"),
+            RequestFault::Run(RunFault::NotRegistered) => f.write_str("not registered"),
+            RequestFault::Run(RunFault::NoThread) => f.write_str("no thread"),
+            RequestFault::Run(RunFault::Memory) => f.write_str("no memory"),
+            RequestFault::Run(RunFault::Write) => f.write_str("write fault"),
+            RequestFault::NoPlace => f.write_str("no reader's place"),
         }
     }
 }

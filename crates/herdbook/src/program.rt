@@ -8,7 +8,7 @@ ghost use Rattle.herdbook.specs.Limits.{program_limits};
 use crate::arguments::{Request, read_words};
 use crate::desks::clerks;
 use crate::ending::Ending;
-use crate::task_fault::TaskFault;
+use crate::request_fault::RequestFault;
 use herd_frozen::MOST_ANIMALS;
 use herd_register::{Limits, MOST_STEPS};
 use herd_report::run;
@@ -42,7 +42,7 @@ pub fn carry_out<H: Threads + Wait + Sync, R: Read + Drop, W: Write>(
         Ok(request) => request,
         Err(fault) => return Ending::of_words(fault),
     };
-    Ending::of_task(served(rt, alloc, &request, reader, writer))
+    Ending::of_request(served(rt, alloc, &request, reader, writer))
 }
 
 // Does what is asked for.
@@ -52,7 +52,7 @@ fn served<H: Threads + Wait + Sync, R: Read + Drop, W: Write>(
     request: &Request,
     reader: R,
     writer: &mut W,
-) -> Result<(), TaskFault>
+) -> Result<(), RequestFault>
     ensures ok { OnOk result (IfSome (R.remaining reader)
         (λ bytes. IsServed request.now program_limits (commands bytes program_limits.steps)
         (W.contents writer.old) (W.contents writer.new))) }

@@ -35,7 +35,8 @@ pub fn read_commands<R: Read + Drop>(alloc: Global, reader: R, most: u32) -> Com
     Commands { list, fault }
 }
 
-fn list_commands<R: Read + Drop>(
+/// Adds the commands of a file to an empty list, up to its first fault. `read_commands` gives both as a value.
+pub fn list_commands<R: Read + Drop>(
     alloc: Global,
     reader: R,
     most: u32,

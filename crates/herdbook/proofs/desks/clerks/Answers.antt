@@ -1,7 +1,7 @@
 -- What was read is what the file says.
-use Rattle.std.proofs.Common.{◌≡◌, ℕ, List, None, Option, IfSome, refl, subst, sym}
+use Rattle.std.proofs.Common.{◌≡◌, ℕ, List, None, Option, IfSome, Some, refl, subst, sym}
 use Rattle.std.proofs.lemmas.Option.{IfSome_then}
-use Rattle.std.proofs.lemmas.Result.{IfErr-weaker, on_ok_weaker}
+use Rattle.std.proofs.lemmas.Result.{IfErr-weaker, err_from_is_err_and, on_ok_weaker}
 use Rattle.herd_register.specs.declared.command.Command.{Command}
 use Rattle.herd_register.specs.Limits.{Limits}
 use Rattle.herd_report.specs.reading.CommandFile.{CommandFile, IsRead, commands}
@@ -9,40 +9,41 @@ use Rattle.herd_report.specs.declared.reading.line_fault.LineFault.{LineFault}
 use Rattle.herdbook.proofs.desks.clerks.Goals as goal
 
 -- commands that were read with no fault, under another name
-as_read : (most : ℕ) (file : CommandFile) (list same : List Command) (fault : Option LineFault) → fault ≡ None → same ≡ list → IsRead most file list fault → IsRead most file same None
-as_read most file list same fault none is read =
-    subst (λ (l : List Command). IsRead most file l None) (sym is) (subst (λ (f : Option LineFault). IsRead most file list f) none read)
+as_read : (most : ℕ) (file : CommandFile) (list same : List Command) → same ≡ list → IsRead most file list None → IsRead most file same None
+as_read most file list same is read = subst (λ (l : List Command). IsRead most file l None) (sym is) read
 
 -- what was read of at most as many commands as limits have steps
 read_within : (limits same : Limits) (remaining : Option (List ℕ)) (list : List Command) (fault : Option LineFault) → limits ≡ same → IfSome remaining (λ bytes. IsRead limits.steps (commands bytes limits.steps) list fault) → IfSome remaining (λ bytes. IsRead same.steps (commands bytes same.steps) list fault)
 read_within limits same remaining list fault is read =
     subst (λ (l : Limits). IfSome remaining (λ bytes. IsRead l.steps (commands bytes l.steps) list fault)) is read
 
-pub returns-in-Some-clause-err : goal.returns-in-Some-clause-err
-returns-in-Some-clause-err g c =
-    let steps = c.args.limits.steps in
-    let list = c.read_commands-commands.result.list.items in
-    IfSome_then (g.R.Read.remaining c.args.reader) (read_within _ c.args.limits _ list _ c.limits.view_is c.read_commands-commands.ensures.file)
-    (λ bytes read. record {
-      commands = list;
-      read = subst (λ (fault : Option LineFault). IsRead steps (commands bytes steps) list fault) c.in-Some.is read;
-      unwritten = refl;
-    })
+pub returns-in_err-list_commands-clause-err : goal.returns-in_err-list_commands-clause-err
+returns-in_err-list_commands-clause-err g c =
+    let exit = err_from_is_err_and c.from_residual.result c.from_residual.ensures.1 in
+    let list = c.list_commands.new.list.items in
+    rw (exit.1, exit.2)
+    (IfSome_then (g.R.Read.remaining c.args.reader) (read_within _ c.args.limits _ list (Some c.in_err-list_commands.field-0.0) c.limits.view_is c.in_err-list_commands.ensures.file)
+    (λ bytes read. record { commands = list; read = read; unwritten = refl }))
+
+pub returns-in_err-list_commands-clause-fault : goal.returns-in_err-list_commands-clause-fault
+returns-in_err-list_commands-clause-fault g c =
+    let exit = err_from_is_err_and c.from_residual.result c.from_residual.ensures.1 in
+    rw (exit.1, exit.2) tt
 
 pub returns-clause-ok : goal.returns-clause-ok
 returns-clause-ok g c =
     let steps = c.args.limits.steps in
-    let list = c.read_commands-commands.result.list.items in
+    let list = c.list_commands.new.list.items in
     on_ok_weaker c.file_all.result
-    (λ filed. IfSome_then (g.R.Read.remaining c.args.reader) (read_within _ c.args.limits _ list _ c.limits.view_is c.read_commands-commands.ensures.file)
-    (λ bytes read. filed (commands bytes steps) (as_read steps (commands bytes steps) list c.as_slice.result.now _ c.in-None.is c.as_slice.ensures.value read)))
+    (λ filed. IfSome_then (g.R.Read.remaining c.args.reader) (read_within _ c.args.limits _ list None c.limits.view_is c.in_ok-list_commands.ensures.file)
+    (λ bytes read. filed (commands bytes steps) (as_read steps (commands bytes steps) list c.as_slice.result.now c.as_slice.ensures.value read)))
     c.file_all.ensures.ok
 
 pub returns-clause-err : goal.returns-clause-err
 returns-clause-err g c =
     let steps = c.args.limits.steps in
-    let list = c.read_commands-commands.result.list.items in
+    let list = c.list_commands.new.list.items in
     IfErr-weaker c.file_all.result _ _
-    (λ fault ends. IfSome_then (g.R.Read.remaining c.args.reader) (read_within _ c.args.limits _ list _ c.limits.view_is c.read_commands-commands.ensures.file)
-    (λ bytes read. ends (commands bytes steps) (as_read steps (commands bytes steps) list c.as_slice.result.now _ c.in-None.is c.as_slice.ensures.value read)))
+    (λ fault ends. IfSome_then (g.R.Read.remaining c.args.reader) (read_within _ c.args.limits _ list None c.limits.view_is c.in_ok-list_commands.ensures.file)
+    (λ bytes read. ends (commands bytes steps) (as_read steps (commands bytes steps) list c.as_slice.result.now c.as_slice.ensures.value read)))
     c.file_all.ensures.err

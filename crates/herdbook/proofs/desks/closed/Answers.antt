@@ -6,7 +6,7 @@ use Rattle.herd_office.specs.declared.desk.Desk.{Desk}
 use Rattle.herdbook.specs.Deal.{HasDone, numbers_of}
 use Rattle.herdbook.specs.Summary.{CountsOf, count_of}
 use Rattle.herdbook.specs.declared.summary.DeskCount.{DeskCount}
-use Rattle.herdbook.proofs.DealFacts.{all_at}
+use Rattle.herdbook.proofs.Lists.{all_at}
 use Rattle.herdbook.proofs.SummaryFacts.{summed_up}
 use Rattle.herdbook.proofs.desks.closed.Goals as goal
 

@@ -1,9 +1,18 @@
--- As many desks are opened as the name says, and as the commands are dealt to.
-use Rattle.std.proofs.Common.{◌∙◌, sym}
+-- As many desks are opened as the name says, and as the commands are dealt to. They are numbered from 1 on.
+use Rattle.std.proofs.Common.{◌∙◌, ap, sym}
+use Rattle.std.specs.List.{range_with_len}
+use Rattle.herdbook.proofs.SummaryFacts.{numbers-range}
 use Rattle.herdbook.proofs.desks.filed_in.Goals as goal
 
-pub filed_at-requires-clause-all : goal.filed_at-requires-clause-all
-filed_at-requires-clause-all g c κs within = sym c.requires.named.all_is ∙ c.requires.desks
+pub all_filed-requires-clause-desks : goal.all_filed-requires-clause-desks
+all_filed-requires-clause-desks g c κs within = c.in_ok-office.ensures.desks ∙ c.requires.desks
 
-pub filed_at-requires-clause-desks : goal.filed_at-requires-clause-desks
-filed_at-requires-clause-desks g c κs within = c.in_ok-office.ensures.desks ∙ c.requires.desks
+pub closed-requires : goal.closed-requires
+closed-requires g c =
+    let opened = c.in_ok-office in
+    c.in_ok-filed.ensures.numbers
+    ∙ numbers-range (λ d. d.number) 1 opened.desks.items (λ place desk there. (opened.ensures.fresh place desk there).0)
+    ∙ ap (range_with_len 1) (sym opened.desks.ok.0 ∙ opened.ensures.desks ∙ c.requires.named.all_is)
+
+pub returns : goal.returns
+returns g c = c.closed.ensures c.args.deal (sym c.requires.named.all_is ∙ c.requires.desks) c.in_ok-filed.ensures.filed

@@ -1,0 +1,57 @@
+-- Lists: none, fronts, elements at a place, and sums over ranges.
+use Rattle.std.proofs.Common.{◌≡◌, ◌∙◌, ℕ, zero, suc, ◌+◌, ◌≤◌, List, [], ◌∷◌, ◌++◌, All, ap, arith, length, slice_get, Some, refl, subst}
+use Rattle.std.specs.List.{range_with_len, sum_by}
+use Rattle.std.proofs.lemmas.List.Sums.{sum_by-cons}
+use Rattle.std.proofs.lemmas.Option.{get_or_from_slice_get, slice_get_within}
+use mathlib.Core.List.{IsPrefix}
+
+-- a list of no elements
+pub none_of : {A : Type 0} (xs : List A) → length xs ≡ 0 → xs ≡ []
+none_of [] is = refl
+none_of (x ∷ xs) is = absurd (omega (arith, is))
+
+-- a front of a list with one element more is one of the list, where it is no longer than that
+pub shorter_front : {A : Type 0} (front list : List A) (last : A) → IsPrefix front (list ++ last ∷ []) → length front ≤ length list → IsPrefix front list
+shorter_front [] list last begins le = (list, refl)
+shorter_front (x ∷ front) [] last begins le = absurd (omega (arith, le))
+shorter_front {A} (x ∷ front) (y ∷ list) last begins le =
+    let same : x ≡ y = cc (begins.1) in
+    let rest : front ++ begins.0 ≡ list ++ last ∷ [] = cc (begins.1) in
+    let more = shorter_front front list last (begins.0, rest) (omega (arith, le)) in
+    (more.0, ap (λ l. x ∷ l) more.1 ∙ ap (λ (z : A). z ∷ list) same)
+
+-- what holds of all holds of the one at a place
+pub all_at : {A : Type 0} (P : A → Type 0) (xs : List A) → All P xs → (place : ℕ) (x : A) → slice_get xs place ≡ Some x → P x
+all_at P xs all place x is = subst P (get_or_from_slice_get xs place x x is) (all place x (slice_get_within xs place x is))
+
+-- ---- sums over ranges
+
+-- the sum of the values at 0 and so many numbers more, which end before a bound
+abbrev pub up_to : (ℕ → ℕ) → ℕ → ℕ
+up_to f zero = 0
+up_to f (suc bound) = up_to f bound + f bound
+
+pub up_to-first : (f : ℕ → ℕ) (bound : ℕ) → up_to f (suc bound) ≡ f 0 + up_to (λ k. f (suc k)) bound
+up_to-first f zero = omega arith
+up_to-first f (suc bound) = omega (arith, up_to-first f bound)
+
+pub up_to-plus : (f g : ℕ → ℕ) (bound : ℕ) → up_to (λ k. f k + g k) bound ≡ up_to f bound + up_to g bound
+up_to-plus f g zero = refl
+up_to-plus f g (suc bound) = omega (arith, up_to-plus f g bound)
+
+pub up_to-same : (f g : ℕ → ℕ) → ((k : ℕ) → f k ≡ g k) → (bound : ℕ) → up_to f bound ≡ up_to g bound
+up_to-same f g same zero = refl
+up_to-same f g same (suc bound) = omega (arith, up_to-same f g same bound, same bound)
+
+pub up_to-nothing : (f : ℕ → ℕ) → ((k : ℕ) → f k ≡ 0) → (bound : ℕ) → up_to f bound ≡ 0
+up_to-nothing f none zero = refl
+up_to-nothing f none (suc bound) = omega (arith, up_to-nothing f none bound, none bound)
+
+-- a sum over a range
+pub range_sum : (f : ℕ → ℕ) (from count : ℕ) → sum_by f (range_with_len from count) ≡ up_to (λ k. f (from + k)) count
+range_sum f from zero = refl
+range_sum f from (suc count) =
+    let later : sum_by f (range_with_len (from + 1) count) ≡ up_to (λ k. f (from + suc k)) count =
+    range_sum f (from + 1) count ∙ up_to-same (λ k. f (from + 1 + k)) (λ k. f (from + suc k)) (λ k. ap f (omega arith)) count in
+    let front : f (from + 0) ≡ f from = ap f (omega arith) in
+    omega (arith, sum_by-cons f from (range_with_len (from + 1) count), up_to-first (λ k. f (from + k)) count, later, front)

@@ -1,0 +1,43 @@
+//! Why a request ended early.
+ghost use Rattle.std.specs.Prelude.{◌≡◌};
+ghost use Rattle.herdbook.specs.declared.request_fault.RequestFault.TheVariants.{Run};
+
+use herd_report::{LineFault, ReportFault, RunFault};
+
+/// Why a request ended early.
+#[derive(Clone, Copy, Debug, PartialEq, Eq, Drop)]
+pub enum RequestFault {
+    /// As a run may end.
+    Run(RunFault),
+    /// The clerks' office lacked a seat for a reader or room for a step, gave no reading, wasn't closed, or its
+    /// inspector hadn't seen every step. Nothing was written.
+    NoPlace,
+}
+
+impl From<RunFault> for RequestFault {
+    ghost from_gives = { λ fault told. told ≡ Run fault };
+
+    fn from(fault: RunFault) -> RequestFault {
+        RequestFault::Run(fault)
+    }
+}
+
+impl From<LineFault> for RequestFault {
+    ghost use Rattle.herd_report.specs.declared.run_fault.RunFault.TheVariants.{Line};
+
+    ghost from_gives = { λ fault told. told ≡ Run (Line fault) };
+
+    fn from(fault: LineFault) -> RequestFault {
+        RequestFault::Run(RunFault::Line(fault))
+    }
+}
+
+impl From<ReportFault> for RequestFault {
+    ghost use Rattle.herd_report.specs.RunFault.{run_fault_of};
+
+    ghost from_gives = { λ fault told. told ≡ Run (run_fault_of fault) };
+
+    fn from(fault: ReportFault) -> RequestFault {
+        RequestFault::Run(RunFault::from(fault))
+    }
+}
