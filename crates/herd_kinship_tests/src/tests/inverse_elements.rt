@@ -17,11 +17,7 @@ type Element = (u32, u32, bool, u128, u128);
 
 const FOUNDER: [Element; 1] = [(1, 1, false, 1, 1)];
 
-const SIRE_ALONE: [Element; 3] = [
-    (8, 8, false, 4, 3),
-    (8, 1, true, 2, 3),
-    (1, 1, false, 1, 3),
-];
+const SIRE_ALONE: [Element; 3] = [(8, 8, false, 4, 3), (8, 1, true, 2, 3), (1, 1, false, 1, 3)];
 
 const BOTH_PARENTS: [Element; 6] = [
     (4, 4, false, 2, 1),
