@@ -3,7 +3,8 @@
 built one.
 
 A secretary's sheet of 200 animals is made, the same each time, and its list is compared with coefficients that are
-computed from the rows by other means. The checks are in `front_desk/`. The last line is `N passed, M failed`; the status is 1 if anything failed.
+computed from the rows by other means. The checks are in `front_desk/`. The last line is `N passed, M failed`; the status
+is 1 if anything failed.
 """
 from __future__ import annotations
 

@@ -45,8 +45,8 @@ pub record CountsOf (register : Register) (desks : List DeskCount) (summary : Su
 
 -- a summary of the closed office of so many desks for commands of which the first ones fell to desk 1: a legal journal
 -- is as long as all are, and each desk's steps in it are of the commands that fell to it, in their order; there is a
--- count for each desk, from 1 on, of its steps; the animals are those of the journal's book, and the number told as seen
--- is that of all steps; in which order different desks filed is left open
+-- count for each desk, from 1 on, of its steps; the animals are those of the journal's book, and the number told as
+-- seen is that of all steps; in which order different desks filed is left open
 pub record IsSummaryOf (limits : Limits) (desks : ℕ) (first rest : List Command) (summary : Summary) : Type 0 where
   pub journal : List Step
   pub legal : IsLegal limits journal

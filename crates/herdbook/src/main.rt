@@ -10,7 +10,7 @@
 //! | the words, what they ask for | `CommandLine`, `Words` | `arguments`, `plans` | `CommandFacts`, `WordsFacts` |
 //! | the texts of help and of the version | | `help` | |
 //! | what the program does for its words | `Program` | `program` | `ProgramFacts` |
-//! | how it ends, and what is told on standard error | `Ending`, `FaultText` | `ending`, `request_fault`, `fault_text` | |
+//! | how it ends, what is told on standard error | `Ending`, `FaultText` | `ending`, `request_fault`, `fault_text` | |
 //! | clerks, their threads, one at a desk | `Clerks`, `Deal` | `desks`, `crew`, `clerk` | `DealFacts`, `SummaryFacts` |
 //! | the desk of each command, a desk's turn | `Deal` | `deal` | `DealFacts`, `Lists` |
 //! | how clerks end early | `Clerks` | `clerk_fault` | `ClerksFacts` |

@@ -30,7 +30,8 @@ lined_birth (suc before) =
 abbrev pub lines_in : Book → ℕ
 lines_in book = max (length book / LINE) 1
 
--- the book after so many corrections: each line's first animal in turn gets the founder as its sire, in the next round none
+-- the book after so many corrections: each line's first animal in turn gets the founder as its sire, in the next round
+-- none
 unfoldable pub corrected : Book → ℕ → Book
 corrected book zero = book
 corrected book (suc turn) =
