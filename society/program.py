@@ -62,8 +62,8 @@ class Herdbook:
         text = done.communicate()[0]
         if done.returncode and tell:
             raise Mistake(
-                "the program herdbook isn't built, for what is told above: mend that, or put the path of a built one into "
-                "the variable HERDBOOK"
+                "the program herdbook isn't built, for what is told above: mend that, or put the path of a built one "
+                "into the variable HERDBOOK"
             )
         if done.returncode:
             raise Mistake(f"{self.path} --version ended with status {done.returncode}: is it the program herdbook?")

@@ -1,10 +1,10 @@
 #!/usr/bin/env python3
-"""society.py: tries the front desk `society/society` from outside, with the program of the variable HERDBOOK or else the
-built one.
+"""society.py: tries the front desk `society/society` from outside, with the program of the variable HERDBOOK or else
+the built one.
 
 A secretary's sheet of 200 animals is made, the same each time, and its list is compared with coefficients that are
-computed from the rows by other means. The checks are in `front_desk/`. The last line is `N passed, M failed`; the status
-is 1 if anything failed.
+computed from the rows by other means. The checks are in `front_desk/`. The last line is `N passed, M failed`; the
+status is 1 if anything failed.
 """
 from __future__ import annotations
 
@@ -29,14 +29,15 @@ from front_desk.triples import TripleChecks
 
 
 class AllChecks(
-    FirstChecks, FormChecks, GoatChecks, InferringChecks, LeavingChecks, MistakeChecks, PageChecks, PedigreeChecks, TripleChecks
-):
+    FirstChecks, FormChecks, GoatChecks, InferringChecks, LeavingChecks, MistakeChecks, PageChecks, PedigreeChecks,
+    TripleChecks,
+):  # fmt: skip
     """The groups of all modules."""
 
 
 GROUPS = """
-    three_commands ten_more_rows forms numbers_of_others words_for_sexes inferred_days days_that_come sexes named_parents
-    faulty_parents faulty_rows corrections dropped mistakes limits pictures escaped languages textbook inverse_of_many
+    three_commands ten_more_rows forms numbers_of_others words_for_sexes inferred_days days_that_come sexes
+    named_parents faulty_parents faulty_rows corrections dropped mistakes limits pictures escaped languages textbook inverse_of_many
     odd_pedigrees lost_links relationships odd_cells unknown_words long_paths help
     goats exits_in_words remembered many_lines
 """.split()
