@@ -51,7 +51,7 @@ class Herdbook:
             )
         if not named and (TOP / "crates").exists() and not (TOP / "crates/herdbook/out/herdbook").exists():
             print(
-                "society: the program herdbook is built first, which takes 20 to 30 minutes",
+                "society: the program herdbook is built first, which takes 15 to 30 minutes",
                 file=sys.stderr,
                 flush=True,
             )
