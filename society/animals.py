@@ -11,7 +11,7 @@ from society.columns import KNOWN_NO, KNOWN_SEXES, KNOWN_STAYS, KNOWN_YES, plain
 from society.dates import ANY_DAY, MonthFirst, Span, Unreadable, is_span, read_span, span_within
 from society.report import CELL, INFERRED, ROW, Mistake, Report
 from society.sheet import Sheet, squeezed
-from society.unread import Unread, says_exit
+from society.unread import Unread, exit_word
 
 ROLES = {"sire": "M", "dam": "F"}
 # how a spreadsheet shows a long number that it has cut
@@ -83,7 +83,7 @@ class Rows:
         self.short = self.short_words()
         # how often a short word is taken for a longer one of its column
         self.abbreviated: collections.Counter[tuple[str, str]] = collections.Counter()
-        self.unread = Unread()
+        self.unread = Unread({field: sheet.titles[at] for field, at in columns.items()})
 
     def animals(self) -> dict[str, Animal]:
         """The animals by id, in the order of the rows."""
@@ -157,7 +157,7 @@ class Rows:
 
     def leave_out(self, animal: Animal, field: str, text: str, what: str, why: str) -> None:
         animal.unread.append(field)
-        self.unread.cells[field].append((text, animal.line))
+        self.unread.add(field, text, animal.line)
         self.report.leave_out(CELL, animal.line, animal.id, what, why)
 
     def sex(self, animal: Animal, text: str) -> str:
@@ -212,7 +212,7 @@ class Rows:
                 "write all days as 2001-03-01 or 01.03.2001"
             ) from None
         except Unreadable as why:
-            told = f"'{text}' has no day" if field == "exit" and says_exit(text) else str(why)
+            told = f"'{text}' has {no_day(text)}" if field == "exit" and exit_word(text) else str(why)
             self.leave_out(animal, field, text, f"its {name}", f"{told}: it {GONE}" if field == "exit" else told)
             return None
 
@@ -223,3 +223,8 @@ class Rows:
                 animal, "embryo", text, "its cell for a stored embryo", f"'{text}' isn't known: write 1 or nothing"
             )
         return text.casefold() in KNOWN_YES
+
+
+def no_day(text: str) -> str:
+    """What a text for an exit lacks: it may have a day with two digits for the year, several days, or a price."""
+    return "no single day with a year of four digits" if re.search(r"\d", text) else "no day"

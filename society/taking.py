@@ -79,7 +79,9 @@ class Taking:
     def tell_kept(self, animal: Animal, field: str, what: str) -> None:
         if field in self.given:
             word = f"{field} {what}" if field == "owner" else what
-            why = "can't be read" if field in animal.unread else "gives none"
+            # a word such as `sold` gives no day, nor does a text that can't be read
+            none = "gives no day" if field == "exit" else "can't be read"
+            why = none if field in animal.unread else "gives none"
             self.report.tell(INFERRED, animal.line, animal.id, f"{word}, as in the book, since its cell {why}")
 
     def id_of(self, number: str) -> str:

@@ -6,7 +6,7 @@ import collections
 from society.columns import KNOWN_EXITS, plain
 from society.report import Mistake
 
-# what to do where most cells of a column can't be read
+# what to do where cells of a column can't be read
 ADVICE = {
     "sex": "write M or F, or say which sex each word is, as --sexes {word}=m or {word}=f",
     "birth": (
@@ -14,40 +14,73 @@ ADVICE = {
         "birth=TITLE"
     ),
     "exit": (
-        "write days as 2001-03-01 or 01.03.2001; or name another column, as --columns exit=TITLE, or none, as --columns"
-        " exit="
+        "write days as 2001-03-01 or 01.03.2001, a word such as sold, verkauft or vendu where the day isn't known, and "
+        "nothing or alive, lebt or vivant where the animal hasn't left; or name another column, as --columns "
+        "exit=TITLE, or none, as --columns exit="
     ),
     "embryo": "write 1 or nothing; or name another column, as --columns embryo=TITLE, or none, as --columns embryo=",
 }
+# so many different texts of a column are shown
+MOST_TEXTS = 9
+
+# a text, and its line
+Cell = tuple[str, int]
 
 
 class Unread:
-    """For each column the texts that can't be read, with the line of each, and how many cells have a text."""
+    """For each column, by its field, the texts that can't be read, and how many cells have a text. `titles` are the
+    columns' own."""
 
-    def __init__(self) -> None:
-        self.cells: collections.defaultdict[str, list[tuple[str, int]]] = collections.defaultdict(list)
+    def __init__(self, titles: dict[str, str]) -> None:
+        self.titles = titles
+        self.cells: collections.defaultdict[str, list[Cell]] = collections.defaultdict(list)
+        # texts such as `sold`, which say something, though no day
+        self.exits: list[Cell] = []
         self.read: collections.Counter[str] = collections.Counter()
 
-    def summaries(self) -> list[str]:
-        return [self.summary(field, cells) for field, cells in self.cells.items()]
+    def add(self, field: str, text: str, line: int) -> None:
+        cells = self.exits if field == "exit" and exit_word(text) else self.cells[field]
+        cells.append((text, line))
 
-    def summary(self, field: str, cells: list[tuple[str, int]]) -> str:
-        """The texts of a column, and how often each stands there."""
-        counts = collections.Counter(text for text, _ in cells).most_common()
-        shown = ", ".join(f"'{text}' ({count} times)" if count > 1 else f"'{text}'" for text, count in counts[:9])
-        more = f" and {len(counts) - 9} more" if len(counts) > 9 else ""
-        what = f"{len(cells)} of {self.read[field]} cells for {field} can't be read, the first in line {cells[0][1]}"
-        return f"{what}: {shown}{more}: {ADVICE[field].format(word=counts[0][0])}"
+    def summaries(self) -> list[str]:
+        told = [self.summary(field, cells) for field, cells in self.cells.items()]
+        return told + [self.exits_without_day()] if self.exits else told
+
+    def summary(self, field: str, cells: list[Cell]) -> str:
+        word = texts_of(cells)[0][0]
+        return f"{self.place(field, cells)} can't be read, {shown(cells)}: {ADVICE[field].format(word=word)}"
+
+    def exits_without_day(self) -> str:
+        word = exit_word(texts_of(self.exits)[0][0])
+        return (
+            f"an exit without a day stands in {self.place('exit', self.exits)}, {shown(self.exits)}: such an animal "
+            "counts as gone on a day that isn't known; where you know the day, write it as 01.03.2001, or behind the "
+            f"word, as {word} 01.03.2001"
+        )
+
+    def place(self, field: str, cells: list[Cell]) -> str:
+        return f"{len(cells)} of {self.read[field]} cells of the column '{self.titles[field]}'"
 
     def refuse_most(self) -> None:
         """A column more than half of whose cells can't be read is a mistake: hardly anything of it would be taken."""
         for field, cells in self.cells.items():
-            # words such as `sold` say something, though no day
-            cells = [(text, line) for text, line in cells if field != "exit" or not says_exit(text)]
             if len(cells) > max(2, self.read[field] // 2):
                 raise Mistake(self.summary(field, cells))
 
 
-def says_exit(text: str) -> bool:
-    """Has it a word by which animals leave?"""
-    return any(plain(word) in KNOWN_EXITS for word in text.split())
+def texts_of(cells: list[Cell]) -> list[tuple[str, int]]:
+    """The texts, and how often each stands there, the commonest first."""
+    return collections.Counter(text for text, _ in cells).most_common()
+
+
+def shown(cells: list[Cell]) -> str:
+    """The first line, and the commonest texts."""
+    counts = texts_of(cells)
+    texts = [f"'{text}'{f' ({count} times)' if count > 1 else ''}" for text, count in counts[:MOST_TEXTS]]
+    more = f" and {len(counts) - MOST_TEXTS} more" if len(counts) > MOST_TEXTS else ""
+    return f"the first in line {cells[0][1]}: {', '.join(texts)}{more}"
+
+
+def exit_word(text: str) -> str:
+    """The first word by which animals leave, if it has one."""
+    return next((word for word in text.split() if plain(word) in KNOWN_EXITS), "")

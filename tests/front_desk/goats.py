@@ -19,6 +19,14 @@ GOATS = """\
     """
 
 
+def without_day(word: str) -> str:
+    """What is told of exits without a day, behind the texts."""
+    return (
+        "such an animal counts as gone on a day that isn't known; where you know the day, write it as 01.03.2001, or "
+        f"behind the word, as {word} 01.03.2001"
+    )
+
+
 class GoatChecks(Checks):
     def text(self, desk: Desk, id: str, *words: str) -> str:
         desk.good("certificate", id, "--out", "page.html", *words)
@@ -48,8 +56,12 @@ class GoatChecks(Checks):
             ),
             "CH 120.1150.8: inferred: birth day 2016-05-09, from its offspring (line 6 names it)",
             (
-                "1 of 9 cells for sex can't be read, the first in line 10: 'Q': write M or F, or say which sex each "
-                "word is, as --sexes Q=m or Q=f"
+                "1 of 9 cells of the column 'Geschlecht' can't be read, the first in line 10: 'Q': write M or F, or "
+                "say which sex each word is, as --sexes Q=m or Q=f"
+            ),
+            (
+                "an exit without a day stands in 1 of 2 cells of the column 'Abgang', the first in line 6: 'verkauft': "
+                f"{without_day('verkauft')}"
             ),
             "line 10: CH 120.1160.5: the row is left out: its sex can't be read, and no animal has it as a parent",
             (
@@ -160,7 +172,7 @@ class GoatChecks(Checks):
             ("verk. 11.2021 an Meier", "2021-11-30"), ("vendu le 03/04/2021", "2021-04-03"),
             ("verkauft 31.02.2020", "2020-02-29"), ("2021-02-03 10:00", "2021-02-03"),
             ("sold 3.4.2020, died 5.6.2021", "gone"), ("tot", "gone"), ("sold for 2020 EUR", "gone"),
-            ("12.11.22", "gone"), ("about 1950", "gone"), ("ja", "gone"),
+            ("12.11.22", "gone"), ("verkauft 12.11.22", "gone"), ("about 1950", "gone"), ("ja", "gone"),
             ("nein", ""), ("-", ""), ("im Bestand", ""), ("alive", ""), ("vivante", ""), ("", ""),
         ]  # fmt: skip
         done = desk.take(
@@ -176,10 +188,56 @@ class GoatChecks(Checks):
             self.count(
                 (f": {id}: " in done.out) == bool(wanted and cell[:4] != "2021"), f"exit {cell!r} is told: {done}"
             )
+        self.told(
+            done,
+            (
+                "line 13: a11: its exit is left out: '12.11.22' has two digits of the year: write all four: it counts "
+                "as gone, on a day that isn't known"
+            ),
+            (
+                "line 14: a12: its exit is left out: 'verkauft 12.11.22' has no single day with a year of four digits: "
+                "it counts as gone, on a day that isn't known"
+            ),
+            (
+                "2 of 15 cells of the column 'exit' can't be read, the first in line 13: '12.11.22', 'about 1950': "
+                "write days as 2001-03-01 or 01.03.2001, a word such as sold, verkauft or vendu where the day isn't "
+                "known, and nothing or alive, lebt or vivant where the animal hasn't left; or name another column, as "
+                "--columns exit=TITLE, or none, as --columns exit="
+            ),
+            (
+                "an exit without a day stands in 5 of 15 cells of the column 'exit', the first in line 10: 'sold "
+                "3.4.2020, died 5.6.2021', 'tot', 'sold for 2020 EUR', 'verkauft 12.11.22', 'ja': "
+                f"{without_day('sold')}"
+            ),
+        )
         # what a sheet without the column says changes nothing
         before = desk.files()["book/ids.csv"]
         desk.take("id;sex;born;sire;dam\n" + "".join(f"a{at};M;2001-01-01;;\n" for at in range(len(cells))))
         self.count(desk.files()["book/ids.csv"] == before, "exits stay")
+        self.exits_in_words_alone()
+
+    def exits_in_words_alone(self) -> None:
+        """A column that has words and no day is taken: what is told says what they mean and how a day is written, and
+        that is read."""
+        desk = Desk(self, "exits in words alone")
+        sheet = lambda *cells: "Tier;geboren;Vater;Mutter;Abgang\n" + "".join(
+            f"a{at};2001-01-01;;;{cell}\n" for at, cell in enumerate(cells)
+        )
+        done = desk.take(sheet("verkauft", "tot", "verkauft", "sold", "vendu", "lebt", "alive", "vivant", ""))
+        self.told(
+            done,
+            (
+                "an exit without a day stands in 5 of 5 cells of the column 'Abgang', the first in line 2: 'verkauft' "
+                f"(2 times), 'tot', 'sold', 'vendu': {without_day('verkauft')}"
+            ),
+        )
+        self.count("can't be read" not in done.out, f"words that are known: {done}")
+        self.count([bool(row["exit"]) for row in desk.table("book/ids.csv")] == [True] * 5 + [False] * 4, f"{done}")
+        done = desk.take(sheet("verkauft 01.03.2001", "01.03.2001", "verkauft", "sold", "vendu", "", "", "", ""))
+        self.count([line[-16:] for line in desk.commands()[-2:]] == [",2001-03-01,,,,,"] * 2, f"{desk.commands()}")
+        # a day that the book has stays where a word replaces it
+        done = desk.take(sheet("verkauft", "tot", "verkauft", "sold", "vendu", "", "", "", ""))
+        self.told(done, "line 2: a0: inferred: exit on 2001-03-01, as in the book, since its cell gives no day")
 
     def remembered(self) -> None:
         """Columns, words for sexes and words for unknown parents are those of the last time."""

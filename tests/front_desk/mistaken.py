@@ -31,7 +31,10 @@ class MistakeChecks(Checks):
             ("id,born,sire,dam\na,03/25/2001,,\n", "line 2: a: birth day: '03/25/2001' has the month first"),
             (
                 "id,born,sire,dam\na,x,,\nb,y,,\nc,z,,\nd,2001,,\n",
-                "3 of 4 cells for birth can't be read, the first in line 2: 'x', 'y', 'z': write days as 2001-03-01",
+                (
+                    "3 of 4 cells of the column 'born' can't be read, the first in line 2: 'x', 'y', 'z': write days "
+                    "as 2001-03-01"
+                ),
             ),
             (
                 'id,born,sire,dam\na,2001,,\nb,2003,"2,76E+14",\n',
@@ -42,7 +45,11 @@ class MistakeChecks(Checks):
             ),
             (
                 "id,sex,born,sire,dam,exit\na,F,2001,,,Hof\nb,F,2001,,,Hof\nc,F,2001,,,Hof\n",
-                "3 of 3 cells for exit can't be read, the first in line 2: 'Hof' (3 times): write days",
+                (
+                    "3 of 3 cells of the column 'exit' can't be read, the first in line 2: 'Hof' (3 times): write days "
+                    "as 2001-03-01 or 01.03.2001, a word such as sold, verkauft or vendu where the day isn't known, "
+                    "and nothing or alive, lebt or vivant where the animal hasn't left; or name another column"
+                ),
             ),
             (
                 good + "b,F,2001-01-01,,,2000-01-01\n",
