@@ -81,8 +81,10 @@ def ancestors_round(cycle: list[Link], calf: str) -> list[str]:
 class Days:
     """Infers the days that the sheet doesn't give. Days are counted here, as `date.toordinal` counts them."""
 
-    def __init__(self, animals: dict[str, Animal], kept: dict[str, datetime.date]) -> None:
-        self.animals, self.kept = animals, kept
+    def __init__(self, animals: dict[str, Animal], kept: dict[str, tuple[int, str]]) -> None:
+        self.animals = animals
+        # the day that was inferred for an animal of the book, and from what
+        self.kept = kept
         self.order = in_order(animals)
         self.calves = calves_of(animals)
         self.low: dict[str, int] = {}
@@ -136,7 +138,7 @@ class Days:
     def day_for(self, animal: Animal) -> tuple[datetime.date, str]:
         parents = [self.animals[parent].born.toordinal() for _, parent in animal.parents()]
         low = max([self.low[animal.id], *(day + 1 for day in parents)])
-        kept = self.kept.get(animal.id)
+        kept, from_what = self.kept.get(animal.id, (0, ""))
         if animal.id in self.likely:
             day, why = self.likely[animal.id]
         elif parents:
@@ -144,12 +146,15 @@ class Days:
         else:
             day = FIRST_DAY.toordinal()
             why = "the earliest that a book can have, since no parent and no offspring has one"
-        if kept and animal.birth.first <= kept <= animal.birth.last:
-            day = kept.toordinal()
-            why = why if parents or animal.id in self.likely else "as in the book"
+        if animal.birth.first.toordinal() <= kept <= animal.birth.last.toordinal():
+            day = kept
+            why = why if parents or animal.id in self.likely else "the nearest to the book's that an exit leaves open"
         day = min(max(day, low), self.high[animal.id])
         # where parents and calves leave no day open, that of the cell holds, and the program refuses a parent
         day = min(max(day, animal.birth.first.toordinal()), animal.birth.last.toordinal())
+        # a day that stays has the reason that it had, whatever is known today
+        if day == kept and animal.birth == ANY_DAY:
+            why = from_what
         return datetime.date.fromordinal(day), why
 
 

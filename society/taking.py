@@ -119,7 +119,8 @@ class Taking:
 
     def find_days(self) -> None:
         cut_cycles(self.animals, self.report)
-        kept = {id: self.book.records[known.number].born for id, known in self.book.known.items() if known.birth}
+        inferred = [(id, known) for id, known in self.book.known.items() if known.birth]
+        kept = {id: (self.book.records[known.number].born.toordinal(), known.birth) for id, known in inferred}
         Days(self.animals, kept).infer(self.report)
 
     def give_numbers(self, breed: str, country: str) -> None:

@@ -83,6 +83,47 @@ class InferringChecks(Checks):
         self.count(desk.born()["mother"] == "2002-12-31" and desk.born()["year"] == "2003-02-02", f"{desk.born()}")
         self.told(done, "line 4: year: inferred: birth day 2003-02-02, as in the book, since its cell gives none")
 
+    def reasons_that_stay(self) -> None:
+        """An inferred day that stays has the reason by which it was inferred, whether its animal has a row or is gone;
+        one that has to change gets another."""
+        desk = Desk(self, "reasons")
+        rows = "id,sex,born,sire,dam,exit\nbull,M,2001-01-01,,,\ncalf,M,2009-06-07,,mother,\n"
+        earliest = "the earliest that a book can have, since no parent and no offspring has one"
+        undated = {
+            "year": ("year,F,2003,,,", "birth day 2003-07-02, from the year 2003"),
+            "mother": ("mother,F,,,,", "birth day 2007-06-08, from its offspring"),
+            "young": ("young,F,,bull,,", "birth day 2003-01-01, from its parents"),
+            "alone": ("alone,F,,,,", f"birth day 1900-01-01, {earliest}"),
+        }
+        sheet = lambda *more: rows + "".join(row + "\n" for row in more)
+        told = [f"line {at}: {id}: inferred: {day}" for at, (id, (_, day)) in enumerate(undated.items(), 4)]
+        self.told(desk.take(sheet(*(row for row, _ in undated.values()))), *told)
+        # all are gone, and then what their days were inferred from is another
+        for now in sheet(), sheet(), rows.replace("mother", "").replace("2001-01-01", "2000-01-01"):
+            named = {"mother": " (line 3 names it)"} if "mother" in now else {}
+            done = desk.take(now)
+            self.told(done, *(f"{id}: inferred: {day}{named.get(id, '')}" for id, (_, day) in undated.items()))
+            reasons = {row["id"]: row["birth"] for row in desk.table("book/ids.csv") if row["birth"]}
+            found = {id: f"birth day {desk.born()[id]}, {why}" for id, why in reasons.items()}
+            self.count(found == {id: day for id, (_, day) in undated.items()}, f"{found}")
+        # they have rows again, whose cells for the day are empty; one is a parent now
+        again = [row.replace("2003", "") for row, _ in undated.values()]
+        self.told(desk.take(sheet(*again, "late,F,2020-01-01,,alone,")), *told)
+        done = desk.take(sheet(*again, "late,F,2002-01-01,,year,"))
+        self.told(done, "line 4: year: inferred: birth day 2001-12-31, from its offspring")
+        again[1] += "2005-01-01"
+        done = desk.take(rows.replace("mother", "") + "".join(row + "\n" for row in again))
+        why = "the nearest to the book's that an exit leaves open"
+        self.told(done, f"line 5: mother: inferred: birth day 2005-01-01, {why}")
+
+    def invented_days(self) -> None:
+        """A day that was invented for a pedigree stays marked as that once the animal is gone."""
+        desk = Desk(self, "invented")
+        desk.good("take", "--pedigree", desk.write("pedigree.txt", "x 0 0\ny x 0\n"))
+        desk.take("id,born,sire,dam\nz,2020-01-01,x,\n")
+        listed = {row["id"]: row["birth"] for row in desk.listed("list")}
+        self.count(all(listed[id].endswith(" (invented)") for id in "xy"), f"{listed}")
+
     def sexes(self) -> None:
         """Without a column of sexes a sire is male and a dam female; what is corrected keeps its digits."""
         desk = Desk(self, "sexes")
@@ -180,7 +221,7 @@ class InferringChecks(Checks):
             f"Hans: gone: {stays}",
         )
         self.count(", 1 gone: " in done.last and "with --drop-gone they are dropped" in done.out, f"{done}")
-        self.told(done, "Hans: inferred: birth day 2002-01-01, as in the book")
+        self.told(done, "Hans: inferred: birth day 2002-01-01, from its offspring")
         self.count(late.numbers()["Hans"] == "HOLGBRM000000000001", f"its number stays: {late.numbers()}")
         done = late.take(grown, "--drop-gone")
         self.told(done, "Hans: gone: no animal has it as a parent any more: it is dropped from the book")
