@@ -106,6 +106,9 @@ class InferringChecks(Checks):
             reasons = {row["id"]: row["birth"] for row in desk.table("book/ids.csv") if row["birth"]}
             found = {id: f"birth day {desk.born()[id]}, {why}" for id, why in reasons.items()}
             self.count(found == {id: day for id, (_, day) in undated.items()}, f"{found}")
+        desk.good("trend")
+        words = "".join(desk.page("book/trend.svg").itertext())
+        self.count("2003: " in words and "3 more have no known birth year" in words, f"the year that is known: {words}")
         # they have rows again, whose cells for the day are empty; one is a parent now
         again = [row.replace("2003", "") for row, _ in undated.values()]
         self.told(desk.take(sheet(*again, "late,F,2020-01-01,,alone,")), *told)
