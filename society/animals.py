@@ -17,8 +17,8 @@ ROLES = {"sire": "M", "dam": "F"}
 # how a spreadsheet shows a long number that it has cut
 CUT = re.compile(r"\d[.,]?\d*E\+\d+", re.IGNORECASE)
 
-# what is told of an exit without a day
-GONE = "counts as gone, on a day that isn't known"
+# what is told of an exit without a day; the day is that of the book, where it has one
+GONE = "it counts as gone"
 
 
 @dataclass(slots=True)
@@ -182,9 +182,7 @@ class Rows:
         left = self.span(animal, "exit", text)
         if left and not is_span(text) and left.last < animal.birth.first:
             # a number within a text that can't be its day
-            self.leave_out(
-                animal, "exit", text, "its exit", f"'{text}' {GONE}, since its day would be before the birth"
-            )
+            self.leave_out(animal, "exit", text, "its exit", f"the day in '{text}' would be before its birth: {GONE}")
             left = None
         if left:
             animal.left = left.last
@@ -213,7 +211,7 @@ class Rows:
             ) from None
         except Unreadable as why:
             told = f"'{text}' has {no_day(text)}" if field == "exit" and exit_word(text) else str(why)
-            self.leave_out(animal, field, text, f"its {name}", f"{told}: it {GONE}" if field == "exit" else told)
+            self.leave_out(animal, field, text, f"its {name}", f"{told}: {GONE}" if field == "exit" else told)
             return None
 
     def is_embryo(self, animal: Animal, text: str) -> bool:

@@ -54,8 +54,8 @@ class Unread:
         word = exit_word(texts_of(self.exits)[0][0])
         return (
             f"an exit without a day stands in {self.place('exit', self.exits)}, {shown(self.exits)}: such an animal "
-            "counts as gone on a day that isn't known; where you know the day, write it as 01.03.2001, or behind the "
-            f"word, as {word} 01.03.2001"
+            "counts as gone, on a day that isn't known unless the book has it; where you know the day, write it as "
+            f"01.03.2001, or behind the word, as {word} 01.03.2001"
         )
 
     def place(self, field: str, cells: list[Cell]) -> str:

@@ -22,8 +22,8 @@ GOATS = """\
 def without_day(word: str) -> str:
     """What is told of exits without a day, behind the texts."""
     return (
-        "such an animal counts as gone on a day that isn't known; where you know the day, write it as 01.03.2001, or "
-        f"behind the word, as {word} 01.03.2001"
+        "such an animal counts as gone, on a day that isn't known unless the book has it; where you know the day, "
+        f"write it as 01.03.2001, or behind the word, as {word} 01.03.2001"
     )
 
 
@@ -46,10 +46,7 @@ class GoatChecks(Checks):
                 "31.02.2017"
             ),
             "line 5: CH 120.1158.9: inferred: exit on 2022-11-12, from 'geschlachtet 12.11.2022'",
-            (
-                "line 6: CH 120.1160.1: its exit is left out: 'verkauft' has no day: it counts as gone, on a day that "
-                "isn't known"
-            ),
+            "line 6: CH 120.1160.1: its exit is left out: 'verkauft' has no day: it counts as gone",
             (
                 "line 6: CH 120.1157.8: added: the dam of CH 120.1160.1 has no row: added without parents (is CH "
                 "120.1158.7 meant?)"
@@ -192,12 +189,13 @@ class GoatChecks(Checks):
             done,
             (
                 "line 13: a11: its exit is left out: '12.11.22' has two digits of the year: write all four: it counts "
-                "as gone, on a day that isn't known"
+                "as gone"
             ),
             (
                 "line 14: a12: its exit is left out: 'verkauft 12.11.22' has no single day with a year of four digits: "
-                "it counts as gone, on a day that isn't known"
+                "it counts as gone"
             ),
+            "line 15: a13: its exit is left out: the day in 'about 1950' would be before its birth: it counts as gone",
             (
                 "2 of 15 cells of the column 'exit' can't be read, the first in line 13: '12.11.22', 'about 1950': "
                 "write days as 2001-03-01 or 01.03.2001, a word such as sold, verkauft or vendu where the day isn't "
@@ -237,7 +235,11 @@ class GoatChecks(Checks):
         self.count([line[-16:] for line in desk.commands()[-2:]] == [",2001-03-01,,,,,"] * 2, f"{desk.commands()}")
         # a day that the book has stays where a word replaces it
         done = desk.take(sheet("verkauft", "tot", "verkauft", "sold", "vendu", "", "", "", ""))
-        self.told(done, "line 2: a0: inferred: exit on 2001-03-01, as in the book, since its cell gives no day")
+        self.told(
+            done,
+            "line 2: a0: its exit is left out: 'verkauft' has no day: it counts as gone",
+            "line 2: a0: inferred: exit on 2001-03-01, as in the book, since its cell gives no day",
+        )
 
     def remembered(self) -> None:
         """Columns, words for sexes and words for unknown parents are those of the last time."""
