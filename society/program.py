@@ -11,6 +11,8 @@ from society.commands import Command, text_of
 from society.report import Mistake
 
 TOP = pathlib.Path(__file__).resolve().parent.parent
+# how it is said where the built program is
+SAY = "say where it is, as export HERDBOOK=/home/me/herdbook"
 
 REFUSALS = {
     1: "the number is in the book already",
@@ -46,9 +48,9 @@ class Herdbook:
         named = os.environ.get("HERDBOOK")
         self.path = pathlib.Path(named).absolute() if named else TOP / "herdbook"
         if not self.path.exists():
-            raise Mistake(
-                f"{self.path}, the program of the herd book, isn't there: put its path into the variable HERDBOOK"
-            )
+            raise Mistake(f"{self.path}, the program of the herd book, isn't there: {SAY}")
+        if self.path.is_dir():
+            raise Mistake(f"{self.path} is a folder, not the program of the herd book: {SAY}")
         if not named and (TOP / "crates").exists() and not (TOP / "crates/herdbook/out/herdbook").exists():
             print(
                 "society: the program herdbook is built first, which takes 15 to 30 minutes",
@@ -62,8 +64,7 @@ class Herdbook:
         text = done.communicate()[0]
         if done.returncode and tell:
             raise Mistake(
-                "the program herdbook isn't built, for what is told above: mend that, or put the path of a built one "
-                "into the variable HERDBOOK"
+                f"the program herdbook isn't built, for what is told above: mend that, or if you have it built, {SAY}"
             )
         if done.returncode:
             raise Mistake(f"{self.path} --version ended with status {done.returncode}: is it the program herdbook?")
@@ -73,7 +74,8 @@ class Herdbook:
         try:
             return subprocess.Popen([str(self.path), *words], stdin=given, stdout=subprocess.PIPE, stderr=errors)
         except OSError as error:
-            raise Mistake(f"{self.path} can't be run: {error.strerror or error}") from None
+            hint = f": allow it, as chmod u+x {self.path}" if isinstance(error, PermissionError) else f": {SAY}"
+            raise Mistake(f"{self.path} can't be run ({error.strerror or error}){hint}") from None
 
     def run(self, words: list[str], book: bytes) -> str:
         """What it writes of a command file."""

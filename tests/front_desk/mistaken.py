@@ -103,9 +103,16 @@ class MistakeChecks(Checks):
     def mistakes_of_others(self, desk: Desk) -> None:
         """A program that isn't there, a book that somebody changed, and a reader who has enough."""
         done = desk.run("list", program="/nowhere/herdbook")
-        self.count(
-            done.status == 1 and "/nowhere/herdbook, the program of the herd book, isn't there" in done.err, f"{done}"
-        )
+        say = "say where it is, as export HERDBOOK=/home/me/herdbook"
+        told = f"society: /nowhere/herdbook, the program of the herd book, isn't there: {say}\n"
+        self.count(done.status == 1 and done.err == told, f"{done}")
+        done = desk.run("list", program="/usr/bin")
+        told = f"society: /usr/bin is a folder, not the program of the herd book: {say}\n"
+        self.count(done.status == 1 and done.err == told, f"{done}")
+        copied = desk.room / desk.write("copied", "not to be run")
+        done = desk.run("list", program=str(copied))
+        told = f"society: {copied} can't be run (Permission denied): allow it, as chmod u+x {copied}\n"
+        self.count(done.status == 1 and done.err == told, f"{done}")
         done = desk.run("list", program="/bin/true")
         self.count(done.status == 1 and "the program answered 0 of 1 commands" in done.err, f"{done}")
         done = desk.run("take", "good.csv", program="/bin/false")
