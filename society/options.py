@@ -81,7 +81,7 @@ def generations(text: str) -> int:
 
 def parser() -> Parser:
     as_written = argparse.RawDescriptionHelpFormatter
-    top = Parser(prog="society", description=ABOUT, epilog=EXAMPLES, formatter_class=as_written)
+    top = Parser(prog="society/society", description=ABOUT, epilog=EXAMPLES, formatter_class=as_written)
     words = top.add_subparsers(dest="word", metavar="WORD", required=True)
 
     def word(name: str, help: str, more: str = "") -> Parser:

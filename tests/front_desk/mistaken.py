@@ -90,7 +90,7 @@ class MistakeChecks(Checks):
             (["mating", "--dam", "a", "a", "--all"], "not both"),
             (["certificate", "DE", "01", "2345"],
              "unrecognized arguments: 01 2345: put an id or a name with blanks between quotation marks"),
-            (["list", "--language", "de"], "there is no option --language here: `society list --help` shows"),
+            (["list", "--language", "de"], "there is no option --language here: `society/society list --help` shows"),
             (["list", "--out", "book"], "'book' is a folder: name a file"),
             (["inverse", "--matrix-market", "."], "'.' is a folder: name a file"),
             (["pedigree", "a", "--generations", "11"], "'11' isn't 1 to 10"),
