@@ -76,7 +76,8 @@ class MistakeChecks(Checks):
             (["take", "good.csv", "--book", "file"], "the folder file can't be written"),
             (["take", "good.csv", "--day", "1.2.2003"], "'1.2.2003' isn't a day written as 2001-03-01"),
             (["list"],
-             "there is no book in the folder book: take a sheet first, as society/society take SHEET --book book"),
+             "there is no book in the folder book: take a sheet first, as society/society take SHEET --book book, or "
+             "go to the folder where you took one, by cd FOLDER"),
             (["sell"], "invalid choice: 'sell'"),
             ([], "the following arguments are required: WORD"),
         ]:  # fmt: skip
