@@ -5,7 +5,8 @@ import unicodedata
 
 from society.report import Mistake
 
-# The usual titles, the likelier first. They are compared in small letters, without accents, blanks and signs. A
+# The usual titles, the likelier first: where a sheet has a column of days and one of words, as `Abgangsdatum` and
+# `Abgang`, it is that of days. They are compared in small letters, without accents, blanks and signs. A
 # parent's column may also have a word for the parent beside one for the id, as `Vater Ohrmarke`.
 TITLES = {
     "id": "id, animal id, ear tag, eartag, ear tag number, ear tag no, tag, tag number, tag no, animal number, "
@@ -16,17 +17,17 @@ TITLES = {
     "numéro, n°",
     "name": "name, animal name, Tiername, Rufname, nom, nom de l'animal",
     "sex": "sex, gender, Geschlecht, Geschl, sexe",
-    "birth": "born, birth, birth date, date of birth, birthday, birth day, dob, Geburtsdatum, Geburtstag, geboren, "
-    "geboren am, Geburt, geb, geb. am, geb-Datum, Geb.-Dat, Geburtsdat, naissance, date de naissance, date naissance, "
-    "né le, née le, né, née, né(e) le, "
+    "birth": "birth date, date of birth, birthday, birth day, dob, Geburtsdatum, Geburtstag, geboren am, geb. am, "
+    "geb-Datum, Geb.-Dat, Geburtsdat, date de naissance, date naissance, né le, née le, né(e) le, "
+    "born, birth, geboren, Geburt, geb, naissance, né, née, "
     "birth year, year of birth, year, Geburtsjahr, Jahrgang, année de naissance, année",
     "sire": "sire, of sire, father, Vater, des Vaters, Vatertier, père, du père",
     "dam": "dam, of dam, mother, Mutter, der Mutter, Muttertier, mère, de la mère",
     "owner": "owner, herd, farm, holding, Besitzer, Eigentümer, Halter, Betrieb, propriétaire, détenteur, élevage, "
     "exploitation",
-    "exit": "exit, left, exit date, date of exit, departure, died, death, date of death, Abgang, Abgangsdatum, "
-    "abgegangen, abgegangen am, Abgang am, Todesdatum, gestorben, gestorben am, sortie, date de sortie, mort, "
-    "mort le, décès, date de décès",
+    "exit": "exit date, date of exit, date of death, Abgangsdatum, Abgang am, abgegangen am, Todesdatum, "
+    "gestorben am, date de sortie, date de décès, mort le, "
+    "exit, left, departure, died, death, Abgang, abgegangen, gestorben, sortie, mort, décès",
     "embryo": "embryo, embryo calf, stored embryo, embryo transfer, et, et calf, Embryotransfer, ET-Kalb, Embryokalb, "
     "embryon, transfert d'embryon",
 }  # fmt: skip

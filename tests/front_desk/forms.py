@@ -49,7 +49,25 @@ class FormChecks(Checks):
             self.count("3 animals, 3 new, 0 changed, 1 inferred, 0 left out" in done.last, f"{name}: {done}")
         self.count(books[0][0][-1].startswith("exit,HOLGBRF000000000003,2004-05-31"), f"{books[0][0]}")
         self.count([row["owner"] for row in books[0][2]] == ["Groß", "Weiß"], f"{books[0][2]}")
+        self.days_beside_words()
         self.workbook(books[0])
+
+    def days_beside_words(self) -> None:
+        """Of a column of days and one of words that both have usual titles that of days is read."""
+        desk = Desk(self, "days beside words")
+        done = desk.take(
+            "Ohrmarke;Geburt;Geburtsdatum;Vater;Mutter;Abgang;Abgangsdatum\n"
+            "K1;Zwilling;01.03.2001;;;verkauft;02.04.2005\nK2;einzeln;02.03.2001;;;;\n"
+        )
+        self.told(
+            done,
+            (
+                "columns: id from 'Ohrmarke', birth from 'Geburtsdatum', sire from 'Vater', dam from 'Mutter', exit "
+                "from 'Abgangsdatum'; not read: 'Geburt', 'Abgang'"
+            ),
+        )
+        self.count(desk.born() == {"K1": "2001-03-01", "K2": "2001-03-02"}, f"{desk.born()}")
+        self.count(desk.commands()[-1].startswith("exit,HOLGBRF000000000001,2005-04-02,"), f"{desk.commands()}")
 
     def workbook(self, wanted: object) -> None:
         """An `.xlsx` file gives the same book; days are days, numbers are numbers, and a row may be empty."""
