@@ -189,8 +189,8 @@ def open_book(folder: pathlib.Path, program: Herdbook) -> Book:
     if not book.path.exists():
         how = f"society/society take SHEET --book {folder}"
         raise Mistake(
-            f"there is no book in the folder {folder}: take a sheet first, as {how}, or go to the folder where you took "
-            "one, by cd FOLDER"
+            f"there is no book in the folder {folder}: take a sheet first, as {how}, or go to the folder where you "
+            "took one, by cd FOLDER"
         )
     book.load(program)
     return book

@@ -137,5 +137,6 @@ class PageChecks(Checks):
         for word in "take", "list", "certificate", "mating", "trend", "pedigree", "inverse":
             shown = desk.good(word, "--help").out
             self.count(
-                word in top and "--book FOLDER" in shown and "usage: society/society " + word in shown, f"help: {word}: {shown}"
+                word in top and "--book FOLDER" in shown and f"usage: society/society {word}" in shown,
+                f"help: {word}: {shown}",
             )
