@@ -218,9 +218,11 @@ class GoatChecks(Checks):
         """A column that has words and no day is taken: what is told says what they mean and how a day is written, and
         that is read."""
         desk = Desk(self, "exits in words alone")
-        sheet = lambda *cells: "Tier;geboren;Vater;Mutter;Abgang\n" + "".join(
-            f"a{at};2001-01-01;;;{cell}\n" for at, cell in enumerate(cells)
-        )
+
+        def sheet(*cells: str) -> str:
+            rows = (f"a{at};2001-01-01;;;{cell}\n" for at, cell in enumerate(cells))
+            return "Tier;geboren;Vater;Mutter;Abgang\n" + "".join(rows)
+
         done = desk.take(sheet("verkauft", "tot", "verkauft", "sold", "vendu", "lebt", "alive", "vivant", ""))
         self.told(
             done,

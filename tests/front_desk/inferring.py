@@ -95,7 +95,10 @@ class InferringChecks(Checks):
             "young": ("young,F,,bull,,", "birth day 2003-01-01, from its parents"),
             "alone": ("alone,F,,,,", f"birth day 1900-01-01, {earliest}"),
         }
-        sheet = lambda *more: rows + "".join(row + "\n" for row in more)
+
+        def sheet(*more: str) -> str:
+            return rows + "".join(row + "\n" for row in more)
+
         told = [f"line {at}: {id}: inferred: {day}" for at, (id, (_, day)) in enumerate(undated.items(), 4)]
         self.told(desk.take(sheet(*(row for row, _ in undated.values()))), *told)
         # all are gone, and then what their days were inferred from is another
