@@ -125,10 +125,10 @@ def find_columns(line: int, titles: list[str], given: dict[str, str]) -> dict[st
 
 
 def given_column(line: int, titles: list[str], field: str, title: str) -> int:
-    for same in (lambda one: one == title, lambda one: plain(one) == plain(title)):
-        places = [at for at, one in enumerate(titles) if same(one)]
-        if places:
-            return places[0]
+    places = [at for at, one in enumerate(titles) if one == title]
+    places += [at for at, one in enumerate(titles) if plain(one) == plain(title)]
+    if places:
+        return places[0]
     shown = ", ".join(f"'{one}'" for one in titles if one)
     raise Mistake(
         f"line {line}: there is no column '{title}', which --columns names for {field}. The titles are {shown}"

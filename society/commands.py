@@ -90,7 +90,7 @@ def text_of(commands: Iterable[Command]) -> bytes:
 def read_commands(path: pathlib.Path) -> list[Command]:
     with open(path, newline="", encoding="utf-8-sig", errors="replace") as file:
         reader = csv.reader(file)
-        titles = next(reader, [])
+        titles: list[str] = next(reader, [])
         if titles not in (COLUMNS, COLUMNS[:-1]):
             raise Mistake(f"{path}: line 1 isn't the header of a command file: take the sheet into another folder")
         commands = []

@@ -5,11 +5,12 @@ import csv
 import io
 import os
 import pathlib
+from typing import Sequence
 
 from society.report import Mistake
 
 
-def table(titles: list[str], rows: list[tuple[object, ...]], semicolons: bool = False) -> bytes:
+def table(titles: list[str], rows: Sequence[tuple[object, ...]], semicolons: bool = False) -> bytes:
     """A file of rows below their titles; spreadsheets that want semicolons tell UTF-8 by a byte-order mark."""
     text = io.StringIO()
     writer = csv.writer(text, delimiter=";" if semicolons else ",", lineterminator="\n")

@@ -5,7 +5,7 @@ import os
 import pathlib
 import subprocess
 import sys
-from typing import Iterator
+from typing import IO, Iterator
 
 from society.commands import Command, text_of
 from society.report import Mistake
@@ -70,7 +70,7 @@ class Herdbook:
             raise Mistake(f"{self.path} --version ended with status {done.returncode}: is it the program herdbook?")
         return text.decode(errors="replace").strip()
 
-    def start(self, words: list[str], given: object, errors: object) -> subprocess.Popen[bytes]:
+    def start(self, words: list[str], given: int | IO[bytes], errors: int | None) -> subprocess.Popen[bytes]:
         try:
             return subprocess.Popen([str(self.path), *words], stdin=given, stdout=subprocess.PIPE, stderr=errors)
         except OSError as error:
@@ -88,9 +88,9 @@ class Herdbook:
         """Line by line what it writes of a command file, for long lists."""
         with open(path, "rb") as book:
             running = self.start(words, book, subprocess.PIPE)
-            for line in running.stdout:
+            for line in running.stdout or ():
                 yield line.decode().rstrip("\n")
-            err = running.stderr.read()
+            err = running.stderr.read() if running.stderr else b""
             self.ended(running.wait(), err, words)
 
     def ended(self, status: int, err: bytes, words: list[str]) -> None:

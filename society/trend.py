@@ -4,7 +4,7 @@ from __future__ import annotations
 import collections
 import math
 from fractions import Fraction
-from typing import NamedTuple
+from typing import Callable, NamedTuple
 
 from society.book import Book, Known
 from society.languages import Language
@@ -19,7 +19,7 @@ BARS = "#d5dfe9"
 
 class Year(NamedTuple):
     year: int
-    count: int
+    animals: int
     mean: Fraction
 
 
@@ -38,7 +38,8 @@ def years_of(book: Book, coefficients: dict[str, Coefficient]) -> tuple[list[Yea
             values[book.records[number].born.year].append(coefficient.value)
         else:
             without += 1
-    return [Year(year, len(those), sum(those) / len(those)) for year, those in sorted(values.items())], without
+    means = {year: sum(those, Fraction(0)) / len(those) for year, those in values.items()}
+    return [Year(year, len(values[year]), mean) for year, mean in sorted(means.items())], without
 
 
 def scale_for(value: float, least: float, steps: tuple[float, ...]) -> float:
@@ -57,16 +58,23 @@ def trend_picture(book: Book, coefficients: dict[str, Coefficient], language: La
     first, last = years[0].year, years[-1].year
     step = (WIDTH - LEFT - RIGHT) / (last - first + 1)
     most_percent = scale_for(float(max(year.mean for year in years)) * 100, 0.04, (1, 1.5, 2, 2.5, 3, 4, 5, 6, 8, 10))
-    most_count = scale_for(max(year.count for year in years), 4, (1, 2, 3, 4, 5, 6, 8, 10))
-    x = lambda year: LEFT + (year - first + 0.5) * step
-    y = lambda part: HEIGHT - BOTTOM - part * (HEIGHT - TOP - BOTTOM)
-    parts = axes(most_percent, most_count, y, language)
+    most_animals = scale_for(max(year.animals for year in years), 4, (1, 2, 3, 4, 5, 6, 8, 10))
+
+    def x(year: int) -> float:
+        return LEFT + (year - first + 0.5) * step
+
+    parts = axes(most_percent, most_animals, language)
     for year in years:
-        parts.append(bar(year, x(year.year), y(year.count / most_count), y(0), step, language))
+        parts.append(bar(year, x(year.year), y_of(year.animals / most_animals), y_of(0), step, language))
     parts += year_names(first, last, x, step)
-    at = {year.year: (x(year.year), y(float(year.mean) * 100 / most_percent)) for year in years}
+    at = {year.year: (x(year.year), y_of(float(year.mean) * 100 / most_percent)) for year in years}
     parts += curve(years, at, language)
-    return picture(parts, sum(year.count for year in years), without, language)
+    return picture(parts, sum(year.animals for year in years), without, language)
+
+
+def y_of(part: float) -> float:
+    """How far down a part of a scale stands, 0 for its beginning and 1 for its end."""
+    return HEIGHT - BOTTOM - part * (HEIGHT - TOP - BOTTOM)
 
 
 def curve(years: list[Year], at: dict[int, tuple[float, float]], language: Language) -> list[str]:
@@ -78,20 +86,20 @@ def curve(years: list[Year], at: dict[int, tuple[float, float]], language: Langu
             ends = f'x1="{x1:.1f}" y1="{y1:.1f}" x2="{x2:.1f}" y2="{y2:.1f}"'
             lines.append(f'<line {ends} stroke="{INBRED_INK}" stroke-width="2.5"/>')
         mean = language.percent(f"{float(one.mean) * 100:.2f}")
-        tip = f"{one.year}: {language.texts['mean of'].format(mean, one.count)}"
+        tip = f"{one.year}: {language.texts['mean of'].format(mean, one.animals)}"
         dots.append(dot(x1, y1, f"<title>{escape(tip)}</title>"))
     return lines + dots
 
 
-def axes(most_percent: float, most_count: float, y, language: Language) -> list[str]:
+def axes(most_percent: float, most_animals: float, language: Language) -> list[str]:
     parts = []
     for at in range(5):
-        height = y(at / 4)
+        height = y_of(at / 4)
         parts.append(f'<line x1="{LEFT}" y1="{height:.1f}" x2="{WIDTH - RIGHT}" y2="{height:.1f}" stroke="#e3e7eb"/>')
         parts.append(
             text_at(LEFT - 10, height + 5, language.percent(f"{most_percent * at / 4:.4g}"), INBRED_INK, 15, "end")
         )
-        parts.append(text_at(WIDTH - RIGHT + 10, height + 5, f"{most_count * at / 4:.6g}", GREY, 15))
+        parts.append(text_at(WIDTH - RIGHT + 10, height + 5, f"{most_animals * at / 4:.6g}", GREY, 15))
     return parts
 
 
@@ -104,14 +112,14 @@ def dot(x: float, y: float, within: str) -> str:
 
 def bar(year: Year, x: float, top: float, bottom: float, step: float, language: Language) -> str:
     width = max(1.0, step * 0.7)
-    tip = f"{year.year}: {language.texts['animals'].format(year.count)}"
+    tip = f"{year.year}: {language.texts['animals'].format(year.animals)}"
     return (
         f'<rect x="{x - width / 2:.1f}" y="{top:.1f}" width="{width:.1f}" height="{bottom - top:.1f}" fill="{BARS}">'
         f"<title>{escape(tip)}</title></rect>"
     )
 
 
-def year_names(first: int, last: int, x, step: float) -> list[str]:
+def year_names(first: int, last: int, x: Callable[[int], float], step: float) -> list[str]:
     """As many years as have room, the same number of years apart."""
     apart = next(one for one in (1, 2, 5, 10, 20, 50, 100) if one * step >= 46)
     shown = range(first, last + 1, apart)

@@ -107,10 +107,10 @@ def has_titles(cells: list[str]) -> bool:
 def title_places(line: Line) -> list[int]:
     """The columns of the id, the sire and the dam, by the likeliest of the usual titles."""
     titles = [plain(cell) for cell in line.cells]
-    places = [next((titles.index(usual) for usual in KNOWN_TITLES[field] if usual in titles), None) for field in FIELDS]
-    if None in places:
+    usual = [[title for title in KNOWN_TITLES[field] if title in titles] for field in FIELDS]
+    if not all(usual):
         raise Mistake(f"{line}: the titles have to be id, sire and dam, or other usual words for these")
-    return places
+    return [titles.index(likely[0]) for likely in usual]
 
 
 def columns_read(titles: list[str], places: list[int]) -> str:

@@ -2,9 +2,11 @@
 from __future__ import annotations
 
 import argparse
+import io
+import os
 import sys
 
-from society.book import Book, open_book
+from society.book import Book, Known, open_book
 from society.certificate import certificate_page
 from society.files import write_file
 from society.languages import Language
@@ -81,19 +83,23 @@ def list_them(asked: argparse.Namespace, book: Book, program: Herdbook) -> None:
 
 
 def draw(asked: argparse.Namespace, book: Book, program: Herdbook) -> None:
-    known = book.find(asked.id) if "id" in asked else None
-    found = coefficients(book, program)
-    if asked.word == "certificate":
-        text = certificate_page(book, program, known, found, asked.language, asked.title)
-        name = file_name("certificate", known.id, ".html")
-    elif asked.word == "pedigree":
-        text = tree_picture(book, known, found, asked.generations, Language(asked.language))
-        name = file_name("pedigree", known.id, ".svg")
+    if asked.word == "trend":
+        text, name = trend_picture(book, coefficients(book, program), Language(asked.language)), "trend.svg"
     else:
-        text, name = trend_picture(book, found, Language(asked.language)), "trend.svg"
+        text, name = animal_page(asked, book, program, book.find(asked.id))
     path = asked.out or asked.book / name
     write_file(path, text.encode())
     print(f"{path} is written: open it in a browser, and print it there")
+
+
+def animal_page(asked: argparse.Namespace, book: Book, program: Herdbook, known: Known) -> tuple[str, str]:
+    """An animal's certificate or pedigree, and the name of its file."""
+    found = coefficients(book, program)
+    if asked.word == "certificate":
+        page = certificate_page(book, program, known, found, asked.language, asked.title)
+        return page, file_name("certificate", known.id, ".html")
+    picture = tree_picture(book, known, found, asked.generations, Language(asked.language))
+    return picture, file_name("pedigree", known.id, ".svg")
 
 
 def do(asked: argparse.Namespace) -> None:
@@ -120,7 +126,8 @@ def do(asked: argparse.Namespace) -> None:
 
 def main(words: list[str]) -> int:
     for stream in sys.stdout, sys.stderr:
-        stream.reconfigure(encoding="utf-8", errors="backslashreplace")
+        if isinstance(stream, io.TextIOWrapper):
+            stream.reconfigure(encoding="utf-8", errors="backslashreplace")
     try:
         do(parser().read(joined(words)))
         sys.stdout.flush()
@@ -128,8 +135,8 @@ def main(words: list[str]) -> int:
     except Mistake as mistake:
         sentences = mistake.sentences
     except BrokenPipeError:
-        # whoever read the output has enough of it, which is no mistake
-        sys.stdout = None
+        # whoever read the output has enough of it, which is no mistake; what is left of it goes nowhere
+        os.dup2(os.open(os.devnull, os.O_WRONLY), sys.stdout.fileno())
         return 0
     except KeyboardInterrupt:
         sentences = ("stopped",)
