@@ -1,11 +1,10 @@
-ghost use Rattle.std.specs.Prelude.{◌≡◌, ℕ, ◌<◌, [], false, length, slice_index, IfOk, MatchResult, Some};
+ghost use Rattle.std.specs.Prelude.{◌≡◌, ◌<◌, [], false, length, slice_index, IfOk, MatchResult, Some};
 ghost use Rattle.herd_frozen.specs.rules.Book.{is_there};
 ghost use Rattle.herd_frozen.specs.freezing.Frozen.{book_of};
 ghost use Rattle.herd_frozen.specs.declared.TheConstants.{DEPTH_LIMIT};
 ghost use Rattle.herd_kinship.specs.Coefficients.{AreCoefficients};
-ghost use Rattle.herd_kinship.specs.Columns.{related, inherited, AreRelationships};
+ghost use Rattle.herd_kinship.specs.Columns.{AreRelationships};
 ghost use Rattle.herd_kinship.specs.Mating.{AreRelationshipsOf};
-ghost use Rattle.herd_kinship.specs.Tracing.{IsIdle};
 
 use crate::coefficients::Coefficients;
 use crate::columns::{pass_to, write_parts};
@@ -45,7 +44,10 @@ impl<A: Allocator + Clone> Relationships<A> {
     {
         let mut column = vec![in alloc.clone()?; 0u128; frozen.len() as usize]?;
         let mut tracing = Tracing::with_room(alloc, frozen.len())?;
-        relate_all(&mut tracing, frozen, coefficients.list(), rank, &mut column);
+        write_parts(&mut tracing, frozen, coefficients.list(), rank, &mut column);
+        for j in 0..frozen.len() {
+            pass_to(&mut column, frozen.parents(j), j);
+        }
         Ok(Relationships { column })
     }
 
@@ -79,41 +81,5 @@ impl<A: Allocator> Relationships<A> {
         ensures { result ≡ slice_index self.now rank }
     {
         self.column[rank as usize]
-    }
-}
-
-/// Writes the relationships of the animal at a rank with all.
-fn relate_all<F: Allocator, A: Allocator>(
-    tracing: &mut Tracing<A>,
-    frozen: &Frozen<F>,
-    known: &[u128],
-    rank: u32,
-    column: &mut [u128],
-)
-    requires rank { rank < length frozen.now }
-    requires known { AreCoefficients DEPTH_LIMIT frozen.now known.now }
-    requires idle { IsIdle (length frozen.now) tracing.old }
-    requires long { length column.old ≡ length frozen.now }
-    requires zero { (j : ℕ) → j < length frozen.now → slice_index column.old j ≡ 0 }
-    ensures long { length column.new ≡ length column.old }
-    ensures related { (j : ℕ) → j < length frozen.now
-        → slice_index column.new j ≡ related DEPTH_LIMIT frozen.now rank (Some j) }
-{
-    write_parts(tracing, frozen, known, rank, column);
-    pass_on(frozen, rank, column);
-}
-
-/// Makes the relationships of the animal at a rank with all, from what it has of their Mendelian sampling variances.
-fn pass_on<F: Allocator>(frozen: &Frozen<F>, rank: u32, column: &mut [u128])
-    requires rank { rank < length frozen.now }
-    requires long { length column.old ≡ length frozen.now }
-    requires parts { (j : ℕ) → j < length frozen.now
-        → slice_index column.old j ≡ inherited DEPTH_LIMIT frozen.now rank j }
-    ensures long { length column.new ≡ length column.old }
-    ensures related { (j : ℕ) → j < length frozen.now
-        → slice_index column.new j ≡ related DEPTH_LIMIT frozen.now rank (Some j) }
-{
-    for j in 0..frozen.len() {
-        pass_to(column, frozen.parents(j), j);
     }
 }
