@@ -1,4 +1,4 @@
-ghost use Rattle.std.specs.Prelude.{◌≡◌, ℕ, ◌+◌, ◌*◌, ◌-◌, ◌/◌, ◌^◌, ◌<◌, ◌≤◌, length, min, slice_get, slice_index, IfOk, IfSome, IfNone, Some};
+ghost use Rattle.std.specs.Prelude.{◌≡◌, ℕ, ◌+◌, ◌*◌, ◌-◌, ◌/◌, ◌^◌, ◌<◌, ◌≤◌, length, min, IfOk, IfSome, IfNone, Some};
 ghost use Rattle.std.specs.Option.{ForSome};
 ghost use Rattle.herd_frozen.specs.declared.TheConstants.{DEPTH_LIMIT};
 ghost use Rattle.herd_frozen.specs.freezing.Frozen.{depth_at};
