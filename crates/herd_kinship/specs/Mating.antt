@@ -1,14 +1,15 @@
 -- Mating advice: why it can't be given for two animals of a book. l is the limit of depths.
-use Rattle.std.specs.Prelude.{◌≡◌, ℕ, ◌<◌, Bool, ◌||◌, not, List, [], ◌∷◌, length, Option, None}
+use Rattle.std.specs.Prelude.{◌≡◌, ℕ, ◌<◌, Bool, ◌||◌, not, List, [], ◌∷◌, length, slice_get, Option, Some}
 use Rattle.herd_animal.specs.Sex.{is_male}
 use Rattle.herd_frozen.specs.rules.Book.{Book, is_there, parentage_of}
 use Rattle.herd_frozen.specs.declared.TheConstants.{MOST_ANIMALS}
 use Rattle.herd_frozen.specs.declared.freezing.frozen.Row.{Row}
-use Rattle.herd_frozen.specs.freezing.Frozen.{IsFrozen, book_of, depth_at}
+use Rattle.herd_frozen.specs.freezing.Frozen.{IsFrozen, book_of, numbers_of}
 use Rattle.herd_frozen.specs.rules.Paths.{has_path}
 use Rattle.herd_frozen.specs.rules.ParentFault.{first_that_holds}
 use Rattle.herd_kinship.specs.Columns.{AreRelationships}
-use Rattle.herd_kinship.specs.FrozenAncestry.{number_of_row}
+use Rattle.herd_kinship.specs.declared.dam_matings.Dam.{Dam}
+use Rattle.herd_kinship.specs.declared.mating_advice.Candidate.{Candidate}
 use Rattle.herd_kinship.specs.declared.mating_advice.MatingFault.{MatingFault}
 use Rattle.herd_kinship.specs.declared.mating_advice.MatingFault.TheVariants.{SireMissing, DamMissing, SireNotMale, DamNotFemale, TooDeep, Memory}
 
@@ -39,18 +40,25 @@ number_of_mating_fault DamNotFemale = 4
 number_of_mating_fault TooDeep = 5
 number_of_mating_fault Memory = 6
 
--- the animals at the two ranks can be mated, and a calf of them may be in the book
-pub record ArePair (l : ℕ) (rows : List Row) (sire dam : List ℕ) (sire_rank dam_rank : ℕ) : Type 0 where
-  pub book : IsFrozen l MOST_ANIMALS rows
-  pub allowed : mating_fault l (book_of rows) sire dam ≡ None
-  pub sire_in : sire_rank < length rows
-  pub sire_is : number_of_row rows sire_rank ≡ sire
-  pub sire_less_deep : depth_at rows sire_rank < l
-  pub dam_in : dam_rank < length rows
-  pub dam_is : number_of_row rows dam_rank ≡ dam
-  pub dam_less_deep : depth_at rows dam_rank < l
+-- a dam, and the book whose sires are asked about
+pub record DamInBook : Type 0 where
+  pub book : Book
+  pub dam : List ℕ
 
--- they are the relationships of the animal of this number, if it is in the book
-abbrev pub AreRelationshipsOf : ℕ → List Row → List ℕ → List ℕ → Type 0
-AreRelationshipsOf l rows number relationships =
-    (rank : ℕ) → rank < length rows → number_of_row rows rank ≡ number → AreRelationships l rows rank relationships
+-- this is what a book has of the animal of a number
+pub record IsCandidate (l : ℕ) (rows : List Row) (number : List ℕ) (candidate : Candidate) : Type 0 where
+  pub book : IsFrozen l MOST_ANIMALS rows
+  pub within : candidate.rank < length rows
+  pub rank : slice_get (numbers_of rows) candidate.rank ≡ Some number
+  pub male : candidate.male ≡ is_male number
+  pub deepest : candidate.deepest ≡ is_deepest l (book_of rows) number
+
+-- the first fault of a mating of two animals that are in the book
+abbrev pub candidates_fault : Candidate → Candidate → Option MatingFault
+candidates_fault sire dam =
+    first_that_holds ((not sire.male, SireNotMale) ∷ (dam.male, DamNotFemale) ∷ (sire.deepest || dam.deepest, TooDeep) ∷ [])
+
+-- this is what is kept of a dam of a book
+pub record IsDam {A : Type 0} (l : ℕ) (rows : List Row) (number : List ℕ) (dam : Dam A) : Type 0 where
+  pub candidate : IsCandidate l rows number dam.candidate
+  pub relationships : AreRelationships l rows dam.candidate.rank dam.relationships

@@ -26,7 +26,7 @@
 //! | a sire's calves | `CalfLinks` | `calves` | `sires` |
 //! | animal by animal | `Tracing`, `Pending` | `tracing`, `pending` | `tracing`, `numbers` |
 //! | one animal's relationships | `Columns` | `relationships` | `sires` |
-//! | mating advice | `Mating` | `mating_advice` | `advice` |
+//! | mating advice | `Mating` | `mating_advice`, `dam_matings` | `advice` |
 //! | A's inverse | `InverseRows`, `Contributions` | `inverse`, `contribution` | `laws`, `advice` |
 //! | fractions and percentages | `Fraction` | `numerators`, `fractions` | `numbers` |
 //!
@@ -46,6 +46,7 @@ mod calves;
 mod coefficients;
 mod columns;
 mod contribution;
+mod dam_matings;
 mod fractions;
 mod inverse;
 pub mod laws;
@@ -60,11 +61,12 @@ pub use calf_coefficients::{CalfCoefficient, write_calves};
 pub use calves::Calves;
 pub use coefficients::{Coefficients, coefficients_plain};
 pub use contribution::{Contribution, Contributions};
+pub use dam_matings::DamMatings;
 pub use fractions::Fraction;
 use herd_frozen::DEPTH_LIMIT;
 pub use inverse::contributions;
 pub use mates::Mates;
-pub use mating_advice::{MatingFault, mating, mating_by};
+pub use mating_advice::{MatingFault, mating};
 pub use numerators::{fraction, hundredths};
 pub use relationships::Relationships;
 pub use tracing::{inbred, mendelian, trace};

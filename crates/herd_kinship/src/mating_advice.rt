@@ -1,10 +1,11 @@
-ghost use Rattle.std.specs.Prelude.{◌≡◌, ◌+◌, ◌*◌, ◌-◌, ◌^◌, ◌<◌, ◌≤◌, length, slice_index, IfOk, IfErr, IfSome, Some, None};
+ghost use Rattle.std.specs.Prelude.{◌≡◌, ◌*◌, ◌-◌, ◌^◌, ◌<◌, false, IfOk, IfErr, IfSome, IfNone, MatchResult, Some, None};
 ghost use Rattle.herd_animal.specs.Sex.{is_male as is_male_number};
 ghost use Rattle.herd_frozen.specs.declared.TheConstants.{DEPTH_LIMIT};
 ghost use Rattle.herd_frozen.specs.freezing.Frozen.{book_of};
+ghost use Rattle.herd_frozen.specs.rules.Book.{is_there};
 ghost use Rattle.herd_kinship.specs.Coefficients.{AreCoefficients};
-ghost use Rattle.herd_kinship.specs.FrozenAncestry.{ancestry_of, number_of_row};
-ghost use Rattle.herd_kinship.specs.Mating.{ArePair, AreRelationshipsOf, mating_fault, number_of_mating_fault};
+ghost use Rattle.herd_kinship.specs.FrozenAncestry.{ancestry_of};
+ghost use Rattle.herd_kinship.specs.Mating.{IsCandidate, candidates_fault, mating_fault, number_of_mating_fault};
 ghost use Rattle.herd_kinship.specs.Table.{entry};
 
 use crate::coefficients::Coefficients;
@@ -52,13 +53,6 @@ impl MatingFault {
     }
 }
 
-/// The ranks of two animals that can be mated.
-#[derive(Clone, Copy)]
-struct Pair {
-    sire: u32,
-    dam: u32,
-}
-
 fn is_male(number: &AnimalNumber) -> bool
     ensures { result ≡ is_male_number number.now }
 {
@@ -68,38 +62,46 @@ fn is_male(number: &AnimalNumber) -> bool
     }
 }
 
-fn pair_of<F: Allocator>(
-    frozen: &Frozen<F>,
-    sire: &AnimalNumber,
-    dam: &AnimalNumber,
-) -> Result<Pair, MatingFault>
-    ensures pair { IfOk result (λ pair. ArePair DEPTH_LIMIT frozen.now sire.now dam.now pair.sire pair.dam) }
-    ensures fault { IfErr result
-        (λ fault. mating_fault DEPTH_LIMIT (book_of frozen.now) sire.now dam.now ≡ Some fault) }
+/// An animal of a frozen book as one that is asked about as a parent.
+#[derive(Clone, Copy)]
+pub struct Candidate {
+    pub rank: u32,
+    /// By the sex letter of its number.
+    pub male: bool,
+    /// It has a path of `DEPTH_LIMIT` parent steps, so that a calf of it would be too deep.
+    pub deepest: bool,
+}
+
+impl Candidate {
+    /// As the book has the animal of a number, if it is there.
+    pub fn of<F: Allocator>(frozen: &Frozen<F>, number: &AnimalNumber) -> Option<Candidate>
+        ensures there { IfSome result (IsCandidate DEPTH_LIMIT frozen.now number.now) }
+        ensures absent { IfNone result (is_there (book_of frozen.now) number.now ≡ false) }
+    {
+        let rank = frozen.rank(number)?;
+        Some(Candidate {
+            rank,
+            male: is_male(number),
+            deepest: frozen.parents(rank).depth >= DEPTH_LIMIT,
+        })
+    }
+}
+
+/// Whether two animals of a book can be mated.
+pub fn check(sire: Candidate, dam: Candidate) -> Result<(), MatingFault>
+    ensures { MatchResult result
+        (λ _. candidates_fault sire dam ≡ None) (λ fault. candidates_fault sire dam ≡ Some fault) }
 {
-    let Some(sire_rank) = frozen.rank(sire) else {
-        return Err(MatingFault::SireMissing);
-    };
-    let Some(dam_rank) = frozen.rank(dam) else {
-        return Err(MatingFault::DamMissing);
-    };
-    if !is_male(sire) {
+    if !sire.male {
         return Err(MatingFault::SireNotMale);
     }
-    if is_male(dam) {
+    if dam.male {
         return Err(MatingFault::DamNotFemale);
     }
-    let deeper = frozen
-        .parents(sire_rank)
-        .depth
-        .max(frozen.parents(dam_rank).depth);
-    if deeper >= DEPTH_LIMIT {
+    if sire.deepest || dam.deepest {
         return Err(MatingFault::TooDeep);
     }
-    Ok(Pair {
-        sire: sire_rank,
-        dam: dam_rank,
-    })
+    Ok(())
 }
 
 /// The coefficient that a calf of the two would have, in units of 2^-120: half their relationship, below `ONE`.
@@ -122,31 +124,15 @@ pub fn mating<F: Allocator, C: Allocator, A: Allocator + Clone>(
     ensures memory { IfErr result
         (λ fault. mating_fault DEPTH_LIMIT (book_of frozen.now) sire.now dam.now ≡ None → fault ≡ MatingFault.Memory) }
 {
-    let pair = pair_of(frozen, sire, dam)?;
-    match Relationships::of(alloc, frozen, coefficients, pair.dam) {
-        Ok(dams) => Ok(dams.with(pair.sire) / 2),
+    let Some(sire) = Candidate::of(frozen, sire) else {
+        return Err(MatingFault::SireMissing);
+    };
+    let Some(dam) = Candidate::of(frozen, dam) else {
+        return Err(MatingFault::DamMissing);
+    };
+    check(sire, dam)?;
+    match Relationships::of(alloc, frozen, coefficients, dam.rank) {
+        Ok(dams) => Ok(dams.with(sire.rank) / 2),
         Err(AllocError) => Err(MatingFault::Memory),
     }
-}
-
-/// The coefficient that a calf of the two would have, in units of 2^-120, by the dam's relationships
-/// (`Relationships::of_number`): below `ONE`.
-///
-/// It is `mating` for many sires of one dam: it traces nobody and takes no memory, so that `Memory` isn't told.
-pub fn mating_by<F: Allocator, A: Allocator>(
-    frozen: &Frozen<F>,
-    relationships: &Relationships<A>,
-    sire: &AnimalNumber,
-    dam: &AnimalNumber,
-) -> Result<u128, MatingFault>
-    requires { AreRelationshipsOf DEPTH_LIMIT frozen.now dam.now relationships.now }
-    ensures value { IfOk result
-        (λ value. value ≡ entry (ancestry_of frozen.now) (2 * DEPTH_LIMIT - 1) (Some sire.now) (Some dam.now)) }
-    ensures below_one { IfOk result (λ value. value < 2 ^ (2 * DEPTH_LIMIT)) }
-    ensures allowed { IfOk result (λ _. mating_fault DEPTH_LIMIT (book_of frozen.now) sire.now dam.now ≡ None) }
-    ensures refused { IfErr result
-        (λ fault. mating_fault DEPTH_LIMIT (book_of frozen.now) sire.now dam.now ≡ Some fault) }
-{
-    let pair = pair_of(frozen, sire, dam)?;
-    Ok(relationships.with(pair.sire) / 2)
 }

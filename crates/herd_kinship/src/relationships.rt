@@ -1,15 +1,11 @@
-ghost use Rattle.std.specs.Prelude.{◌≡◌, ◌<◌, [], false, length, slice_index, IfOk, MatchResult, Some};
-ghost use Rattle.herd_frozen.specs.rules.Book.{is_there};
-ghost use Rattle.herd_frozen.specs.freezing.Frozen.{book_of};
+ghost use Rattle.std.specs.Prelude.{◌≡◌, ◌<◌, length, slice_index, IfOk};
 ghost use Rattle.herd_frozen.specs.declared.TheConstants.{DEPTH_LIMIT};
 ghost use Rattle.herd_kinship.specs.Coefficients.{AreCoefficients};
 ghost use Rattle.herd_kinship.specs.Columns.{AreRelationships};
-ghost use Rattle.herd_kinship.specs.Mating.{AreRelationshipsOf};
 
 use crate::coefficients::Coefficients;
 use crate::columns::{pass_to, write_parts};
 use crate::tracing::Tracing;
-use herd_animal::AnimalNumber;
 use herd_frozen::Frozen;
 use std::alloc::{AllocError, Allocator};
 use std::marker::Model;
@@ -49,27 +45,6 @@ impl<A: Allocator + Clone> Relationships<A> {
             pass_to(&mut column, frozen.parents(j), j);
         }
         Ok(Relationships { column })
-    }
-
-    /// The relationships of an animal, as by `of`, and an empty column where it isn't in the book, which takes no
-    /// memory.
-    pub fn of_number<F: Allocator, C: Allocator>(
-        alloc: A,
-        frozen: &Frozen<F>,
-        coefficients: &Coefficients<C>,
-        number: &AnimalNumber,
-    ) -> Result<Relationships<A>, AllocError>
-        requires { AreCoefficients DEPTH_LIMIT frozen.now coefficients.now }
-        ensures relationships { IfOk result (AreRelationshipsOf DEPTH_LIMIT frozen.now number.now) }
-        ensures absent { is_there (book_of frozen.now) number.now ≡ false
-            → MatchResult result (λ relationships. relationships ≡ []) (λ _. ⊥) }
-    {
-        match frozen.rank(number) {
-            Some(rank) => Relationships::of(alloc, frozen, coefficients, rank),
-            None => Ok(Relationships {
-                column: Vec::new(alloc),
-            }),
-        }
     }
 }
 

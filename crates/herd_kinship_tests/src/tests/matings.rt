@@ -1,4 +1,4 @@
-//! Matings of one pair, and by the dam's relationships.
+//! Matings of one pair, and by the dam.
 
 use herd_animal::AnimalNumber;
 use herd_fixtures::Name::{Bull, Cow};
@@ -18,9 +18,9 @@ fn advises(
     expected: Result<(u128, u128), u8>,
 ) -> Result<(), Fail> {
     let coefficients = coefficients_plain(alloc, frozen)?;
-    let relationships = Relationships::of_number(alloc, frozen, &coefficients, &dam)?;
+    let matings = DamMatings::of(alloc, frozen, &coefficients, dam)?;
     let told = mating(alloc, frozen, &coefficients, &sire, &dam);
-    assert_eq!(rt; mating_by(frozen, &relationships, &sire, &dam), told);
+    assert_eq!(rt; matings.with(&sire), told);
     match told {
         Ok(value) => {
             assert!(rt; value < ONE);

@@ -3,7 +3,6 @@ ghost use Rattle.std.specs.Io.KnownBytes.{Appends};
 ghost use Rattle.herd_frozen.specs.declared.TheConstants.{DEPTH_LIMIT};
 ghost use Rattle.herd_frozen.specs.freezing.Frozen.{book_of};
 ghost use Rattle.herd_kinship.specs.Coefficients.{AreCoefficients};
-ghost use Rattle.herd_kinship.specs.Mating.{AreRelationshipsOf};
 ghost use Rattle.herd_report.specs.writing.MatingList.{mating_line, mating_text, refused_line};
 ghost use Rattle.herd_report.specs.writing.Text.{AppendsFront};
 
@@ -13,7 +12,7 @@ use crate::writing::report_fault::ReportFault;
 use crate::writing::text::Text;
 use herd_animal::AnimalNumber;
 use herd_frozen::Frozen;
-use herd_kinship::{Coefficients, MatingFault, Relationships, mating_by};
+use herd_kinship::{Coefficients, DamMatings, MatingFault};
 use std::alloc::{AllocError, Allocator};
 use std::io::Write;
 
@@ -37,27 +36,24 @@ pub fn write_mating<W: Write, A: Allocator + Clone, F: Allocator, C: Allocator>(
     if sires.is_empty() {
         return Ok(());
     }
-    let relationships = Relationships::of_number(alloc.clone()?, frozen, coefficients, &dam)?;
+    let matings = DamMatings::of(alloc.clone()?, frozen, coefficients, dam)?;
     let mut text = Text::new(&alloc);
     for sire in sires {
         text.pass_on(writer)?;
-        push_advice(&mut text, frozen, &relationships, *sire, dam)?;
+        push_advice(&mut text, &matings, *sire)?;
     }
     text.finish(writer)
 }
 
 // Adds the line of a sire.
-fn push_advice<A: Allocator, F: Allocator, R: Allocator>(
+fn push_advice<A: Allocator, F: Allocator, M: Allocator>(
     text: &mut Text<A>,
-    frozen: &Frozen<F>,
-    relationships: &Relationships<R>,
+    matings: &DamMatings<'_, F, M>,
     sire: AnimalNumber,
-    dam: AnimalNumber,
 ) -> Result<(), AllocError>
-    requires { AreRelationshipsOf DEPTH_LIMIT frozen.now dam relationships.now }
-    ensures { OnOk result (text.new ≡ text.old ++ mating_line (book_of frozen.now) dam sire) }
+    ensures { OnOk result (text.new ≡ text.old ++ mating_line matings.now.book matings.now.dam sire) }
 {
-    match mating_by(frozen, relationships, &sire, &dam) {
+    match matings.with(&sire) {
         Ok(numerator) => push_coefficient_line(text, sire, Coefficient { numerator }),
         Err(fault) => push_refused(text, sire, fault),
     }

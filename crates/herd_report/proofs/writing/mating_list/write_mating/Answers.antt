@@ -25,8 +25,9 @@ pub loop-sire-preserved : goal.loop-sire-preserved
 loop-sire-preserved g c =
     let sires = c.args.sires.now in
     let rank = c.loop-sire.sire-index in
+    let matings = c.in_ok-matings.ensures in
     holds_element (mating_line (book_of c.args.frozen.now) c.args.dam) sires rank c.sire-item.result
-    (holds_passed c.loop-sire.invariant c.in_ok-pass_on.ensures.ok) (slice_get-item sires rank c.sire-item.result c.loop-sire-test.true c.sire-item.is) c.in_ok-push_advice.ensures
+    (holds_passed c.loop-sire.invariant c.in_ok-pass_on.ensures.ok) (slice_get-item sires rank c.sire-item.result c.loop-sire-test.true c.sire-item.is) (rw (← matings.book, ← matings.dam) c.in_ok-push_advice.ensures)
 
 pub returns-clause-err : goal.returns-clause-err
 returns-clause-err g c = on_err_weaker c.finish.result (front_waiting c.loop-sire.invariant) c.finish.ensures.err
@@ -34,5 +35,5 @@ returns-clause-err g c = on_err_weaker c.finish.result (front_waiting c.loop-sir
 pub returns-in_err-clone-clause-err : goal.returns-in_err-clone-clause-err
 returns-in_err-clone-clause-err g c = on_err c.from_residual.result (front_nothing _ _ (some_mating_text (book_of c.args.frozen.now) c.args.dam c.args.sires.now (grind arith)))
 
-pub returns-in_err-relationships-clause-err : goal.returns-in_err-relationships-clause-err
-returns-in_err-relationships-clause-err g c = on_err c.from_residual-in_err-relationships.result (front_nothing _ _ (some_mating_text (book_of c.args.frozen.now) c.args.dam c.args.sires.now (grind arith)))
+pub returns-in_err-matings-clause-err : goal.returns-in_err-matings-clause-err
+returns-in_err-matings-clause-err g c = on_err c.from_residual-in_err-matings.result (front_nothing _ _ (some_mating_text (book_of c.args.frozen.now) c.args.dam c.args.sires.now (grind arith)))
