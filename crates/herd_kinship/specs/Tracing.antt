@@ -61,11 +61,12 @@ pub record IsNext (l : ℕ) (rows : List Row) (x border y own : ℕ) : Type 0 wh
   pub share_is : IsShareOf rows x y own
   pub between : (j : ℕ) → y < j → j < border → share (ranked rows) l (Some x) j ≡ 0
 
--- what is told of an ancestor that is met beside its share: its depth and its Mendelian sampling variance, in unit
--- 2^-2l
-pub record IsMetAs (l : ℕ) (rows : List Row) (met : Met) : Type 0 where
+-- what is told of an ancestor of x that is met, beside its share: the depths, and its Mendelian sampling variance, in
+-- unit 2^-2l
+pub record IsMetAs (l : ℕ) (rows : List Row) (x : ℕ) (met : Met) : Type 0 where
   pub within : met.rank < length rows
   pub depth : met.depth ≡ depth_at rows met.rank
+  pub steps : met.steps ≡ depth_at rows x - depth_at rows met.rank
   pub variance : met.variance ≡ mendelian (ancestry_of rows) l (number_of_row rows met.rank)
 
 -- the distance is that of a rank below the border, and a share is kept there
@@ -97,9 +98,10 @@ pub record AreIdle (animals : ℕ) (shares chunks : List ℕ) : Type 0 where
   pub nothing : (distance : ℕ) → slice_index shares distance ≡ 0
   pub unmarked : (distance : ℕ) → mark chunks distance ≡ 0
 
--- a tracing whose pending ancestors are marked
-abbrev pub IsUnderWay : {A : Type 0} → ℕ → List Row → Tracing A → Type 0
-IsUnderWay l rows tracing = AreUnderWay l rows tracing.rank tracing.border tracing.shares.items tracing.pending.chunks.items
+-- a tracing that has its animal's depth, and whose pending ancestors are marked
+pub record IsUnderWay {A : Type 0} (l : ℕ) (rows : List Row) (tracing : Tracing A) : Type 0 where
+  pub depth : tracing.depth ≡ depth_at rows tracing.rank
+  pub ancestors : AreUnderWay l rows tracing.rank tracing.border tracing.shares.items tracing.pending.chunks.items
 
 -- a tracing of nobody, with room for so many animals
 abbrev pub IsIdle : {A : Type 0} → ℕ → Tracing A → Type 0

@@ -20,6 +20,8 @@ use std::alloc::{AllocError, Allocator};
 pub struct Met {
     pub rank: u32,
     pub depth: u8,
+    /// By how many steps the traced animal is deeper.
+    pub steps: u8,
     /// Its Mendelian sampling variance in units of 2^-120.
     pub variance: u128,
     pub share: u64,
@@ -29,6 +31,7 @@ pub struct Met {
 #[derive(Drop)]
 pub struct Tracing<A: Allocator> {
     rank: u32,
+    depth: u8,
     /// All ancestors from this rank on are met.
     border: u32,
     /// By distance from the animal, in units of their own; 0 again once an ancestor is met.
@@ -45,6 +48,7 @@ impl<A: Allocator + Clone> Tracing<A> {
         let pending = Pending::with_room(alloc, animals)?;
         Ok(Tracing {
             rank: 0,
+            depth: 0,
             border: 0,
             shares,
             pending,
@@ -53,8 +57,8 @@ impl<A: Allocator + Clone> Tracing<A> {
 }
 
 impl<A: Allocator> Tracing<A> {
-    /// Starts at the animal at a rank, and gives its depth: nobody is met yet.
-    pub fn start<F: Allocator>(&mut self, frozen: &Frozen<F>, rank: u32) -> u8
+    /// Starts at the animal at a rank: nobody is met yet.
+    pub fn start<F: Allocator>(&mut self, frozen: &Frozen<F>, rank: u32)
         requires rank { rank < length frozen.now }
         requires idle { IsIdle (rank + 1) self.old }
         ensures rank { self.new.rank ≡ rank }
@@ -62,14 +66,12 @@ impl<A: Allocator> Tracing<A> {
         ensures shares { length self.new.shares.items ≡ length self.old.shares.items }
         ensures marks { length self.new.pending.chunks.items ≡ length self.old.pending.chunks.items }
         ensures tracing { IsUnderWay DEPTH_LIMIT frozen.now self.new }
-        ensures depth { result ≡ depth_at frozen.now rank }
     {
-        let depth = frozen.parents(rank).depth;
         self.rank = rank;
+        self.depth = frozen.parents(rank).depth;
         self.border = rank + 1;
         self.shares[0] = 1;
         self.pending.insert(0);
-        depth
     }
 
     /// Meets the next ancestor, and passes its share on to its parents.
@@ -82,7 +84,7 @@ impl<A: Allocator> Tracing<A> {
         ensures tracing { IsUnderWay DEPTH_LIMIT frozen.now self.new }
         ensures next { IfSome result
             (λ met. IsNext DEPTH_LIMIT frozen.now self.old.rank self.old.border met.rank met.share) }
-        ensures met { IfSome result (IsMetAs DEPTH_LIMIT frozen.now) }
+        ensures met { IfSome result (IsMetAs DEPTH_LIMIT frozen.now self.old.rank) }
         ensures border { IfSome result (λ met. self.new.border ≡ met.rank) }
         ensures ended { IfNone result (self.new.border ≡ 0) }
         ensures all { IfNone result
@@ -98,6 +100,7 @@ impl<A: Allocator> Tracing<A> {
         let met = Met {
             rank,
             depth: parents.depth,
+            steps: self.depth - parents.depth,
             variance: variance_by(known, parents),
             share,
         };
@@ -115,6 +118,7 @@ impl<A: Allocator> Tracing<A> {
             (HasRoom DEPTH_LIMIT frozen.now self.old.rank self.old.shares.items met.rank met.share) }
         requires marks { self.old.rank < 64 * length self.old.pending.chunks.items }
         ensures rank { self.new.rank ≡ self.old.rank }
+        ensures depth { self.new.depth ≡ self.old.depth }
         ensures border { self.new.border ≡ self.old.border }
         ensures shares { self.new.shares.items
             ≡ given frozen.now self.old.rank self.old.shares.items met.rank met.share parent }
@@ -198,11 +202,10 @@ pub fn trace<F: Allocator, A: Allocator + Clone>(
         return Ok(ONE);
     }
     let mut tracing = Tracing::with_room(alloc, rank + 1)?;
-    let depth = tracing.start(frozen, rank);
+    tracing.start(frozen, rank);
     let mut sum = 0;
     while let Some(met) = tracing.meet_next(frozen, known) {
-        let steps = 2 * depth - 2 * met.depth;
-        sum += term(met.variance, steps, met.share, met.share);
+        sum += term(met.variance, 2 * met.steps, met.share, met.share);
     }
     Ok(sum)
 }

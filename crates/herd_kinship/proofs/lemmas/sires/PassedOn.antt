@@ -4,15 +4,14 @@ use Rattle.std.proofs.lemmas.Bool.{cases_lt, cases_eq}
 use Rattle.std.proofs.lemmas.List.{get_or-set_same, get_or-set_other, length-set}
 use Rattle.herd_frozen.specs.declared.freezing.frozen.Parents.{Parents}
 use Rattle.herd_frozen.specs.declared.freezing.frozen.Row.{Row}
-use Rattle.herd_frozen.specs.freezing.Frozen.{IsFrozen, depth_at}
+use Rattle.herd_frozen.specs.freezing.Frozen.{IsFrozen}
 use Rattle.herd_kinship.proofs.lemmas.Lists.{contains-at}
 use Rattle.herd_kinship.specs.Ancestry.{IsParentIn}
 use Rattle.herd_kinship.specs.Columns.{at_parent, related, inherited, passed_to, CanPassTo, HasAll, IsCollection}
-use Rattle.herd_kinship.specs.FrozenAncestry.{ancestry_of, number_of_row}
 use Rattle.herd_kinship.specs.Ranks.{AreParentsAt, sire_rank, dam_rank, ranked}
 use Rattle.herd_kinship.specs.Shares.{share}
-use Rattle.herd_kinship.specs.Table.{mendelian}
-use Rattle.herd_kinship.specs.Tracing.{IsNext}
+use Rattle.herd_kinship.specs.Tracing.{IsMetAs, IsNext}
+use Rattle.herd_kinship.specs.declared.tracing.Met.{Met}
 use Rattle.herd_kinship.proofs.lemmas.tracing.Brought.{later_none}
 use Rattle.herd_kinship.proofs.lemmas.sires.ColumnFacts.{column-step, inherited-bound, inherited-none, inherited-term, related-bound}
 use Rattle.herd_kinship.proofs.lemmas.books.FrozenDepths.{depth-at_most}
@@ -54,27 +53,25 @@ pub record IsPassing (l : ℕ) (rows : List Row) (s : ℕ) (column : List ℕ) (
   pub can : CanPassTo column parents j
   pub value : passed_to column parents j ≡ related l rows s (Some j)
 
--- what a tracing's step writes for the ancestor j, by its Mendelian sampling variance, its share and the two depths
-pub record IsPart (l : ℕ) (rows : List Row) (s j part own deep depth : ℕ) : Type 0 where
-  pub shift : deep - depth < 128
-  pub fits : part / 2 ^ (deep - depth) * (own * 1) < 2 ^ 128
-  pub value : part / 2 ^ (deep - depth) * (own * 1) ≡ inherited l rows s j
+-- what a tracing's step writes for the ancestor that is met
+pub record IsPart (l : ℕ) (rows : List Row) (s : ℕ) (met : Met) : Type 0 where
+  pub shift : met.steps < 128
+  pub fits : met.variance / 2 ^ met.steps * (met.share * 1) < 2 ^ 128
+  pub value : met.variance / 2 ^ met.steps * (met.share * 1) ≡ inherited l rows s met.rank
 
 module _ (l most : ℕ) (rows : List Row) (f : IsFrozen l most rows) (s : ℕ) (ls : s < length rows) where
-  pub part-is : (b j part own deep depth : ℕ) → l < 128 → 2 ^ suc (2 * l) < 2 ^ 128 → deep ≡ depth_at rows s → j < length rows → depth ≡ depth_at rows j → IsNext l rows s b j own →
-      part ≡ mendelian (ancestry_of rows) l (number_of_row rows j) → IsPart l rows s j part own deep depth
-  part-is b j part own deep depth small room here lj there next part_is =
-      let ds : depth_at rows s ≡ deep = sym here in
-      let dj : depth_at rows j ≡ depth = sym there in
+  pub part-is : (b : ℕ) (met : Met) → l < 128 → 2 ^ suc (2 * l) < 2 ^ 128 → IsNext l rows s b met.rank met.share → IsMetAs l rows s met → IsPart l rows s met
+  part-is b met small room next is =
       let limit = depth-at_most l most rows f s ls in
-      let below = inherited-bound l most rows f s ls j lj in
-      let one : own * 1 ≡ own = omega arith in
-      let is : part / 2 ^ (deep - depth) * (own * 1) ≡ inherited l rows s j =
-      rw (← ds, ← dj, one) (inherited-term l most rows f s ls j own part lj next.share_is part_is) in
+      let below = inherited-bound l most rows f s ls met.rank is.within in
+      let steps = is.steps in
+      let one : met.share * 1 ≡ met.share = omega arith in
+      let value : met.variance / 2 ^ met.steps * (met.share * 1) ≡ inherited l rows s met.rank =
+      rw (is.steps, one) (inherited-term l most rows f s ls met.rank met.share met.variance is.within next.share_is is.variance) in
       record {
-        shift = omega (arith, ds, limit);
-        fits = rw is (omega (arith, below, room));
-        value = is;
+        shift = omega (arith, steps, limit);
+        fits = rw value (omega (arith, below, room));
+        value = value;
       }
 
   pub parts-start : (old : List ℕ) → AreParts l rows s (s + 1) old old

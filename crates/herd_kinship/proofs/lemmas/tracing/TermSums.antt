@@ -10,9 +10,9 @@ use Rattle.herd_frozen.specs.freezing.Frozen.{IsFrozen, depth_at}
 use Rattle.herd_kinship.specs.Coefficients.{own_relationship}
 use Rattle.herd_kinship.specs.Table.{entry, mendelian}
 use Rattle.herd_kinship.specs.Shares.{share, shared}
-use Rattle.herd_kinship.specs.FrozenAncestry.{ancestry_of, number_of_row}
 use Rattle.herd_kinship.specs.Ranks.{sire_rank, dam_rank, ranked}
-use Rattle.herd_kinship.specs.Tracing.{IsNext}
+use Rattle.herd_kinship.specs.Tracing.{IsMetAs, IsNext}
+use Rattle.herd_kinship.specs.declared.tracing.Met.{Met}
 use Rattle.herd_kinship.proofs.lemmas.tracing.Brought.{cancel, later_none}
 use Rattle.herd_kinship.proofs.lemmas.laws.Decompose.{decomposition}
 use Rattle.herd_kinship.proofs.lemmas.ancestry.Depth.{known_some}
@@ -32,12 +32,12 @@ term_of l rows x j = share (ranked rows) l (Some x) j * share (ranked rows) l (S
 abbrev pub IsSummed : ℕ → List Row → ℕ → ℕ → ℕ → Type 0
 IsSummed l rows x border sum = 2 ^ (2 * l) * sum ≡ done (length rows) (term_of l rows x) border
 
--- what is added for an ancestor j of x, by its Mendelian sampling variance, its share and the two depths
-pub record IsAdded (l : ℕ) (rows : List Row) (x j part own sum deep depth : ℕ) : Type 0 where
-  pub shift : 2 * deep - 2 * depth < 128
-  pub fits : part / 2 ^ (2 * deep - 2 * depth) * (own * own) < 2 ^ 128
-  pub sum_fits : sum + part / 2 ^ (2 * deep - 2 * depth) * (own * own) < 2 ^ 128
-  pub summed : IsSummed l rows x j (sum + part / 2 ^ (2 * deep - 2 * depth) * (own * own))
+-- what is added for an ancestor of x that is met
+pub record IsAdded (l : ℕ) (rows : List Row) (x sum : ℕ) (met : Met) : Type 0 where
+  pub shift : 2 * met.steps < 128
+  pub fits : met.variance / 2 ^ (2 * met.steps) * (met.share * met.share) < 2 ^ 128
+  pub sum_fits : sum + met.variance / 2 ^ (2 * met.steps) * (met.share * met.share) < 2 ^ 128
+  pub summed : IsSummed l rows x met.rank (sum + met.variance / 2 ^ (2 * met.steps) * (met.share * met.share))
 
 module _ (l most : ℕ) (rows : List Row) (f : IsFrozen l most rows) (x : ℕ) (lx : x < length rows) where
   -- a later animal is no ancestor
@@ -85,22 +85,21 @@ module _ (l most : ℕ) (rows : List Row) (f : IsFrozen l most rows) (x : ℕ) (
       (cases_lt sum (2 ^ suc (2 * l)))
 
   -- the term of the next ancestor is added
-  pub added : (b j part own sum deep depth : ℕ) → 2 * l < 128 → 2 ^ suc (2 * l) < 2 ^ 128 → deep ≡ depth_at rows x → j < length rows → depth ≡ depth_at rows j →
-      IsNext l rows x b j own → part ≡ mendelian (ancestry_of rows) l (number_of_row rows j) → IsSummed l rows x b sum →
-      IsAdded l rows x j part own sum deep depth
-  added b j part own sum deep depth small room here lj there next part_is so_far =
-      let dx : depth_at rows x ≡ deep = sym here in
-      let dj : depth_at rows j ≡ depth = sym there in
+  pub added : (b sum : ℕ) (met : Met) → 2 * l < 128 → 2 ^ suc (2 * l) < 2 ^ 128 → IsNext l rows x b met.rank met.share → IsMetAs l rows x met → IsSummed l rows x b sum → IsAdded l rows x sum met
+  added b sum met small room next is so_far =
+      let j : ℕ = met.rank in
+      let own : ℕ = met.share in
+      let apart = is.steps in
       let limit = depth-at_most l most rows f x lx in
-      let steps : 2 * deep - 2 * depth ≡ depth_at rows x + depth_at rows x - 2 * depth_at rows j = omega (arith, dx, dj) in
-      let term : part / 2 ^ (2 * deep - 2 * depth) * (own * own)
+      let steps : 2 * met.steps ≡ depth_at rows x + depth_at rows x - 2 * depth_at rows j = omega (arith, apart) in
+      let term : met.variance / 2 ^ (2 * met.steps) * (own * own)
       ≡ own * own * (mendelian (ranked rows) l j / 2 ^ (depth_at rows x + depth_at rows x - 2 * depth_at rows j)) =
-      rw (steps, part_is, ← mendelian-rank l most rows f j lj) (omega arith) in
-      let summed : IsSummed l rows x j (sum + part / 2 ^ (2 * deep - 2 * depth) * (own * own)) =
-      rw term (summed-next b j own sum lj next so_far) in
-      let below = summed-bound j (sum + part / 2 ^ (2 * deep - 2 * depth) * (own * own)) summed in
+      rw (steps, is.variance, ← mendelian-rank l most rows f j is.within) (omega arith) in
+      let summed : IsSummed l rows x j (sum + met.variance / 2 ^ (2 * met.steps) * (own * own)) =
+      rw term (summed-next b j own sum is.within next so_far) in
+      let below = summed-bound j (sum + met.variance / 2 ^ (2 * met.steps) * (own * own)) summed in
       record {
-        shift = omega (arith, dx, limit);
+        shift = omega (arith, apart, limit);
         fits = omega (arith, below, room);
         sum_fits = omega (arith, below, room);
         summed = summed;

@@ -9,11 +9,10 @@ use Rattle.herd_frozen.specs.declared.TheConstants.{MOST_ANIMALS}
 use Rattle.herd_frozen.specs.declared.freezing.frozen.Parents.{Parents}
 use Rattle.herd_frozen.specs.declared.freezing.frozen.Row.{Row}
 use Rattle.herd_frozen.specs.freezing.Frozen.{IsFrozen, depth_at, parents_of}
-use Rattle.herd_kinship.specs.declared.tracing.Met.{Met}
 use Rattle.herd_kinship.specs.Pending.{mark, Marks}
 use Rattle.herd_kinship.specs.Ranks.{AreParentsAt, ranked}
 use Rattle.herd_kinship.specs.Shares.{share}
-use Rattle.herd_kinship.specs.Tracing.{given, GivesMark, HasRoom, AreIdle, IsMarked, IsMetAs, IsNext, IsPendingAt, IsTracing, AreUnderWay}
+use Rattle.herd_kinship.specs.Tracing.{given, GivesMark, HasRoom, AreIdle, IsMarked, IsNext, IsPendingAt, IsTracing, AreUnderWay}
 use Rattle.herd_kinship.proofs.lemmas.numbers.PendingFacts.{IsNearest}
 use Rattle.herd_kinship.proofs.lemmas.books.ParentsFacts.{row-at}
 use Rattle.herd_kinship.proofs.lemmas.tracing.TracingFacts.{IsLower, IsStep, length-given, lowered-to, share-none_kept, step-is, step-room_sire, step-room_dam, step-lower_sire, step-lower_dam, step-next, tracing-start}
@@ -221,13 +220,6 @@ module _ (l : ℕ) (rows : List Row) (x b : ℕ) (shares chunks : List ℕ) (way
               };
         } in
         subst (λ v. IsMet l rows x b shares chunks' d own v) (sym at.same) met
-
--- who is met is no deeper than the animal that is traced
-pub met-no_deeper : (l : ℕ) (rows : List Row) (x b depth : ℕ) (met : Met) → depth ≡ depth_at rows x → IsNext l rows x b met.rank met.share → IsMetAs l rows met → met.depth ≤ depth
-met-no_deeper l rows x b depth met here next is =
-    let there = is.depth in
-    let less = next.share_is.less_deep in
-    omega arith
 
 -- a tracing whose animals are all met leaves nothing behind
 pub under_way-idle : (l : ℕ) (rows : List Row) (x animals : ℕ) (shares chunks : List ℕ) → AreUnderWay l rows x 0 shares chunks →

@@ -1,12 +1,10 @@
 -- `trace`: what `start` and `term` require, its loop, that nothing overflows, and its clauses `value` and `unknown`.
 use Rattle.std.proofs.Common.{◌≡◌, ℕ, lit<, false, is_some, true, Some, arith, sym, ◌∙◌}
 use Rattle.herd_frozen.specs.declared.TheConstants.{DEPTH_LIMIT, MOST_ANIMALS}
-use Rattle.herd_kinship.proofs.lemmas.books.FrozenDepths.{depth-at_most}
 use Rattle.herd_kinship.proofs.lemmas.books.FrozenFacts.{frozen-few}
 use Rattle.herd_kinship.proofs.lemmas.sires.CalfFacts.{calf-pair, if-none, if-some, pair-known}
 use Rattle.herd_kinship.proofs.lemmas.tracing.KnownFacts.{entry-one_unknown}
 use Rattle.herd_kinship.proofs.lemmas.tracing.TermSums.{IsAdded, added, summed-start, summed-end}
-use Rattle.herd_kinship.proofs.lemmas.tracing.UnderWayFacts.{met-no_deeper}
 use Rattle.herd_kinship.proofs.tracing.trace.Given.{Over}
 use Rattle.herd_kinship.proofs.tracing.trace.Goals.{In-Some}
 use Rattle.herd_kinship.proofs.tracing.trace.Goals as goal
@@ -16,41 +14,22 @@ meet_next-requires-clause-known g c = rw c.loop-met.invariant.same c.requires.kn
 
 pub loop-met-init : goal.loop-met-init
 loop-met-init g c =
-    let start = summed-start DEPTH_LIMIT MOST_ANIMALS c.args.frozen.now c.start-depth.ensures.tracing.tracing.book c.args.rank c.requires.rank in
+    let start = summed-start DEPTH_LIMIT MOST_ANIMALS c.args.frozen.now c.start.ensures.tracing.ancestors.tracing.book c.args.rank c.requires.rank in
     record {
-      same = c.start-depth.ensures.rank;
-      tracing = c.start-depth.ensures.tracing;
-      summed = rw (c.start-depth.ensures.rank, c.start-depth.ensures.border) start;
+      same = c.start.ensures.rank;
+      tracing = c.start.ensures.tracing;
+      summed = rw (c.start.ensures.rank, c.start.ensures.border) start;
     }
 
-pub overflow_mul-steps : goal.overflow_mul-steps
-overflow_mul-steps g c =
-    let shallow = depth-at_most DEPTH_LIMIT MOST_ANIMALS c.args.frozen.now c.start-depth.ensures.tracing.tracing.book c.args.rank c.requires.rank in
-    let depth = c.start-depth.ensures.depth in
-    omega arith
-
-pub overflow_mul-steps-in-Some : goal.overflow_mul-steps-in-Some
-overflow_mul-steps-in-Some g c =
-    let met = c.in-Some.ensures.met in
-    let shallow = depth-at_most DEPTH_LIMIT MOST_ANIMALS c.args.frozen.now c.loop-met.invariant.tracing.tracing.book c.in-Some.met.rank met.within in
-    omega (arith, met.depth, shallow)
-
-pub overflow_sub-steps : goal.overflow_sub-steps
-overflow_sub-steps g c =
-    let less =
-    met-no_deeper DEPTH_LIMIT c.args.frozen.now c.loop-met.tracing.rank c.loop-met.tracing.border c.start-depth.result c.in-Some.met
-    (rw c.loop-met.invariant.same c.start-depth.ensures.depth) c.in-Some.ensures.next c.in-Some.ensures.met in
-    omega (arith, less)
-
 -- what is added for the ancestor that is met
-met : (g : Over) (c : In-Some g) →
-    IsAdded DEPTH_LIMIT c.args.frozen.now c.loop-met.tracing.rank c.in-Some.met.rank c.in-Some.met.variance c.in-Some.met.share c.loop-met.sum
-    c.start-depth.result c.in-Some.met.depth
+met : (g : Over) (c : In-Some g) → IsAdded DEPTH_LIMIT c.args.frozen.now c.loop-met.tracing.rank c.loop-met.sum c.in-Some.met
 met g c =
-    let rows = c.args.frozen.now in
-    let x : ℕ = c.loop-met.tracing.rank in
-    added DEPTH_LIMIT MOST_ANIMALS rows c.loop-met.invariant.tracing.tracing.book x c.loop-met.invariant.tracing.tracing.rank c.loop-met.tracing.border c.in-Some.met.rank c.in-Some.met.variance c.in-Some.met.share c.loop-met.sum
-    c.start-depth.result c.in-Some.met.depth (lit< tt) (lit< tt) (rw c.loop-met.invariant.same c.start-depth.ensures.depth) c.in-Some.ensures.met.within c.in-Some.ensures.met.depth c.in-Some.ensures.next c.in-Some.ensures.met.variance c.loop-met.invariant.summed
+    let is = c.loop-met.invariant.tracing.ancestors.tracing in
+    added DEPTH_LIMIT MOST_ANIMALS c.args.frozen.now is.book c.loop-met.tracing.rank is.rank c.loop-met.tracing.border c.loop-met.sum c.in-Some.met
+    (lit< tt) (lit< tt) c.in-Some.ensures.next c.in-Some.ensures.met c.loop-met.invariant.summed
+
+pub overflow_mul-met : goal.overflow_mul-met
+overflow_mul-met g c = let fits = (met g (goal.at.overflow_mul-met g c).In-Some).shift in omega (arith, fits)
 
 pub term-sum-requires-clause-shift : goal.term-sum-requires-clause-shift
 term-sum-requires-clause-shift g c = (met g (goal.at.term-sum-requires-clause-shift g c).In-Some).shift
@@ -76,7 +55,7 @@ pub returns-clause-value : goal.returns-clause-value
 returns-clause-value g c =
     let x : ℕ = c.loop-met.tracing.rank in
     rw (← c.loop-met.invariant.same)
-    (summed-end DEPTH_LIMIT MOST_ANIMALS c.args.frozen.now c.parents.ensures.frozen x c.loop-met.invariant.tracing.tracing.rank c.loop-met.tracing.border c.loop-met.sum
+    (summed-end DEPTH_LIMIT MOST_ANIMALS c.args.frozen.now c.parents.ensures.frozen x c.loop-met.invariant.tracing.ancestors.tracing.rank c.loop-met.tracing.border c.loop-met.sum
     c.in_default.ensures.all c.loop-met.invariant.summed)
 
 pub returns-clause-unknown : goal.returns-clause-unknown
