@@ -87,7 +87,8 @@ impl<'a, F: Allocator, A: Allocator> DamMatings<'a, F, A> {
     /// below `ONE`. It traces nobody and takes no memory, so that `Memory` isn't told.
     pub fn with(&self, sire: &AnimalNumber) -> Result<u128, MatingFault>
         ensures value { IfOk result
-            (λ value. value ≡ entry (book_ancestry self.now.book) (2 * DEPTH_LIMIT - 1) (Some sire.now) (Some self.now.dam)) }
+            (λ value. value
+            ≡ entry (book_ancestry self.now.book) (2 * DEPTH_LIMIT - 1) (Some sire.now) (Some self.now.dam)) }
         ensures below_one { IfOk result (λ value. value < 2 ^ (2 * DEPTH_LIMIT)) }
         ensures allowed { IfOk result (λ _. mating_fault DEPTH_LIMIT self.now.book sire.now self.now.dam ≡ None) }
         ensures refused { IfErr result
