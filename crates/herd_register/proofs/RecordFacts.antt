@@ -1,14 +1,15 @@
 -- A record of a book, set by its place and by its number.
-use Rattle.std.proofs.Common.{◌≡◌, ℕ, zero, suc, ◌<◌, ◌≤◌, Bool, true, false, List, [], ◌∷◌, ◌++◌, length, get_or, set, Some, refl, sym, ap, subst, ◌∙◌, arith}
+use Rattle.std.proofs.Common.{◌≡◌, ℕ, zero, suc, ◌+◌, ◌<◌, ◌≤◌, Bool, true, false, List, [], ◌∷◌, ◌++◌, length, get_or, set, Some, refl, sym, ap, subst, ◌∙◌, arith}
 use Rattle.std.specs.Prelude.{is_some, ◌||◌, if◌then◌else◌}
-use Rattle.std.specs.List.{list_any, position}
+use Rattle.std.specs.List.{list_any, position, position_or_len}
 use Rattle.std.specs.Map.{keys_of}
 use Rattle.std.specs.Str.{bytes_eq}
 use Rattle.std.proofs.lemmas.Bool.{le-ltb, lt-ltb}
-use Rattle.std.proofs.lemmas.List.{length-set}
+use Rattle.std.proofs.lemmas.List.{length-append, length-set}
 use Rattle.std.proofs.lemmas.List.Quantifiers.{position-Some}
 use Rattle.herd_frozen.specs.declared.rules.animal.Animal.{Animal}
 use Rattle.herd_frozen.specs.rules.Book.{Book, changed, is_there, record_of}
+use Rattle.herd_frozen.proofs.lemmas.rules.BookFacts.{keys-push, length-keys}
 use Rattle.herd_register.specs.CopiedRecords.{AreInRoom, with_record_in}
 
 -- a number is there where some number of the book is equal to it
@@ -65,9 +66,11 @@ changed-nowhere book number change is absent =
     changed-absent book number change (is_there-numbers book number false is absent)
 
 -- the record of a number that is there is put in its place
-pub with_record_in-at : {most capacity spare : ℕ} {numbers : List (List ℕ)} (limit : ℕ) (book : Book) (number : List ℕ) (animal : Animal) (place : ℕ) (entry : List ℕ × Animal) → AreInRoom most book capacity numbers spare → position (bytes_eq number) numbers ≡ Some place → true ≡ list_any (bytes_eq number) numbers → entry ≡ get_or book place entry → set book place (entry.0, animal) ≡ with_record_in limit book number animal
-with_record_in-at limit book number animal place entry is found says at =
-    rw (is_there-numbers book number true is says) (changed-at book number (λ _. animal) place entry is found at)
+pub with_record_in-at : {most capacity spare : ℕ} {numbers : List (List ℕ)} (limit : ℕ) (book : Book) (number : List ℕ) (animal : Animal) (place : ℕ) (entry : List ℕ × Animal) → AreInRoom most book capacity numbers spare → place ≡ position_or_len (bytes_eq number) numbers → place < length book → true ≡ list_any (bytes_eq number) numbers → entry ≡ get_or book place entry → set book place (entry.0, animal) ≡ with_record_in limit book number animal
+with_record_in-at {numbers = numbers} limit book number animal place entry is at within says here =
+    let among : place < length numbers = subst (λ (keys : List (List ℕ)). place < length keys) (sym is.same_order) (rw (length-keys book) within) in
+    let found : position (bytes_eq number) numbers ≡ Some place = rw (sym at, lt-ltb place (length numbers) among) refl in
+    rw (is_there-numbers book number true is says) (changed-at book number (λ _. animal) place entry is found here)
 
 -- a new number's is put at the end where there is room, and nowhere else
 pub with_record_in-new : {most capacity spare : ℕ} {numbers : List (List ℕ)} (limit : ℕ) (book : Book) (number : List ℕ) (animal : Animal) → AreInRoom most book capacity numbers spare → false ≡ list_any (bytes_eq number) numbers → length book < limit → with_record_in limit book number animal ≡ book ++ (number, animal) ∷ []
@@ -79,9 +82,21 @@ with_record_in-full limit book number animal is says full =
     rw (is_there-numbers book number false is says, le-ltb (length book) limit full) refl
 
 -- the room that there is, once a record is changed in its place
-pub AreInRoom-set : {most capacity spare : ℕ} {numbers : List (List ℕ)} (book : Book) (place : ℕ) (entry : List ℕ × Animal) (animal : Animal) → AreInRoom most book capacity numbers spare → entry ≡ get_or book place entry → AreInRoom most (set book place (entry.0, animal)) capacity numbers spare
-AreInRoom-set book place entry animal is at = record {
-  same_order = is.same_order ∙ sym (keys_of-set book place entry animal at);
+pub AreInRoom-set : {most capacity spare more : ℕ} {numbers same : List (List ℕ)} (book : Book) (place : ℕ) (entry : List ℕ × Animal) (animal : Animal) → AreInRoom most book capacity numbers spare → same ≡ numbers → spare ≤ more → entry ≡ get_or book place entry → AreInRoom most (set book place (entry.0, animal)) capacity same more
+AreInRoom-set book place entry animal is kept as_much at = record {
+  same_order = kept ∙ is.same_order ∙ sym (keys_of-set book place entry animal at);
   entries_room = is.entries_room;
-  numbers_room = let room = is.numbers_room in rw (length-set book place (entry.0, animal)) room;
+  numbers_room = let room = is.numbers_room in rw (length-set book place (entry.0, animal)) (omega (arith, room, as_much));
 }
+
+-- and once one is put at the end
+pub AreInRoom-push : {most capacity spare capacious more : ℕ} {numbers longer : List (List ℕ)} (book longer_book : Book) (number : List ℕ) (animal : Animal) → AreInRoom most book capacity numbers spare → length book < most → longer_book ≡ book ++ (number, animal) ∷ [] → capacity ≤ capacious → longer ≡ numbers ++ number ∷ [] → spare ≤ more + 1 → AreInRoom most longer_book capacious longer more
+AreInRoom-push book longer_book number animal is few pushed kept added as_much =
+    let length_pushed = ap length pushed ∙ length-append book ((number, animal) ∷ []) in
+    let entries_room = is.entries_room in
+    let numbers_room = is.numbers_room in
+    record {
+      same_order = added ∙ ap (λ (keys : List (List ℕ)). keys ++ number ∷ []) is.same_order ∙ sym (ap keys_of pushed ∙ keys-push book number animal);
+      entries_room = omega (arith, entries_room, kept);
+      numbers_room = rw length_pushed (omega (arith, numbers_room, few, as_much));
+    }

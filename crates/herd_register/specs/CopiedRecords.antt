@@ -1,5 +1,5 @@
 -- The records of a book, with room for a fixed number of them.
-use Rattle.std.specs.Prelude.{◌≡◌, ℕ, ◌+◌, ◌≤◌, Bool, List, length, nat_lt, ◌||◌, if◌then◌else◌}
+use Rattle.std.specs.Prelude.{◌≡◌, ℕ, ◌-◌, ◌<◌, ◌≤◌, Bool, List, length, nat_lt, ◌||◌, if◌then◌else◌}
 use Rattle.std.specs.Map.{keys_of}
 use Rattle.herd_frozen.specs.declared.rules.animal.Animal.{Animal}
 use Rattle.herd_frozen.specs.rules.Book.{Book, is_there}
@@ -22,8 +22,8 @@ abbrev pub with_record_in : ℕ → Book → List ℕ → Animal → Book
 with_record_in most book number animal =
     if has_room most book number then with_record book number animal else book
 
--- the numbers stand in the order of the records, and both have room for so many
+-- the numbers stand in the order of the records, which have room for so many, and the numbers for one more
 pub record AreInRoom (most : ℕ) (book : Book) (capacity : ℕ) (numbers : List (List ℕ)) (spare : ℕ) : Type 0 where
   pub same_order : numbers ≡ keys_of book
   pub entries_room : most ≤ capacity
-  pub numbers_room : most ≤ length book + spare
+  pub numbers_room : most - length book < spare

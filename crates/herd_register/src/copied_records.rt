@@ -7,7 +7,8 @@ ghost use Rattle.herd_register.specs.CopiedRecords.{records_of, with_record_in};
 
 use herd_animal::AnimalNumber;
 use herd_frozen::Animal;
-use indexmap::IndexSet;
+use indexmap::IndexMap;
+use indexmap::map::Entry;
 use std::alloc::{AllocError, Allocator};
 use std::hash::{BuildHasherDefault, FoldHasher};
 use std::marker::Model;
@@ -16,21 +17,21 @@ use std::marker::Model;
 #[derive(Drop)]
 pub(crate) struct CopiedRecords<A: Allocator> {
     entries: Vec<(AnimalNumber, Animal), A>,
-    /// The place of a number here is that of its entry.
-    numbers: IndexSet<AnimalNumber, BuildHasherDefault<FoldHasher>, A>,
+    /// The place of a number here is that of its entry. One more than `most` fit, so that no look-up takes memory.
+    numbers: IndexMap<AnimalNumber, (), BuildHasherDefault<FoldHasher>, A>,
     most: u32,
 }
 
 impl<A: Allocator> Model for CopiedRecords<A> {
     ghost use Rattle.std.specs.Prelude.{vec_capacity};
-    ghost use Rattle.indexmap.specs.IndexSet.{spare};
+    ghost use Rattle.indexmap.specs.IndexMap.{keys, spare};
     ghost use Rattle.herd_register.specs.CopiedRecords.{AreInRoom, CopiedRecords, records_of};
 
     ghost Value = { CopiedRecords };
 
     ghost view = { λ r. records_of r.entries.items r.most };
 
-    ghost invariant = { λ r. AreInRoom r.most r.entries.items (vec_capacity r.entries) r.numbers.keys
+    ghost invariant = { λ r. AreInRoom r.most r.entries.items (vec_capacity r.entries) (keys r.numbers)
         (spare r.numbers) };
 }
 
@@ -41,7 +42,7 @@ impl<A: Allocator + Copy> CopiedRecords<A> {
     {
         Ok(CopiedRecords {
             entries: Vec::with_capacity(alloc, most as usize)?,
-            numbers: IndexSet::with_capacity(alloc, most as usize)?,
+            numbers: IndexMap::with_capacity(alloc, most as usize + 1)?,
             most,
         })
     }
@@ -58,13 +59,16 @@ impl<A: Allocator> CopiedRecords<A> {
     pub(crate) fn put(&mut self, number: AnimalNumber, animal: Animal)
         ensures { self.new ≡ records_of (with_record_in self.old.most self.old.book number animal) self.old.most }
     {
-        if let Some(place) = self.numbers.get_index_of(&number) {
-            self.entries[place].1 = animal;
-        } else if self.entries.len() < self.most as usize {
-            let Ok(_) = self.numbers.insert(number) else {
-                unreachable!();
-            };
-            self.entries.push_reserved((number, animal));
+        let Ok(entry) = self.numbers.entry(number) else {
+            unreachable!();
+        };
+        match entry {
+            Entry::Occupied(entry) => self.entries[entry.index()].1 = animal,
+            Entry::Vacant(entry) if self.entries.len() < self.most as usize => {
+                entry.insert(());
+                self.entries.push_reserved((number, animal));
+            }
+            Entry::Vacant(_) => {}
         }
     }
 

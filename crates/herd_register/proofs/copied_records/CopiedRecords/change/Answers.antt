@@ -1,6 +1,8 @@
 -- `CopiedRecords::change`: the invariant and its result.
-use Rattle.std.proofs.Common.{◌≡◌, set, ap, refl, sym, subst, ◌∙◌}
+use Rattle.std.proofs.Common.{◌≡◌, set, ap, refl, sym, subst, ◌∙◌, arith}
 use Rattle.std.proofs.lemmas.Fn.{gave_at}
+use Rattle.std.proofs.lemmas.Map.Made.{is_some-lookup}
+use Rattle.std.specs.Str.{bytes_eq}
 use Rattle.herd_frozen.specs.rules.Book.{Book, changed}
 use Rattle.herd_frozen.specs.declared.rules.animal.Animal.{Animal}
 use Rattle.herd_register.specs.CopiedRecords.{CopiedRecords, records_of}
@@ -9,7 +11,7 @@ use Rattle.herd_register.proofs.copied_records.CopiedRecords.change.Goals as goa
 
 pub invariant_of-self : goal.invariant_of-self
 invariant_of-self g c =
-    AreInRoom-set _ c.in-Some.place c.index_mut.result.now _ c.self.invariant c.index_mut.ensures.value
+    AreInRoom-set _ c.in-Some.place c.index_mut.result.now _ c.self.invariant refl (omega arith) c.index_mut.ensures.value
 
 pub returns-in-Some : goal.returns-in-Some
 returns-in-Some g c becomes told =
@@ -24,4 +26,4 @@ pub returns-in_default : goal.returns-in_default
 returns-in_default g c becomes told =
     let i = c.self.inside in
     subst (λ (r : CopiedRecords). r ≡ records_of (changed r.book c.args.number.now becomes) r.most) c.self.view_is
-    (ap (λ (b : Book). records_of b i.most) (sym (changed-nowhere i.entries.items c.args.number.now becomes c.self.invariant c.in_default.ensures.found)))
+    (ap (λ (b : Book). records_of b i.most) (sym (changed-nowhere i.entries.items c.args.number.now becomes c.self.invariant (c.in_default.ensures.found ∙ is_some-lookup (bytes_eq c.args.number.now) i.numbers.entries))))

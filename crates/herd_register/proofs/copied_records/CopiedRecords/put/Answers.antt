@@ -1,32 +1,62 @@
--- `CopiedRecords::put`: the invariant and its result.
-use Rattle.std.proofs.Common.{◌≡◌, ◌<◌, ◌≤◌, length, set, ap, ◌∙◌, sym, subst, arith}
+-- `CopiedRecords::put`: that there is room for a number, the invariant, and its result.
+use Rattle.std.proofs.Common.{rules, arith, ◌≡◌, ◌<◌, ◌≤◌, length, true, false, is_some, set, ap, ◌∙◌, sym, subst}
+use Rattle.std.proofs.lemmas.Grind.{common_steps}
+use Rattle.std.proofs.lemmas.Map.Made.{is_some-lookup}
+use Rattle.std.specs.List.{list_any}
+use Rattle.std.specs.Map.{keys_of}
+use Rattle.std.specs.Str.{bytes_eq}
+use Rattle.indexmap.proofs.CallerLemmas.{insert_entry-new}
 use Rattle.herd_frozen.specs.rules.Book.{Book}
+use Rattle.herd_frozen.proofs.lemmas.rules.BookFacts.{keys-push}
 use Rattle.herd_register.specs.CopiedRecords.{CopiedRecords, records_of, with_record_in}
-use Rattle.herd_register.proofs.RecordFacts.{AreInRoom-set, with_record_in-at, with_record_in-full, with_record_in-new}
+use Rattle.herd_register.proofs.RecordFacts.{AreInRoom-push, AreInRoom-set, with_record_in-at, with_record_in-full, with_record_in-new}
 use Rattle.herd_register.proofs.copied_records.CopiedRecords.put.Goals as goal
+
+pub unreachable-requires : goal.unreachable-requires
+unreachable-requires g c =
+    let room = c.self.invariant.numbers_room in
+    let ok = c.entry.ensures.succeeds (omega (arith, room)) in
+    let no = rw c.in_default.is at ok in
+    absurd (cc (no))
 
 pub invariant_of-self : goal.invariant_of-self
 invariant_of-self g c =
-    AreInRoom-set _ c.in-Some.place c.index_mut.result.now _ c.self.invariant c.index_mut.ensures.value
+    AreInRoom-set _ c.index.result c.index_mut.result.now _ c.self.invariant (search rules) (search rules) c.index_mut.ensures.value
 
-pub returns-in-Some : goal.returns-in-Some
-returns-in-Some g c =
+pub invariant_of-self-then-len-self : goal.invariant_of-self-then-len-self
+invariant_of-self-then-len-self g c =
+    let i = c.self.inside in
+    let few : length i.entries.items < i.most = omega arith in
+    let absent = rw c.in-Vacant.is at c.in-Ok.ensures.found in
+    let last = insert_entry-new bytes_eq i.numbers c.args.number tt absent in
+    let put = c.in-Ok.ensures.update.1 tt in
+    let room = (c.in-Ok.ensures.room_after_write tt).0 in
+    AreInRoom-push i.entries.items c.push_reserved.new.self.items c.args.number c.args.animal c.self.invariant few c.push_reserved.ensures.items (search rules) (search (rules, last, put, keys-push)) (search (rules, room))
+
+pub returns-in-Occupied : goal.returns-in-Occupied
+returns-in-Occupied g c =
     let i = c.self.inside in
     let number = c.args.number in
     let animal = c.args.animal in
-    let place = c.in-Some.place in
+    let place = c.index.result in
     let entry = c.index_mut.result.now in
+    let at = c.index.ensures ∙ (rw c.in-Occupied.is at c.in-Ok.ensures.index) in
+    let within : place < length i.entries.items = grind (arith, common_steps) in
+    let there = rw c.in-Occupied.is at c.in-Ok.ensures.found in
+    let says : true ≡ list_any (bytes_eq number) (keys_of i.numbers.entries) = sym there.0 ∙ is_some-lookup (bytes_eq number) i.numbers.entries in
     subst (λ (r : CopiedRecords). records_of (set i.entries.items place (entry.0, animal)) i.most ≡ records_of (with_record_in r.most r.book number animal) r.most) c.self.view_is
-    (ap (λ (b : Book). records_of b i.most) (with_record_in-at i.most i.entries.items number animal place entry c.self.invariant (sym c.in-Some.ensures.index) c.in-Some.ensures.found c.index_mut.ensures.value))
+    (ap (λ (b : Book). records_of b i.most) (with_record_in-at i.most i.entries.items number animal place entry c.self.invariant at within says c.index_mut.ensures.value))
 
-pub returns-in-Ok : goal.returns-in-Ok
-returns-in-Ok g c =
+pub returns-in-Vacant : goal.returns-in-Vacant
+returns-in-Vacant g c =
     let i = c.self.inside in
     let number = c.args.number in
     let animal = c.args.animal in
-    let room : length i.entries.items < i.most = omega arith in
+    let few : length i.entries.items < i.most = omega arith in
+    let absent = rw c.in-Vacant.is at c.in-Ok.ensures.found in
+    let says : false ≡ list_any (bytes_eq number) (keys_of i.numbers.entries) = sym (ap is_some absent) ∙ is_some-lookup (bytes_eq number) i.numbers.entries in
     subst (λ (r : CopiedRecords). records_of c.push_reserved.new.self.items i.most ≡ records_of (with_record_in r.most r.book number animal) r.most) c.self.view_is
-    (ap (λ (b : Book). records_of b i.most) (c.push_reserved.ensures.items ∙ sym (with_record_in-new i.most i.entries.items number animal c.self.invariant c.in_default.ensures.found room)))
+    (ap (λ (b : Book). records_of b i.most) (c.push_reserved.ensures.items ∙ sym (with_record_in-new i.most i.entries.items number animal c.self.invariant says few)))
 
 pub returns-else-len-self : goal.returns-else-len-self
 returns-else-len-self g c =
@@ -34,5 +64,7 @@ returns-else-len-self g c =
     let number = c.args.number in
     let animal = c.args.animal in
     let full : i.most ≤ length i.entries.items = omega arith in
-    subst (λ (r : CopiedRecords). r ≡ records_of (with_record_in r.most r.book number animal) r.most) c.self.view_is
-    (ap (λ (b : Book). records_of b i.most) (sym (with_record_in-full i.most i.entries.items number animal c.self.invariant c.in_default.ensures.found full)))
+    let absent = rw c.in-Vacant.is at c.in-Ok.ensures.found in
+    let says : false ≡ list_any (bytes_eq number) (keys_of i.numbers.entries) = sym (ap is_some absent) ∙ is_some-lookup (bytes_eq number) i.numbers.entries in
+    subst (λ (r : CopiedRecords). records_of i.entries.items i.most ≡ records_of (with_record_in r.most r.book number animal) r.most) c.self.view_is
+    (ap (λ (b : Book). records_of b i.most) (sym (with_record_in-full i.most i.entries.items number animal c.self.invariant says full)))
