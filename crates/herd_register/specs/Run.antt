@@ -1,5 +1,5 @@
 -- What a register of one thread does: the refusal of a command, its step, and the run of commands one after the other.
-use Rattle.std.specs.Prelude.{◌≡◌, ℕ, Bool, true, false, List, [], ◌∷◌, ◌++◌, map, length, not, nat_lt, nat_eq, int_lt, is_some, if◌then◌else◌, Option, None, ℤ}
+use Rattle.std.specs.Prelude.{◌≡◌, ℕ, Bool, true, false, List, [], ◌∷◌, ◌++◌, map, length, not, nat_lt, nat_eq, int_lt, is_some, if◌then◌else◌, Option, None, Some, ℤ}
 use Rattle.std.specs.Option.{option_map_or}
 use Rattle.herd_frozen.specs.rules.Book.{Book, record_of, is_there, changed, with_parents, with_owner, with_left, has_calved_after}
 use Rattle.herd_frozen.specs.rules.ParentFault.{first_that_holds, parent_faults}
@@ -73,6 +73,11 @@ fault limits book command = first_that_holds (refusals limits book command)
 abbrev pub newborn : ℤ → Option (List ℕ) → Option (List ℕ) → ℕ → Bool → Animal
 newborn day sire dam herd embryo =
     record { birth = day; sire = sire; dam = dam; embryo = embryo; herd = herd; since = day; left = None }
+
+-- and of a command that is one
+abbrev pub newborn_of : Command → Option Animal
+newborn_of (Birth animal day sire dam herd embryo) = Some (newborn day sire dam herd embryo)
+newborn_of command = None
 
 -- the book with the record of a number: in its place, or at the end where the number is new
 abbrev pub with_record : Book → List ℕ → Animal → Book
