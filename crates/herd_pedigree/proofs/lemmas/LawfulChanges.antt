@@ -1,5 +1,5 @@
 -- A change keeps the book lawful: a birth, other parents, another owner, an exit.
-use Rattle.std.proofs.Common.{ℕ, ℤ, zero, suc, ◌+◌, ◌≤◌, ◌≡◌, ◌≤ℤ◌, ◌<ℤ◌, ⊎_elim, arith, refl, sym, ap, ◌∙◌, subst, Bool, true, false, not, ◌&&◌, int_lt, if◌then◌else◌, IsTrue, IsFalse, List, [], ◌∷◌, ◌++◌, Option, Some, length, slice_get}
+use Rattle.std.proofs.Common.{ℕ, ℤ, zero, suc, ◌+◌, ◌≤◌, ◌≡◌, ◌≤ℤ◌, ◌<ℤ◌, ◌⊎◌, ⊎_elim, inl, inr, arith, refl, sym, ap, ◌∙◌, subst, Bool, true, false, not, ◌&&◌, int_lt, if◌then◌else◌, IsTrue, IsFalse, List, [], ◌∷◌, ◌++◌, Option, Some, length, slice_get}
 use Rattle.std.specs.Str.{bytes_eq}
 use Rattle.std.specs.List.{IsDistinct, list_any}
 use Rattle.std.specs.Map.{keys_of}
@@ -27,38 +27,37 @@ lawful-empty l most = record { once = tt; few = omega arith; shallow = refl; rec
 -- a book with one record written is lawful where that record is and no path is too long: other records have the
 -- parents that they had, and what is kept of the number has the birth day that it had
 module _ (old new : Book) (number : List ℕ) (animal : Animal) (w : IsWritten old new number animal) (same : (was : Animal) → record_of old number ≡ Some was → animal.birth ≡ was.birth) where
-  -- a sire stays one
-  sire-written : (birth : ℤ) (p : List ℕ) → IsSireOf old birth p → IsSireOf new birth p
-  sire-written birth p s =
+  -- an animal that was there still is, with its birth day, and but for the written one as it was
+  still_there : (p : List ℕ) (was : Animal) → record_of old p ≡ Some was → (is : Animal) × (record_of new p ≡ Some is) × (is.birth ≡ was.birth) × (((p ≡ number) × (is ≡ animal)) ⊎ (is ≡ was))
+  still_there p was there =
       ⊎_elim
       (λ (t : bytes_eq number p ≡ true).
       let e : number ≡ p = same_bytes number p t in
-      let was : record_of old number ≡ Some s.sire = subst (λ y. record_of old y ≡ Some s.sire) (sym e) s.there in
-      record {
-        sire = animal;
-        there = subst (λ y. record_of new y ≡ Some animal) e (at_number old new number animal w);
-        male = s.male;
-        older = subst (λ b. b <ℤ birth) (sym (same s.sire was)) s.older;
-      })
-      (λ (t : bytes_eq number p ≡ false). record { sire = s.sire; there = elsewhere old new number animal w p t ∙ s.there; male = s.male; older = s.older })
+      (animal, subst (λ y. record_of new y ≡ Some animal) e (at_number old new number animal w), same was (subst (λ y. record_of old y ≡ Some was) (sym e) there), inl (sym e, refl)))
+      (λ (t : bytes_eq number p ≡ false). (was, elsewhere old new number animal w p t ∙ there, refl, inr refl))
       (cases_Bool (bytes_eq number p))
+
+  -- a sire stays one
+  sire-written : (birth : ℤ) (p : List ℕ) → IsSireOf old birth p → IsSireOf new birth p
+  sire-written birth p s =
+      let k = still_there p s.sire s.there in
+      record { sire = k.0; there = k.1; male = s.male; older = subst (λ b. b <ℤ birth) (sym k.2) s.older }
 
   -- and a dam stays one, where she didn't leave before
   dam-written : (birth : ℤ) (embryo : Bool) (p : List ℕ) → IsDamOf old birth embryo p → (p ≡ number → embryo ≡ false → IsFalse (has_left_before birth animal)) → IsDamOf new birth embryo p
   dam-written birth embryo p d stays =
-      ⊎_elim
-      (λ (t : bytes_eq number p ≡ true).
-      let e : number ≡ p = same_bytes number p t in
-      let was : record_of old number ≡ Some d.dam = subst (λ y. record_of old y ≡ Some d.dam) (sym e) d.there in
+      let k = still_there p d.dam d.there in
       record {
-        dam = animal;
-        there = subst (λ y. record_of new y ≡ Some animal) e (at_number old new number animal w);
+        dam = k.0;
+        there = k.1;
         female = d.female;
-        older = subst (λ b. b <ℤ birth) (sym (same d.dam was)) d.older;
-        stayed = stays (sym e);
-      })
-      (λ (t : bytes_eq number p ≡ false). record { dam = d.dam; there = elsewhere old new number animal w p t ∙ d.there; female = d.female; older = d.older; stayed = d.stayed })
-      (cases_Bool (bytes_eq number p))
+        older = subst (λ b. b <ℤ birth) (sym k.2) d.older;
+        stayed = λ fresh.
+            ⊎_elim
+            (λ own. subst (λ a. IsFalse (has_left_before birth a)) (sym own.1) (stays own.0 fresh))
+            (λ is. subst (λ a. IsFalse (has_left_before birth a)) (sym is) (d.stayed fresh))
+            k.3;
+      }
 
   -- nobody is its own dam
   not_own : (embryo : Bool) → IsDamOf old animal.birth embryo number → ⊥
