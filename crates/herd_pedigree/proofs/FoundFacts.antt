@@ -6,6 +6,7 @@ use Rattle.std.specs.Map.{keys_of, values_of}
 use Rattle.herd_frozen.specs.declared.rules.animal.Animal.{Animal}
 use Rattle.herd_frozen.specs.declared.rules.parent_fault.ParentFault.{ParentFault}
 use Rattle.herd_frozen.specs.rules.Book.{Book, changed, record_of}
+use Rattle.herd_frozen.specs.rules.Lawful.{IsLawful}
 use Rattle.herd_frozen.specs.rules.ParentFault.{fault_by_records, parent_fault}
 use Rattle.herd_frozen.proofs.lemmas.rules.BookFacts.{entry_from_both, lookup_at}
 use Rattle.herd_pedigree.specs.declared.found.Found.{Found}
@@ -18,12 +19,17 @@ module _ (book now : Book) (same : book ≡ now) (once : IsDistinct bytes_eq (ke
   pub its-number : slice_get (keys_of book) found.place ≡ Some found.number
   its-number = (subst (λ b. IsFound b found) (sym same) is).at
 
-  -- what is written at its place
-  pub set-found : (was : StoredRecord) → IsStoredAt book found.place was → (becomes : StoredRecord) (change : Animal → Animal) → animal_of (keys_of book) becomes ≡ change (animal_of (keys_of book) was) →
-      set_value_at now found.place (animal_of (keys_of now) becomes) ≡ changed now found.number change
-  set-found was stored becomes change e =
-      subst (λ b. set_value_at b found.place (animal_of (keys_of b) becomes) ≡ changed b found.number change) same
-      (set-stored book once found.number found.place its-number was stored becomes change e)
+  module _ (was : StoredRecord) (stored : IsStoredAt book found.place was) (becomes : StoredRecord) (change : Animal → Animal) (e : animal_of (keys_of book) becomes ≡ change (animal_of (keys_of book) was)) where
+    -- what is written at its place
+    pub set-found : set_value_at now found.place (animal_of (keys_of now) becomes) ≡ changed now found.number change
+    set-found =
+        subst (λ b. set_value_at b found.place (animal_of (keys_of b) becomes) ≡ changed b found.number change) same
+        (set-stored book once found.number found.place its-number was stored becomes change e)
+
+    -- and that it is lawful where the change is
+    pub lawful-found : {l most : ℕ} → IsLawful l most book → (IsLawful l most now → IsLawful l most (changed now found.number change)) → IsLawful l most (set_value_at now found.place (animal_of (keys_of now) becomes))
+    lawful-found {l} {most} lawful keeps =
+        subst (λ b. IsLawful l most b) (sym set-found) (keeps (subst (λ b. IsLawful l most b) same lawful))
 
   module _ (a : Animal) (at : slice_get (values_of book) found.place ≡ Some a) where
     -- what is read at its place

@@ -1,13 +1,12 @@
 -- `Pedigree::set_left_at`: what `set_record` requires and its result.
-use Rattle.std.proofs.Common.{sym, ap, ◌∙◌, subst}
+use Rattle.std.proofs.Common.{ap, ◌∙◌, subst}
 use Rattle.std.specs.Map.{keys_of}
-use Rattle.herd_frozen.specs.rules.Book.{Book, with_left}
-use Rattle.herd_frozen.specs.rules.Lawful.{IsLawful}
+use Rattle.herd_frozen.specs.rules.Book.{with_left}
 use Rattle.herd_pedigree.specs.Pedigree.{changed_to}
 use Rattle.herd_pedigree.specs.store.Records.{IsStoredAt, animal_of}
 use Rattle.herd_frozen.specs.declared.TheConstants.{DEPTH_LIMIT, MOST_ANIMALS}
 use Rattle.herd_pedigree.proofs.lemmas.LawfulChanges.{lawful-exit}
-use Rattle.herd_pedigree.proofs.FoundFacts.{set-found}
+use Rattle.herd_pedigree.proofs.FoundFacts.{lawful-found, set-found}
 use Rattle.herd_pedigree.proofs.pedigree.Pedigree.set_left_at.Goals as goal
 
 pub set_record-requires-clause-stored : goal.set_record-requires-clause-stored
@@ -15,15 +14,12 @@ set_record-requires-clause-stored g c = subst (λ p. IsStoredAt p.book c.args.fo
 
 pub set_record-requires-clause-lawful : goal.set_record-requires-clause-lawful
 set_record-requires-clause-lawful g c =
-    let now : Book = c.args.self.now.book in
-    let lawful : IsLawful DEPTH_LIMIT MOST_ANIMALS now = subst (λ p. IsLawful DEPTH_LIMIT MOST_ANIMALS p.book) c.self.view_is c.self.invariant.kept.lawful in
-    subst (λ es. IsLawful DEPTH_LIMIT MOST_ANIMALS es)
-    (sym (set-found c.self.inside.records.book now (ap (λ p. p.book) c.self.view_is) c.self.invariant.kept.lawful.once c.args.found.now c.requires.found c.stored_at-was.result c.stored_at-was.ensures c.with_left.result (with_left c.args.day) (ap (λ e. animal_of (keys_of c.self.inside.records.book) e) c.with_left.ensures)))
-    (lawful-exit DEPTH_LIMIT MOST_ANIMALS now c.args.found.now.number c.args.day lawful c.requires.exit)
+    lawful-found c.self.inside.records.book c.args.self.now.book (ap (λ p. p.book) c.self.view_is) c.self.invariant.kept.lawful.once c.args.found.now c.requires.found c.stored_at-was.result c.stored_at-was.ensures c.with_left.result (with_left c.args.day) (ap (λ e. animal_of (keys_of c.self.inside.records.book) e) c.with_left.ensures)
+    c.self.invariant.kept.lawful
+    (λ lawful. lawful-exit DEPTH_LIMIT MOST_ANIMALS c.args.self.now.book c.args.found.now.number c.args.day lawful c.requires.exit)
 
 pub returns : goal.returns
 returns g c =
-    let now : Book = c.args.self.now.book in
     c.set_record.ensures
     ∙ ap (λ b. changed_to c.args.self.now b)
-    (set-found c.self.inside.records.book now (ap (λ p. p.book) c.self.view_is) c.self.invariant.kept.lawful.once c.args.found.now c.requires.found c.stored_at-was.result c.stored_at-was.ensures c.with_left.result (with_left c.args.day) (ap (λ e. animal_of (keys_of c.self.inside.records.book) e) c.with_left.ensures))
+    (set-found c.self.inside.records.book c.args.self.now.book (ap (λ p. p.book) c.self.view_is) c.self.invariant.kept.lawful.once c.args.found.now c.requires.found c.stored_at-was.result c.stored_at-was.ensures c.with_left.result (with_left c.args.day) (ap (λ e. animal_of (keys_of c.self.inside.records.book) e) c.with_left.ensures))
