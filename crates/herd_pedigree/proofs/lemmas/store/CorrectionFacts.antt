@@ -1,21 +1,35 @@
 -- The calves of each animal, where the parents of one are exchanged.
-use Rattle.std.proofs.Common.{ℕ, ◌<◌, ◌≡◌, ◌≢◌, ◌↔◌, ◌==◌, ⊎_elim, inl, inr, arith, refl, sym, ap, ◌∙◌, subst, Bool, true, not, IsTrue, IfSome, IfOk, Result, Ok, Err, List, [], ◌∷◌, ◌++◌, Option, Some, None, length, filter, Contains, slice_set}
-use Rattle.std.proofs.lemmas.Bool.{cases_eq, lt-ltb, eqb-false, ne_eqb, not-true, not_from_false}
+use Rattle.std.proofs.Common.{ℕ, ◌<◌, ◌≤◌, ◌+◌, ◌≡◌, ◌≢◌, ◌↔◌, ◌==◌, ⊎_elim, inl, inr, arith, refl, sym, ap, ◌∙◌, subst, Bool, true, false, not, IsTrue, IfSome, IfOk, Result, Ok, Err, List, [], ◌∷◌, ◌++◌, Option, Some, None, length, filter, Contains, slice_index, slice_set}
+use Rattle.std.proofs.lemmas.Bool.{cases_eq, lt-ltb, ltb-true, eqb-false, ne_eqb, not-true, not_from_false}
 use Rattle.std.proofs.lemmas.List.{append_assoc, get_or-set_other, length-set}
 use Rattle.std.proofs.lemmas.List.Elements.{Contains-append_left, Contains-append_right, Contains-append_cases}
 use Rattle.herd_frozen.specs.rules.Depths.{IsParent}
+use Rattle.herd_frozen.specs.rules.Paths.{has_path}
 use Rattle.herd_frozen.specs.places.Places.{parent_at}
-use Rattle.herd_pedigree.specs.store.Carry.{AddsCalves}
-use Rattle.herd_pedigree.specs.store.Exchange.{IsSound, exchanged}
+use Rattle.herd_pedigree.specs.declared.store.correction.Correction.{Correction}
+use Rattle.herd_pedigree.specs.store.Carry.{AddsCalves, IsSettled}
+use Rattle.herd_pedigree.specs.store.Correction.{corrected}
+use Rattle.herd_pedigree.specs.store.Exchange.{exchanged}
+use Rattle.herd_pedigree.proofs.lemmas.store.CarryFacts.{settled-deep, settled-shallow}
 use Rattle.herd_pedigree.proofs.lemmas.store.ListFacts.{contains_here, contains_cases, contains_none, filter-keeps, filter-only}
 use Rattle.herd_pedigree.proofs.lemmas.store.ProgenyFacts.{parent-within}
 
--- a parent of an animal that is there is there too
-pub sound-closed : (sires dams : List (Option ℕ)) (a : ℕ) (sire dam : Option ℕ) → IsSound sires dams a sire dam → (p x : ℕ) → IsTrue ((exchanged sires dams a sire dam).is_there x) → IsParent (exchanged sires dams a sire dam) p x →
-    IsTrue ((exchanged sires dams a sire dam).is_there p)
-sound-closed sires dams a sire dam sound p x there is =
-    let n = length-set sires a sire in
-    let w = sound.closed p x is in lt-ltb p (length (slice_set sires a sire)) (omega (arith, w, n))
+-- once all depths are settled, one above the limit tells a path that is too long, and where none is, no path is
+module _ {A : Type 0} (l : ℕ) (c : Correction A) (depths : List ℕ) (long : length depths ≡ length c.sires.now.parents) (settled : IsSettled l (corrected c) (slice_index depths) []) where
+  as_many : length (slice_set c.sires.now.parents c.place c.sire) ≡ length c.sires.now.parents
+  as_many = length-set c.sires.now.parents c.place c.sire
+
+  closed : (p x : ℕ) → IsTrue ((corrected c).is_there x) → IsParent (corrected c) p x → IsTrue ((corrected c).is_there p)
+  closed p x there is = lt-ltb p _ (subst (λ n. p < n) (sym as_many) (c.sound.closed p x is))
+
+  pub corrected-deep : (x : ℕ) → x < length depths → l < slice_index depths x → has_path (corrected c) (l + 1) x ≡ true
+  corrected-deep x within =
+      settled-deep l (corrected c) (slice_index depths) closed settled x (lt-ltb x _ (subst (λ n. x < n) (long ∙ sym as_many) within))
+
+  pub corrected-shallow : ((x : ℕ) → x < length depths → slice_index depths x ≤ l) → (x : ℕ) → has_path (corrected c) (l + 1) x ≡ false
+  corrected-shallow most =
+      settled-shallow l (corrected c) (slice_index depths) closed settled
+      (λ x there. most x (subst (λ n. x < n) (as_many ∙ sym long) (ltb-true x _ there)))
 
 -- a parent that is there, or none
 pub if_parent : (o : Option ℕ) (n : ℕ) → ((p : ℕ) → o ≡ Some p → p < n) → IfSome o (λ p. p < n)
