@@ -92,38 +92,9 @@ impl<A: Allocator> Correction<'_, A> {
         Ok(())
     }
 
-    // Gives an animal the depth that its parents give. Where it changes, the old one is logged, and its calves
-    // are pending.
+    // Gives each of the places the depth that its parents give. Where it changes, the old one is logged, and the
+    // calves are pending.
     fn settle<B: Allocator>(
-        &self,
-        place: u32,
-        depths: &mut [u8],
-        log: &mut Vec<(u32, u8), B>,
-        pending: &mut Vec<u32, B>,
-    ) -> Result<(), AllocError>
-        requires within { place < length self.now.sires.now.parents }
-        requires long { length depths.old ≡ length self.now.sires.now.parents }
-        ensures logged { (past : List ℕ) → TakesBack log.old.items depths.old past
-            → TakesBack log.new.items depths.new past }
-        ensures settled { OnOk result ((rest : List ℕ) → IsSettled DEPTH_LIMIT (corrected self.now)
-            (slice_index depths.old) (place ∷ (rest ++ pending.old.items))
-            → IsSettled DEPTH_LIMIT (corrected self.now) (slice_index depths.new) (rest ++ pending.new.items)) }
-        ensures paths { OnOk result ((n : ℕ) → IsTrue (has_path (corrected self.now) n place)
-            → HavePaths (corrected self.now) (suc n) pending.old.items
-            → HavePaths (corrected self.now) (suc n) pending.new.items) }
-    {
-        let depth = self.depth_at(depths, place);
-        let old = depths[place as usize];
-        if depth == old {
-            return Ok(());
-        }
-        log.push((place, old))?;
-        depths[place as usize] = depth;
-        self.push_calves(place, pending)
-    }
-
-    // Settles each of the places, and gathers the calves of those that change.
-    fn settle_all<B: Allocator>(
         &self,
         places: &[u32],
         depths: &mut [u8],
@@ -141,8 +112,15 @@ impl<A: Allocator> Correction<'_, A> {
             → HavePaths (corrected self.now) (suc n) pending.old.items
             → HavePaths (corrected self.now) (suc n) pending.new.items) }
     {
-        for place in places {
-            self.settle(*place, depths, log, pending)?;
+        for &place in places {
+            let depth = self.depth_at(depths, place);
+            let old = depths[place as usize];
+            if depth == old {
+                continue;
+            }
+            log.push((place, old))?;
+            depths[place as usize] = depth;
+            self.push_calves(place, pending)?;
         }
         Ok(())
     }
@@ -168,7 +146,7 @@ impl<A: Allocator> Correction<'_, A> {
         pending.push(self.place)?;
         for _ in 0..DEPTH_LIMIT + 1 {
             let mut calves = Vec::new(alloc);
-            self.settle_all(&pending, depths, log, &mut calves)?;
+            self.settle(&pending, depths, log, &mut calves)?;
             pending = calves;
         }
         Ok(pending.as_slice().is_empty())

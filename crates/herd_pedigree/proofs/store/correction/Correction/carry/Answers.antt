@@ -1,4 +1,4 @@
--- `Correction::carry`: what `settle_all` requires, its loop, and its clauses `logged` and `deep`.
+-- `Correction::carry`: what `settle` requires, its loop, and its clauses `logged` and `deep`.
 use Rattle.std.proofs.Common.{rules, refl, sym, ap, ◌∙◌, subst, arith, ℕ, suc, List, Option, [], ◌∷◌, ◌++◌, ◌≡◌, ◌+◌, ◌<◌, ◌==◌, All, true, length, slice_index, slice_set}
 use Rattle.std.proofs.lemmas.Bool.{lt-ltb}
 use Rattle.std.proofs.lemmas.List.{append-nil, length-set}
@@ -20,8 +20,8 @@ loop-init g c =
       paths = subst (λ xs. HavePaths (corrected x) 0 xs) (sym items) (first-path (corrected x) x.place there);
     }
 
-pub settle_all-requires-clause-within : goal.settle_all-requires-clause-within
-settle_all-requires-clause-within g c =
+pub settle-requires-clause-within : goal.settle-requires-clause-within
+settle-requires-clause-within g c =
     let x = c.args.self.now in
     let sires : List (Option ℕ) = slice_set x.sires.now.parents x.place x.sire in
     let dams : List (Option ℕ) = slice_set x.dams.now.parents x.place x.dam in
@@ -37,18 +37,18 @@ loop-preserved g c =
     ap (λ xs. c.deref.result.now ++ xs) c.new-calves.ensures.items ∙ append-nil c.deref.result.now ∙ c.deref.ensures.value in
     let next : suc c.loop.counter ≡ c.loop.counter + 1 = omega arith in
     record {
-      long = c.settle_all.auto.depths ∙ old.long;
-      logged = λ past taken. c.settle_all.ensures.logged past (old.logged past taken);
-      settled = c.in_ok-settle_all.ensures.settled (subst (λ xs. IsSettled DEPTH_LIMIT (corrected x) (slice_index c.loop.depths) xs) (sym lists) old.settled);
+      long = c.settle.auto.depths ∙ old.long;
+      logged = λ past taken. c.settle.ensures.logged past (old.logged past taken);
+      settled = c.in_ok-settle.ensures.settled (subst (λ xs. IsSettled DEPTH_LIMIT (corrected x) (slice_index c.loop.depths) xs) (sym lists) old.settled);
       paths =
-          subst (λ k. HavePaths (corrected x) k c.settle_all.new.pending.items) next
-          (c.in_ok-settle_all.ensures.paths c.loop.counter
+          subst (λ k. HavePaths (corrected x) k c.settle.new.pending.items) next
+          (c.in_ok-settle.ensures.paths c.loop.counter
           (subst (λ xs. HavePaths (corrected x) c.loop.counter xs) (sym c.deref.ensures.value) old.paths)
           (subst (λ xs. HavePaths (corrected x) (suc c.loop.counter) xs) (sym c.new-calves.ensures.items) (no-paths (corrected x) (suc c.loop.counter))));
     }
 
-pub returns-in_err-settle_all-clause-logged : goal.returns-in_err-settle_all-clause-logged
-returns-in_err-settle_all-clause-logged g c = λ past taken. c.settle_all.ensures.logged past (c.loop.invariant.logged past taken)
+pub returns-in_err-settle-clause-logged : goal.returns-in_err-settle-clause-logged
+returns-in_err-settle-clause-logged g c = λ past taken. c.settle.ensures.logged past (c.loop.invariant.logged past taken)
 
 pub returns-clause-deep : goal.returns-clause-deep
 returns-clause-deep g c =

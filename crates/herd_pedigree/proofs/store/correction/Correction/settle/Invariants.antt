@@ -4,7 +4,7 @@ use Rattle.herd_pedigree.specs.store.Correction.{corrected}
 use Rattle.herd_pedigree.specs.store.Carry.{IsSettled, HavePaths}
 use Rattle.herd_pedigree.specs.store.Undo.{TakesBack}
 use Rattle.herd_frozen.specs.declared.TheConstants.{DEPTH_LIMIT}
-use Rattle.herd_pedigree.proofs.store.correction.Correction.settle_all.Given as goal
+use Rattle.herd_pedigree.proofs.store.correction.Correction.settle.Given as goal
 
 abbrev pub invariant-loop-place : goal.invariant-loop-place
 invariant-loop-place g l = record {
