@@ -1,12 +1,13 @@
 -- A record of a book, set by its place and by its number.
-use Rattle.std.proofs.Common.{◌≡◌, ℕ, zero, suc, ◌+◌, ◌<◌, ◌≤◌, Bool, true, false, List, [], ◌∷◌, ◌++◌, length, get_or, set, Some, refl, sym, ap, subst, ◌∙◌, arith}
-use Rattle.std.specs.Prelude.{is_some, ◌||◌, if◌then◌else◌}
+use Rattle.std.proofs.Common.{◌≡◌, ℕ, zero, suc, ◌+◌, ◌<◌, ◌≤◌, Bool, true, false, List, [], ◌∷◌, ◌++◌, length, get_or, set, Some, None, refl, sym, ap, subst, ◌∙◌, arith}
+use Rattle.std.specs.Prelude.{IsSome, is_some, ◌||◌, if◌then◌else◌}
 use Rattle.std.specs.List.{list_any, position, position_or_len}
-use Rattle.std.specs.Map.{keys_of}
+use Rattle.std.specs.Map.{keys_of, lookup}
 use Rattle.std.specs.Str.{bytes_eq}
 use Rattle.std.proofs.lemmas.Bool.{le-ltb, lt-ltb}
 use Rattle.std.proofs.lemmas.List.{length-append, length-set}
 use Rattle.std.proofs.lemmas.List.Quantifiers.{position-Some}
+use Rattle.std.proofs.lemmas.Map.Made.{is_some-lookup}
 use Rattle.herd_frozen.specs.declared.rules.animal.Animal.{Animal}
 use Rattle.herd_frozen.specs.rules.Book.{Book, changed, is_there, record_of}
 use Rattle.herd_frozen.proofs.lemmas.rules.BookFacts.{keys-push, length-keys}
@@ -55,31 +56,32 @@ changed-at book number change place entry is found at =
     let first = position-Some (bytes_eq number) (keys_of book) place entry.0 (subst (λ (keys : List (List ℕ)). position (bytes_eq number) keys ≡ Some place) is.same_order found) in
     changed-first book number change place entry at (subst (λ (key : List ℕ). bytes_eq number key ≡ true) (sym (key_at book place entry at)) first.1) first.2
 
--- a number that has a place is there, and one that has none isn't
-is_there-numbers : {most capacity spare : ℕ} {numbers : List (List ℕ)} (book : Book) (number : List ℕ) (found : Bool) → AreInRoom most book capacity numbers spare → found ≡ list_any (bytes_eq number) numbers → is_there book number ≡ found
-is_there-numbers book number found is says =
-    is_there-list_any book number ∙ (ap (list_any (bytes_eq number)) (sym is.same_order) ∙ sym says)
+-- a number is there where the numbers have it
+is_there-numbers : {X : Type 0} {most capacity spare : ℕ} (book : Book) (number : List ℕ) (numbers : List (List ℕ × X)) → AreInRoom most book capacity (keys_of numbers) spare → is_there book number ≡ is_some (lookup (bytes_eq number) numbers)
+is_there-numbers book number numbers is =
+    is_there-list_any book number ∙ (ap (list_any (bytes_eq number)) (sym is.same_order) ∙ sym (is_some-lookup (bytes_eq number) numbers))
 
--- where it has none, nothing is changed
-pub changed-nowhere : {most capacity spare : ℕ} {numbers : List (List ℕ)} (book : Book) (number : List ℕ) (change : Animal → Animal) → AreInRoom most book capacity numbers spare → false ≡ list_any (bytes_eq number) numbers → changed book number change ≡ book
-changed-nowhere book number change is absent =
-    changed-absent book number change (is_there-numbers book number false is absent)
+-- where they don't, nothing is changed
+pub changed-nowhere : {X : Type 0} {most capacity spare : ℕ} (book : Book) (number : List ℕ) (change : Animal → Animal) (numbers : List (List ℕ × X)) → AreInRoom most book capacity (keys_of numbers) spare → false ≡ is_some (lookup (bytes_eq number) numbers) → changed book number change ≡ book
+changed-nowhere book number change numbers is absent =
+    changed-absent book number change (is_there-numbers book number numbers is ∙ sym absent)
 
--- the record of a number that is there is put in its place
-pub with_record_in-at : {most capacity spare : ℕ} {numbers : List (List ℕ)} (limit : ℕ) (book : Book) (number : List ℕ) (animal : Animal) (place : ℕ) (entry : List ℕ × Animal) → AreInRoom most book capacity numbers spare → place ≡ position_or_len (bytes_eq number) numbers → place < length book → true ≡ list_any (bytes_eq number) numbers → entry ≡ get_or book place entry → set book place (entry.0, animal) ≡ with_record_in limit book number animal
-with_record_in-at {numbers = numbers} limit book number animal place entry is at within says here =
-    let among : place < length numbers = subst (λ (keys : List (List ℕ)). place < length keys) (sym is.same_order) (rw (length-keys book) within) in
-    let found : position (bytes_eq number) numbers ≡ Some place = rw (sym at, lt-ltb place (length numbers) among) refl in
-    rw (is_there-numbers book number true is says) (changed-at book number (λ _. animal) place entry is found here)
+module _ {X : Type 0} {most capacity spare : ℕ} (limit : ℕ) (book : Book) (number : List ℕ) (animal : Animal) (numbers : List (List ℕ × X)) (is : AreInRoom most book capacity (keys_of numbers) spare) where
+  -- the record of a number that is there is put in its place
+  pub with_record_in-at : (place : ℕ) (entry : List ℕ × Animal) → place ≡ position_or_len (bytes_eq number) (keys_of numbers) → place < length book → IsSome (lookup (bytes_eq number) numbers) → entry ≡ get_or book place entry → set book place (entry.0, animal) ≡ with_record_in limit book number animal
+  with_record_in-at place entry at within there here =
+      let among : place < length (keys_of numbers) = subst (λ (keys : List (List ℕ)). place < length keys) (sym is.same_order) (rw (length-keys book) within) in
+      let found : position (bytes_eq number) (keys_of numbers) ≡ Some place = rw (sym at, lt-ltb place (length (keys_of numbers)) among) refl in
+      rw (is_there-numbers book number numbers is ∙ there) (changed-at book number (λ _. animal) place entry is found here)
 
--- a new number's is put at the end where there is room, and nowhere else
-pub with_record_in-new : {most capacity spare : ℕ} {numbers : List (List ℕ)} (limit : ℕ) (book : Book) (number : List ℕ) (animal : Animal) → AreInRoom most book capacity numbers spare → false ≡ list_any (bytes_eq number) numbers → length book < limit → with_record_in limit book number animal ≡ book ++ (number, animal) ∷ []
-with_record_in-new limit book number animal is says room =
-    rw (is_there-numbers book number false is says, lt-ltb (length book) limit room) refl
+  -- a new number's is put at the end where there is room, and nowhere else
+  pub with_record_in-new : lookup (bytes_eq number) numbers ≡ None → length book < limit → with_record_in limit book number animal ≡ book ++ (number, animal) ∷ []
+  with_record_in-new absent room =
+      rw (is_there-numbers book number numbers is ∙ ap is_some absent, lt-ltb (length book) limit room) refl
 
-pub with_record_in-full : {most capacity spare : ℕ} {numbers : List (List ℕ)} (limit : ℕ) (book : Book) (number : List ℕ) (animal : Animal) → AreInRoom most book capacity numbers spare → false ≡ list_any (bytes_eq number) numbers → limit ≤ length book → with_record_in limit book number animal ≡ book
-with_record_in-full limit book number animal is says full =
-    rw (is_there-numbers book number false is says, le-ltb (length book) limit full) refl
+  pub with_record_in-full : lookup (bytes_eq number) numbers ≡ None → limit ≤ length book → with_record_in limit book number animal ≡ book
+  with_record_in-full absent full =
+      rw (is_there-numbers book number numbers is ∙ ap is_some absent, le-ltb (length book) limit full) refl
 
 -- the room that there is, once a record is changed in its place
 pub AreInRoom-set : {most capacity spare more : ℕ} {numbers same : List (List ℕ)} (book : Book) (place : ℕ) (entry : List ℕ × Animal) (animal : Animal) → AreInRoom most book capacity numbers spare → same ≡ numbers → spare ≤ more → entry ≡ get_or book place entry → AreInRoom most (set book place (entry.0, animal)) capacity same more

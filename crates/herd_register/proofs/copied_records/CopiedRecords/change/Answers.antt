@@ -1,8 +1,6 @@
 -- `CopiedRecords::change`: the invariant and its result.
 use Rattle.std.proofs.Common.{◌≡◌, set, ap, refl, sym, subst, ◌∙◌, arith}
 use Rattle.std.proofs.lemmas.Fn.{gave_at}
-use Rattle.std.proofs.lemmas.Map.Made.{is_some-lookup}
-use Rattle.std.specs.Str.{bytes_eq}
 use Rattle.herd_frozen.specs.rules.Book.{Book, changed}
 use Rattle.herd_frozen.specs.declared.rules.animal.Animal.{Animal}
 use Rattle.herd_register.specs.CopiedRecords.{CopiedRecords, records_of}
@@ -26,4 +24,4 @@ pub returns-in_default : goal.returns-in_default
 returns-in_default g c becomes told =
     let i = c.self.inside in
     subst (λ (r : CopiedRecords). r ≡ records_of (changed r.book c.args.number.now becomes) r.most) c.self.view_is
-    (ap (λ (b : Book). records_of b i.most) (sym (changed-nowhere i.entries.items c.args.number.now becomes c.self.invariant (c.in_default.ensures.found ∙ is_some-lookup (bytes_eq c.args.number.now) i.numbers.entries))))
+    (ap (λ (b : Book). records_of b i.most) (sym (changed-nowhere i.entries.items c.args.number.now becomes i.numbers.entries c.self.invariant c.in_default.ensures.found)))

@@ -1,9 +1,6 @@
 -- `CopiedRecords::put`: that there is room for a number, the invariant, and its result.
-use Rattle.std.proofs.Common.{rules, arith, ◌≡◌, ◌<◌, ◌≤◌, length, true, false, is_some, set, ap, ◌∙◌, sym, subst}
+use Rattle.std.proofs.Common.{rules, arith, ◌≡◌, ◌<◌, ◌≤◌, length, set, ap, ◌∙◌, sym, subst}
 use Rattle.std.proofs.lemmas.Grind.{common_steps}
-use Rattle.std.proofs.lemmas.Map.Made.{is_some-lookup}
-use Rattle.std.specs.List.{list_any}
-use Rattle.std.specs.Map.{keys_of}
 use Rattle.std.specs.Str.{bytes_eq}
 use Rattle.indexmap.proofs.CallerLemmas.{insert_entry-new}
 use Rattle.herd_frozen.specs.rules.Book.{Book}
@@ -43,9 +40,8 @@ returns-in-Occupied g c =
     let at = c.index.ensures ∙ (rw c.in-Occupied.is at c.in-Ok.ensures.index) in
     let within : place < length i.entries.items = grind (arith, common_steps) in
     let there = rw c.in-Occupied.is at c.in-Ok.ensures.found in
-    let says : true ≡ list_any (bytes_eq number) (keys_of i.numbers.entries) = sym there.0 ∙ is_some-lookup (bytes_eq number) i.numbers.entries in
     subst (λ (r : CopiedRecords). records_of (set i.entries.items place (entry.0, animal)) i.most ≡ records_of (with_record_in r.most r.book number animal) r.most) c.self.view_is
-    (ap (λ (b : Book). records_of b i.most) (with_record_in-at i.most i.entries.items number animal place entry c.self.invariant at within says c.index_mut.ensures.value))
+    (ap (λ (b : Book). records_of b i.most) (with_record_in-at i.most i.entries.items number animal i.numbers.entries c.self.invariant place entry at within there.0 c.index_mut.ensures.value))
 
 pub returns-in-Vacant : goal.returns-in-Vacant
 returns-in-Vacant g c =
@@ -54,9 +50,8 @@ returns-in-Vacant g c =
     let animal = c.args.animal in
     let few : length i.entries.items < i.most = omega arith in
     let absent = rw c.in-Vacant.is at c.in-Ok.ensures.found in
-    let says : false ≡ list_any (bytes_eq number) (keys_of i.numbers.entries) = sym (ap is_some absent) ∙ is_some-lookup (bytes_eq number) i.numbers.entries in
     subst (λ (r : CopiedRecords). records_of c.push_reserved.new.self.items i.most ≡ records_of (with_record_in r.most r.book number animal) r.most) c.self.view_is
-    (ap (λ (b : Book). records_of b i.most) (c.push_reserved.ensures.items ∙ sym (with_record_in-new i.most i.entries.items number animal c.self.invariant says few)))
+    (ap (λ (b : Book). records_of b i.most) (c.push_reserved.ensures.items ∙ sym (with_record_in-new i.most i.entries.items number animal i.numbers.entries c.self.invariant absent few)))
 
 pub returns-else-len-self : goal.returns-else-len-self
 returns-else-len-self g c =
@@ -65,6 +60,5 @@ returns-else-len-self g c =
     let animal = c.args.animal in
     let full : i.most ≤ length i.entries.items = omega arith in
     let absent = rw c.in-Vacant.is at c.in-Ok.ensures.found in
-    let says : false ≡ list_any (bytes_eq number) (keys_of i.numbers.entries) = sym (ap is_some absent) ∙ is_some-lookup (bytes_eq number) i.numbers.entries in
     subst (λ (r : CopiedRecords). records_of i.entries.items i.most ≡ records_of (with_record_in r.most r.book number animal) r.most) c.self.view_is
-    (ap (λ (b : Book). records_of b i.most) (sym (with_record_in-full i.most i.entries.items number animal c.self.invariant says full)))
+    (ap (λ (b : Book). records_of b i.most) (sym (with_record_in-full i.most i.entries.items number animal i.numbers.entries c.self.invariant absent full)))
