@@ -1,9 +1,6 @@
-ghost use Rattle.std.specs.Prelude.{◌≡◌, ◌+◌, ◌≤◌, All, length, IfOk, IfErr, OnOk};
-ghost use Rattle.herd_frozen.specs.declared.TheConstants.{DEPTH_LIMIT, MOST_ANIMALS};
+ghost use Rattle.std.specs.Prelude.{◌≡◌, ◌≤◌, IfOk, IfErr};
+ghost use Rattle.herd_frozen.specs.declared.TheConstants.{DEPTH_LIMIT};
 ghost use Rattle.herd_kinship.specs.Coefficients.{AreCoefficients};
-ghost use Rattle.herd_kinship.specs.Mates.{IsReady};
-ghost use Rattle.herd_pool.specs.Levels.{KnowsBelow};
-ghost use Rattle.herd_pool.specs.Sires.{KnowsCalvesBelow};
 ghost use Rattle.herd_pool.specs.declared.limits.TheConstants.{MOST_WORKERS};
 ghost use Rattle.herd_pool.specs.declared.pool_fault.PoolFault.{PoolFault};
 
@@ -15,7 +12,7 @@ use crate::pool_fault::PoolFault;
 use crate::sires::SireLevel;
 use crate::traced::TracedLevel;
 use herd_frozen::{DEPTH_LIMIT, Frozen};
-use herd_kinship::{Calves, Coefficients, Mates};
+use herd_kinship::{Calves, Coefficients};
 use std::alloc::Allocator;
 use std::sync::Wait;
 use std::thread::Threads;
@@ -51,36 +48,17 @@ pub fn coefficients<
             depth,
             block,
         };
-        add_level(rt, alloc, level, &mut known, workers, gate)?;
+        let traced = TracedLevel {
+            level,
+            known: &known,
+            gate,
+        };
+        let count = level.blocks();
+        let idle = Vec::new(alloc);
+        let (blocks, _) = compute_blocks(rt, alloc, &traced, count, workers.min(count), idle)?;
+        write_traced(&mut known, level, &blocks);
     }
     Ok(Coefficients::from_list(known))
-}
-
-// Computes and writes a level, where all levels below are known.
-fn add_level<
-    R: Threads + Wait + Sync,
-    F: Allocator + Sync,
-    A: Allocator + Copy + Send + Sync,
-    G: Gate,
->(
-    rt: &R,
-    alloc: A,
-    level: Level<'_, F>,
-    known: &mut [u128],
-    workers: u32,
-    gate: &G,
-) -> Result<(), PoolFault>
-    requires known { KnowsBelow DEPTH_LIMIT MOST_ANIMALS level.frozen.now known.old level.depth }
-    ensures known { OnOk result
-        (KnowsBelow DEPTH_LIMIT MOST_ANIMALS level.entry.frozen.now known.new (level.entry.depth + 1)) }
-    ensures one_worker { workers ≡ 1 → IfErr result (λ fault. fault ≡ PoolFault.Memory) }
-{
-    let count = level.blocks();
-    let traced = TracedLevel { level, known, gate };
-    let idle = Vec::new(alloc);
-    let (blocks, _) = compute_blocks(rt, alloc, &traced, count, workers.min(count), idle)?;
-    write_traced(known, level, &blocks);
-    Ok(())
 }
 
 /// The coefficients of a book, sire by sire, by this many workers, who take the blocks of each level from a queue.
@@ -116,37 +94,16 @@ pub fn coefficients_by_sires<
             depth,
             block,
         };
-        idle = add_calves(rt, alloc, level, &calves, &mut known, workers, idle)?;
+        let sires = SireLevel {
+            level,
+            known: &known,
+            calves: &calves,
+        };
+        let count = level.blocks();
+        let worth = sires.worth(count, workers);
+        let (blocks, scratches) = compute_blocks(rt, alloc, &sires, count, worth, idle)?;
+        write_calves_of(&mut known, &blocks);
+        idle = scratches;
     }
     Ok(Coefficients::from_list(known))
-}
-
-// Computes and writes the calves of a level's sires, where those of all sires of less depth are known.
-fn add_calves<R: Threads + Wait + Sync, F: Allocator + Sync, A: Allocator + Copy + Send + Sync>(
-    rt: &R,
-    alloc: A,
-    level: Level<'_, F>,
-    calves: &Calves<A>,
-    known: &mut [u128],
-    workers: u32,
-    idle: Vec<Mates<A>, A>,
-) -> Result<Vec<Mates<A>, A>, PoolFault>
-    requires known { KnowsCalvesBelow DEPTH_LIMIT MOST_ANIMALS level.frozen.now calves.now known.old level.depth }
-    requires idle { All (IsReady (length level.frozen.now)) idle.items }
-    ensures known { IfOk result
-        (λ _. KnowsCalvesBelow DEPTH_LIMIT MOST_ANIMALS level.entry.frozen.now calves.now known.new
-        (level.entry.depth + 1)) }
-    ensures idle { IfOk result (λ idle. All (IsReady (length level.entry.frozen.now)) idle.items) }
-    ensures one_worker { workers ≡ 1 → IfErr result (λ fault. fault ≡ PoolFault.Memory) }
-{
-    let sires = SireLevel {
-        level,
-        known,
-        calves,
-    };
-    let count = level.blocks();
-    let workers = sires.worth(count, workers);
-    let (blocks, idle) = compute_blocks(rt, alloc, &sires, count, workers, idle)?;
-    write_calves_of(known, &blocks);
-    Ok(idle)
 }

@@ -14,14 +14,14 @@ use std::alloc::{AllocError, Allocator};
 
 /// The sires of a level.
 #[derive_where(Clone, Copy)]
-pub struct SireLevel<'a, F: Allocator, A: Allocator> {
+pub struct SireLevel<'a, 'k, F: Allocator, A: Allocator> {
     pub level: Level<'a, F>,
     /// A numerator for each animal, right at all calves of sires of less depth.
-    pub known: &'a [u128],
-    pub calves: &'a Calves<A>,
+    pub known: &'k [u128],
+    pub calves: &'k Calves<A>,
 }
 
-impl<'a, F: Allocator, A: Allocator> SireLevel<'a, F, A> {
+impl<F: Allocator, A: Allocator> SireLevel<'_, '_, F, A> {
     /// How many of these workers the first blocks of the level, so many, are worth: at most one for each block in which
     /// a sire has calves, and at most one more than their calves divided by `CALVES_FOR_A_WORKER`.
     pub fn worth(&self, blocks: u32, workers: u32) -> u32
@@ -56,7 +56,7 @@ impl<'a, F: Allocator, A: Allocator> SireLevel<'a, F, A> {
     }
 }
 
-impl<'a, F: Allocator + Sync, A: Allocator + Copy + Send + Sync> Work<A> for SireLevel<'a, F, A> {
+impl<F: Allocator + Sync, A: Allocator + Copy + Send + Sync> Work<A> for SireLevel<'_, '_, F, A> {
     ghost use Rattle.std.specs.Prelude.{length};
     ghost use Rattle.herd_frozen.specs.declared.TheConstants.{DEPTH_LIMIT, MOST_ANIMALS};
     ghost use Rattle.herd_kinship.specs.Mates.{IsReady};

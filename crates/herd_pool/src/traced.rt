@@ -8,15 +8,15 @@ use std::alloc::{AllocError, Allocator};
 
 /// The animals of a level, to be traced.
 #[derive_where(Clone, Copy)]
-pub struct TracedLevel<'a, F: Allocator, G> {
+pub struct TracedLevel<'a, 'k, F: Allocator, G> {
     pub level: Level<'a, F>,
     /// A numerator for each animal, right at all of less depth.
-    pub known: &'a [u128],
-    pub gate: &'a G,
+    pub known: &'k [u128],
+    pub gate: &'k G,
 }
 
-impl<'a, F: Allocator + Sync, G: Gate, A: Allocator + Copy + Send + Sync> Work<A>
-    for TracedLevel<'a, F, G> {
+impl<F: Allocator + Sync, G: Gate, A: Allocator + Copy + Send + Sync> Work<A>
+    for TracedLevel<'_, '_, F, G> {
     ghost use Rattle.herd_frozen.specs.declared.TheConstants.{DEPTH_LIMIT, MOST_ANIMALS};
     ghost use Rattle.herd_pool.specs.Levels.{AreTraced, KnowsBelow};
 

@@ -1,14 +1,19 @@
--- `coefficients_by_sires`: what `from_list` requires, its loop, and its clause `list`.
-use Rattle.std.proofs.Common.{◌≡◌, ℕ, ◌+◌, List, length, replicate, arith, subst, sym}
+-- `coefficients_by_sires`: what `write_calves_of` and `from_list` require, its loop, and its clause `list`.
+use Rattle.std.proofs.Common.{◌≡◌, ℕ, ◌+◌, ◌<◌, List, Vec, length, replicate, arith, ◌∙◌, ap, subst, sym}
 use Rattle.std.specs.List.{All}
 use Rattle.std.proofs.lemmas.List.{get_or-replicate, length-replicate}
 use Rattle.std.proofs.lemmas.List.Elements.{All-nil}
 use Rattle.herd_frozen.specs.declared.TheConstants.{DEPTH_LIMIT, MOST_ANIMALS}
-use Rattle.herd_kinship.specs.Coefficients.{AreCoefficients, IsLessDeep}
+use Rattle.herd_kinship.specs.Coefficients.{AreCoefficients, IsLessDeep, coefficient_at}
 use Rattle.herd_kinship.specs.Mates.{IsReady}
+use Rattle.herd_kinship.specs.declared.calf_coefficients.CalfCoefficient.{CalfCoefficient}
 use Rattle.herd_kinship.proofs.lemmas.sires.BySires.{coefficients-below_one, less_deep-all, reached-start}
 use Rattle.herd_kinship.proofs.lemmas.sires.RelationshipFacts.{written}
-use Rattle.herd_pool.specs.Sires.{KnowsCalvesBelow}
+use Rattle.herd_pool.specs.Blocks.{once_below}
+use Rattle.herd_pool.specs.Levels.{Keeps}
+use Rattle.herd_pool.specs.Sires.{AreWritten, HaveValues, KnowsCalvesBelow}
+use Rattle.herd_pool.specs.declared.work.ComputedBlock.{ComputedBlock}
+use Rattle.herd_pool.proofs.SireFacts.{blocks_values, blocks_within, calves_known}
 use Rattle.herd_pool.proofs.pool.coefficients_by_sires.Goals as goal
 
 pub loop-depth-init : goal.loop-depth-init
@@ -26,17 +31,31 @@ loop-depth-init g c =
       idle = subst (All (IsReady (length rows))) (sym c.new-idle.ensures.items) (All-nil (IsReady (length rows)));
     }
 
+pub write_calves_of-requires : goal.write_calves_of-requires
+write_calves_of-requires g c =
+    let within = blocks_within DEPTH_LIMIT c.args.frozen.now c.loop-depth.depth c.args.block c.in_ok-blocks.blocks.items c.in_ok-blocks.ensures.blocks.computed in
+    subst (λ (bs : List (ComputedBlock (Vec CalfCoefficient _))). All (λ block. All (λ calf. calf.rank < length c.deref_mut.result.now) block.output.items) bs) (sym c.deref-in-loop-depth.ensures.value)
+    (λ k d low j e below. let there = within k d low j e below in let each = c.loop-depth.invariant.known.reached.each in omega (arith, ap length c.deref_mut.ensures.value))
+
 pub loop-depth-preserved : goal.loop-depth-preserved
 loop-depth-preserved g c =
     let rows = c.args.frozen.now in
+    let f = coefficient_at DEPTH_LIMIT rows in
+    let depth = c.loop-depth.depth in
     let old = c.loop-depth.known in
-    let new = c.add_calves.new.known in
-    let each : length new ≡ length rows = c.in_ok-idle.ensures.known.reached.each in
-    let before : length old.items ≡ length rows = c.loop-depth.invariant.known.reached.each in
-    let ok = old.ok in
+    let new = c.write_calves_of.new.known in
+    let blocks = c.in_ok-blocks.blocks.items in
+    let are = c.in_ok-blocks.ensures.blocks in
+    let same : length new ≡ length old.items = let kept = c.write_calves_of.auto.known in omega (arith, ap length c.deref_mut.ensures.value) in
+    let long : old.len ≡ length new = let ok = old.ok in omega arith in
+    let values = blocks_values DEPTH_LIMIT rows depth c.args.block blocks are.computed in
+    let wrote = c.write_calves_of.ensures f (subst (λ (bs : List (ComputedBlock (Vec CalfCoefficient _))). All (λ block. HaveValues f block.output.items) bs) (sym c.deref-in-loop-depth.ensures.value) values) in
+    let kept = subst (λ (xs : List ℕ). Keeps f xs new) c.deref_mut.ensures.value wrote.0 in
+    let there = subst (λ (bs : List (ComputedBlock (Vec CalfCoefficient _))). All (λ block. AreWritten f new block.output.items) bs) c.deref-in-loop-depth.ensures.value wrote.1 in
     record {
-      known = subst (λ (xs : List ℕ). KnowsCalvesBelow DEPTH_LIMIT MOST_ANIMALS rows c.in_ok-calves.calves xs (c.loop-depth.depth + 1)) (sym (written old.len new old.items (omega arith))) c.in_ok-idle.ensures.known;
-      idle = c.in_ok-idle.ensures.idle;
+      known = subst (λ (xs : List ℕ). KnowsCalvesBelow DEPTH_LIMIT MOST_ANIMALS rows c.in_ok-calves.calves xs (depth + 1)) (sym (written old.len new old.items long))
+          (calves_known DEPTH_LIMIT MOST_ANIMALS rows c.in_ok-calves.calves old.items new depth c.args.block blocks (omega arith) same c.loop-depth.invariant.known (λ number. are.each_once number ∙ ap (once_below number) c.blocks-count.ensures) are.computed kept there);
+      idle = c.in_ok-blocks.ensures.idle;
     }
 
 pub from_list-requires : goal.from_list-requires
