@@ -4,6 +4,7 @@ use Rattle.std.specs.Int.{div_ceil}
 use Rattle.std.specs.List.{All, count_by}
 use Rattle.std.proofs.lemmas.Bool.{cases_lt}
 use Rattle.std.proofs.lemmas.List.Elements.{All-more, All-weaker}
+use Rattle.herd_frozen.specs.declared.TheConstants.{DEPTH_LIMIT, MOST_ANIMALS}
 use Rattle.herd_frozen.specs.declared.freezing.frozen.Row.{Row}
 use Rattle.herd_frozen.specs.freezing.Frozen.{depth_at, level_of}
 use Rattle.herd_kinship.specs.CalfCoefficients.{GoesOnWith}
@@ -73,12 +74,12 @@ blocks_values {A = A} l rows depth len blocks all =
     (λ b has. let ranks = block_of len b.number (level_of depth rows) in calves-values rows (IsAmong ranks (length ranks)) (coefficient_at l rows) b.output.items has) blocks all
 
 -- where each block of a level is written, the calves of its sires are known too
-pub calves_known : {A C : Type 0} (l most : ℕ) (rows : List Row) (calves : Calves C) (known new : List ℕ) (depth len : ℕ) (blocks : List (ComputedBlock (Vec CalfCoefficient A))) → 0 < len → length new ≡ length known → KnowsCalvesBelow l most rows calves known depth
+pub calves_known : {A C : Type 0} (l : ℕ) (rows : List Row) (calves : Calves C) (known new : List ℕ) (depth len : ℕ) (blocks : List (ComputedBlock (Vec CalfCoefficient A))) → 0 < len → length new ≡ length known → KnowsCalvesBelow l rows calves known depth
     → ((number : ℕ) → count_by (λ n. n == number) (numbers blocks) ≡ once_below number (div_ceil (length (level_of depth rows)) len))
     → All (λ block. HasCalvesOf l rows depth len block.number block.output.items) blocks
     → Keeps (coefficient_at l rows) known new → All (λ block. AreWritten (coefficient_at l rows) new block.output.items) blocks
-    → KnowsCalvesBelow l most rows calves new (depth + 1)
-calves_known {A = A} l most rows calves known new depth len blocks some same knows each_once computed kept written =
+    → KnowsCalvesBelow l rows calves new (depth + 1)
+calves_known {A = A} l rows calves known new depth len blocks some same knows each_once computed kept written =
     let f = coefficient_at l rows in
     let level = level_of depth rows in
     let Right : ComputedBlock (Vec CalfCoefficient A) → Type 0 = λ b. (s : ℕ) → IsAmong (block_of len b.number level) (length (block_of len b.number level)) s → (x : ℕ) → IsCalf rows s x → slice_index new x ≡ f x in
@@ -89,10 +90,9 @@ calves_known {A = A} l most rows calves known new depth len blocks some same kno
     let here = in_level (λ s. (x : ℕ) → IsCalf rows s x → slice_index new x ≡ f x) rows depth len blocks some each_once all in
     let mine : (s x : ℕ) → depth_at rows s ≡ depth → IsCalf rows s x → slice_index new x ≡ f x = λ s x deep is.
     let within : x < length rows = calf-within rows s x is in
-    let lower : s < x = (frozen-ranked l most rows knows.frozen).below x s within (inl is.0) in
+    let lower : s < x = (frozen-ranked DEPTH_LIMIT MOST_ANIMALS rows knows.linked.frozen).below x s within (inl is.0) in
     here s (omega arith) deep x is in
     record {
-      frozen = knows.frozen;
       linked = knows.linked;
       reached = reached-more l rows (IsLessDeep rows depth) (λ s. depth_at rows s ≡ depth) (IsLessDeep rows (depth + 1)) (less_deep-next rows depth) known new same (λ x low. kept x) mine knows.reached;
     }

@@ -2,7 +2,7 @@
 use Rattle.std.specs.Prelude.{◌≡◌, ℕ, ◌+◌, ◌/◌, ◌<◌, All, List, count_by, length, min, nat_lt, slice_index, sum_by}
 use Rattle.std.specs.List.{range_with_len}
 use Rattle.herd_frozen.specs.declared.freezing.frozen.Row.{Row}
-use Rattle.herd_frozen.specs.freezing.Frozen.{IsFrozen, level_of}
+use Rattle.herd_frozen.specs.freezing.Frozen.{level_of}
 use Rattle.herd_kinship.specs.CalfCoefficients.{AreCalvesWith}
 use Rattle.herd_kinship.specs.CalfLinks.{AreCalvesOf, calf_count}
 use Rattle.herd_kinship.specs.Coefficients.{IsLessDeep, KnowsReached, coefficient_at}
@@ -13,8 +13,7 @@ use Rattle.herd_pool.specs.declared.limits.TheConstants.{CALVES_FOR_A_WORKER}
 
 -- The numerators of a frozen book on the way: there is one for each animal, and the calves of all sires of less depth
 -- have their coefficient
-pub record KnowsCalvesBelow {C : Type 0} (l most : ℕ) (rows : List Row) (calves : Calves C) (known : List ℕ) (depth : ℕ) : Type 0 where
-  pub frozen : IsFrozen l most rows
+pub record KnowsCalvesBelow {C : Type 0} (l : ℕ) (rows : List Row) (calves : Calves C) (known : List ℕ) (depth : ℕ) : Type 0 where
   pub linked : AreCalvesOf rows calves
   pub reached : KnowsReached l rows (IsLessDeep rows depth) known
 

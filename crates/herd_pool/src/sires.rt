@@ -1,8 +1,6 @@
 //! A level whose sires are gone through: each has its relationships with its mates, half of which their calves have for
 //! coefficient.
 ghost use Rattle.std.specs.Prelude.{◌≡◌};
-ghost use Rattle.herd_frozen.specs.declared.TheConstants.{DEPTH_LIMIT, MOST_ANIMALS};
-ghost use Rattle.herd_frozen.specs.freezing.Frozen.{IsFrozen};
 ghost use Rattle.herd_kinship.specs.CalfLinks.{AreCalvesOf};
 ghost use Rattle.herd_pool.specs.Sires.{calves_of, worth_of};
 
@@ -25,8 +23,7 @@ impl<F: Allocator, A: Allocator> SireLevel<'_, '_, F, A> {
     /// How many of these workers the first blocks of the level, so many, are worth: at most one for each block in which
     /// a sire has calves, and at most one more than their calves divided by `CALVES_FOR_A_WORKER`.
     pub fn worth(&self, blocks: u32, workers: u32) -> u32
-        requires frozen { IsFrozen DEPTH_LIMIT MOST_ANIMALS self.now.level.frozen.now }
-        requires calves { AreCalvesOf self.now.level.frozen.now self.now.calves.now }
+        requires { AreCalvesOf self.now.level.frozen.now self.now.calves.now }
         ensures { result ≡ worth_of self.now.level.frozen.now self.now.level.depth self.now.level.block blocks workers }
     {
         let mut busy = 0;
@@ -44,8 +41,7 @@ impl<F: Allocator, A: Allocator> SireLevel<'_, '_, F, A> {
 
     // How many calves the sires of a block have.
     fn count_calves(&self, number: u32) -> u32
-        requires frozen { IsFrozen DEPTH_LIMIT MOST_ANIMALS self.now.level.frozen.now }
-        requires calves { AreCalvesOf self.now.level.frozen.now self.now.calves.now }
+        requires { AreCalvesOf self.now.level.frozen.now self.now.calves.now }
         ensures { result ≡ calves_of self.now.level.frozen.now self.now.level.depth self.now.level.block number }
     {
         let mut calves = 0;
@@ -58,7 +54,7 @@ impl<F: Allocator, A: Allocator> SireLevel<'_, '_, F, A> {
 
 impl<F: Allocator + Sync, A: Allocator + Copy + Send + Sync> Work<A> for SireLevel<'_, '_, F, A> {
     ghost use Rattle.std.specs.Prelude.{length};
-    ghost use Rattle.herd_frozen.specs.declared.TheConstants.{DEPTH_LIMIT, MOST_ANIMALS};
+    ghost use Rattle.herd_frozen.specs.declared.TheConstants.{DEPTH_LIMIT};
     ghost use Rattle.herd_kinship.specs.Mates.{IsReady};
     ghost use Rattle.herd_pool.specs.Sires.{HasCalvesOf, KnowsCalvesBelow};
 
@@ -67,8 +63,8 @@ impl<F: Allocator + Sync, A: Allocator + Copy + Send + Sync> Work<A> for SireLev
     /// The calves of a block's sires.
     type Output = Vec<CalfCoefficient, A>;
 
-    ghost knows = { λ sires. KnowsCalvesBelow DEPTH_LIMIT MOST_ANIMALS sires.level.frozen.now sires.calves.now
-        sires.known.now sires.level.depth };
+    ghost knows = { λ sires. KnowsCalvesBelow DEPTH_LIMIT sires.level.frozen.now sires.calves.now sires.known.now
+        sires.level.depth };
 
     ghost is_ready = { λ sires mates. IsReady (length sires.level.frozen.now) mates };
 

@@ -23,7 +23,6 @@ loop-depth-init g c =
     let items = c.in_ok-known.ensures.items_if_clones_equal (λ y e. e) in
     record {
       known = record {
-        frozen = c.len.ensures.frozen;
         linked = c.in_ok-calves.ensures;
         reached = rw (items, all)
             (reached-start DEPTH_LIMIT MOST_ANIMALS rows c.len.ensures.frozen (IsLessDeep rows 0) (λ s low. omega (arith, low)) (replicate (length rows) 0) (length-replicate (length rows) 0) (λ x lx. get_or-replicate (length rows) x 0 0 lx));
@@ -53,8 +52,8 @@ loop-depth-preserved g c =
     let kept = subst (λ (xs : List ℕ). Keeps f xs new) c.deref_mut.ensures.value wrote.0 in
     let there = subst (λ (bs : List (ComputedBlock (Vec CalfCoefficient _))). All (λ block. AreWritten f new block.output.items) bs) c.deref-in-loop-depth.ensures.value wrote.1 in
     record {
-      known = subst (λ (xs : List ℕ). KnowsCalvesBelow DEPTH_LIMIT MOST_ANIMALS rows c.in_ok-calves.calves xs (depth + 1)) (sym (written old.len new old.items long))
-          (calves_known DEPTH_LIMIT MOST_ANIMALS rows c.in_ok-calves.calves old.items new depth c.args.block blocks (omega arith) same c.loop-depth.invariant.known (λ number. are.each_once number ∙ ap (once_below number) c.blocks-count.ensures) are.computed kept there);
+      known = subst (λ (xs : List ℕ). KnowsCalvesBelow DEPTH_LIMIT rows c.in_ok-calves.calves xs (depth + 1)) (sym (written old.len new old.items long))
+          (calves_known DEPTH_LIMIT rows c.in_ok-calves.calves old.items new depth c.args.block blocks (omega arith) same c.loop-depth.invariant.known (λ number. are.each_once number ∙ ap (once_below number) c.blocks-count.ensures) are.computed kept there);
       idle = c.in_ok-blocks.ensures.idle;
     }
 

@@ -1,12 +1,12 @@
 use Rattle.std.proofs.Common.{length}
 use Rattle.std.specs.List.{All}
-use Rattle.herd_frozen.specs.declared.TheConstants.{DEPTH_LIMIT, MOST_ANIMALS}
+use Rattle.herd_frozen.specs.declared.TheConstants.{DEPTH_LIMIT}
 use Rattle.herd_kinship.specs.Mates.{IsReady}
 use Rattle.herd_pool.specs.Sires.{KnowsCalvesBelow}
 use Rattle.herd_pool.proofs.pool.coefficients_by_sires.Given as goal
 
 abbrev pub invariant-loop-depth : goal.invariant-loop-depth
 invariant-loop-depth g l = record {
-  known : KnowsCalvesBelow DEPTH_LIMIT MOST_ANIMALS l.frozen l.calves l.known.items l.depth;
+  known : KnowsCalvesBelow DEPTH_LIMIT l.frozen l.calves l.known.items l.depth;
   idle : All (IsReady (length l.frozen)) l.idle.items;
 }

@@ -29,7 +29,7 @@ append_calves-requires-clause-known g c =
     let i = c.loop-sire.sire-index in
     let at = block_of-ranks level.frozen.now level.depth level.block c.args.number ranks c.ranks-sire-items.ensures i 0 c.loop-sire-test.true in
     let deep = at.deep in
-    less_deep-ancestors DEPTH_LIMIT MOST_ANIMALS level.frozen.now c.requires.knows.frozen level.depth (slice_index ranks i) c.args.self.now.known.now at.within (omega arith) c.requires.knows.reached
+    less_deep-ancestors DEPTH_LIMIT MOST_ANIMALS level.frozen.now c.requires.knows.linked.frozen level.depth (slice_index ranks i) c.args.self.now.known.now at.within (omega arith) c.requires.knows.reached
 
 pub loop-sire-preserved : goal.loop-sire-preserved
 loop-sire-preserved g c = record {
