@@ -1,6 +1,6 @@
 //! The threads of a level.
 ghost use denote.Param.Send.{Frees, IsSend, IsSync};
-ghost use Rattle.std.specs.Prelude.{◌≡◌, ℕ, ◌+◌, ◌-◌, ◌<◌, ◌≤◌, All, IfOk, IfErr, [], length, vec_capacity, vec_len, get_or, vec_items};
+ghost use Rattle.std.specs.Prelude.{◌≡◌, ℕ, ◌<◌, ◌≤◌, All, IfOk, IfErr, [], vec_len, get_or, vec_items};
 ghost use Rattle.crossbeam_deque.specs.Handles.{worker_view};
 ghost use Rattle.herd_pool.specs.Workers.{AreBlocks, IsWorkerOutput, IsStarterOf, IsBlockPass};
 ghost use Rattle.herd_pool.specs.declared.pool_fault.PoolFault.{PoolFault};
@@ -100,7 +100,7 @@ fn share<R: Threads + Wait + Sync, A: Allocator + Copy + Send + Sync, W: Work<A>
     )
 }
 
-// Starts workers, as many as get room where it is asked for so many, each with a pass of the queue's.
+// Starts so many workers, each with a pass of the queue's.
 fn start_all<'s, E, R: Wait + Sync, A: Allocator + Copy + Send + Sync, W: Work<A>>(
     scope: &'s Scope<'s, E>,
     rt: &'s R,
@@ -123,7 +123,7 @@ fn start_all<'s, E, R: Wait + Sync, A: Allocator + Copy + Send + Sync, W: Work<A
         (λ r. (k : ℕ) (d : _) → k < vec_len r.1 → (get_or (vec_items r.1) k d).promise ≡ task.entry) }
 {
     let mut workers = Vec::with_capacity(alloc, threads)?;
-    for _ in 0..workers.capacity() {
+    for _ in 0..threads {
         let scratch = hire(alloc, task.work, &mut starter.idle)?;
         let pass = starter.queue.another::<ForWorker>();
         workers.push_reserved(start_one(scope, rt, alloc, task, pass, scratch)?);

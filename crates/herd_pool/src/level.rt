@@ -1,8 +1,7 @@
 //! A level of the book and its blocks.
 ghost use Rattle.std.specs.Prelude.{◌≡◌, ◌<◌, length};
 ghost use Rattle.std.specs.Int.{div_ceil};
-ghost use Rattle.herd_frozen.specs.freezing.Frozen.{IsFrozen, level_of};
-ghost use Rattle.herd_frozen.specs.declared.TheConstants.{DEPTH_LIMIT, MOST_ANIMALS};
+ghost use Rattle.herd_frozen.specs.freezing.Frozen.{level_of};
 ghost use Rattle.herd_pool.specs.Levels.{block_of};
 
 use herd_frozen::Frozen;

@@ -1,7 +1,7 @@
 //! The queue of a level's blocks, and what each thread knows of it.
-ghost use Rattle.std.specs.Prelude.{◌≡◌, ◌==◌, ℕ, ◌+◌, ◌-◌, ◌<◌, ◌≤◌, ◌^◌, [], ◌++◌, IfOk, count_by};
-ghost use Rattle.crossbeam_deque.specs.Handles.{SameWorker, worker_capacity, worker_flavor, worker_index, worker_port, worker_view};
-ghost use Rattle.herd_pool.specs.Blocks.{pass_view, once_below, EachOnce};
+ghost use Rattle.std.specs.Prelude.{◌≡◌, ◌==◌, ℕ, ◌+◌, [], ◌++◌, IfOk, count_by};
+ghost use Rattle.crossbeam_deque.specs.Handles.{worker_flavor, worker_port, worker_view};
+ghost use Rattle.herd_pool.specs.Blocks.{pass_view, once_below};
 
 use crossbeam_deque::protocol::{Join, Outcome, Protocol, Split};
 use crossbeam_deque::{Pass, Stealer, Worker};

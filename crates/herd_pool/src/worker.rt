@@ -1,5 +1,5 @@
 //! What the workers of a level do.
-ghost use Rattle.std.specs.Prelude.{◌≡◌, ℕ, All, IfOk, []};
+ghost use Rattle.std.specs.Prelude.{IfOk, []};
 ghost use Rattle.herd_pool.specs.Workers.{IsWorkerOutput, IsBlockPass};
 
 use crate::queue::{BlockPass, BlockStealer, Stolen};
