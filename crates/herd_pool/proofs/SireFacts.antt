@@ -1,9 +1,9 @@
 -- The calves of a level's sires: how they are collected, block by block, and what is known once they are written.
-use Rattle.std.proofs.Common.{◌≡◌, ◌==◌, ℕ, ◌+◌, ◌<◌, ◌≤◌, List, [], length, get_or, slice_index, take, Vec, sym, ap, subst, inl, inr, ◌∙◌, ⊎_elim, arith}
+use Rattle.std.proofs.Common.{◌≡◌, ◌==◌, ℕ, ◌+◌, ◌<◌, ◌≤◌, List, [], length, get_or, slice_index, Vec, sym, ap, inl, inr, ◌∙◌, ⊎_elim, arith}
 use Rattle.std.specs.Int.{div_ceil}
 use Rattle.std.specs.List.{All, count_by}
 use Rattle.std.proofs.lemmas.Bool.{cases_lt}
-use Rattle.std.proofs.lemmas.List.Elements.{All-more, All-weaker}
+use Rattle.std.proofs.lemmas.List.Elements.{All-weaker}
 use Rattle.herd_frozen.specs.declared.TheConstants.{DEPTH_LIMIT, MOST_ANIMALS}
 use Rattle.herd_frozen.specs.declared.freezing.frozen.Row.{Row}
 use Rattle.herd_frozen.specs.freezing.Frozen.{depth_at, level_of}
@@ -21,7 +21,7 @@ use Rattle.herd_pool.specs.Levels.{Keeps, block_of}
 use Rattle.herd_pool.specs.Sires.{AreCalvesAmong, AreWritten, HasCalvesOf, HaveValues, IsAmong, KnowsCalvesBelow}
 use Rattle.herd_pool.specs.Workers.{numbers}
 use Rattle.herd_pool.specs.declared.work.ComputedBlock.{ComputedBlock}
-use Rattle.herd_pool.proofs.Writes.{in_level, keeps_on, stays}
+use Rattle.herd_pool.proofs.Writes.{in_level}
 
 -- before the first sire there are no calves
 pub calves_at_first : (l : ℕ) (rows : List Row) (ranks : List ℕ) → AreCalvesAmong l rows ranks 0 []
@@ -35,23 +35,6 @@ calves_further l rows ranks i old new was on =
     (λ s e. (i, omega arith, sym e))
     (λ s is. ⊎_elim (λ (low : is.0 < i). inl (is.0, low, is.2)) (λ (at : i ≤ is.0). let below = is.1 in let here : is.0 ≡ i = omega arith in inr (sym is.2 ∙ ap (slice_index ranks) here)) (cases_lt is.0 i))
     was on
-
--- the blocks that are written on the way, after n of them
-pub record AreBlocksWritten {A : Type 0} (f : ℕ → ℕ) (old known : List ℕ) (blocks : List (ComputedBlock (Vec CalfCoefficient A))) (n : ℕ) : Type 0 where
-  pub kept : Keeps f old known
-  pub written : All (λ block. AreWritten f known block.output.items) (take n blocks)
-
--- one more block is written
-pub calves_block_written : {A : Type 0} (f : ℕ → ℕ) (blocks : List (ComputedBlock (Vec CalfCoefficient A))) (n : ℕ) (block : ComputedBlock (Vec CalfCoefficient A)) (old known new : List ℕ) → n < length blocks → block ≡ get_or blocks n block
-    → Keeps f known new → AreWritten f new block.output.items → AreBlocksWritten f old known blocks n → AreBlocksWritten f old new blocks (n + 1)
-calves_block_written {A = A} f blocks n block old known new below at keeps here was =
-    let Old : ComputedBlock (Vec CalfCoefficient A) → Type 0 = λ b. AreWritten f known b.output.items in
-    let New : ComputedBlock (Vec CalfCoefficient A) → Type 0 = λ b. AreWritten f new b.output.items in
-    let mine : New (get_or blocks n block) = subst New at here in
-    record {
-      kept = keeps_on f old known new was.kept keeps;
-      written = All-more New blocks n block below (All-weaker Old New (λ b h k d low. stays f known new keeps (get_or b.output.items k d).rank (h k d low)) (take n blocks) was.written) mine;
-    }
 
 -- the blocks of a level have ranks of the book
 pub blocks_within : {A : Type 0} (l : ℕ) (rows : List Row) (depth len : ℕ) (blocks : List (ComputedBlock (Vec CalfCoefficient A)))

@@ -1,5 +1,5 @@
 -- What the list of numerators has once ranks, blocks and levels are written.
-use Rattle.std.proofs.Common.{◌≡◌, ◌==◌, ℕ, suc, ◌+◌, ◌*◌, ◌/◌, ◌%◌, ◌^◌, ◌<◌, ◌≤◌, List, [], ◌∷◌, length, drop, Vec, get_or, map, set, slice_index, take, sym, ap, subst, inl, inr, ◌∙◌, ⊎_elim, arith}
+use Rattle.std.proofs.Common.{◌≡◌, ◌==◌, ℕ, suc, ◌+◌, ◌*◌, ◌/◌, ◌%◌, ◌^◌, ◌<◌, ◌≤◌, List, [], ◌∷◌, length, drop, get_or, map, set, slice_index, take, sym, ap, subst, inl, inr, ◌∙◌, ⊎_elim, arith}
 use Rattle.std.specs.Int.{div_ceil}
 use Rattle.std.specs.List.{All, Contains, count_by}
 use Rattle.std.proofs.lemmas.Bool.{cases_eq, cases_lt}
@@ -54,32 +54,23 @@ rank_written f old known ranks numerators n m rank value is more within at_rank 
           ap (slice_index (set known rank value)) e ∙ get_or-set_same known rank value 0 below ∙ there ∙ ap f (sym e)) (cases_lt i n)),
     )
 
--- these blocks of a level have f of their ranks
-abbrev pub HasBlocks : {O : Type 0} → (ℕ → ℕ) → ℕ → List ℕ → List ℕ → List (ComputedBlock O) → Type 0
-HasBlocks f len level known blocks = All (λ block. HasAt f known (block_of len block.number level)) blocks
+-- this block of a level has f of its ranks
+abbrev pub HasBlock : {O : Type 0} → (ℕ → ℕ) → ℕ → List ℕ → List ℕ → ComputedBlock O → Type 0
+HasBlock f len level known block = HasAt f known (block_of len block.number level)
 
--- the blocks that are written on the way, after n of them
-pub record HasWritten {O : Type 0} (f : ℕ → ℕ) (len : ℕ) (level old known : List ℕ) (blocks : List (ComputedBlock O)) (n : ℕ) : Type 0 where
+-- the blocks that are written on the way: only f was written, and the first n blocks have what they are to have
+pub record AreBlocksWritten {O : Type 0} (f : ℕ → ℕ) (Has : List ℕ → ComputedBlock O → Type 0) (old known : List ℕ) (blocks : List (ComputedBlock O)) (n : ℕ) : Type 0 where
   pub kept : Keeps f old known
-  pub written : HasBlocks f len level known (take n blocks)
+  pub written : All (Has known) (take n blocks)
 
--- one more block is written
-pub block_written : {A : Type 0} (f : ℕ → ℕ) (len : ℕ) (level : List ℕ) (blocks : List (ComputedBlock (Vec ℕ A))) (n : ℕ) (block : ComputedBlock (Vec ℕ A)) (old known new ranks numerators : List ℕ) → n < length blocks → block ≡ get_or blocks n block → ranks ≡ block_of len block.number level → numerators ≡ block.output.items
-    → All (λ (b : ComputedBlock (Vec ℕ A)). b.output.items ≡ map f (block_of len b.number level)) blocks
-    → (numerators ≡ map f ranks → Keeps f known new × HasAt f new ranks)
-    → HasWritten f len level old known blocks n
-    → HasWritten f len level old new blocks (n + 1)
-block_written {A = A} f len level blocks n block old known new ranks numerators below at is_ranks is_numerators all write was =
-    let Old : ComputedBlock (Vec ℕ A) → Type 0 = λ b. HasAt f known (block_of len b.number level) in
-    let New : ComputedBlock (Vec ℕ A) → Type 0 = λ b. HasAt f new (block_of len b.number level) in
-    let Right : ComputedBlock (Vec ℕ A) → Type 0 = λ b. b.output.items ≡ map f (block_of len b.number level) in
-    let right : Right block = subst Right (sym at) (all n block below) in
-    let now = write (is_numerators ∙ right ∙ ap (map f) (sym is_ranks)) in
-    let mine : New (get_or blocks n block) = subst New at (subst (HasAt f new) is_ranks now.1) in
-    record {
-      kept = keeps_on f old known new was.kept now.0;
-      written = All-more New blocks n block below (All-weaker Old New (λ b h i low. stays f known new now.0 (slice_index (block_of len b.number level) i) (h i low)) (take n blocks) was.written) mine;
-    }
+-- one more block is written, and what the blocks before it have stays
+pub block_written : {O : Type 0} (f : ℕ → ℕ) (Has : List ℕ → ComputedBlock O → Type 0) (blocks : List (ComputedBlock O)) (n : ℕ) (block : ComputedBlock O) (old known new : List ℕ) → n < length blocks → block ≡ get_or blocks n block
+    → ((b : ComputedBlock O) → Has known b → Has new b) → Keeps f known new → Has new block → AreBlocksWritten f Has old known blocks n
+    → AreBlocksWritten f Has old new blocks (n + 1)
+block_written f Has blocks n block old known new below at stay keeps here was = record {
+  kept = keeps_on f old known new was.kept keeps;
+  written = All-more (Has new) blocks n block below (All-weaker (Has known) (Has new) stay (take n blocks) was.written) (subst (Has new) at here);
+}
 
 counted_tail : {O : Type 0} (x : ℕ) (b : ComputedBlock O) (bs : List (ComputedBlock O)) → (b.number ≡ x → ⊥) → 0 < count_by (λ n. n == x) (numbers (b ∷ bs)) → 0 < count_by (λ n. n == x) (numbers bs)
 counted_tail x b bs ne some = grind (arith, nat_tests)
@@ -132,14 +123,13 @@ in_level P rows depth len blocks some each_once all p low is =
 -- where each block of a level is written, the level is known
 pub level_known : {O : Type 0} (l most : ℕ) (rows : List Row) (known new : List ℕ) (depth len : ℕ) (blocks : List (ComputedBlock O)) → 0 < len → length new ≡ length known → KnowsBelow l most rows known depth
     → ((number : ℕ) → count_by (λ n. n == number) (numbers blocks) ≡ once_below number (div_ceil (length (level_of depth rows)) len))
-    → Keeps (coefficient_at l rows) known new → HasBlocks (coefficient_at l rows) len (level_of depth rows) new blocks
+    → Keeps (coefficient_at l rows) known new → All (HasBlock (coefficient_at l rows) len (level_of depth rows) new) blocks
     → KnowsBelow l most rows new (depth + 1)
 level_known {O = O} l most rows known new depth len blocks some same knows each_once kept written =
     let f = coefficient_at l rows in
     let level = level_of depth rows in
-    let Written : ComputedBlock O → Type 0 = λ block. HasAt f new (block_of len block.number level) in
     let Right : ComputedBlock O → Type 0 = λ block. (p : ℕ) → IsAmong (block_of len block.number level) (length (block_of len block.number level)) p → slice_index new p ≡ f p in
-    let all : All Right blocks = All-weaker Written Right (λ block has p at. ap (slice_index new) (sym at.2) ∙ has at.0 at.1 ∙ ap f at.2) blocks written in
+    let all : All Right blocks = All-weaker (HasBlock f len level new) Right (λ block has p at. ap (slice_index new) (sym at.2) ∙ has at.0 at.1 ∙ ap f at.2) blocks written in
     let here = in_level (λ p. slice_index new p ≡ f p) rows depth len blocks some each_once all in
     record {
       frozen = knows.frozen;

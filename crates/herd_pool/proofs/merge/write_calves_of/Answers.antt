@@ -1,12 +1,12 @@
 -- `write_calves_of`: its loop and its result.
-use Rattle.std.proofs.Common.{List, Vec, arith, subst, sym}
+use Rattle.std.proofs.Common.{ℕ, List, Vec, arith, get_or, subst, sym}
 use Rattle.std.specs.List.{All}
 use Rattle.std.proofs.lemmas.List.{take_all}
 use Rattle.herd_kinship.specs.CalfCoefficients.{HasWritten}
 use Rattle.herd_kinship.specs.declared.calf_coefficients.CalfCoefficient.{CalfCoefficient}
 use Rattle.herd_pool.specs.Sires.{AreWritten, HaveValues}
 use Rattle.herd_pool.specs.declared.work.ComputedBlock.{ComputedBlock}
-use Rattle.herd_pool.proofs.SireFacts.{calves_block_written}
+use Rattle.herd_pool.proofs.Writes.{block_written, stays}
 use Rattle.herd_pool.proofs.merge.write_calves_of.Goals as goal
 
 pub loop-block-preserved : goal.loop-block-preserved
@@ -20,7 +20,9 @@ loop-block-preserved g c = λ f values.
     let has : HasWritten f block.output.items known new =
     subst (λ (calves : List CalfCoefficient). HasWritten f calves known new) c.deref.ensures.value
     (c.write_calves.ensures.written f (subst (λ (calves : List CalfCoefficient). HaveValues f calves) (sym c.deref.ensures.value) mine)) in
-    calves_block_written f c.args.blocks.now i block c.args.known.now known new c.loop-block-test.true c.block-item.is has.kept has.written (c.loop-block.invariant f values)
+    let Has : List ℕ → ComputedBlock (Vec CalfCoefficient _) → Type 0 = λ now b. AreWritten f now b.output.items in
+    block_written f Has c.args.blocks.now i block c.args.known.now known new c.loop-block-test.true c.block-item.is
+    (λ b had k d low. stays f known new has.kept (get_or b.output.items k d).rank (had k d low)) has.kept has.written (c.loop-block.invariant f values)
 
 pub returns : goal.returns
 returns g c = λ f values.
