@@ -16,7 +16,7 @@ use std::alloc::{AllocError, Allocator};
 /// block, among founders and at depth 1.
 pub trait Gate: Sync {
     /// A thread has taken this block of the level, both counted from 0, and begins with it.
-    fn enter(&self, level: u8, block: u32);
+    fn enter(&self, _level: u8, _block: u32) {}
 
     /// Traces the animal at a rank: its relationship with itself in units of 2^-120, as `herd_kinship::trace`. The
     /// only error is a growth of memory that is refused.
@@ -39,6 +39,4 @@ pub trait Gate: Sync {
 #[derive(Clone, Copy, Debug, Default)]
 pub struct NoGate;
 
-impl Gate for NoGate {
-    fn enter(&self, _level: u8, _block: u32) {}
-}
+impl Gate for NoGate {}

@@ -63,8 +63,6 @@ pub struct AtAnimals {
 }
 
 impl Gate for AtAnimals {
-    fn enter(&self, _level: u8, _block: u32) {}
-
     fn trace<F: Allocator, A: Allocator + Clone>(
         &self,
         alloc: A,
@@ -85,8 +83,6 @@ impl Gate for AtAnimals {
 pub struct ThirdFirst(pub Meeting);
 
 impl Gate for ThirdFirst {
-    fn enter(&self, _level: u8, _block: u32) {}
-
     fn trace<F: Allocator, A: Allocator + Clone>(
         &self,
         alloc: A,
@@ -255,8 +251,6 @@ impl OneRefused {
 }
 
 impl Gate for OneRefused {
-    fn enter(&self, _level: u8, _block: u32) {}
-
     fn trace<F: Allocator, A: Allocator + Clone>(
         &self,
         alloc: A,
