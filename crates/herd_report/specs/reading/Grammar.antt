@@ -1,5 +1,5 @@
 -- What one record of a command file means.
-use Rattle.std.specs.Prelude.{ℕ, List, [], ◌∷◌, ◌++◌, length, unwrap_or, codes, Bool, ◌==◌, if◌then◌else◌, Option, Some, None, Result, Ok, Err}
+use Rattle.std.specs.Prelude.{ℕ, List, [], ◌∷◌, ◌++◌, length, unwrap_or, codes, Bool, false, ◌==◌, if◌then◌else◌, Option, Some, None, Result, Ok, Err}
 use Rattle.std.specs.Option.{option_map_or}
 use Rattle.std.specs.Str.{bytes_eq}
 use Rattle.std.specs.Cmp.Lexicographic.{pointwise}
@@ -11,6 +11,7 @@ use Rattle.herd_report.specs.declared.reading.columns.Kind.{Kind}
 use Rattle.herd_report.specs.declared.reading.columns.Kind.TheVariants.{Birth, Parents, Transfer, Exit}
 use Rattle.herd_report.specs.declared.reading.line_fault.LineCause.{LineCause}
 use Rattle.herd_report.specs.declared.reading.line_fault.LineCause.TheVariants as cause
+use Rattle.herd_report.specs.declared.reading.line_fault.LineCause.TheVariants.{Animal, Day, Sire, Dam, FromHerd, ToHerd, FieldNotUsed, Embryo}
 use Rattle.herd_report.specs.declared.reading.version.Version.{Version}
 use Rattle.herd_report.specs.declared.reading.version.Version.TheVariants.{One, Two}
 
@@ -45,47 +46,30 @@ kind_of text =
     else if bytes_eq text (codes "exit") then Some Exit
     else None
 
--- what may stand in a column, and the cause where another text does
-pub record Rule : Type 0 where
-  pub accepts : List ℕ → Bool
-  pub cause : LineCause
+-- whether a column accepts a text; a column is named by the cause that another text in it has
+abbrev pub accepts : LineCause → List ℕ → Bool
+accepts Animal text = is_animal_number text
+accepts Day text = is_day text
+accepts Sire text = is_parent text
+accepts Dam text = is_parent text
+accepts FromHerd text = is_herd text
+accepts ToHerd text = is_herd text
+accepts FieldNotUsed text = is_empty text
+accepts Embryo text = is_embryo_flag text
+accepts other text = false
 
-abbrev pub animal : Rule
-animal = record { accepts = is_animal_number; cause = cause.Animal }
-
-abbrev pub day : Rule
-day = record { accepts = is_day; cause = cause.Day }
-
-abbrev pub sire : Rule
-sire = record { accepts = is_parent; cause = cause.Sire }
-
-abbrev pub dam : Rule
-dam = record { accepts = is_parent; cause = cause.Dam }
-
-abbrev pub from : Rule
-from = record { accepts = is_herd; cause = cause.FromHerd }
-
-abbrev pub to : Rule
-to = record { accepts = is_herd; cause = cause.ToHerd }
-
-abbrev pub embryo : Rule
-embryo = record { accepts = is_embryo_flag; cause = cause.Embryo }
-
-abbrev pub unused : Rule
-unused = record { accepts = is_empty; cause = cause.FieldNotUsed }
-
--- the rules of the columns animal, day, sire, dam, from, to and embryo
-abbrev pub rules : Kind → List Rule
-rules Birth = animal ∷ day ∷ sire ∷ dam ∷ unused ∷ to ∷ embryo ∷ []
-rules Parents = animal ∷ unused ∷ sire ∷ dam ∷ unused ∷ unused ∷ unused ∷ []
-rules Transfer = animal ∷ day ∷ unused ∷ unused ∷ from ∷ to ∷ unused ∷ []
-rules Exit = animal ∷ day ∷ unused ∷ unused ∷ unused ∷ unused ∷ unused ∷ []
+-- the columns animal, day, sire, dam, from, to and embryo, as a kind uses them
+abbrev pub columns : Kind → List LineCause
+columns Birth = Animal ∷ Day ∷ Sire ∷ Dam ∷ FieldNotUsed ∷ ToHerd ∷ Embryo ∷ []
+columns Parents = Animal ∷ FieldNotUsed ∷ Sire ∷ Dam ∷ FieldNotUsed ∷ FieldNotUsed ∷ FieldNotUsed ∷ []
+columns Transfer = Animal ∷ Day ∷ FieldNotUsed ∷ FieldNotUsed ∷ FromHerd ∷ ToHerd ∷ FieldNotUsed ∷ []
+columns Exit = Animal ∷ Day ∷ FieldNotUsed ∷ FieldNotUsed ∷ FieldNotUsed ∷ FieldNotUsed ∷ FieldNotUsed ∷ []
 
 -- the cause of the first field that its column doesn't accept
-abbrev pub first_fault : List Rule → Fields → Option LineCause
+abbrev pub first_fault : List LineCause → Fields → Option LineCause
 first_fault [] fields = None
-first_fault (rule ∷ rules) [] = None
-first_fault (rule ∷ rules) (field ∷ fields) = if rule.accepts field then first_fault rules fields else Some rule.cause
+first_fault (column ∷ more) [] = None
+first_fault (column ∷ more) (field ∷ fields) = if accepts column field then first_fault more fields else Some column
 
 -- the fields of a record by their columns
 pub record Texts : Type 0 where
@@ -115,7 +99,7 @@ columns_of fields = record {
   embryo = field 7 fields;
 }
 
--- the fields that have rules
+-- the fields of these columns
 abbrev pub ruled : Texts → Fields
 ruled c = c.animal ∷ c.day ∷ c.sire ∷ c.dam ∷ c.from ∷ c.to ∷ c.embryo ∷ []
 
@@ -129,7 +113,7 @@ command_in Exit c = command.Exit c.animal (day_in c.day)
 
 -- the command of a kind in its columns, or the first fault
 abbrev pub command_or_fault : Kind → Texts → Result Command LineCause
-command_or_fault kind c = option_map_or Err (first_fault (rules kind) (ruled c)) (Ok (command_in kind c))
+command_or_fault kind c = option_map_or Err (first_fault (columns kind) (ruled c)) (Ok (command_in kind c))
 
 -- the command in the columns of a record, or its fault
 abbrev pub command_in_columns : Texts → Result Command LineCause
