@@ -1,9 +1,8 @@
 //! Filing a command file at several desks, each with a clerk in a thread of its own.
-ghost use Rattle.std.specs.Prelude.{◌≡◌, ◌≤◌, All, IfErr, IfOk, IfSome, None, OnOk, drop, length, map, string_bytes, take, vec_len};
+ghost use Rattle.std.specs.Prelude.{◌≡◌, ◌≤◌, All, IfErr, IfOk, IfSome, None, OnOk, drop, length, map, take, vec_len};
 ghost use Rattle.std.specs.List.{range_with_len};
 ghost use Rattle.std.specs.Io.KnownBytes.{Appends};
 ghost use Rattle.herd_register.specs.Run.{IsLegal};
-ghost use Rattle.herd_register.specs.declared.limits.TheConstants.{MOST_STEPS};
 ghost use Rattle.herd_report.specs.reading.CommandFile.{CommandFile, IsRead, commands};
 ghost use Rattle.herd_office.specs.Beginnings.{BeginsWithAll};
 ghost use Rattle.herd_office.specs.Opening.{AreFresh};
