@@ -48,6 +48,7 @@ pub struct Desk<N: OfficeName> {
     pub(crate) answered: u64,
     pub(crate) share: Share<N>,
     pub(crate) history: History<N>,
+    pub ghost from_one: { 1 ≤ number },
     pub ghost one_part: { share.parts ≡ 1 },
     pub ghost counted: { share.amount ≡ answered },
     pub ghost stored: { answered ≤ of_desk number history },
@@ -75,7 +76,8 @@ impl<N: OfficeName> Desk<N> {
 
     /// Its number. The desks of an office count from 1.
     pub fn number(&self) -> u16
-        ensures { result ≡ self.now.number }
+        ensures value { result ≡ self.now.number }
+        ensures from_one { 1 ≤ result }
     {
         self.number
     }

@@ -34,7 +34,7 @@ pub(crate) fn make_desks<N: OfficeName, A: Allocator>(
 }
 
 fn make_desk<N: OfficeName>(number: u16, share: Share<N>, history: &History<N>) -> Desk<N>
-    requires { (share.parts ≡ 1) × (share.amount ≡ 0) }
+    requires { (1 ≤ number) × (share.parts ≡ 1) × (share.amount ≡ 0) }
     ensures { (result.number ≡ number) × (result.answered ≡ 0) × (result.history ≡ history.now) }
 {
     Desk {

@@ -124,7 +124,7 @@ fn filed<N: OfficeName, H: Wait, R: Wait + Drop>(
     ensures number { IfOk result (λ done. done.number ≡ desk.number) }
     ensures filed { IfOk result (λ done. HasDone deal.entry done) }
 {
-    let turn = deal.turn(desk.number());
+    let turn = deal.turn(desk.number() - 1);
     file_turn(rt, office, &mut desk, turn)?;
     Ok(desk)
 }

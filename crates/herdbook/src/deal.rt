@@ -1,5 +1,5 @@
 //! How the commands of a file are dealt to desks.
-ghost use Rattle.std.specs.Prelude.{◌≡◌, ◌-◌, ◌≤◌, drop, length, take};
+ghost use Rattle.std.specs.Prelude.{◌≡◌, ◌≤◌, drop, length, take};
 ghost use Rattle.herd_office.specs.declared.limits.TheConstants.{MOST_DESKS};
 ghost use Rattle.herd_register.specs.declared.limits.TheConstants.{MOST_STEPS};
 
@@ -61,15 +61,15 @@ impl<'a> Deal<'a> {
         }
     }
 
-    /// The turn of a desk, by its number; desks count from 1.
-    pub fn turn(&self, number: u16) -> Turn<'a>
+    /// The turn of the desk that so many come before.
+    pub fn turn(&self, before: u16) -> Turn<'a>
         ensures commands { result.commands.now ≡ self.now.rest.now }
-        ensures from { result.from ≡ number - 1 }
+        ensures from { result.from ≡ before }
         ensures step { result.step ≡ self.now.desks }
     {
         Turn {
             commands: self.rest,
-            from: usize::from(number).saturating_sub(1),
+            from: usize::from(before),
             step: self.desks,
         }
     }
