@@ -176,7 +176,7 @@ fn file_each<N: OfficeName, R: Wait + Abort>(
 ) -> u32 {
     let mut full: u32 = 0;
     for command in commands {
-        if let Err(fault) = desk.file(rt, office, *command) {
+        if let Some(fault) = desk.file(rt, office, *command).err() {
             assert_eq!(rt; fault, FileFault::JournalFull);
             full = full.wrapping_add(1);
         }
