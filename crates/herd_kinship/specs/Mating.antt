@@ -40,8 +40,8 @@ number_of_mating_fault DamNotFemale = 4
 number_of_mating_fault TooDeep = 5
 number_of_mating_fault Memory = 6
 
--- a dam, and the book whose sires are asked about
-pub record DamInBook : Type 0 where
+-- a dam, and the book that it and its sires are looked up in
+pub record DamAndBook : Type 0 where
   pub book : Book
   pub dam : List ℕ
 

@@ -22,7 +22,7 @@ use std::marker::Model;
 pub struct DamMatings<'a, F: Allocator, A: Allocator> {
     frozen: &'a Frozen<F>,
     number: AnimalNumber,
-    // Nothing where it isn't in the book.
+    // `None` where the dam isn't in the book.
     dam: Option<Dam<A>>,
 }
 
@@ -39,9 +39,9 @@ impl<'a, F: Allocator, A: Allocator> Model for DamMatings<'a, F, A> {
     ghost use Rattle.herd_frozen.specs.declared.TheConstants.{DEPTH_LIMIT};
     ghost use Rattle.herd_frozen.specs.freezing.Frozen.{book_of};
     ghost use Rattle.herd_frozen.specs.rules.Book.{is_there};
-    ghost use Rattle.herd_kinship.specs.Mating.{DamInBook, IsDam};
+    ghost use Rattle.herd_kinship.specs.Mating.{DamAndBook, IsDam};
 
-    ghost Value = { DamInBook };
+    ghost Value = { DamAndBook };
 
     ghost view = { λ m. record { book = book_of m.frozen.now; dam = m.number } };
 

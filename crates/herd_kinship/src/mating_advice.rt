@@ -87,7 +87,7 @@ impl Candidate {
     }
 }
 
-/// Whether two animals of a book can be mated.
+/// Nothing where two animals of a book can be mated, else the first fault.
 pub fn check(sire: Candidate, dam: Candidate) -> Result<(), MatingFault>
     ensures { MatchResult result
         (λ _. candidates_fault sire dam ≡ None) (λ fault. candidates_fault sire dam ≡ Some fault) }

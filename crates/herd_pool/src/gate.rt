@@ -15,7 +15,8 @@ use std::alloc::{AllocError, Allocator};
 /// and at depths 1 and 4, and with gates that hold one of two workers until the other has traced the animals of its
 /// block, among founders and at depth 1.
 pub trait Gate: Sync {
-    /// A thread has taken this block of the level, both counted from 0, and begins with it.
+    /// A thread has taken this block of the level, both counted from 0, and begins with it. A gate that leaves this out
+    /// does nothing there.
     fn enter(&self, _level: u8, _block: u32) {}
 
     /// Traces the animal at a rank: its relationship with itself in units of 2^-120, as `herd_kinship::trace`. The

@@ -74,7 +74,7 @@ abbrev pub newborn : ℤ → Option (List ℕ) → Option (List ℕ) → ℕ →
 newborn day sire dam herd embryo =
     record { birth = day; sire = sire; dam = dam; embryo = embryo; herd = herd; since = day; left = None }
 
--- and of a command that is one
+-- the record that a command makes, if it is a birth
 abbrev pub newborn_of : Command → Option Animal
 newborn_of (Birth animal day sire dam herd embryo) = Some (newborn day sire dam herd embryo)
 newborn_of command = None

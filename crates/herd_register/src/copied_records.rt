@@ -17,7 +17,8 @@ use std::marker::Model;
 #[derive(Drop)]
 pub(crate) struct CopiedRecords<A: Allocator> {
     entries: Vec<(AnimalNumber, Animal), A>,
-    /// The place of a number here is that of its entry. One more than `most` fit, so that no look-up takes memory.
+    /// The place of a number here is that of its entry. One more than `most` fit: `entry` makes room before it tells
+    /// whether a number is new.
     numbers: IndexMap<AnimalNumber, (), BuildHasherDefault<FoldHasher>, A>,
     most: u32,
 }

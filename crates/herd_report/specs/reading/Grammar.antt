@@ -46,7 +46,7 @@ kind_of text =
     else if bytes_eq text (codes "exit") then Some Exit
     else None
 
--- whether a column accepts a text; a column is named by the cause that another text in it has
+-- whether a column accepts a text; a column is named by the cause of a text that it doesn't accept
 abbrev pub accepts : LineCause → List ℕ → Bool
 accepts Animal text = is_animal_number text
 accepts Day text = is_day text
@@ -87,8 +87,8 @@ abbrev pub field : ℕ → Fields → List ℕ
 field place fields = unwrap_or (field_at fields place) []
 
 -- the columns of a record; version 1 has no embryo column, which is read as empty
-abbrev pub columns_of : Fields → Texts
-columns_of fields = record {
+abbrev pub texts_in : Fields → Texts
+texts_in fields = record {
   kind = field 0 fields;
   animal = field 1 fields;
   day = field 2 fields;
@@ -99,9 +99,9 @@ columns_of fields = record {
   embryo = field 7 fields;
 }
 
--- the fields of these columns
-abbrev pub ruled : Texts → Fields
-ruled c = c.animal ∷ c.day ∷ c.sire ∷ c.dam ∷ c.from ∷ c.to ∷ c.embryo ∷ []
+-- the fields that stand behind the kind, in their order
+abbrev pub used_fields : Texts → Fields
+used_fields c = c.animal ∷ c.day ∷ c.sire ∷ c.dam ∷ c.from ∷ c.to ∷ c.embryo ∷ []
 
 -- the command of a kind in columns that accept their fields
 abbrev pub command_in : Kind → Texts → Command
@@ -113,7 +113,7 @@ command_in Exit c = command.Exit c.animal (day_in c.day)
 
 -- the command of a kind in its columns, or the first fault
 abbrev pub command_or_fault : Kind → Texts → Result Command LineCause
-command_or_fault kind c = option_map_or Err (first_fault (columns kind) (ruled c)) (Ok (command_in kind c))
+command_or_fault kind c = option_map_or Err (first_fault (columns kind) (used_fields c)) (Ok (command_in kind c))
 
 -- the command in the columns of a record, or its fault
 abbrev pub command_in_columns : Texts → Result Command LineCause
@@ -122,4 +122,4 @@ command_in_columns c = option_map_or (λ kind. command_or_fault kind c) (kind_of
 -- the command of a record under the header of a version, or its fault
 unfoldable pub command_of : Version → Fields → Result Command LineCause
 command_of version fields =
-    if length fields == length (header version) then command_in_columns (columns_of fields) else Err cause.Fields
+    if length fields == length (header version) then command_in_columns (texts_in fields) else Err cause.Fields

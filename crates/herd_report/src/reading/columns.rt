@@ -1,7 +1,7 @@
 //! The columns of a record, and the command that they give.
 ghost use Rattle.std.specs.Prelude.{◌≡◌, IfErr, false};
 ghost use Rattle.csv.specs.Records.{fields_of};
-ghost use Rattle.herd_report.specs.reading.Grammar.{columns_of, command_of, field};
+ghost use Rattle.herd_report.specs.reading.Grammar.{texts_in, command_of, field};
 ghost use Rattle.herd_report.specs.reading.LineCause.{is_interruption};
 
 use crate::reading::field::{animal, day, embryo, herd, parent, unused};
@@ -59,7 +59,7 @@ impl<'a> Columns<'a> {
 
     /// The fields by their places, each empty where the record has fewer.
     pub fn of(row: &'a ByteRecord) -> Columns<'a>
-        ensures { texts_of result ≡ columns_of (fields_of row.now) }
+        ensures { texts_of result ≡ texts_in (fields_of row.now) }
     {
         Columns {
             kind: column(row, 0),

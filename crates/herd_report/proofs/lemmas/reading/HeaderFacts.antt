@@ -6,7 +6,7 @@ use Rattle.std.specs.Cmp.Lexicographic.{pointwise}
 use Rattle.std.specs.Str.{bytes_eq}
 use Rattle.csv.specs.Records.{field_at}
 use Rattle.herd_report.specs.reading.Columns.{are_names}
-use Rattle.herd_report.specs.reading.Grammar.{Fields, Texts, columns_of, field, first_columns, is_header}
+use Rattle.herd_report.specs.reading.Grammar.{Fields, Texts, texts_in, field, first_columns, is_header}
 use Rattle.herd_report.specs.declared.reading.version.Version.TheVariants.{One, Two}
 
 -- the fields at so many places, from one on
@@ -29,7 +29,7 @@ all_fields (first ∷ others) =
 so_many_fields : (n : ℕ) (fields : Fields) → length fields ≡ n → fields ≡ fields_from n 0 fields
 so_many_fields n fields long = all_fields fields ∙ ap (λ m. fields_from m 0 fields) long
 
-pub is_header-One : (fields : Fields) → length fields ≡ 7 → is_header One fields ≡ are_names (columns_of fields)
+pub is_header-One : (fields : Fields) → length fields ≡ 7 → is_header One fields ≡ are_names (texts_in fields)
 is_header-One fields long = ap (is_header One) (so_many_fields 7 fields long)
 
 and-true : (b : Bool) → (b && true) ≡ b
@@ -47,13 +47,13 @@ pointwise-and (a ∷ xs) (b ∷ names) x name same =
     ∙ sym (and_assoc (bytes_eq a b) (pointwise bytes_eq xs names) (bytes_eq x name))
 
 is_header-and : (fields : Fields) → length fields ≡ 8
-    → is_header Two fields ≡ (are_names (columns_of fields) && bytes_eq (field 7 fields) (codes "embryo"))
+    → is_header Two fields ≡ (are_names (texts_in fields) && bytes_eq (field 7 fields) (codes "embryo"))
 is_header-and fields long =
     ap (is_header Two) (so_many_fields 8 fields long)
     ∙ pointwise-and (fields_from 7 0 fields) first_columns (field 7 fields) (codes "embryo") refl
 
 -- under the names of version 1 the last column decides
-pub is_header-Two : (fields : Fields) (texts : Texts) → texts ≡ columns_of fields → length fields ≡ 8 → are_names texts ≡ true
+pub is_header-Two : (fields : Fields) (texts : Texts) → texts ≡ texts_in fields → length fields ≡ 8 → are_names texts ≡ true
     → bytes_eq texts.embryo (codes "embryo") ≡ is_header Two fields
 is_header-Two fields texts same long names =
     sym (is_header-and fields long
@@ -61,7 +61,7 @@ is_header-Two fields texts same long names =
     ∙ ap (λ b. b && bytes_eq texts.embryo (codes "embryo")) names)
 
 -- and other names are no header
-pub no_header-Two : (fields : Fields) (texts : Texts) → texts ≡ columns_of fields → length fields ≡ 8 → are_names texts ≡ false
+pub no_header-Two : (fields : Fields) (texts : Texts) → texts ≡ texts_in fields → length fields ≡ 8 → are_names texts ≡ false
     → false ≡ is_header Two fields
 no_header-Two fields texts same long names =
     sym (is_header-and fields long
