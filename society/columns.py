@@ -5,9 +5,10 @@ import unicodedata
 
 from society.report import Mistake
 
-# The usual titles, the likelier first: where a sheet has a column of days and one of words, as `Abgangsdatum` and
-# `Abgang`, it is that of days. They are compared in small letters, without accents, blanks and signs. A
-# parent's column may also have a word for the parent beside one for the id, as `Vater Ohrmarke`.
+# The usual titles, the likelier first: where a sheet has both a column of days and one of words, as `Abgangsdatum` and
+# `Abgang`, the one of days is read; a column of all exits is read before one of deaths alone. They are compared in
+# small letters, without accents, blanks and signs. A parent's column may also have a word for the parent beside one
+# for the id, as `Vater Ohrmarke`.
 TITLES = {
     "id": "id, animal id, ear tag, eartag, ear tag number, ear tag no, tag, tag number, tag no, animal number, "
     "animal no, registration, registration number, registration no, reg no, herd book number, herd book no, "
@@ -25,9 +26,9 @@ TITLES = {
     "dam": "dam, of dam, mother, Mutter, der Mutter, Muttertier, mère, de la mère",
     "owner": "owner, herd, farm, holding, Besitzer, Eigentümer, Halter, Betrieb, propriétaire, détenteur, élevage, "
     "exploitation",
-    "exit": "exit date, date of exit, date of death, Abgangsdatum, Abgang am, abgegangen am, Todesdatum, "
-    "gestorben am, date de sortie, date de décès, mort le, "
-    "exit, left, departure, died, death, Abgang, abgegangen, gestorben, sortie, mort, décès",
+    "exit": "exit date, date of exit, Abgangsdatum, Abgang am, abgegangen am, date de sortie, "
+    "exit, left, departure, Abgang, abgegangen, sortie, "
+    "date of death, Todesdatum, gestorben am, date de décès, mort le, died, death, gestorben, mort, décès",
     "embryo": "embryo, embryo calf, stored embryo, embryo transfer, et, et calf, Embryotransfer, ET-Kalb, Embryokalb, "
     "embryon, transfert d'embryon",
 }  # fmt: skip

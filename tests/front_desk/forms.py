@@ -53,7 +53,8 @@ class FormChecks(Checks):
         self.workbook(books[0])
 
     def days_beside_words(self) -> None:
-        """Of a column of days and one of words that both have usual titles that of days is read."""
+        """Where a sheet has both a column of days and one of words, the one of days is read; and one of all exits is
+        read before one of deaths."""
         desk = Desk(self, "days beside words")
         done = desk.take(
             "Ohrmarke;Geburt;Geburtsdatum;Vater;Mutter;Abgang;Abgangsdatum\n"
@@ -68,6 +69,17 @@ class FormChecks(Checks):
         )
         self.count(desk.born() == {"K1": "2001-03-01", "K2": "2001-03-02"}, f"{desk.born()}")
         self.count(desk.commands()[-1].startswith("exit,HOLGBRF000000000001,2005-04-02,"), f"{desk.commands()}")
+        for exits, deaths in [
+            ("Abgang", "Todesdatum"), ("abgegangen", "gestorben am"), ("left", "date of death"), ("sortie", "mort le"),
+            ("departure", "date de décès"), ("exit", "died"), ("date de sortie", "date de décès"),
+        ]:  # fmt: skip
+            exits_first = Desk(self, f"{exits} before {deaths}")
+            exits_first.take(
+                f"id;birth;sire;dam;{deaths};{exits}\nsold;2001-03-01;;;;2005-04-02\n"
+                "dead;2001-03-02;;;2006-05-03;2006-05-03\nlives;2001-03-03;;;;\n"
+            )
+            days = [line.split(",")[2] for line in exits_first.commands() if line.startswith("exit")]
+            self.count(days == ["2005-04-02", "2006-05-03"], f"{exits}, {deaths}: {exits_first.commands()}")
 
     def workbook(self, wanted: object) -> None:
         """An `.xlsx` file gives the same book; days are days, numbers are numbers, and a row may be empty."""
