@@ -4,6 +4,7 @@ from __future__ import annotations
 import datetime
 
 from society.animals import Animal
+from society.book import INVENTED
 from society.dates import ANY_DAY, FIRST_DAY, Span
 from society.report import INFERRED, PARENT, Report
 
@@ -105,7 +106,18 @@ class Days:
             else:
                 animal.born, animal.birth_inferred = self.day_for(animal)
                 named = f" (line {animal.named_in} names it)" if animal.named_in else ""
-                report.tell(INFERRED, animal.line, id, f"birth day {animal.born}, {animal.birth_inferred}{named}")
+                report.tell(INFERRED, animal.line, id, f"birth day {animal.born}, {self.reason_of(animal)}{named}")
+
+    def stays(self, animal: Animal, day: int) -> bool:
+        """Is it the day that was inferred for the book, where the cell has neither month nor year?"""
+        return animal.birth == ANY_DAY and animal.id in self.kept and self.kept[animal.id][0] == day
+
+    def reason_of(self, animal: Animal) -> str:
+        """The reason in a sentence: that of a day that stays may not hold any more."""
+        why = animal.birth_inferred
+        if not self.stays(animal, animal.born.toordinal()):
+            return why
+        return f"as in the book, where it was {why if why == INVENTED else f'inferred: {why}'}"
 
     def set_low(self, id: str) -> None:
         animal = self.animals[id]
@@ -153,7 +165,7 @@ class Days:
         # where parents and calves leave no day open, that of the cell holds, and the program refuses a parent
         day = min(max(day, animal.birth.first.toordinal()), animal.birth.last.toordinal())
         # a day that stays has the reason that it had, whatever is known today
-        if day == kept and animal.birth == ANY_DAY:
+        if self.stays(animal, day):
             why = from_what
         return datetime.date.fromordinal(day), why
 

@@ -79,7 +79,8 @@ class GoatChecks(Checks):
         self.count(len(desk.listed("mating", "--dam", "Clara", "CH 120.1150.8")) == 1, "an added sire may be named")
         before = desk.commands()
         again = desk.take(GOATS)
-        self.told(again, "CH 120.1150.8: inferred: birth day 2016-05-09, from its offspring (line 6 names it)")
+        why = "as in the book, where it was inferred: from its offspring"
+        self.told(again, f"CH 120.1150.8: inferred: birth day 2016-05-09, {why} (line 6 names it)")
         self.count(desk.commands() == before and " 0 new, 0 changed" in again.last, f"{again}")
         self.certificates(desk)
         self.corrected(desk)

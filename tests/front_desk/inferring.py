@@ -101,11 +101,13 @@ class InferringChecks(Checks):
 
         told = [f"line {at}: {id}: inferred: {day}" for at, (id, (_, day)) in enumerate(undated.items(), 4)]
         self.told(desk.take(sheet(*(row for row, _ in undated.values()))), *told)
-        # all are gone, and then what their days were inferred from is another
+        # all are gone, and then what their days were inferred from is another: it isn't told as if it held today
+        as_in_book = ", as in the book, where it was inferred: "
+        in_book = {id: day.replace(", ", as_in_book, 1) for id, (_, day) in undated.items()}
         for now in sheet(), sheet(), rows.replace("mother", "").replace("2001-01-01", "2000-01-01"):
             named = {"mother": " (line 3 names it)"} if "mother" in now else {}
             done = desk.take(now)
-            self.told(done, *(f"{id}: inferred: {day}{named.get(id, '')}" for id, (_, day) in undated.items()))
+            self.told(done, *(f"{id}: inferred: {day}{named.get(id, '')}" for id, day in in_book.items()))
             reasons = {row["id"]: row["birth"] for row in desk.table("book/ids.csv") if row["birth"]}
             found = {id: f"birth day {desk.born()[id]}, {why}" for id, why in reasons.items()}
             self.count(found == {id: day for id, (_, day) in undated.items()}, f"{found}")
@@ -114,6 +116,7 @@ class InferringChecks(Checks):
         self.count("2003: " in words and "3 more have no known birth year" in words, f"the year that is known: {words}")
         # they have rows again, whose cells for the day are empty; one is a parent now
         again = [row.replace("2003", "") for row, _ in undated.values()]
+        told = [f"line {at}: {id}: inferred: {day}" for at, (id, day) in enumerate(in_book.items(), 4)]
         self.told(desk.take(sheet(*again, "late,F,2020-01-01,,alone,")), *told)
         done = desk.take(sheet(*again, "late,F,2002-01-01,,year,"))
         self.told(done, "line 4: year: inferred: birth day 2001-12-31, from its offspring")
@@ -227,7 +230,8 @@ class InferringChecks(Checks):
             f"Hans: gone: {stays}",
         )
         self.count(", 1 gone: " in done.last and "with --drop-gone they are dropped" in done.out, f"{done}")
-        self.told(done, "Hans: inferred: birth day 2002-01-01, from its offspring")
+        why = "as in the book, where it was inferred: from its offspring"
+        self.told(done, f"Hans: inferred: birth day 2002-01-01, {why}")
         self.count(late.numbers()["Hans"] == "HOLGBRM000000000001", f"its number stays: {late.numbers()}")
         done = late.take(grown, "--drop-gone")
         self.told(done, "Hans: gone: no animal has it as a parent any more: it is dropped from the book")
