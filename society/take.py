@@ -89,7 +89,7 @@ def take_pedigree(path: pathlib.Path, wishes: Wishes) -> None:
     program = Herdbook()
     book = Book(wishes.book)
     book.load(program)
-    taking = Taking(book, animals, {"sire", "dam"}, report)
+    taking = Taking(book, animals, {"sire", "dam"}, report, is_pedigree=True)
     taking.complete(wishes.drop_gone)
     for animal in animals.values():
         animal.sex = ""

@@ -6,7 +6,7 @@ from dataclasses import replace
 from society.absent import Names, add_gone, animals_of_book
 from society.animals import ROLES, Animal
 from society.births import Days, cut_cycles
-from society.book import INVENTED, Book, Known
+from society.book import Book, Known
 from society.commands import Command, Record, parents
 from society.dates import ANY_DAY, Span
 from society.report import INFERRED, ROW, Mistake, Report
@@ -17,8 +17,11 @@ MOST_ANIMALS = 60_000
 class Taking:
     """The animals that are to stand in the book, by id, and the book as it is."""
 
-    def __init__(self, book: Book, animals: dict[str, Animal], given: set[str], report: Report) -> None:
+    def __init__(
+        self, book: Book, animals: dict[str, Animal], given: set[str], report: Report, is_pedigree: bool = False
+    ) -> None:
         self.book, self.animals, self.given, self.report = book, animals, given, report
+        self.is_pedigree = is_pedigree
         self.names = book.by_number()
         # whether a parent is a sire or a dam, by its first offspring
         self.roles: dict[str, str] = {}
@@ -154,7 +157,7 @@ class Taking:
         for (id, role), text in self.texts.items():
             animal = self.animals.get(id)
             # a pedigree's parents may be swapped
-            is_swapped = animal and animal.birth_inferred == INVENTED and text in (animal.sire, animal.dam)
+            is_swapped = animal and self.is_pedigree and text in (animal.sire, animal.dam)
             if animal and getattr(animal, role) != text and not is_swapped:
                 found[id, role] = text
         return found

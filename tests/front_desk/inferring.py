@@ -126,12 +126,29 @@ class InferringChecks(Checks):
         self.told(done, f"line 5: mother: inferred: birth day 2005-01-01, {why}")
 
     def invented_days(self) -> None:
-        """A day that was invented for a pedigree stays marked as that once the animal is gone."""
+        """A day that was invented for a pedigree stays marked as that once the animal is gone, or has a row without
+        a day."""
         desk = Desk(self, "invented")
         desk.good("take", "--pedigree", desk.write("pedigree.txt", "x 0 0\ny x 0\n"))
-        desk.take("id,born,sire,dam\nz,2020-01-01,x,\n")
+        done = desk.take("id,born,sire,dam\nz,2020-01-01,x,\n")
+        in_book = "as in the book, where it was invented"
+        self.told(
+            done,
+            f"x: inferred: birth day 1900-01-01, {in_book} (line 2 names it)",
+            f"y: inferred: birth day 1900-01-02, {in_book}",
+        )
         listed = {row["id"]: row["birth"] for row in desk.listed("list")}
         self.count(all(listed[id].endswith(" (invented)") for id in "xy"), f"{listed}")
+        # the parents of a sheet aren't swapped: one that is refused is shown with the sheet's text
+        done = desk.take("id,sex,born,sire,dam\nx,M,,,\ny,F,,x,x\n")
+        self.told(
+            done,
+            f"line 3: y: inferred: birth day 1900-01-02, {in_book}",
+            "line 3: y: its dam x (line 2) is left out: it isn't female (refusal 6)",
+        )
+        desk.good("certificate", "y", "--out", "page.html")
+        words = " ".join("".join(desk.page("page.html").itertext()).split())
+        self.count("unknown (in the sheet: x)" in words and "(in sheet)" not in words, f"{words}")
 
     def sexes(self) -> None:
         """Without a column of sexes a sire is male and a dam female; what is corrected keeps its digits."""
