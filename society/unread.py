@@ -28,8 +28,8 @@ Cell = tuple[str, int]
 
 
 class Unread:
-    """For each column, by its field, the texts that can't be read, and how many cells have a text. `titles` are the
-    columns' own."""
+    """For each column, by its field, the texts that can't be read, and how many cells say something: an empty one or
+    a word for unknown doesn't, nor does one for a living animal tell of an exit. `titles` are the columns' own."""
 
     def __init__(self, titles: dict[str, str]) -> None:
         self.titles = titles
@@ -59,10 +59,12 @@ class Unread:
         )
 
     def place(self, field: str, cells: list[Cell]) -> str:
-        return f"{len(cells)} of {self.read[field]} cells of the column '{self.titles[field]}'"
+        says = "tell of an exit" if field == "exit" else "say something"
+        return f"{len(cells)} of the {self.read[field]} cells that {says} in the column '{self.titles[field]}'"
 
     def refuse_most(self) -> None:
-        """A column more than half of whose cells can't be read is a mistake: hardly anything of it would be taken."""
+        """A column is a mistake where more than half of its cells that say something, and at least three, can't be
+        read: hardly anything of it would be taken."""
         for field, cells in self.cells.items():
             if len(cells) > max(2, self.read[field] // 2):
                 raise Mistake(self.summary(field, cells))

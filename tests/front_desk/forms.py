@@ -172,8 +172,8 @@ class FormChecks(Checks):
             "own.csv", "id,sex,born,sire,dam\n1,Bk,2001,,\n2,Schf,2001,,\n3,Schf,2001,,\n4,0,2001,,\n5,f,2001,,\n"
         )
         told = (
-            "3 of 4 cells of the column 'sex' can't be read, the first in line 2: 'Schf' (2 times), 'Bk': write M or "
-            "F, or say which sex each word is, as --sexes Schf=m or Schf=f"
+            "3 of the 4 cells that say something in the column 'sex' can't be read, the first in line 2: 'Schf' (2 "
+            "times), 'Bk': write M or F, or say which sex each word is, as --sexes Schf=m or Schf=f"
         )
         desk.wrong(told, "take", sheet, "--book", "own")
         done = desk.good("take", sheet, "--book", "own", "--sexes", "bk=m,Schf=F", "--sexes", "0=m")

@@ -32,8 +32,8 @@ class MistakeChecks(Checks):
             (
                 "id,born,sire,dam\na,x,,\nb,y,,\nc,z,,\nd,2001,,\n",
                 (
-                    "3 of 4 cells of the column 'born' can't be read, the first in line 2: 'x', 'y', 'z': write days "
-                    "as 2001-03-01"
+                    "3 of the 4 cells that say something in the column 'born' can't be read, the first in line 2: 'x', "
+                    "'y', 'z': write days as 2001-03-01"
                 ),
             ),
             (
@@ -46,9 +46,10 @@ class MistakeChecks(Checks):
             (
                 "id,sex,born,sire,dam,exit\na,F,2001,,,Hof\nb,F,2001,,,Hof\nc,F,2001,,,Hof\n",
                 (
-                    "3 of 3 cells of the column 'exit' can't be read, the first in line 2: 'Hof' (3 times): write days "
-                    "as 2001-03-01 or 01.03.2001, a word such as sold, verkauft or vendu where the day isn't known, "
-                    "and nothing or alive, lebt or vivant where the animal hasn't left; or name another column"
+                    "3 of the 3 cells that tell of an exit in the column 'exit' can't be read, the first in line 2: "
+                    "'Hof' (3 times): write days as 2001-03-01 or 01.03.2001, a word such as sold, verkauft or vendu "
+                    "where the day isn't known, and nothing or alive, lebt or vivant where the animal hasn't left; or "
+                    "name another column"
                 ),
             ),
             (
