@@ -18,7 +18,7 @@ ROLES = {"sire": "M", "dam": "F"}
 CUT = re.compile(r"\d[.,]?\d*E\+\d+", re.IGNORECASE)
 
 # what is told of an exit without a day; the day is that of the book, where it has one
-GONE = "it counts as gone"
+GONE = "the animal counts as gone"
 
 
 @dataclass(slots=True)
@@ -182,7 +182,7 @@ class Rows:
         left = self.span(animal, "exit", text)
         if left and not is_span(text) and left.last < animal.birth.first:
             # a number within a text that can't be its day
-            self.leave_out(animal, "exit", text, "its exit", f"the day in '{text}' would be before its birth: {GONE}")
+            self.leave_out(animal, "exit", text, "its exit", f"the day in '{text}' would be before its birth; {GONE}")
             left = None
         if left:
             animal.left = left.last
@@ -211,7 +211,7 @@ class Rows:
             ) from None
         except Unreadable as why:
             told = f"'{text}' has {no_day(text)}" if field == "exit" and exit_word(text) else str(why)
-            self.leave_out(animal, field, text, f"its {name}", f"{told}: {GONE}" if field == "exit" else told)
+            self.leave_out(animal, field, text, f"its {name}", f"{told}; {GONE}" if field == "exit" else told)
             return None
 
     def is_embryo(self, animal: Animal, text: str) -> bool:

@@ -46,7 +46,7 @@ class GoatChecks(Checks):
                 "31.02.2017"
             ),
             "line 5: CH 120.1158.9: inferred: exit on 2022-11-12, from 'geschlachtet 12.11.2022'",
-            "line 6: CH 120.1160.1: its exit is left out: 'verkauft' has no day: it counts as gone",
+            "line 6: CH 120.1160.1: its exit is left out: 'verkauft' has no day; the animal counts as gone",
             (
                 "line 6: CH 120.1157.8: added: the dam of CH 120.1160.1 has no row: added without parents (is CH "
                 "120.1158.7 meant?)"
@@ -189,14 +189,17 @@ class GoatChecks(Checks):
         self.told(
             done,
             (
-                "line 13: a11: its exit is left out: '12.11.22' has two digits of the year: write all four: it counts "
-                "as gone"
+                "line 13: a11: its exit is left out: '12.11.22' has two digits of the year: write all four; the "
+                "animal counts as gone"
             ),
             (
-                "line 14: a12: its exit is left out: 'verkauft 12.11.22' has no single day with a year of four digits: "
-                "it counts as gone"
+                "line 14: a12: its exit is left out: 'verkauft 12.11.22' has no single day with a year of four digits; "
+                "the animal counts as gone"
             ),
-            "line 15: a13: its exit is left out: the day in 'about 1950' would be before its birth: it counts as gone",
+            (
+                "line 15: a13: its exit is left out: the day in 'about 1950' would be before its birth; the animal "
+                "counts as gone"
+            ),
             (
                 "2 of the 15 cells that tell of an exit in the column 'exit' can't be read, the first in line 13: "
                 "'12.11.22', 'about 1950': write days as 2001-03-01 or 01.03.2001, a word such as sold, verkauft or "
@@ -240,7 +243,7 @@ class GoatChecks(Checks):
         done = desk.take(sheet("verkauft", "tot", "verkauft", "sold", "vendu", "", "", "", ""))
         self.told(
             done,
-            "line 2: a0: its exit is left out: 'verkauft' has no day: it counts as gone",
+            "line 2: a0: its exit is left out: 'verkauft' has no day; the animal counts as gone",
             "line 2: a0: inferred: exit on 2001-03-01, as in the book, since its cell gives no day",
         )
 

@@ -98,7 +98,7 @@ class LeavingChecks(Checks):
             "line 6: e: inferred: birth day 2002-02-15, from the month 2002-02, since there is no day 31.02.2002",
             "line 7: f: its birth day is left out: '01.02.98' has two digits of the year: write all four",
             "line 8: g: its sex is left out: 'cat' isn't known: write M or F, or name it as --sexes cat=m or cat=f",
-            "line 8: g: its exit is left out: 'sold' has no day: it counts as gone",
+            "line 8: g: its exit is left out: 'sold' has no day; the animal counts as gone",
             "line 8: g: the row is left out: its sex can't be read, and no animal has it as a parent",
             (
                 "1 of the 10 cells that say something in the column 'sex' can't be read, the first in line 8: 'cat': "
