@@ -4,12 +4,13 @@ from __future__ import annotations
 import csv
 import difflib
 import pathlib
+import shlex
 from dataclasses import astuple, dataclass, fields
 
 from society.commands import Command, Record, read_commands, replay, text_of
 from society.files import table, write_all
 from society.program import REFUSALS, Herdbook
-from society.report import Entry, Mistake
+from society.report import CALLED, Entry, Mistake
 
 COMMANDS, IDS, OWNERS, REPORT = "commands.csv", "ids.csv", "owners.csv", "report.csv"
 # what the sheet writes of parents otherwise than the book has them, and the options that a later taking uses again
@@ -187,11 +188,9 @@ def open_book(folder: pathlib.Path, program: Herdbook) -> Book:
     """The book of a folder, which has to be there."""
     book = Book(folder)
     if not book.path.exists():
-        how = f"society/society take SHEET --book {folder}"
-        raise Mistake(
-            f"there is no book in the folder {folder}: take a sheet first, as {how}, or go to the folder where you "
-            "took one, by cd FOLDER"
-        )
+        how = f"{CALLED} take SHEET --book {shlex.quote(str(folder))}"
+        there = "" if folder.is_absolute() else ", or go to the folder where you took one, by cd FOLDER"
+        raise Mistake(f"there is no book in the folder {folder}: take a sheet first, as {how}{there}")
     book.load(program)
     return book
 

@@ -8,7 +8,7 @@ import re
 from typing import NoReturn
 
 from society.languages import LANGUAGES
-from society.report import Mistake
+from society.report import CALLED, Mistake
 
 ABOUT = """Keeps a society's herd book in a folder: takes its spreadsheet, and writes lists, certificates, mating advice
 and pictures. Every refusal and every coefficient comes from the program herdbook; the front desk around it isn't
@@ -81,7 +81,7 @@ def generations(text: str) -> int:
 
 def parser() -> Parser:
     as_written = argparse.RawDescriptionHelpFormatter
-    top = Parser(prog="society/society", description=ABOUT, epilog=EXAMPLES, formatter_class=as_written)
+    top = Parser(prog=CALLED, description=ABOUT, epilog=EXAMPLES, formatter_class=as_written)
     words = top.add_subparsers(dest="word", metavar="WORD", required=True)
 
     def word(name: str, help: str, more: str = "") -> Parser:

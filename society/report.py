@@ -2,8 +2,12 @@
 from __future__ import annotations
 
 import collections
+import shlex
+import sys
 from typing import NamedTuple
 
+# how the front desk was called, for commands that a sentence shows
+CALLED = shlex.quote(sys.argv[0])
 # what an entry is about, in the order in which the report has them
 LEFT_OUT, INFERRED, CHANGED, GONE, ADDED, NEW = "left out", "inferred", "changed", "gone", "added", "new"
 ORDER = (LEFT_OUT, INFERRED, CHANGED, GONE, ADDED, NEW)

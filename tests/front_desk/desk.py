@@ -5,6 +5,7 @@ import csv
 import io
 import os
 import pathlib
+import shlex
 import subprocess
 import sys
 import textwrap
@@ -12,6 +13,8 @@ import xml.etree.ElementTree as xml
 
 TOP = pathlib.Path(__file__).resolve().parent.parent.parent
 PROGRAM = os.environ.get("HERDBOOK") or str(TOP / "crates/herdbook/out/herdbook")
+# how the front desk is called
+CALLED = shlex.quote(str(TOP / "society/society"))
 SECONDS = 120
 
 

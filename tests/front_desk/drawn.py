@@ -4,7 +4,7 @@ from __future__ import annotations
 import fractions
 import re
 
-from front_desk.desk import Checks, Desk
+from front_desk.desk import CALLED, Checks, Desk
 from front_desk.sheet import Secretary, sheet_text
 
 
@@ -137,6 +137,6 @@ class PageChecks(Checks):
         for word in "take", "list", "certificate", "mating", "trend", "pedigree", "inverse":
             shown = desk.good(word, "--help").out
             self.count(
-                word in top and "--book FOLDER" in shown and f"usage: society/society {word}" in shown,
+                word in top and "--book FOLDER" in shown and f"usage: {CALLED} {word}" in shown,
                 f"help: {word}: {shown}",
             )

@@ -5,7 +5,7 @@ import os
 import subprocess
 import sys
 
-from front_desk.desk import PROGRAM, SECONDS, TOP, Checks, Desk
+from front_desk.desk import CALLED, PROGRAM, SECONDS, TOP, Checks, Desk
 
 
 class MistakeChecks(Checks):
@@ -77,8 +77,11 @@ class MistakeChecks(Checks):
             (["take", "good.csv", "--book", "file"], "the folder file can't be written"),
             (["take", "good.csv", "--day", "1.2.2003"], "'1.2.2003' isn't a day written as 2001-03-01"),
             (["list"],
-             "there is no book in the folder book: take a sheet first, as society/society take SHEET --book book, or "
-             "go to the folder where you took one, by cd FOLDER"),
+             f"there is no book in the folder book: take a sheet first, as {CALLED} take SHEET --book book, or go to "
+             "the folder where you took one, by cd FOLDER\n"),
+            (["list", "--book", "/no where"],
+             "there is no book in the folder /no where: take a sheet first, as "
+             f"{CALLED} take SHEET --book '/no where'\n"),
             (["sell"], "invalid choice: 'sell'"),
             ([], "the following arguments are required: WORD"),
         ]:  # fmt: skip
@@ -92,7 +95,7 @@ class MistakeChecks(Checks):
             (["mating", "--dam", "a", "a", "--all"], "not both"),
             (["certificate", "DE", "01", "2345"],
              "unrecognized arguments: 01 2345: put an id or a name with blanks between quotation marks"),
-            (["list", "--language", "de"], "there is no option --language here: `society/society list --help` shows"),
+            (["list", "--language", "de"], f"there is no option --language here: `{CALLED} list --help` shows"),
             (["list", "--out", "book"], "'book' is a folder: name a file"),
             (["inverse", "--matrix-market", "."], "'.' is a folder: name a file"),
             (["pedigree", "a", "--generations", "11"], "'11' isn't 1 to 10"),
