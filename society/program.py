@@ -3,6 +3,7 @@ from __future__ import annotations
 
 import os
 import pathlib
+import shlex
 import subprocess
 import sys
 from typing import IO, Iterator
@@ -64,7 +65,8 @@ class Herdbook:
         text = done.communicate()[0]
         if done.returncode and tell:
             raise Mistake(
-                f"the program herdbook isn't built, for what is told above: mend that, or if you have it built, {SAY}"
+                "the program herdbook isn't built, for the reason told above: mend that, or if you have it built, "
+                f"{SAY}"
             )
         if done.returncode:
             raise Mistake(f"{self.path} --version ended with status {done.returncode}: is it the program herdbook?")
@@ -74,8 +76,9 @@ class Herdbook:
         try:
             return subprocess.Popen([str(self.path), *words], stdin=given, stdout=subprocess.PIPE, stderr=errors)
         except OSError as error:
-            hint = f": allow it, as chmod u+x {self.path}" if isinstance(error, PermissionError) else f": {SAY}"
-            raise Mistake(f"{self.path} can't be run ({error.strerror or error}){hint}") from None
+            allow = f"allow it, as chmod u+x {shlex.quote(str(self.path))}"
+            hint = allow if isinstance(error, PermissionError) else SAY
+            raise Mistake(f"{self.path} can't be run ({error.strerror or error}): {hint}") from None
 
     def run(self, words: list[str], book: bytes) -> str:
         """What it writes of a command file."""

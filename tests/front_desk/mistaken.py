@@ -114,9 +114,9 @@ class MistakeChecks(Checks):
         done = desk.run("list", program="/usr/bin")
         told = f"society: /usr/bin is a folder, not the program of the herd book: {say}\n"
         self.count(done.status == 1 and done.err == told, f"{done}")
-        copied = desk.room / desk.write("copied", "not to be run")
+        copied = desk.room / desk.write("copied here", "not to be run")
         done = desk.run("list", program=str(copied))
-        told = f"society: {copied} can't be run (Permission denied): allow it, as chmod u+x {copied}\n"
+        told = f"society: {copied} can't be run (Permission denied): allow it, as chmod u+x '{copied}'\n"
         self.count(done.status == 1 and done.err == told, f"{done}")
         done = desk.run("list", program="/bin/true")
         self.count(done.status == 1 and "the program answered 0 of 1 commands" in done.err, f"{done}")
