@@ -7,7 +7,7 @@ import pathlib
 from dataclasses import dataclass, field
 from typing import Iterable, NamedTuple
 
-from society.report import Mistake
+from society.report import Mistake, counted
 
 COLUMNS = ["kind", "animal", "day", "sire", "dam", "from", "to", "embryo"]
 
@@ -98,7 +98,7 @@ def read_commands(path: pathlib.Path) -> list[Command]:
             if not fields:
                 continue
             if len(fields) != len(titles):
-                where = f"{path}: line {reader.line_num}"
-                raise Mistake(f"{where} has {len(fields)} cells, not {len(titles)}: mend it, or restore the file")
+                cells = f"{path}: line {reader.line_num} has {counted(len(fields), 'cell')}, not {len(titles)}"
+                raise Mistake(f"{cells}: mend it, or restore the file")
             commands.append(Command(*fields))
     return commands

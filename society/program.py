@@ -9,7 +9,7 @@ import sys
 from typing import IO, Iterator
 
 from society.commands import Command, text_of
-from society.report import Mistake
+from society.report import Mistake, counted
 
 TOP = pathlib.Path(__file__).resolve().parent.parent
 # how it is said where the built program is
@@ -107,7 +107,8 @@ class Herdbook:
         replies = self.run(["file"], text_of(commands)).splitlines()
         if len(replies) != len(commands):
             raise Mistake(
-                f"the program answered {len(replies)} of {len(commands)} commands: is {self.path} the right one?"
+                f"the program answered {len(replies)} of {counted(len(commands), 'command')}: is {self.path} the right "
+                "one?"
             )
         refused = (line.split(",") for line in replies if line.endswith(",accepted") is False)
         return {int(serial) - 1: int(refusal) for serial, _, refusal in refused}

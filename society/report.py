@@ -17,6 +17,11 @@ ROW, LINE, CELL, PARENT = "row", "line", "cell", "parent"
 MOST_SHOWN = 25
 
 
+def counted(count: int, noun: str) -> str:
+    """So many of what a noun names, as `1 row` or `2 rows`."""
+    return f"{count} {noun}" if count == 1 else f"{count} {noun}s"
+
+
 class Mistake(Exception):
     """What ends the work: one sentence or several, each with what to do. Nothing is written then."""
 
@@ -59,11 +64,7 @@ class Report:
     def left_out(self) -> str:
         """How many rows, cells and parents are left out, in words."""
         counts = collections.Counter(entry.part for entry in self.entries if entry.what == LEFT_OUT)
-        parts = [
-            f"{counts[part]} {part}{'s' if counts[part] > 1 else ''}"
-            for part in (ROW, LINE, CELL, PARENT)
-            if counts[part]
-        ]
+        parts = [counted(counts[part], part) for part in (ROW, LINE, CELL, PARENT) if counts[part]]
         return f"{counts.total()} left out" + (f" ({', '.join(parts)})" if parts else "")
 
     def counts(self) -> collections.Counter[str]:

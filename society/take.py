@@ -13,7 +13,9 @@ from society.faults import leave_out_faulty_parents
 from society.filing import Filing
 from society.pedigree import invent_days, invent_sexes
 from society.program import Herdbook
-from society.report import ADDED, CHANGED, GONE, INFERRED, LEFT_OUT, MOST_SHOWN, NEW, ORDER, Mistake, Report
+from society.report import (
+    ADDED, CHANGED, GONE, INFERRED, LEFT_OUT, MOST_SHOWN, NEW, ORDER, Mistake, Report, counted,
+)  # fmt: skip
 from society.sheet import read_sheet
 from society.taking import Taking
 from society.triples import read_triples
@@ -57,7 +59,7 @@ def take_sheet(path: pathlib.Path, wishes: Wishes) -> None:
     used = [f"{name} from '{sheet.titles[at]}'" for name, at in columns.items()]
     unread = [f"'{title}'" for at, title in enumerate(sheet.titles) if title and at not in columns.values()]
     about = [
-        f"{path}: {len(sheet.rows)} rows below the titles in line {sheet.line}, {sheet.how}",
+        f"{path}: {counted(len(sheet.rows), 'row')} below the titles in line {sheet.line}, {sheet.how}",
         f"columns: {', '.join(used)}" + (f"; not read: {', '.join(unread)}" if unread else ""),
         *again(words, wishes, book),
         *rows.abbreviations(),
@@ -95,7 +97,7 @@ def take_pedigree(path: pathlib.Path, wishes: Wishes) -> None:
         animal.sex = ""
     invent_sexes(animals, report)
     invent_days(animals)
-    what = f"the sexes and birth days of all {len(animals)} animals"
+    what = f"the sexes and birth days of {counted(len(animals), 'animal')}"
     about = [columns] * bool(columns) + [f"{path}: {what} are invented so that parents are older than their offspring"]
     finish(taking, program, wishes, about, len(animals))
 
@@ -133,8 +135,8 @@ def finish(taking: Taking, program: Herdbook, wishes: Wishes, about: list[str], 
     inferred += [f"{counts[INFERRED]} inferred"] * bool(counts[INFERRED] or not invented)
     each = f": {book.folder / REPORT} has each" if report.entries else ""
     print(
-        f"{book.folder}: {len(taking.animals)} animals, {new} new, {counts[CHANGED]} changed, {', '.join(inferred)}, "
-        f"{report.left_out()}, {counts[ADDED]} added, {counts[GONE]} gone{each}"
+        f"{book.folder}: {counted(len(taking.animals), 'animal')}, {new} new, {counts[CHANGED]} changed, "
+        f"{', '.join(inferred)}, {report.left_out()}, {counts[ADDED]} added, {counts[GONE]} gone{each}"
     )
 
 

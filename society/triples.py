@@ -8,7 +8,7 @@ from typing import NamedTuple
 
 from society.animals import Animal
 from society.columns import KNOWN_TITLES, plain
-from society.report import LINE, Mistake, Report
+from society.report import LINE, Mistake, Report, counted
 from society.sheet import decoded
 
 FIELDS = ("id", "sire", "dam")
@@ -83,7 +83,7 @@ def check_cells(line: Line, titles: Line | None, last: int) -> None:
     """A line has a cell for each column that is read, and none without a title."""
     count = len(line.cells)
     if count <= last:
-        raise Mistake(f"{line} has {count} cells: write an id, its sire and its dam, 0 for an unknown one")
+        raise Mistake(f"{line} has {counted(count, 'cell')}: write an id, its sire and its dam, 0 for an unknown one")
     if titles is None and any(line.cells[3:]):
         raise Mistake(
             f"{line} has {count} cells, and without titles each line has an id, its sire and its dam alone: "

@@ -4,7 +4,7 @@ from __future__ import annotations
 import collections
 
 from society.columns import KNOWN_EXITS, plain
-from society.report import Mistake
+from society.report import Mistake, counted
 
 # what to do where cells of a column can't be read
 ADVICE = {
@@ -59,8 +59,10 @@ class Unread:
         )
 
     def place(self, field: str, cells: list[Cell]) -> str:
-        says = "tell of an exit" if field == "exit" else "say something"
-        return f"{len(cells)} of the {self.read[field]} cells that {says} in the column '{self.titles[field]}'"
+        count = self.read[field]
+        verb, what = ("tell", "of an exit") if field == "exit" else ("say", "something")
+        says = f"{counted(count, 'cell')} that {verb}{'s' if count == 1 else ''} {what}"
+        return f"{len(cells)} of {says} in the column '{self.titles[field]}'"
 
     def refuse_most(self) -> None:
         """A column is a mistake where more than half of its cells that say something, and at least three, can't be

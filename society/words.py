@@ -15,7 +15,7 @@ from society.matrix import write_inverse
 from society.options import joined, parser
 from society.pages import file_name
 from society.program import Herdbook
-from society.report import Mistake
+from society.report import Mistake, counted
 from society.take import Wishes, take_pedigree, take_sheet
 from society.tree import tree_picture
 from society.trend import trend_picture
@@ -58,7 +58,7 @@ def give(asked: argparse.Namespace, rows: list[list[str]]) -> None:
         return
     # spreadsheets that want semicolons tell UTF-8 by a byte-order mark
     write_file(asked.out, text.encode("utf-8-sig" if asked.semicolons else "utf-8"))
-    print(f"{asked.out}: {len(rows)} rows")
+    print(f"{asked.out}: {counted(len(rows), 'row')}")
 
 
 def mating(asked: argparse.Namespace, book: Book, program: Herdbook) -> None:
@@ -115,8 +115,8 @@ def do(asked: argparse.Namespace) -> None:
     elif asked.word == "inverse":
         rows, elements, ids = write_inverse(book, program, asked.matrix_market)
         print(
-            f"{asked.matrix_market}: {rows} rows, {elements} elements of the lower triangle; {ids} has the ids of the "
-            "rows"
+            f"{asked.matrix_market}: {counted(rows, 'row')}, {counted(elements, 'element')} of the lower triangle; "
+            f"{ids} has the ids of the rows"
         )
     else:
         draw(asked, book, program)

@@ -152,7 +152,8 @@ class FormChecks(Checks):
     def numbers_of_others(self) -> None:
         """Breed and country of the numbers, which stay those of the book."""
         desk = Desk(self, "breed")
-        desk.take("id,born,sire,dam\na,2001,,\n", "--breed", "AYR", "--country", "NOR")
+        done = desk.take("id,born,sire,dam\na,2001,,\n", "--breed", "AYR", "--country", "NOR")
+        self.count("sheet.csv: 1 row below" in done.out and done.last.startswith("book: 1 animal, 1 new, "), f"{done}")
         desk.take("id,born,sire,dam\na,2001,,\nb,2002,a,\n")
         self.count(list(desk.numbers().values()) == ["AYRNORM000000000001", "AYRNORF000000000002"], f"{desk.numbers()}")
 
@@ -172,7 +173,7 @@ class FormChecks(Checks):
             "own.csv", "id,sex,born,sire,dam\n1,Bk,2001,,\n2,Schf,2001,,\n3,Schf,2001,,\n4,0,2001,,\n5,f,2001,,\n"
         )
         told = (
-            "3 of the 4 cells that say something in the column 'sex' can't be read, the first in line 2: 'Schf' (2 "
+            "3 of 4 cells that say something in the column 'sex' can't be read, the first in line 2: 'Schf' (2 "
             "times), 'Bk': write M or F, or say which sex each word is, as --sexes Schf=m or Schf=f"
         )
         desk.wrong(told, "take", sheet, "--book", "own")

@@ -53,11 +53,11 @@ class GoatChecks(Checks):
             ),
             "CH 120.1150.8: inferred: birth day 2016-05-09, from its offspring (line 6 names it)",
             (
-                "1 of the 9 cells that say something in the column 'Geschlecht' can't be read, the first in line 10: "
+                "1 of 9 cells that say something in the column 'Geschlecht' can't be read, the first in line 10: "
                 "'Q': write M or F, or say which sex each word is, as --sexes Q=m or Q=f"
             ),
             (
-                "an exit without a day stands in 1 of the 2 cells that tell of an exit in the column 'Abgang', the "
+                "an exit without a day stands in 1 of 2 cells that tell of an exit in the column 'Abgang', the "
                 f"first in line 6: 'verkauft': {without_day('verkauft')}"
             ),
             "line 10: CH 120.1160.5: the row is left out: its sex can't be read, and no animal has it as a parent",
@@ -201,13 +201,13 @@ class GoatChecks(Checks):
                 "counts as gone"
             ),
             (
-                "2 of the 15 cells that tell of an exit in the column 'exit' can't be read, the first in line 13: "
+                "2 of 15 cells that tell of an exit in the column 'exit' can't be read, the first in line 13: "
                 "'12.11.22', 'about 1950': write days as 2001-03-01 or 01.03.2001, a word such as sold, verkauft or "
                 "vendu where the day isn't known, and nothing or alive, lebt or vivant where the animal hasn't left; "
                 "or name another column, as --columns exit=TITLE, or none, as --columns exit="
             ),
             (
-                "an exit without a day stands in 5 of the 15 cells that tell of an exit in the column 'exit', the "
+                "an exit without a day stands in 5 of 15 cells that tell of an exit in the column 'exit', the "
                 "first in line 10: 'sold 3.4.2020, died 5.6.2021', 'tot', 'sold for 2020 EUR', 'verkauft 12.11.22', "
                 f"'ja': {without_day('sold')}"
             ),
@@ -231,7 +231,7 @@ class GoatChecks(Checks):
         self.told(
             done,
             (
-                "an exit without a day stands in 5 of the 5 cells that tell of an exit in the column 'Abgang', the "
+                "an exit without a day stands in 5 of 5 cells that tell of an exit in the column 'Abgang', the "
                 f"first in line 2: 'verkauft' (2 times), 'tot', 'sold', 'vendu': {without_day('verkauft')}"
             ),
         )

@@ -101,7 +101,7 @@ class LeavingChecks(Checks):
             "line 8: g: its exit is left out: 'sold' has no day; the animal counts as gone",
             "line 8: g: the row is left out: its sex can't be read, and no animal has it as a parent",
             (
-                "1 of the 10 cells that say something in the column 'sex' can't be read, the first in line 8: 'cat': "
+                "1 of 10 cells that say something in the column 'sex' can't be read, the first in line 8: 'cat': "
                 "write M or F, or say which sex each word is, as --sexes cat=m or cat=f"
             ),
             "line 9: h: the row is left out: it has 9 cells, and there are 8 titles: is there a separator too many?",

@@ -32,7 +32,7 @@ class MistakeChecks(Checks):
             (
                 "id,born,sire,dam\na,x,,\nb,y,,\nc,z,,\nd,2001,,\n",
                 (
-                    "3 of the 4 cells that say something in the column 'born' can't be read, the first in line 2: 'x', "
+                    "3 of 4 cells that say something in the column 'born' can't be read, the first in line 2: 'x', "
                     "'y', 'z': write days as 2001-03-01"
                 ),
             ),
@@ -46,7 +46,7 @@ class MistakeChecks(Checks):
             (
                 "id,sex,born,sire,dam,exit\na,F,2001,,,Hof\nb,F,2001,,,Hof\nc,F,2001,,,Hof\n",
                 (
-                    "3 of the 3 cells that tell of an exit in the column 'exit' can't be read, the first in line 2: "
+                    "3 of 3 cells that tell of an exit in the column 'exit' can't be read, the first in line 2: "
                     "'Hof' (3 times): write days as 2001-03-01 or 01.03.2001, a word such as sold, verkauft or vendu "
                     "where the day isn't known, and nothing or alive, lebt or vivant where the animal hasn't left; or "
                     "name another column"
@@ -119,7 +119,7 @@ class MistakeChecks(Checks):
         told = f"society: {copied} can't be run (Permission denied): allow it, as chmod u+x '{copied}'\n"
         self.count(done.status == 1 and done.err == told, f"{done}")
         done = desk.run("list", program="/bin/true")
-        self.count(done.status == 1 and "the program answered 0 of 1 commands" in done.err, f"{done}")
+        self.count(done.status == 1 and "the program answered 0 of 1 command:" in done.err, f"{done}")
         done = desk.run("take", "good.csv", program="/bin/false")
         self.count(
             done.status == 1 and "the program `herdbook file` can't do it: it ended with status 1" in done.err,

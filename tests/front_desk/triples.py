@@ -139,7 +139,7 @@ class TripleChecks(Checks):
              "line 3: 'c , a , b' has ',', and the first line has blanks between its cells: "
              "write all lines with the same"),
             ("a 0 0\nc, a, 0\n", "line 2: 'c, a, 0' has ','"), ("a 0 0\n;;\n", "line 2: ';;' has ';'"),
-            ("a,0,0\nb a 0\n", "line 2: 'b a 0' has 1 cells: write an id, its sire"),
+            ("a,0,0\nb a 0\n", "line 2: 'b a 0' has 1 cell: write an id, its sire"),
         ]:  # fmt: skip
             desk.wrong(told, "take", "--pedigree", desk.write("wrong.txt", text))
         for text in [
