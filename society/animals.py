@@ -215,7 +215,7 @@ class Rows:
             return None
 
     def is_embryo(self, animal: Animal, text: str) -> bool:
-        self.unread.read["embryo"] += bool(text)
+        self.unread.read["embryo"] += text.casefold() not in self.unknown - KNOWN_NO
         if text and text.casefold() not in KNOWN_YES | KNOWN_NO | self.unknown:
             self.leave_out(
                 animal, "embryo", text, "its cell for a stored embryo", f"'{text}' isn't known: write 1 or nothing"

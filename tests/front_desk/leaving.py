@@ -81,8 +81,8 @@ class LeavingChecks(Checks):
             h,Hans, the small,M,2003-01-01,,,,
             i,Ida,F,2003-01-01,A,,,maybe
             j,Jan,M,2300-01-01,,,,
-            k,Kai,M,2003-01-01,,,,
-            l,Lea,F,2003-01-01,,,,
+            k,Kai,M,2003-01-01,,,,?
+            l,Lea,F,2003-01-01,,,,0
             m,Max,M,2003-01-01,,,,
             n,Nele,F,37800,,,,
             """
@@ -106,6 +106,10 @@ class LeavingChecks(Checks):
             ),
             "line 9: h: the row is left out: it has 9 cells, and there are 8 titles: is there a separator too many?",
             "line 10: i: its cell for a stored embryo is left out: 'maybe' isn't known: write 1 or nothing",
+            (
+                "1 of 2 cells that say something in the column 'embryo' can't be read, the first in line 10: 'maybe': "
+                "write 1 or nothing; or name another column, as --columns embryo=TITLE, or none, as --columns embryo="
+            ),
             (
                 "line 15: n: its birth day is left out: '37800' is a number: give the column the format of a date, and "
                 "save the sheet again"
