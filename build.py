@@ -1,11 +1,10 @@
 #!/usr/bin/env python3
 """build.py PROGRAM: proves a program of crates.txt and the crates that it stands on, side by side, and builds it.
 
-The toolchain's gate proves each crate, over a copy of just that crate and those below it without their edits, once
-those below it are proved; first those that most others wait for. It keeps each crate that it has proved on this
-machine, so that a call that was interrupted goes on from there, and `./check` takes it over too. Where the gate keeps
-nothing, it is run once over all crates, which it proves side by side itself; a call that was interrupted begins anew
-there. Standard error tells each crate as it begins and as it ends, with the minutes so far.
+Each crate is proved over a copy of just that crate and those below it, once those below it are proved; first those
+that most others wait for. The library that comes of it is kept, so that a call that was interrupted goes on from there,
+and only what was changed is proved again. Standard error tells each crate as it begins and as it ends, with the minutes
+so far.
 
 The status is 0 once the program is built, 1 where it can't be, 2 where PROGRAM is no program.
 """
@@ -31,12 +30,10 @@ def build(program: str, teller: Teller) -> bool:
         if has_waited and place.is_new():
             teller.say(f"{program} is built, by the other call")
             return True
-        proving = Proving(crates, place, teller)
         try:
-            is_well = proving.build()
+            is_well = Proving(crates, place, teller).build()
         except KeyboardInterrupt:
-            goes_on = "goes on from here" if proving.is_kept else "begins anew"
-            raise Stop(f"interrupted: the next call {goes_on}") from None
+            raise Stop("interrupted: the next call goes on from here") from None
         if is_well:
             teller.say(f"{program} is built")
         return is_well

@@ -2,12 +2,15 @@
 from __future__ import annotations
 
 import functools
+import os
 import pathlib
 import shutil
 from typing import Iterator
 
 from building.telling import Stop
 
+# Where rt keeps the library that a crate is proved as.
+RLIB = pathlib.Path("out", "rlib")
 TOP = pathlib.Path(__file__).resolve().parent.parent
 
 
@@ -45,13 +48,23 @@ class Crates:
         return max(it.stat().st_mtime for it in files)
 
     def copy_to(self, room: pathlib.Path, name: str) -> None:
-        """Makes a repository of a crate and those below it alone, without their edits, as the gate wants one."""
+        """Makes a repository of a crate and those below it alone, with what is kept of their proofs."""
         wanted = [it for it in self.lines if it in self.all_below(name)]
         (room / ".git").mkdir()
         (room / "crates.txt").write_text("".join(f"{self.lines[it]}\n" for it in wanted), encoding="utf-8")
-        shutil.copy(TOP / "HANDLES", room)
         for it in wanted:
-            shutil.copytree(folder(it), room / "crates" / it, ignore=left_out)
+            shutil.copytree(folder(it), room / "crates" / it, ignore=shutil.ignore_patterns("out", "must-fail"))
+            if (folder(it) / RLIB).exists():
+                shutil.copytree(folder(it) / RLIB, room / "crates" / it / RLIB, copy_function=link)
+
+    def keep(self, room: pathlib.Path, name: str) -> None:
+        """Keeps the library that a crate was proved as, for those above it and for later calls."""
+        kept = folder(name) / RLIB
+        beside = kept.with_name("rlib.new")
+        shutil.rmtree(beside, ignore_errors=True)
+        shutil.move(room / "crates" / name / RLIB, beside)
+        shutil.rmtree(kept, ignore_errors=True)
+        beside.rename(kept)
 
 
 def lines_of(file: pathlib.Path) -> dict[str, str]:
@@ -96,7 +109,9 @@ def sources(name: str) -> Iterator[pathlib.Path]:
             yield from (folder(name) / part).rglob(kind)
 
 
-def left_out(at: str, names: list[str]) -> set[str]:
-    """What a copy of a crate leaves out: what was made of it, and its edits."""
-    is_top = pathlib.Path(at).parent == TOP / "crates"
-    return {"out", "must-fail"} & {*names} if is_top else set()
+def link(file: str, to: str) -> None:
+    """Has another name lead to a file that is only read, or copies it to another file system."""
+    try:
+        os.link(file, to)
+    except OSError:
+        shutil.copy(file, to)

@@ -1,4 +1,4 @@
-"""What the machine gives: memory, processors, and folders for the gate's runs."""
+"""What the machine gives: memory, processors, and folders for runs."""
 from __future__ import annotations
 
 import contextlib
@@ -9,8 +9,10 @@ import shutil
 import tempfile
 from typing import Iterator
 
-# What the gate takes for the proof of one crate.
+# What the proof of one crate takes.
 MEMORY = 4_000_000_000
+# More gain nothing.
+MOST_JOBS = 4
 # A container's limit, and what it holds of that.
 GROUPS = (
     ("/sys/fs/cgroup/memory.max", "/sys/fs/cgroup/memory.stat", r"^anon (\d+)"),
@@ -18,12 +20,21 @@ GROUPS = (
 )
 
 
-def at_once() -> int:
-    """How many runs go side by side: the gate gives the proof of one crate half of four processors.
+class Machine:
+    """The processors and the memory that runs share.
 
-    It is asked before any has begun: later those that have grown would be taken for others.
+    Both are asked for before any run has begun: later those that have grown would be taken for others.
     """
-    return max(1, min(max(2, len(os.sched_getaffinity(0)) // 2), free_memory() // MEMORY))
+
+    def __init__(self) -> None:
+        self.processors = len(os.sched_getaffinity(0))
+        self.most_runs = max(1, min(max(2, self.processors // 2), free_memory() // MEMORY))
+
+    def shares(self, ready: list[str], running: list[int]) -> list[tuple[str, int]]:
+        """The first of those that are ready that can begin beside runs of so many jobs each, and with how many jobs."""
+        idle = self.processors - sum(running)
+        first = ready[: min(idle, self.most_runs - len(running))]
+        return [(it, min(MOST_JOBS, idle // len(first))) for it in first]
 
 
 def free_memory() -> int:

@@ -1,24 +1,19 @@
-"""Has the gate prove a program's crates side by side."""
+"""Proves a program's crates side by side."""
 from __future__ import annotations
 
+import collections
 import concurrent.futures
-import enum
+import re
 import time
 
 from building.crates import Crates
-from building.gate import Heard, Runs, can_keep
-from building.machine import at_once, room, sweep
+from building.machine import Machine, room, sweep
 from building.place import Place
+from building.runs import Ended, Failed, Runs
 from building.telling import Teller
 
-
-class Outcome(enum.Enum):
-    """What a run of the gate came to."""
-
-    PASSED = 1
-    FAILED = 2
-    NOT_KEPT = 3
-    ENDED = 4
+PROVED = re.compile(r"logic=proved\b")
+LAST_LINES = 20
 
 
 class Proving:
@@ -27,84 +22,52 @@ class Proving:
     def __init__(self, crates: Crates, place: Place, teller: Teller) -> None:
         self.crates, self.place, self.say, self.write = crates, place, teller.say, teller.write
         self.begun = time.time()
+        self.runs, self.machine = Runs(), Machine()
         self.proved: set[str] = set()
-        self.told: set[str] = set()
-        self.is_kept = True
 
     def build(self) -> bool:
         """Proves all and puts the program in its place, and returns whether all passed."""
         sweep()
-        outcomes: set[Outcome] = set()
-        self.is_kept = can_keep()
-        if self.is_kept:
-            outcomes = self.side_by_side(self.crates.by_chain, at_once())
-            self.is_kept = Outcome.NOT_KEPT not in outcomes
-        program = self.crates.program
-        if Outcome.FAILED not in outcomes and program not in self.proved:
-            # This run proves all others too, each once.
-            self.say("the gate doesn't keep what it proves here, so one run proves all, and tells each as it ends")
-            self.proved = {*self.crates.lines} - {program}
-            outcomes = self.side_by_side([program], 1)
-        return Outcome.FAILED not in outcomes
-
-    def side_by_side(self, names: list[str], most: int) -> set[Outcome]:
-        """Runs the gate for each of the crates once those below it are proved, until one fails or isn't kept."""
-        runs, left, outcomes = Runs(), [*names], set[Outcome]()
-        running: dict[concurrent.futures.Future[Outcome], str] = {}
-        with concurrent.futures.ThreadPoolExecutor(most) as pool:
+        left, is_well = [*self.crates.by_chain], True
+        running: dict[concurrent.futures.Future[bool], tuple[str, int]] = {}
+        with concurrent.futures.ThreadPoolExecutor(self.machine.most_runs) as pool:
             try:
-                while Outcome.NOT_KEPT not in outcomes:
-                    ready = [name for name in left if self.crates.below[name] <= self.proved]
-                    for name in ready[: most - len(running)] if Outcome.FAILED not in outcomes else []:
+                while left and is_well or running:
+                    ready = [name for name in left if self.crates.below[name] <= self.proved] if is_well else []
+                    for name, jobs in self.machine.shares(ready, [jobs for _, jobs in running.values()]):
                         left.remove(name)
-                        self.say(f"proving {name}{'' if self.is_kept else ' and those below it'}")
-                        running[pool.submit(self.prove, runs, name)] = name
-                    if not running:
-                        break
+                        self.say(f"proving {name}")
+                        running[pool.submit(self.prove, name, jobs)] = name, jobs
                     for it in concurrent.futures.wait(running, return_when=concurrent.futures.FIRST_COMPLETED).done:
-                        self.proved.add(running.pop(it))
-                        outcomes.add(it.result())
+                        name, _ = running.pop(it)
+                        is_well = it.result() and is_well
+                        self.proved.add(name)
             finally:
-                runs.end()
-        return outcomes
+                self.runs.end()
+        return is_well
 
-    def prove(self, runs: Runs, name: str) -> Outcome:
-        """Runs the gate over a crate and those below it, and tells what came of it."""
-        heard = Heard()
-        with room() as at:
-            self.crates.copy_to(at, name)
-            gate = runs.begin(at)
-            if gate is None or gate.stdout is None:
-                return Outcome.ENDED
-            with gate:
-                for line in gate.stdout:
-                    heard.hear(line)
-                    self.tell_others(name, heard)
-            if not runs.is_over(gate):
-                return Outcome.ENDED
-            if gate.returncode:
-                self.tell_failed(name, heard)
-                return Outcome.FAILED
-            if name == self.crates.program:
-                self.place.put(at / "crates" / name / "out" / name, self.begun)
-        self.tell(name, name in heard.kept)
-        return Outcome.PASSED if heard.is_kept else Outcome.NOT_KEPT
+    def prove(self, name: str, jobs: int) -> bool:
+        """Proves a crate by so many processes, over those below it, and keeps what comes of it."""
+        told = collections.deque[str](maxlen=LAST_LINES)
+        try:
+            with room() as at:
+                self.crates.copy_to(at, name)
+                told.extend(self.runs.lines(self.words(name, jobs), at / "crates" / name))
+                if name == self.crates.program:
+                    self.place.put(at / "crates" / name / "out" / name, self.begun)
+                else:
+                    self.crates.keep(at, name)
+        except Ended:
+            return False
+        except Failed:
+            self.write([*told])
+            self.say(f"{name} is not proved: rt check in crates/{name} says why")
+            return False
+        self.say(f"{name} {'is proved' if any(map(PROVED.match, told)) else 'was proved before'}")
+        return True
 
-    def tell_others(self, name: str, heard: Heard) -> None:
-        """Tells the crates that the run for another one has proved by now."""
-        for names in (heard.proved, heard.kept):
-            for it in names:
-                if it != name:
-                    self.tell(it, names is heard.kept)
-
-    def tell(self, name: str, was_proved: bool) -> None:
-        if name not in self.told:
-            self.told.add(name)
-            self.say(f"{name} {'was proved before' if was_proved else 'is proved'}")
-
-    def tell_failed(self, name: str, heard: Heard) -> None:
-        self.write(heard.why())
-        for it in heard.failed:
-            self.say(f"{it} is not proved: rt check in crates/{it} says why")
-        if not heard.failed:
-            self.say(f"the gate's run for {name} failed: above stands what it told last")
+    def words(self, name: str, jobs: int) -> list[str]:
+        """What rt is asked for: a library that others stand on, or the program, which it runs once it is built."""
+        if name == self.crates.program:
+            return ["run", "--jobs", f"{jobs}", "--", "--version"]
+        return ["lib", "--jobs", f"{jobs}"]
