@@ -41,6 +41,14 @@ use Rattle.herd_pedigree.proofs.lemmas.store.SetFacts.{keys-set, set-changed, Ar
 pub named-within : (numbers : List (List ℕ)) (o : Option ℕ) (n : Option (List ℕ)) (p : ℕ) → IsIndexIn numbers o n → o ≡ Some p → p < length numbers
 named-within numbers o n p is e = let f = number_from_place numbers o n p is e in slice_get_within numbers p f.0 f.2
 
+-- and within the places of that parent of each animal
+pub named-parent : (book : Book) (parent_of : Animal → Option (List ℕ)) (parents : List (Option ℕ)) → AreParents book parent_of parents → (o : Option ℕ) (n : Option (List ℕ)) → IsIndexIn (keys_of book) o n → (p : ℕ) → o ≡ Some p → p < length parents
+named-parent book parent_of parents are o n is p e =
+    let within = named-within (keys_of book) o n p is e in
+    let numbers = length-keys book in
+    let long = are.long in
+    omega (arith, within, numbers, long)
+
 -- and so is each parent's
 pub parents-within : (book : Book) (parent_of : Animal → Option (List ℕ)) (parents : List (Option ℕ)) → AreParents book parent_of parents → (c p : ℕ) → parent_at parents c ≡ Some p → p < length book
 parents-within book parent_of parents a c p e =
@@ -181,10 +189,6 @@ module _ (l most : ℕ) (book now : Book) (same : book ≡ now) (sires dams : Li
 
   pub newborn-none : depth ≤ limit → None ≡ parent_fault l book number animal.birth animal.sire animal.dam animal.embryo
   newborn-none low = newborn-told false (le-ltb l (depth_from (slice_index depths) sire dam) (omega (arith, low, limit_is, depth_is)))
-
--- the depth that was computed of depths as they were read
-pub depth-read : (depth : ℕ) (read depths : List ℕ) (sire dam : Option ℕ) → depth ≡ depth_from (slice_index read) sire dam → read ≡ depths → depth ≡ depth_from (slice_index depths) sire dam
-depth-read depth read depths sire dam is same = is ∙ ap (λ ds. depth_from (slice_index ds) sire dam) same
 
 -- ---- a correction is sound
 

@@ -1,11 +1,12 @@
 -- The chains of calves once an animal is added at the end, or the last is taken away.
 use Rattle.std.proofs.Common.{take, ℕ, ◌+◌, ◌<◌, ◌^◌, ◌≡◌, ◌≢◌, inl, inr, arith, refl, sym, ap, ◌∙◌, subst, List, [], ◌∷◌, ◌++◌, Option, Some, None, length, slice_set, ⊎_elim}
 use Rattle.std.proofs.lemmas.Bool.{cases_eq, cases_lt}
-use Rattle.std.proofs.lemmas.List.{get_or-set_same, get_or-set_other, get_or_append_left, get_or_push, get_or_past, get_or-take, length_push, length-take-le}
+use Rattle.std.proofs.lemmas.List.{get_or-set_same, get_or-set_other, get_or_append_left, get_or_push, get_or_past, get_or-take, length-map, length_push, length-set, length-take-le, take-map}
 use Rattle.herd_pedigree.specs.declared.store.progeny.ChainNode.{ChainNode}
 use Rattle.herd_frozen.specs.places.Places.{parent_at}
-use Rattle.herd_pedigree.specs.store.Calves.{AreChained, alone, node_at, first_of, parent_of}
-use Rattle.herd_pedigree.proofs.lemmas.store.ProgenyFacts.{chained-same}
+use Rattle.herd_pedigree.specs.store.Calves.{AreChained, alone, node_at, first_of, parent_of, parents_of}
+use Rattle.herd_pedigree.proofs.lemmas.store.ListFacts.{take-set}
+use Rattle.herd_pedigree.proofs.lemmas.store.ProgenyFacts.{chained-same, parents-seen}
 
 -- an animal with no parent, at the end
 pub chained-append : (nodes : List ChainNode) → AreChained nodes → length nodes + 1 < 2 ^ 32 → AreChained (nodes ++ alone ∷ [])
@@ -22,7 +23,7 @@ chained-append nodes a few =
     chained-same nodes (nodes ++ alone ∷ []) a (omega (arith, n, few)) same (λ c p e. let w = a.within c p e in omega (arith, w, n))
 
 -- the last animal, which has neither parent nor calves, is taken away
-pub chained-pop : (nodes : List ChainNode) → AreChained nodes → (n : ℕ) → n + 1 ≡ length nodes → parent_of nodes n ≡ None → ((c : ℕ) → parent_of nodes c ≡ Some n → ⊥) → AreChained (take n nodes)
+chained-pop : (nodes : List ChainNode) → AreChained nodes → (n : ℕ) → n + 1 ≡ length nodes → parent_of nodes n ≡ None → ((c : ℕ) → parent_of nodes c ≡ Some n → ⊥) → AreChained (take n nodes)
 chained-pop nodes a n e none childless =
     let l : length (take n nodes) ≡ n = length-take-le n nodes (omega (arith, e)) in
     let both = a.single n none in
@@ -62,9 +63,22 @@ chained-empty = record {
 }
 
 -- an animal with no calves has none either once its own parent is taken away
-pub still_childless : (parents : List (Option ℕ)) (n : ℕ) → n < length parents → ((c : ℕ) → parent_at parents c ≡ Some n → ⊥) → (c : ℕ) → parent_at (slice_set parents n None) c ≡ Some n → ⊥
+still_childless : (parents : List (Option ℕ)) (n : ℕ) → n < length parents → ((c : ℕ) → parent_at parents c ≡ Some n → ⊥) → (c : ℕ) → parent_at (slice_set parents n None) c ≡ Some n → ⊥
 still_childless parents n here childless c e =
     ⊎_elim
     (λ (is : c ≡ n). let bad : None ≡ Some n = sym (get_or-set_same parents n None None here) ∙ subst (λ v. parent_at (slice_set parents n None) v ≡ Some n) is e in absurd (cc))
     (λ (other : c ≢ n). childless c (sym (get_or-set_other parents n c None None other) ∙ e))
     (cases_eq c n)
+
+-- the last animal, once it has no parent, is taken away where it has no calves
+pub popped : (nodes : List ChainNode) (parents : List (Option ℕ)) → AreChained nodes → (n : ℕ) → n + 1 ≡ length parents → parents_of nodes ≡ slice_set parents n None → ((c : ℕ) → parent_at parents c ≡ Some n → ⊥) →
+    AreChained (take n nodes) × (parents_of (take n nodes) ≡ take n parents)
+popped nodes parents a n last same childless =
+    let here : n < length parents = omega (arith, last) in
+    let kept = ap (λ ps. length ps) same in
+    let written = length-set parents n None in
+    let mapped = length-map nodes (λ (node : ChainNode). node.parent) in
+    let none : parent_of nodes n ≡ None = sym (parents-seen nodes n) ∙ ap (λ ps. parent_at ps n) same ∙ get_or-set_same parents n None None here in (
+      chained-pop nodes a n (omega (arith, kept, written, mapped, last)) none (λ c e. still_childless parents n here childless c (sym (ap (λ ps. parent_at ps c) same) ∙ parents-seen nodes c ∙ e)),
+      sym (take-map (λ (node : ChainNode). node.parent) n nodes) ∙ ap (λ ps. take n ps) same ∙ take-set parents n None here,
+    )

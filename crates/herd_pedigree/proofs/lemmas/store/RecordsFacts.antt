@@ -15,7 +15,7 @@ use Rattle.herd_frozen.specs.rules.Book.{Book, changed, with_parents}
 use Rattle.herd_pedigree.specs.store.Records.{AreClosed, IsStoredAt, NamesItsOwn, StandAmong, stored_book, book_with, animal_of, set_value_at, stored_with_parents}
 use Rattle.herd_pedigree.specs.store.Undo.{without_last}
 use Rattle.herd_frozen.proofs.lemmas.rules.BookFacts.{entry_from_both, is_some_with, keys-push, length-keys, none_if, push_cases, push_keeps, stands_once, there}
-use Rattle.herd_frozen.proofs.lemmas.places.NumberFacts.{further, number_at-place, number_at-push}
+use Rattle.herd_frozen.proofs.lemmas.places.NumberFacts.{further, number_at-place, number_at-push, place-within}
 use Rattle.herd_pedigree.proofs.lemmas.store.SetFacts.{keys-set, length-set-at, set-changed, set_value-cases}
 use Rattle.herd_pedigree.proofs.lemmas.store.ListFacts.{nil_unless, without_last-push}
 
@@ -106,7 +106,13 @@ module _ (es : List (List ℕ × StoredRecord)) where
   closed_by_keys : AreClosed es → StandAmong (length (keys_of es)) es
   closed_by_keys h = subst (λ n. StandAmong n es) (sym (length-keys es)) h
 
-  module _ (h : AreClosed es) (x : List ℕ) (e : StoredRecord) (s : IfSome e.sire (λ p. p < length (keys_of es))) (d : IfSome e.dam (λ p. p < length (keys_of es))) where
+  module _ (h : AreClosed es) (x : List ℕ) (e : StoredRecord) (animal : Animal) (sire_is : IsIndexIn (keys_of es) e.sire animal.sire) (dam_is : IsIndexIn (keys_of es) e.dam animal.dam) where
+    s : IfSome e.sire (λ p. p < length (keys_of es))
+    s = place-within (keys_of es) e.sire animal.sire sire_is
+
+    d : IfSome e.dam (λ p. p < length (keys_of es))
+    d = place-within (keys_of es) e.dam animal.dam dam_is
+
     -- the book after a push
     pub stored_book-push : stored_book (es ++ (x, e) ∷ []) ≡ stored_book es ++ (x, animal_of (keys_of es) e) ∷ []
     stored_book-push =
@@ -270,23 +276,19 @@ module _ (es : List (List ℕ × StoredRecord)) (x : List ℕ) (e : StoredRecord
       ∙ sym (ap (λ l. without_last l) (map_push (λ entry. (entry.0, animal_of (keys_of es ++ x ∷ []) entry.1)) es (x, e)))
       ∙ sym (ap (λ l. without_last (book_with l (es ++ (x, e) ∷ []))) (keys-push es x e))
 
--- the entries that are left once the last was taken away
-pub popped-closed : (old new : List (List ℕ × StoredRecord)) (popped : Option (List ℕ × StoredRecord)) → old ≡ new ++ option_to_list popped → AreClosed old
-    → IsDistinct bytes_eq (keys_of (stored_book old)) → NamesItsOwn (without_last (stored_book old)) → AreClosed new
-popped-closed old new None is closed once childless = subst (λ es. AreClosed es) (is ∙ append-nil new) closed
-popped-closed old new (Some (x, e)) is closed once childless =
-    closed-pop new x e (subst (λ es. AreClosed es) is closed) (subst (λ es. IsDistinct bytes_eq (keys_of (stored_book es))) is once) (subst (λ es. NamesItsOwn (without_last (stored_book es))) is childless)
-
--- and their book
-pub popped-book : (old new : List (List ℕ × StoredRecord)) (popped : Option (List ℕ × StoredRecord)) → old ≡ new ++ option_to_list popped → (0 < length old → IsSome popped) → AreClosed old
-    → IsDistinct bytes_eq (keys_of (stored_book old)) → NamesItsOwn (without_last (stored_book old)) → stored_book new ≡ without_last (stored_book old)
-popped-book old new None is some closed once childless =
+-- once the last entry was taken away, parents stand among those that are left, whose book is that without its last animal
+pub popped : (old new : List (List ℕ × StoredRecord)) (last : Option (List ℕ × StoredRecord)) → old ≡ new ++ option_to_list last → (0 < length old → IsSome last) → AreClosed old
+    → (book : Book) → stored_book old ≡ book → IsDistinct bytes_eq (keys_of book) → NamesItsOwn (without_last book) → AreClosed new × (stored_book new ≡ without_last book)
+popped old new None is some closed book same once childless =
     let none : old ≡ [] = nil_unless old (λ more. false≢true (some more)) in
     let left : new ≡ [] = sym (append-nil new) ∙ sym is ∙ none in
-    ap (λ es. stored_book es) left ∙ sym (ap (λ es. without_last (stored_book es)) none)
-popped-book old new (Some (x, e)) is some closed once childless =
-    stored_book-pop new x e (subst (λ es. AreClosed es) is closed) (subst (λ es. IsDistinct bytes_eq (keys_of (stored_book es))) is once) (subst (λ es. NamesItsOwn (without_last (stored_book es))) is childless)
-    ∙ sym (ap (λ es. without_last (stored_book es)) is)
+    (rw left (rw none at closed), rw (← same, left, none) refl)
+popped old new (Some (x, e)) is some closed book same once childless =
+    let was : book ≡ stored_book (new ++ (x, e) ∷ []) = sym same ∙ ap (λ es. stored_book es) is in
+    let closed = rw is at closed in
+    let once = rw was at once in
+    let childless = rw was at childless in
+    (closed-pop new x e closed once childless, rw was (stored_book-pop new x e closed once childless))
 
 pub OnErr-each : {A E : Type 0} (result : Result A E) (P Q : Type 0) → (P → Q) → OnErr result P → OnErr result Q
 OnErr-each (Ok value) P Q each told = tt

@@ -1,5 +1,5 @@
 -- `Records::push_if_new`: the invariant and its result.
-use Rattle.std.proofs.Common.{◌≡◌, ◌<◌, ◌∙◌, refl, sym, ap, subst, ℕ, Bool, true, false, not, is_some, List, [], ◌∷◌, ◌++◌, None, IfOk, IfSome, Result, Ok, Err, OnErr, length}
+use Rattle.std.proofs.Common.{◌≡◌, ◌∙◌, refl, sym, ap, subst, ℕ, Bool, true, false, not, is_some, List, [], ◌∷◌, ◌++◌, None, IfOk, Result, Ok, Err, OnErr}
 use Rattle.std.specs.Map.{keys_of, lookup}
 use Rattle.std.specs.Option.{option_map}
 use Rattle.std.specs.Str.{bytes_eq}
@@ -9,27 +9,30 @@ use Rattle.herd_frozen.specs.places.Places.{IsIndexIn}
 use Rattle.herd_pedigree.specs.store.Records.{AreClosed, stored_book, animal_of}
 use Rattle.herd_pedigree.specs.declared.store.records.StoredRecord.{StoredRecord}
 use Rattle.herd_pedigree.proofs.lemmas.store.RecordsFacts.{OnErr-each, animal_of-is, closed-push, is_some-map, keys-stored_book, lookup-book_with, stored_book-push}
-use Rattle.herd_frozen.proofs.lemmas.places.NumberFacts.{place-within}
+use Rattle.herd_pedigree.proofs.store.records.Records.push_if_new.Given.{Over}
+use Rattle.herd_pedigree.proofs.store.records.Records.push_if_new.Goals.{After-insert_if_new}
 use Rattle.herd_pedigree.proofs.store.records.Records.push_if_new.Goals as goal
 
--- the parents stand among the entries, whether one was added or none
-closed-after : {E : Type 0} (es new : List (List ℕ × StoredRecord)) (x : List ℕ) (e : StoredRecord) (result : Result Bool E) → AreClosed es → IfSome e.sire (λ p. p < length (keys_of es)) → IfSome e.dam (λ p. p < length (keys_of es)) →
+-- the places that are kept are those of the parents
+parents : (g : Over) (c : After-insert_if_new g) →
+    IsIndexIn (keys_of c.self.inside.entries.entries) c.new-stored.result.sire c.args.animal.sire × IsIndexIn (keys_of c.self.inside.entries.entries) c.new-stored.result.dam c.args.animal.dam
+parents g c =
+    let keys : keys_of c.args.self.now.book ≡ keys_of c.self.inside.entries.entries = ap (λ r. keys_of r.book) (sym c.self.view_is) ∙ keys-stored_book c.self.inside.entries.entries in
+    (rw (c.new-stored.ensures.sire, ← keys) c.requires.sire, rw (c.new-stored.ensures.dam, ← keys) c.requires.dam)
+
+-- and stand among the entries, whether one was added or none
+closed-after : {E : Type 0} (es new : List (List ℕ × StoredRecord)) (x : List ℕ) (e : StoredRecord) (animal : Animal) (result : Result Bool E) → AreClosed es →
+    IsIndexIn (keys_of es) e.sire animal.sire × IsIndexIn (keys_of es) e.dam animal.dam →
     (result ≡ Ok true → new ≡ es ++ (x, e) ∷ []) → (result ≡ Ok false → new ≡ es) → OnErr result (new ≡ es) → AreClosed new
-closed-after es new x e (Ok true) closed s d added there err = subst (λ l. AreClosed l) (sym (added refl)) (closed-push es closed x e s d)
-closed-after es new x e (Ok false) closed s d added there err = subst (λ l. AreClosed l) (sym (there refl)) closed
-closed-after es new x e (Err error) closed s d added there err = subst (λ l. AreClosed l) (sym err) closed
+closed-after es new x e animal (Ok true) closed are added there err = rw (added refl) (closed-push es closed x e animal are.0 are.1)
+closed-after es new x e animal (Ok false) closed are added there err = rw (there refl) closed
+closed-after es new x e animal (Err error) closed are added there err = rw err closed
 
 pub invariant_of-self : goal.invariant_of-self
 invariant_of-self g c =
-    let es : List (List ℕ × StoredRecord) = c.self.inside.entries.entries in
-    let entry : StoredRecord = c.new-stored.result in
-    let animal : Animal = c.args.animal in
-    let keys : keys_of c.args.self.now.book ≡ keys_of es = ap (λ r. keys_of r.book) (sym c.self.view_is) ∙ keys-stored_book es in
-    let sire : IsIndexIn (keys_of es) entry.sire animal.sire = rw (c.new-stored.ensures.sire, ← keys) c.requires.sire in
-    let dam : IsIndexIn (keys_of es) entry.dam animal.dam = rw (c.new-stored.ensures.dam, ← keys) c.requires.dam in
     let told = c.insert_if_new.ensures in
-    closed-after es c.insert_if_new.new.entries.entries c.args.number entry c.insert_if_new.result c.self.invariant
-    (place-within (keys_of es) entry.sire animal.sire sire) (place-within (keys_of es) entry.dam animal.dam dam) told.added told.there told.err
+    closed-after c.self.inside.entries.entries c.insert_if_new.new.entries.entries c.args.number c.new-stored.result c.args.animal c.insert_if_new.result c.self.invariant
+    (parents g (goal.at.invariant_of-self g c).After-insert_if_new) told.added told.there told.err
 
 pub returns-clause-new : goal.returns-clause-new
 returns-clause-new g c =
@@ -44,16 +47,13 @@ pub returns-clause-added : goal.returns-clause-added
 returns-clause-added g c =
     let es : List (List ℕ × StoredRecord) = c.self.inside.entries.entries in
     let entry : StoredRecord = c.new-stored.result in
-    let animal : Animal = c.args.animal in
-    let keys : keys_of c.args.self.now.book ≡ keys_of es = ap (λ r. keys_of r.book) (sym c.self.view_is) ∙ keys-stored_book es in
-    let sire : IsIndexIn (keys_of es) entry.sire animal.sire = rw (c.new-stored.ensures.sire, ← keys) c.requires.sire in
-    let dam : IsIndexIn (keys_of es) entry.dam animal.dam = rw (c.new-stored.ensures.dam, ← keys) c.requires.dam in
+    let are = parents g (goal.at.returns-clause-added g c).After-insert_if_new in
     let e = c.new-stored.ensures in
-    let kept : animal_of (keys_of es) entry ≡ animal = animal_of-is (keys_of es) entry animal sire dam e.birth e.embryo e.herd e.since e.left in
+    let kept : animal_of (keys_of es) entry ≡ c.args.animal = animal_of-is (keys_of es) entry c.args.animal are.0 are.1 e.birth e.embryo e.herd e.since e.left in
     λ is.
-    subst (λ r. stored_book c.insert_if_new.new.entries.entries ≡ r.book ++ (c.args.number, animal) ∷ []) c.self.view_is
+    subst (λ r. stored_book c.insert_if_new.new.entries.entries ≡ r.book ++ (c.args.number, c.args.animal) ∷ []) c.self.view_is
     (ap (λ l. stored_book l) (c.insert_if_new.ensures.added is)
-    ∙ stored_book-push es c.self.invariant c.args.number entry (place-within (keys_of es) entry.sire animal.sire sire) (place-within (keys_of es) entry.dam animal.dam dam)
+    ∙ stored_book-push es c.self.invariant c.args.number entry c.args.animal are.0 are.1
     ∙ ap (λ a. stored_book es ++ (c.args.number, a) ∷ []) kept)
 
 pub returns-clause-there : goal.returns-clause-there
