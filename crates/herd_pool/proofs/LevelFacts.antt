@@ -1,7 +1,10 @@
--- Which ranks a level has.
+-- Which ranks a level has, and how many.
 use Rattle.std.proofs.Common.{◌≡◌, ℕ, zero, suc, ◌+◌, ◌*◌, ◌<◌, ◌≤◌, ◌==◌, cond, Bool, true, false, List, [], ◌∷◌, ◌++◌, length, map, slice_index, take, arith, ap, ◌∙◌, subst, refl, sym, ⊎_elim, true≢false}
+use Rattle.std.specs.Int.{div_ceil}
 use Rattle.std.specs.List.{All, Contains, filter, range_with_len}
+use Rattle.std.proofs.Math.Nat.{mul-le-mul_right}
 use Rattle.std.proofs.lemmas.Bool.{cases_eq, cases_lt, eq-eqb, eqb-true}
+use Rattle.std.proofs.lemmas.Grind.{div_ceil_times}
 use Rattle.std.proofs.lemmas.List.Elements.{All-drop, All-filter, All-from_get_or, All-same, All-take, Contains-append_right, filter_passes}
 use Rattle.std.proofs.lemmas.List.{map_more}
 use Rattle.std.proofs.lemmas.List.FromFn.{get_or-range_with_len, length-range_with_len}
@@ -74,3 +77,10 @@ block_of-ranks rows depth len number ranks is =
 pub numerators_more : (f : ℕ → ℕ) (ranks numerators pushed : List ℕ) (i value : ℕ) → i < length ranks → numerators ≡ map f (take i ranks) → value ≡ f (slice_index ranks i) → pushed ≡ numerators ++ value ∷ [] → pushed ≡ map f (take (i + 1) ranks)
 numerators_more f ranks numerators pushed i value below was is more =
     more ∙ ap (λ (xs : List ℕ). xs ++ value ∷ []) was ∙ ap (λ (x : ℕ). map f (take i ranks) ++ x ∷ []) is ∙ sym (map_more f ranks i 0 below)
+
+-- what is cut into more than one block is longer than a block
+pub longer_than_block : (n len : ℕ) → 0 < len → 1 < div_ceil n len → len < n
+longer_than_block n len some more =
+    let times = div_ceil_times n len some in
+    let two = mul-le-mul_right len more in
+    omega (arith, times.1)

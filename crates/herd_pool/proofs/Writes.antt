@@ -1,5 +1,5 @@
 -- What the list of numerators has once ranks, blocks and levels are written.
-use Rattle.std.proofs.Common.{◌≡◌, ◌==◌, ℕ, suc, ◌+◌, ◌*◌, ◌/◌, ◌%◌, ◌^◌, ◌<◌, ◌≤◌, List, [], ◌∷◌, length, drop, get_or, map, set, slice_index, take, sym, ap, subst, inl, inr, ◌∙◌, ⊎_elim, arith}
+use Rattle.std.proofs.Common.{◌≡◌, ◌==◌, ℕ, suc, ◌+◌, ◌*◌, ◌/◌, ◌%◌, ◌^◌, ◌<◌, ◌≤◌, List, [], ◌∷◌, ◌++◌, length, drop, get_or, map, set, slice_index, take, Vec, sym, ap, subst, inl, inr, ◌∙◌, ⊎_elim, arith}
 use Rattle.std.specs.Int.{div_ceil}
 use Rattle.std.specs.List.{All, Contains, count_by}
 use Rattle.std.proofs.lemmas.Bool.{cases_eq, cases_lt}
@@ -12,6 +12,7 @@ use Rattle.herd_frozen.specs.declared.freezing.frozen.Row.{Row}
 use Rattle.herd_frozen.specs.freezing.Frozen.{IsFrozen, depth_at, level_of}
 use Rattle.herd_kinship.specs.Coefficients.{AreCoefficients, coefficient_at}
 use Rattle.herd_kinship.proofs.lemmas.books.FrozenDepths.{depth-at_most}
+use Rattle.herd_kinship.proofs.lemmas.sires.RelationshipFacts.{written}
 use Rattle.herd_kinship.proofs.lemmas.tracing.KnownFacts.{frozen-coefficient_bound}
 use Rattle.herd_pool.specs.Blocks.{once_below}
 use Rattle.herd_pool.specs.Levels.{HasAt, Keeps, KnowsBelow, block_of}
@@ -138,6 +139,17 @@ level_known {O = O} l most rows known new depth len blocks some same knows each_
           ⊎_elim (λ (less : depth_at rows p < depth). stays f known new kept p (knows.right p low less))
           (λ (more : depth ≤ depth_at rows p). here p low (omega arith)) (cases_lt (depth_at rows p) depth);
     }
+
+-- what is known of the list that a level was written into is known of the vector that lent it
+pub level_written : {A : Type 0} (Knows : List ℕ → Type 0) (f : ℕ → ℕ) (known : Vec ℕ A) (lent new : List ℕ)
+    → lent ≡ known.items → length new ≡ length lent → Keeps f lent new
+    → (length new ≡ length known.items → Keeps f known.items new → Knows new)
+    → Knows (take known.len (new ++ drop (length new) known.items))
+level_written Knows f known lent new is same kept knows =
+    let ok = known.ok in
+    let long = ap length is in
+    subst Knows (sym (written known.len new known.items (omega arith)))
+    (knows (omega arith) (subst (λ (xs : List ℕ). Keeps f xs new) is kept))
 
 -- where all levels are known, all coefficients are
 pub all_known : (l most : ℕ) (rows : List Row) (known : List ℕ) (depth : ℕ) → l < depth → KnowsBelow l most rows known depth → AreCoefficients l rows known

@@ -8,6 +8,10 @@ use Rattle.herd_kinship.specs.Coefficients.{coefficient_at}
 abbrev pub block_of : ℕ → ℕ → List ℕ → List ℕ
 block_of len number ranks = take len (drop (number * len) ranks)
 
+-- some level has more animals than a block of this length, and so more than one block
+abbrev pub HasLongLevel : List Row → ℕ → Type 0
+HasLongLevel rows len = (depth : ℕ) × (len < length (level_of depth rows))
+
 -- The numerators of a frozen book on the way: there is one for each animal, and those of less depth have their
 -- coefficient
 pub record KnowsBelow (l most : ℕ) (rows : List Row) (known : List ℕ) (depth : ℕ) : Type 0 where

@@ -1,5 +1,6 @@
 -- What is known and computed where a level's sires are gone through. l is the limit of depths.
 use Rattle.std.specs.Prelude.{◌≡◌, ℕ, ◌+◌, ◌/◌, ◌<◌, All, List, count_by, length, min, nat_lt, slice_index, sum_by}
+use Rattle.std.specs.Int.{div_ceil}
 use Rattle.std.specs.List.{range_with_len}
 use Rattle.herd_frozen.specs.declared.freezing.frozen.Row.{Row}
 use Rattle.herd_frozen.specs.freezing.Frozen.{level_of}
@@ -54,3 +55,8 @@ calves_among rows depth len n = sum_by (calves_of rows depth len) (range_with_le
 abbrev pub worth_of : List Row → ℕ → ℕ → ℕ → ℕ → ℕ
 worth_of rows depth len blocks workers =
     min (min workers (busy_among rows depth len blocks)) (1 + calves_among rows depth len blocks / CALVES_FOR_A_WORKER)
+
+-- some level is worth more than one of these workers
+abbrev pub HasLevelToShare : List Row → ℕ → ℕ → Type 0
+HasLevelToShare rows len workers =
+    (depth : ℕ) × (1 < worth_of rows depth len (div_ceil (length (level_of depth rows)) len) workers)

@@ -1,6 +1,6 @@
 //! The threads of a level.
 ghost use denote.Param.Send.{Frees, IsSend, IsSync};
-ghost use Rattle.std.specs.Prelude.{◌≡◌, ℕ, ◌<◌, ◌≤◌, All, IfOk, IfErr, [], vec_len, get_or, vec_items};
+ghost use Rattle.std.specs.Prelude.{◌≡◌, ℕ, ◌<◌, All, IfOk, IfErr, [], vec_len, get_or, vec_items};
 ghost use Rattle.crossbeam_deque.specs.Handles.{worker_view};
 ghost use Rattle.herd_pool.specs.Workers.{AreBlocks, IsWorkerOutput, IsStarterOf, IsBlockPass};
 ghost use Rattle.herd_pool.specs.declared.pool_fault.PoolFault.{PoolFault};
@@ -43,7 +43,7 @@ pub fn compute_blocks<R: Threads + Wait + Sync, A: Allocator + Copy + Send + Syn
     requires idle { All (W.is_ready work.now) idle.items }
     ensures blocks { IfOk result (λ r. AreBlocks (W.is_computed work.now) count r.0.items) }
     ensures idle { IfOk result (λ r. All (W.is_ready work.now) r.1.items) }
-    ensures one_worker { workers ≤ 1 → IfErr result (λ fault. fault ≡ PoolFault.Memory) }
+    ensures no_thread { result ≡ Err PoolFault.NoThread → 1 < workers }
 {
     let blocks = Vec::new(alloc);
     if count == 0 {
@@ -75,7 +75,7 @@ fn share<R: Threads + Wait + Sync, A: Allocator + Copy + Send + Sync, W: Work<A>
     requires knows { W.knows work.now }
     requires starter { IsStarterOf W.Work work.now stealer.now 0 (worker_view starter.queue).pushed starter }
     ensures starter { IfOk result (IsStarterOf W.Work work.now stealer.now 0 (worker_view starter.queue).pushed) }
-    ensures one_worker { workers ≤ 1 → IfErr result (λ fault. fault ≡ PoolFault.Memory) }
+    ensures no_thread { result ≡ Err PoolFault.NoThread → 1 < workers }
 {
     if workers <= 1 {
         return Ok(starter);

@@ -1,6 +1,8 @@
-ghost use Rattle.std.specs.Prelude.{◌≡◌, ◌≤◌, IfOk, IfErr};
+ghost use Rattle.std.specs.Prelude.{◌≡◌, ◌<◌, ◌≤◌, IfOk};
 ghost use Rattle.herd_frozen.specs.declared.TheConstants.{DEPTH_LIMIT};
 ghost use Rattle.herd_kinship.specs.Coefficients.{AreCoefficients};
+ghost use Rattle.herd_pool.specs.Levels.{HasLongLevel};
+ghost use Rattle.herd_pool.specs.Sires.{HasLevelToShare};
 ghost use Rattle.herd_pool.specs.declared.limits.TheConstants.{MOST_WORKERS};
 ghost use Rattle.herd_pool.specs.declared.pool_fault.PoolFault.{PoolFault};
 
@@ -22,7 +24,7 @@ use std::thread::Threads;
 /// They are the same as those of `herd_kinship::coefficients_plain`, whatever the number of workers and the length of a
 /// block; a block has `block` animals. One worker is the calling thread itself, and so it is for a level of one block.
 /// The threads of a level end with it, and all have ended when the call returns, also with an error: a growth of memory
-/// that is refused, or with more than one worker a thread that can't be started.
+/// that is refused, or a thread that can't be started, for a level of more than one block with more than one worker.
 pub fn coefficients<
     R: Threads + Wait + Sync,
     F: Allocator + Sync,
@@ -39,7 +41,7 @@ pub fn coefficients<
     requires workers { (1 ≤ workers) × (workers ≤ MOST_WORKERS) }
     requires block { 1 ≤ block }
     ensures list { IfOk result (AreCoefficients DEPTH_LIMIT frozen.now) }
-    ensures one_worker { workers ≡ 1 → IfErr result (λ fault. fault ≡ PoolFault.Memory) }
+    ensures no_thread { result ≡ Err PoolFault.NoThread → (1 < workers) × HasLongLevel frozen.now block }
 {
     let mut known = vec![in alloc; 0u128; frozen.len() as usize]?;
     for depth in 0..=DEPTH_LIMIT {
@@ -67,8 +69,8 @@ pub fn coefficients<
 /// block; a block has `block` animals, and who takes it goes through the sires among them. The calling thread is one of
 /// the workers, and the only one of a level in which fewer than two blocks have a sire with calves, or whose sires have
 /// so few calves that a thread isn't worth its start. The threads of a level end with it, and all have ended when the
-/// call returns, also with an error: a growth of memory that is refused, or with more than one worker a thread that
-/// can't be started.
+/// call returns, also with an error: a growth of memory that is refused, or a thread that can't be started, for a level
+/// that is worth more than one worker.
 pub fn coefficients_by_sires<
     R: Threads + Wait + Sync,
     F: Allocator + Sync,
@@ -83,7 +85,7 @@ pub fn coefficients_by_sires<
     requires workers { (1 ≤ workers) × (workers ≤ MOST_WORKERS) }
     requires block { 1 ≤ block }
     ensures list { IfOk result (AreCoefficients DEPTH_LIMIT frozen.now) }
-    ensures one_worker { workers ≡ 1 → IfErr result (λ fault. fault ≡ PoolFault.Memory) }
+    ensures no_thread { result ≡ Err PoolFault.NoThread → HasLevelToShare frozen.now block workers }
 {
     let mut known = vec![in alloc; 0u128; frozen.len() as usize]?;
     let calves = Calves::of(alloc, frozen)?;

@@ -4,7 +4,7 @@ use thiserror::Error;
 /// Why there are no coefficients: a thread couldn't be started, or a growth of memory was refused.
 #[derive(Clone, Copy, Debug, PartialEq, Eq, Error)]
 pub enum PoolFault {
-    /// It never comes with one worker.
+    /// It comes only where a level has work for more than one worker.
     #[error("a thread couldn't be started")]
     NoThread,
     #[error("memory ran out")]

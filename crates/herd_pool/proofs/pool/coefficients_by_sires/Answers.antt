@@ -1,5 +1,5 @@
--- `coefficients_by_sires`: what `write_calves_of` and `from_list` require, its loop, and its clause `list`.
-use Rattle.std.proofs.Common.{◌≡◌, ℕ, ◌+◌, ◌<◌, List, Vec, length, replicate, arith, ◌∙◌, ap, subst, sym}
+-- `coefficients_by_sires`: what `write_calves_of` and `from_list` require, its loop, and its clauses `list` and `no_thread`.
+use Rattle.std.proofs.Common.{rules, ℕ, ◌+◌, ◌<◌, List, Vec, length, replicate, arith, ◌∙◌, ap, subst, sym}
 use Rattle.std.specs.List.{All}
 use Rattle.std.proofs.lemmas.List.{get_or-replicate, length-replicate}
 use Rattle.std.proofs.lemmas.List.Elements.{All-nil}
@@ -8,12 +8,11 @@ use Rattle.herd_kinship.specs.Coefficients.{AreCoefficients, IsLessDeep, coeffic
 use Rattle.herd_kinship.specs.Mates.{IsReady}
 use Rattle.herd_kinship.specs.declared.calf_coefficients.CalfCoefficient.{CalfCoefficient}
 use Rattle.herd_kinship.proofs.lemmas.sires.BySires.{coefficients-below_one, less_deep-all, reached-start}
-use Rattle.herd_kinship.proofs.lemmas.sires.RelationshipFacts.{written}
 use Rattle.herd_pool.specs.Blocks.{once_below}
-use Rattle.herd_pool.specs.Levels.{Keeps}
-use Rattle.herd_pool.specs.Sires.{AreWritten, HaveValues, KnowsCalvesBelow}
+use Rattle.herd_pool.specs.Sires.{AreWritten, HaveValues, KnowsCalvesBelow, worth_of}
 use Rattle.herd_pool.specs.declared.work.ComputedBlock.{ComputedBlock}
 use Rattle.herd_pool.proofs.SireFacts.{blocks_values, blocks_within, calves_known}
+use Rattle.herd_pool.proofs.Writes.{level_written}
 use Rattle.herd_pool.proofs.pool.coefficients_by_sires.Goals as goal
 
 pub loop-depth-init : goal.loop-depth-init
@@ -41,19 +40,15 @@ loop-depth-preserved g c =
     let rows = c.args.frozen.now in
     let f = coefficient_at DEPTH_LIMIT rows in
     let depth = c.loop-depth.depth in
-    let old = c.loop-depth.known in
     let new = c.write_calves_of.new.known in
     let blocks = c.in_ok-blocks.blocks.items in
     let are = c.in_ok-blocks.ensures.blocks in
-    let same : length new ≡ length old.items = let kept = c.write_calves_of.auto.known in omega (arith, ap length c.deref_mut.ensures.value) in
-    let long : old.len ≡ length new = let ok = old.ok in omega arith in
     let values = blocks_values DEPTH_LIMIT rows depth c.args.block blocks are.computed in
     let wrote = c.write_calves_of.ensures f (subst (λ (bs : List (ComputedBlock (Vec CalfCoefficient _))). All (λ block. HaveValues f block.output.items) bs) (sym c.deref-in-loop-depth.ensures.value) values) in
-    let kept = subst (λ (xs : List ℕ). Keeps f xs new) c.deref_mut.ensures.value wrote.0 in
     let there = subst (λ (bs : List (ComputedBlock (Vec CalfCoefficient _))). All (λ block. AreWritten f new block.output.items) bs) c.deref-in-loop-depth.ensures.value wrote.1 in
     record {
-      known = subst (λ (xs : List ℕ). KnowsCalvesBelow DEPTH_LIMIT rows c.in_ok-calves.calves xs (depth + 1)) (sym (written old.len new old.items long))
-          (calves_known DEPTH_LIMIT rows c.in_ok-calves.calves old.items new depth c.args.block blocks (omega arith) same c.loop-depth.invariant.known (λ number. are.each_once number ∙ ap (once_below number) c.blocks-count.ensures) are.computed kept there);
+      known = level_written (λ (xs : List ℕ). KnowsCalvesBelow DEPTH_LIMIT rows c.in_ok-calves.calves xs (depth + 1)) f c.loop-depth.known _ new c.deref_mut.ensures.value c.write_calves_of.auto.known wrote.0
+          (λ same kept. calves_known DEPTH_LIMIT rows c.in_ok-calves.calves c.loop-depth.known.items new depth c.args.block blocks (omega arith) same c.loop-depth.invariant.known (λ number. are.each_once number ∙ ap (once_below number) c.blocks-count.ensures) are.computed kept there);
       idle = c.in_ok-blocks.ensures.idle;
     }
 
@@ -68,3 +63,9 @@ returns-clause-list g c =
     let rows = c.args.frozen.now in
     subst (AreCoefficients DEPTH_LIMIT rows) (sym c.from_list.ensures)
     (less_deep-all DEPTH_LIMIT MOST_ANIMALS rows c.len.ensures.frozen c.loop-depth.depth c.loop-depth.known.items c.loop-depth-test.false c.loop-depth.invariant.known.reached)
+
+pub returns-in_err-blocks-clause-no_thread : goal.returns-in_err-blocks-clause-no_thread
+returns-in_err-blocks-clause-no_thread g c = λ is.
+    let depth = c.loop-depth.depth in
+    let worth = c.worth-worth.ensures ∙ ap (λ (n : ℕ). worth_of c.args.frozen.now depth c.args.block n c.args.workers) c.blocks-count.ensures in
+    (depth, subst (λ (n : ℕ). 1 < n) worth (c.in_err-blocks.ensures.no_thread (search rules)))
