@@ -21,15 +21,15 @@ loop-worker-preserved g c =
     let kept = subst (λ (s : Task _ _). IsWorkerOutput g.W.Work s.work.now s.stealer.now c.in_ok-pass.field-0) mine c.in_ok-pass.ensures in
     let IsRight : ComputedBlock _ → Type 0 = g.W.Work.is_computed c.args.task.work.now in
     let IsReady : _ → Type 0 = g.W.Work.is_ready c.args.task.work.now in
-    let joined : c.append.new.self.items ≡ c.loop-worker.starter.blocks.items ++ c.in_ok-pass.field-0.blocks.items = search rules in
-    let idle : c.push.new.self.items ≡ c.loop-worker.starter.idle.items ++ c.in_ok-pass.field-0.scratch ∷ [] = search rules in
-    let left : into_iter_len c.next.new.self ≡ into_iter_len c.loop-worker.worker-iterator - 1 = grind rules in
+    let joined : c.append.new.self.items ≡ c.loop-worker.starter.blocks.items ++ c.in_ok-pass.field-0.blocks.items = c.in_ok-append.ensures.items in
+    let idle : c.push.new.self.items ≡ c.loop-worker.starter.idle.items ++ c.in_ok-pass.field-0.scratch ∷ [] = c.in_ok-push.ensures.items in
+    let left : into_iter_len c.next.new.self ≡ into_iter_len c.loop-worker.worker-iterator - 1 = omega (arith, step.1) in
     record {
       starter = record {
-        deque = search rules;
+        deque = c.absorb.ensures.same.0.0 ∙ was.starter.deque;
         starter = record {
-          fifo = search rules;
-          first = search rules;
+          fifo = c.absorb.ensures.same.0.1 ∙ was.starter.starter.fifo;
+          first = c.absorb.ensures.same.0.2 ∙ was.starter.starter.first;
           view =
               absorbed _ _ _ _ _ _ _ _ was.starter.starter.view c.in_ok-pass.ensures.pass.view c.absorb.ensures.rule joined
               ∙ ap (λ n. pass_view n (worker_view c.args.starter.queue).pushed (numbers c.append.new.self.items)) (sym left);

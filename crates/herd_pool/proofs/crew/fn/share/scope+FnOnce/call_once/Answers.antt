@@ -3,4 +3,5 @@ use Rattle.std.proofs.Common.{rules}
 use Rattle.herd_pool.proofs.crew.fn.share.scope+FnOnce.call_once.Goals as goal
 
 pub scope-requires : goal.scope-requires
-scope-requires g c = search rules
+scope-requires g c =
+    (search rules, (search rules, (search rules, (search rules, (search rules, (search rules, (search rules, (search rules, (search rules, search rules)))))))))
