@@ -96,6 +96,23 @@ TEXTS = {
     ),
 }
 
+# The same where there is one.
+OF_ONE = {
+    "ancestors": ("{} known ancestor", "{} bekannter Ahn", "{} ancêtre connu"),
+    "hidden": (
+        "; {} more lies further back and isn't drawn",
+        "; {} weiterer liegt weiter zurück und ist nicht gezeichnet",
+        " ; {} autre, plus loin, n'est pas dessiné",
+    ),
+    "animals": ("{} animal", "{} Tier", "{} animal"),
+    "by year": ("{} animal by birth year", "{} Tier nach Geburtsjahr", "{} animal par année de naissance"),
+    "no year": (
+        "; {} more has no known birth year and isn't drawn",
+        "; {} weiteres hat kein bekanntes Geburtsjahr und ist nicht gezeichnet",
+        " ; {} autre, sans année de naissance connue, n'est pas dessiné",
+    ),
+}
+
 
 class Language:
     """How a language writes texts, days, decimals and percentages."""
@@ -104,6 +121,7 @@ class Language:
         at = LANGUAGES.index(language)
         self.name = language
         self.texts = {what: texts[at] for what, texts in TEXTS.items()}
+        self.texts_of_one = {what: texts[at] for what, texts in OF_ONE.items()}
 
     def day(self, day: object) -> str:
         """A day, which is given as `2001-03-01`."""
@@ -117,6 +135,11 @@ class Language:
     def count(self, number: int) -> str:
         """A whole number, in groups of three digits."""
         return f"{number:,}".replace(",", {"en": ",", "de": ".", "fr": "\u202f"}[self.name])
+
+    def counted(self, what: str, number: int) -> str:
+        """A text that counts. French counts none as one."""
+        is_one = number == 1 or number == 0 and self.name == "fr"
+        return (self.texts_of_one if is_one else self.texts)[what].format(self.count(number))
 
     def percent(self, number: str) -> str:
         """With a blank that ends no line before the sign, but in English."""

@@ -88,7 +88,8 @@ def tree_picture(
         box(book, node, names[node.number], coefficients[node.number], times[node.number], language) for node in nodes
     ]
     hidden = len(all_ancestors(book, known.number) - set(times))
-    return picture(parts, known, width, height, len(times) - 1, hidden, language.texts)
+    note = language.counted("ancestors", len(times) - 1) + (language.counted("hidden", hidden) if hidden else "")
+    return picture(parts, known, width, height, note, language.texts)
 
 
 def corner(node: Node) -> tuple[float, float]:
@@ -135,11 +136,8 @@ def box(book: Book, node: Node, known: Known, coefficient: Coefficient, times: i
     return "".join(lines) + "</g>"
 
 
-def picture(
-    parts: list[str], known: Known, width: float, height: float, drawn: int, hidden: int, texts: dict[str, str]
-) -> str:
+def picture(parts: list[str], known: Known, width: float, height: float, note: str, texts: dict[str, str]) -> str:
     title = texts["pedigree of"].format(known.id) + (f", {known.name}" if known.name else "")
-    note = texts["ancestors"].format(drawn) + (texts["hidden"].format(hidden) if hidden else "")
     y = height - 34
     head = [
         text_at(MARGIN, 36, shortened(title, int(width / 11)), INK, 20, weight="bold"),

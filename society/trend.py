@@ -112,7 +112,7 @@ def dot(x: float, y: float, within: str) -> str:
 
 def bar(year: Year, x: float, top: float, bottom: float, step: float, language: Language) -> str:
     width = max(1.0, step * 0.7)
-    tip = f"{year.year}: {language.texts['animals'].format(year.animals)}"
+    tip = f"{year.year}: {language.counted('animals', year.animals)}"
     return (
         f'<rect x="{x - width / 2:.1f}" y="{top:.1f}" width="{width:.1f}" height="{bottom - top:.1f}" fill="{BARS}">'
         f"<title>{escape(tip)}</title></rect>"
@@ -128,8 +128,7 @@ def year_names(first: int, last: int, x: Callable[[int], float], step: float) ->
 
 def picture(parts: list[str], count: int, without: int, language: Language) -> str:
     texts = language.texts
-    more = texts["no year"].format(language.count(without)) if without else ""
-    note = texts["by year"].format(language.count(count)) + more
+    note = language.counted("by year", count) + (language.counted("no year", without) if without else "")
     head = [
         text_at(LEFT, 34, texts["trend"], INK, 21, weight="bold"),
         dot(LEFT + 6, 57, ""),

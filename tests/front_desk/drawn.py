@@ -24,7 +24,7 @@ class PageChecks(Checks):
                 f"{year}: {float(sum(those) / len(those)) * 100:.2f}% in the mean of {len(those)}" in tips,
                 f"trend: {year}",
             )
-            self.count(f"{year}: {len(those)} animals" in tips, f"trend: {year}")
+            self.count(f"{year}: {len(those)} animal{'s' * (len(those) > 1)}" in tips, f"trend: {year}")
         self.count("2 more have no known birth year" in "".join(picture.itertext()), "trend: the note")
         youngest = max((row["Ohrmarke"] for row in her.rows), key=lambda id: (born[id], id))
         parents = her.parents()
@@ -47,6 +47,24 @@ class PageChecks(Checks):
                 "pedigree: inbred ones are marked",
             )
         self.count(f"{len(set(drawn)) - 1} known ancestors" in words, "pedigree: the note")
+
+    def counted(self) -> None:
+        """One animal is told in the singular, in each language."""
+        desk = Desk(self, "counted")
+        rows = [{"id": "a", "sex": "M", "born": "2001"}, {"id": "b", "born": "2003", "sire": "a"}]
+        rows += [{"id": "c", "born": "2005", "sire": "b"}]
+        desk.take(sheet_text([{"sex": "M", "sire": "", **row} for row in rows], ","))
+        for language, tree, trend in [
+            ("en", "1 known ancestor; 1 more lies further back and isn't drawn.", "2001: 1 animal"),
+            ("de", "1 bekannter Ahn; 1 weiterer liegt weiter zurück und ist nicht gezeichnet.", "2001: 1 Tier"),
+            ("fr", "1 ancêtre connu ; 1 autre, plus loin, n'est pas dessiné.", "2001: 1 animal"),
+        ]:
+            desk.good("pedigree", "c", "--generations", "1", "--language", language, "--out", "tree.svg")
+            text = "".join(desk.page("tree.svg").itertext())
+            self.count(tree in text, f"{language}: {text}")
+            desk.good("trend", "--language", language)
+            text = [title.text for title in desk.page("book/trend.svg").iter("{http://www.w3.org/2000/svg}title")]
+            self.count(trend in text, f"{language}: {text}")
 
     def escaped(self) -> None:
         """Whatever a sheet has in its cells, pages and pictures are well-formed and show it."""
