@@ -2,9 +2,9 @@
 """build.py PROGRAM: proves a program of crates.txt and the crates that it stands on, side by side, and builds it.
 
 Each crate is proved over a copy of just that crate and those below it, once those below it are proved; first those
-that most others wait for. The library that comes of it is kept, so that a call that was interrupted goes on from there,
-and only what was changed is proved again. Standard error tells each crate as it begins and as it ends, with the minutes
-so far.
+that most others wait for. The library that comes of it is kept, so that a call after one that was interrupted begins
+with those that aren't proved, and after a change with those that were changed and those above them. The program itself
+is proved at each call. Standard error tells each crate as it begins and as it ends, with the minutes so far.
 
 The status is 0 once the program is built, 1 where it can't be, 2 where PROGRAM is no program.
 """
@@ -26,14 +26,14 @@ def build(program: str, teller: Teller) -> bool:
     teller.name, place = program, Place(crates)
     if not shutil.which("rt"):
         raise Stop("to build it, install the Rattle kit: its command rt isn't on the path")
-    with place.alone(lambda: teller.say("another call is building it here: waiting for that to end")) as has_waited:
+    with place.alone(lambda: teller.say("another call is building here: waiting for that to end")) as has_waited:
         if has_waited and place.is_new():
             teller.say(f"{program} is built, by the other call")
             return True
         try:
             is_well = Proving(crates, place, teller).build()
         except KeyboardInterrupt:
-            raise Stop("interrupted: the next call goes on from here") from None
+            raise Stop("interrupted: the next call keeps the crates that are proved") from None
         if is_well:
             teller.say(f"{program} is built")
         return is_well

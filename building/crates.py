@@ -60,11 +60,15 @@ class Crates:
     def keep(self, room: pathlib.Path, name: str) -> None:
         """Keeps the library that a crate was proved as, for those above it and for later calls."""
         kept = folder(name) / RLIB
-        beside = kept.with_name("rlib.new")
-        shutil.rmtree(beside, ignore_errors=True)
+        beside, before = kept.with_name("rlib.new"), kept.with_name("rlib.old")
+        for it in (beside, before):
+            shutil.rmtree(it, ignore_errors=True)
         shutil.move(room / "crates" / name / RLIB, beside)
-        shutil.rmtree(kept, ignore_errors=True)
+        # It isn't removed in its place: a call that is killed meanwhile would leave a part of it to be taken for all.
+        if kept.exists():
+            kept.rename(before)
         beside.rename(kept)
+        shutil.rmtree(before, ignore_errors=True)
 
 
 def lines_of(file: pathlib.Path) -> dict[str, str]:

@@ -69,5 +69,13 @@ def sweep() -> None:
     for at in pathlib.Path(tempfile.gettempdir()).glob("herdbook-*"):
         found = re.match(r"herdbook-(\d+)-", at.name)
         with contextlib.suppress(OSError):
-            if found and at.lstat().st_uid == os.geteuid() and not pathlib.Path("/proc", found[1]).exists():
+            if found and at.lstat().st_uid == os.geteuid() and not is_call(found[1]):
                 shutil.rmtree(at, ignore_errors=True)
+
+
+def is_call(number: str) -> bool:
+    """Whether a process of this number is a call: one that was killed may still be listed, but without its words."""
+    try:
+        return b"build.py" in pathlib.Path("/proc", number, "cmdline").read_bytes()
+    except FileNotFoundError:
+        return False

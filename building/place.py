@@ -1,4 +1,4 @@
-"""The folder in which the repository has a program once it is built."""
+"""The folders in which the repository has a program, and the libraries that it stands on, once they are built."""
 from __future__ import annotations
 
 import contextlib
@@ -16,36 +16,29 @@ REFUSED = (errno.EACCES, errno.EPERM, errno.EROFS)
 
 
 class Place:
-    """Where the program goes, and the lock on that folder."""
+    """Where the program goes, and the locks on that folder and on those of the crates that it stands on."""
 
     def __init__(self, crates: Crates) -> None:
         self.crates = crates
-        self.out = folder(crates.program) / "out"
+        self.out = out(crates.program)
         self.program = self.out / crates.program
 
     @contextlib.contextmanager
     def alone(self, waits: Callable[[], None]) -> Iterator[bool]:
-        """Keeps other calls from building the program here, and gives whether one had to end first."""
-        with self.lock_file() as lock:
+        """Keeps other calls from building these crates here, and gives whether one had to end first."""
+        with contextlib.ExitStack() as held:
+            # All calls lock them in one order, so that none waits for one that waits for it.
+            locks = [held.enter_context(lock_file(out(name))) for name in sorted(self.crates.lines)]
             has_waited = False
-            try:
-                fcntl.flock(lock, fcntl.LOCK_EX | fcntl.LOCK_NB)
-            except BlockingIOError:
-                has_waited = True
-                waits()
-                fcntl.flock(lock, fcntl.LOCK_EX)
+            for lock in locks:
+                try:
+                    fcntl.flock(lock, fcntl.LOCK_EX | fcntl.LOCK_NB)
+                except BlockingIOError:
+                    if not has_waited:
+                        waits()
+                    has_waited = True
+                    fcntl.flock(lock, fcntl.LOCK_EX)
             yield has_waited
-
-    def lock_file(self) -> IO[str]:
-        """The file that a build locks, which tells too whether the folder can be written."""
-        try:
-            self.out.mkdir(exist_ok=True)
-            if os.access(self.out, os.W_OK):
-                return open(self.out / "build.lock", "a", encoding="utf-8")
-        except OSError as error:
-            if error.errno not in REFUSED:
-                raise
-        raise Stop(f"{self.out} can't be written: copy the repository to a folder of your own")
 
     def is_new(self) -> bool:
         """Whether the program is there, and no source of it is newer."""
@@ -58,3 +51,20 @@ class Place:
         shutil.copy(made, beside)
         os.utime(beside, (begun, begun))
         os.replace(beside, self.program)
+
+
+def out(name: str) -> pathlib.Path:
+    """The folder in which a crate has what is made of it."""
+    return folder(name) / "out"
+
+
+def lock_file(at: pathlib.Path) -> IO[str]:
+    """The file that a build locks in such a folder, which tells too whether the folder can be written."""
+    try:
+        at.mkdir(exist_ok=True)
+        if os.access(at, os.W_OK):
+            return open(at / "build.lock", "a", encoding="utf-8")
+    except OSError as error:
+        if error.errno not in REFUSED:
+            raise
+    raise Stop(f"{at} can't be written: copy the repository to a folder of your own")

@@ -59,9 +59,11 @@ class Proving:
                     self.crates.keep(at, name)
         except Ended:
             return False
-        except Failed:
+        except Failed as why:
             self.write([*told])
-            self.say(f"{name} is not proved: rt check in crates/{name} says why")
+            lacks_memory = "its proof was killed, most likely for want of memory: make some free, and call again"
+            proves_not = f"rt check in crates/{name} says why"
+            self.say(f"{name} is not proved: {lacks_memory if why.is_killed else proves_not}")
             return False
         self.say(f"{name} {'is proved' if any(map(PROVED.match, told)) else 'was proved before'}")
         return True

@@ -2,12 +2,15 @@
 from __future__ import annotations
 
 import pathlib
+import signal
 import subprocess
 import threading
 from typing import Iterator
 
 # The seconds that a call gets to end its runs once one has failed.
 PAUSE = 0.5
+# How a run ends that was killed, and one whose prover was.
+KILLED = (-signal.SIGKILL, 256 - signal.SIGKILL)
 
 
 class Runs:
@@ -40,7 +43,7 @@ class Runs:
         if self.ended.wait(PAUSE if run.returncode else 0):
             raise Ended
         if run.returncode:
-            raise Failed
+            raise Failed(run.returncode in KILLED)
 
     def end(self) -> None:
         with self.lock:
@@ -51,6 +54,10 @@ class Runs:
 
 class Failed(Exception):
     """A run ended with another status than 0."""
+
+    def __init__(self, is_killed: bool) -> None:
+        super().__init__()
+        self.is_killed = is_killed
 
 
 class Ended(Exception):
