@@ -86,7 +86,7 @@ def curve(years: list[Year], at: dict[int, tuple[float, float]], language: Langu
             ends = f'x1="{x1:.1f}" y1="{y1:.1f}" x2="{x2:.1f}" y2="{y2:.1f}"'
             lines.append(f'<line {ends} stroke="{INBRED_INK}" stroke-width="2.5"/>')
         mean = language.percent(f"{float(one.mean) * 100:.2f}")
-        tip = f"{one.year}: {language.texts['mean of'].format(mean, one.animals)}"
+        tip = f"{one.year}: {language.texts['mean of'].format(mean, language.count(one.animals))}"
         dots.append(dot(x1, y1, f"<title>{escape(tip)}</title>"))
     return lines + dots
 

@@ -37,9 +37,9 @@ class AllChecks(
 
 GROUPS = """
     three_commands ten_more_rows forms numbers_of_others words_for_sexes inferred_days days_that_come reasons_that_stay
-    invented_days sexes named_parents faulty_parents faulty_rows corrections dropped mistakes limits pictures escaped
-    languages textbook inverse_of_many odd_pedigrees lost_links relationships odd_cells unknown_words long_paths help
-    goats exits_in_words remembered many_lines
+    invented_days sexes named_parents faulty_parents faulty_rows corrections dropped mistakes limits pictures counted
+    escaped languages textbook inverse_of_many odd_pedigrees lost_links relationships odd_cells unknown_words long_paths
+    help goats exits_in_words remembered many_lines
 """.split()
 
 

@@ -49,11 +49,11 @@ class PageChecks(Checks):
         self.count(f"{len(set(drawn)) - 1} known ancestors" in words, "pedigree: the note")
 
     def counted(self) -> None:
-        """One animal is told in the singular, in each language."""
+        """One animal is told in the singular, in each language, and in French none too."""
         desk = Desk(self, "counted")
         rows = [{"id": "a", "sex": "M", "born": "2001"}, {"id": "b", "born": "2003", "sire": "a"}]
         rows += [{"id": "c", "born": "2005", "sire": "b"}]
-        desk.take(sheet_text([{"sex": "M", "sire": "", **row} for row in rows], ","))
+        desk.take(sheet_text([{"sex": "M", "sire": "", "dam": "", **row} for row in rows], ","))
         for language, tree, trend in [
             ("en", "1 known ancestor; 1 more lies further back and isn't drawn.", "2001: 1 animal"),
             ("de", "1 bekannter Ahn; 1 weiterer liegt weiter zurück und ist nicht gezeichnet.", "2001: 1 Tier"),
@@ -63,8 +63,29 @@ class PageChecks(Checks):
             text = "".join(desk.page("tree.svg").itertext())
             self.count(tree in text, f"{language}: {text}")
             desk.good("trend", "--language", language)
-            text = [title.text for title in desk.page("book/trend.svg").iter("{http://www.w3.org/2000/svg}title")]
-            self.count(trend in text, f"{language}: {text}")
+            tips = [title.text for title in desk.page("book/trend.svg").iter("{http://www.w3.org/2000/svg}title")]
+            self.count(trend in tips, f"{language}: {tips}")
+        desk = Desk(self, "counted_years")
+        rows = [{"id": "a", "born": "2001"}, {"id": "b", "born": ""}]
+        desk.take(sheet_text([{"sex": "M", "sire": "", "dam": "", **row} for row in rows], ","))
+        for language, tree, trend in [
+            ("en", "0 known ancestors.", "1 animal by birth year; 1 more has no known birth year and isn't drawn."),
+            (
+                "de",
+                "0 bekannte Ahnen.",
+                "1 Tier nach Geburtsjahr; 1 weiteres hat kein bekanntes Geburtsjahr und ist nicht gezeichnet.",
+            ),
+            (
+                "fr",
+                "0 ancêtre connu.",
+                "1 animal par année de naissance ; 1 autre, sans année de naissance connue, n'est pas dessiné.",
+            ),
+        ]:
+            desk.good("pedigree", "a", "--language", language, "--out", "tree.svg")
+            desk.good("trend", "--language", language)
+            for name, note in ("tree.svg", tree), ("book/trend.svg", trend):
+                text = "".join(desk.page(name).itertext())
+                self.count(note in text, f"{language}: {text}")
 
     def escaped(self) -> None:
         """Whatever a sheet has in its cells, pages and pictures are well-formed and show it."""
