@@ -42,6 +42,8 @@ class Proving:
                         name, _ = running.pop(it)
                         is_well = it.result() and is_well
                         self.proved.add(name)
+                    if running and not is_well:
+                        self.say(f"still proving {', '.join(name for name, _ in running.values())}")
             finally:
                 self.runs.end()
         return is_well
