@@ -12,7 +12,7 @@ from typing import Iterator
 # What the proof of one crate takes.
 MEMORY = 4_000_000_000
 # More gain nothing.
-MOST_JOBS = 4
+MOST_JOBS = 2
 # A container's limit, and what it holds of that.
 GROUPS = (
     ("/sys/fs/cgroup/memory.max", "/sys/fs/cgroup/memory.stat", r"^anon (\d+)"),
