@@ -11,7 +11,7 @@ from typing import Iterator
 
 # What the proof of one crate takes.
 MEMORY = 4_000_000_000
-# More gain nothing.
+# Four were no faster where both were measured.
 MOST_JOBS = 2
 # A container's limit, and what it holds of that.
 GROUPS = (
