@@ -166,12 +166,9 @@ absorbed {O = O} n p v w u xs ys all is_v is_w is_u joined =
     ∙ ap (pass_view (n - 1) p) (sym (map-append (λ (block : ComputedBlock O). block.number) xs ys) ∙ ap numbers (sym joined))
 
 -- one more block is taken and computed
-pub one_more : {O : Type 0} (n p number : ℕ) (v u : PassView) (blocks more : List (ComputedBlock O)) (block : ComputedBlock O) → v ≡ pass_view n p (numbers blocks) → u ≡ pass_view v.out v.pushed (v.taken ++ number ∷ []) → block.number ≡ number → more ≡ blocks ++ block ∷ [] → u ≡ pass_view n p (numbers more)
-one_more {O = O} n p number v u blocks more block is_v is_u is joined =
-    is_u
-    ∙ ap (λ (x : PassView). pass_view x.out x.pushed (x.taken ++ number ∷ [])) is_v
-    ∙ ap (λ (x : ℕ). pass_view n p (numbers blocks ++ x ∷ [])) (sym is)
-    ∙ ap (pass_view n p) (sym (map-append (λ (b : ComputedBlock O). b.number) blocks (block ∷ [])) ∙ ap numbers (sym joined))
+pub one_more : {O : Type 0} (n p number : ℕ) (v u : PassView) (blocks more : List (ComputedBlock O)) → v ≡ pass_view n p (numbers blocks) → u ≡ pass_view v.out v.pushed (v.taken ++ number ∷ []) → numbers more ≡ numbers blocks ++ number ∷ [] → u ≡ pass_view n p (numbers more)
+one_more n p number v u blocks more is_v is_u is =
+    is_u ∙ ap (λ (x : PassView). pass_view x.out x.pushed (x.taken ++ number ∷ [])) is_v ∙ ap (pass_view n p) (sym is)
 
 -- what the starter knows at the end, where a pop finds nothing
 pub all_taken : (v : PassView) (out pushed : ℕ) (taken : List ℕ) → v ≡ pass_view out pushed taken → (v.out ≡ 0 → (x : ℕ) → count_by (λ n. n == x) v.taken ≡ once_below x v.pushed) → out ≡ 0 → (x : ℕ) → count_by (λ n. n == x) taken ≡ once_below x pushed

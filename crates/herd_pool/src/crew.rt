@@ -1,6 +1,6 @@
 //! The threads of a level.
 ghost use denote.Param.Send.{Frees, IsSend, IsSync};
-ghost use Rattle.std.specs.Prelude.{◌≡◌, ℕ, ◌<◌, All, IfOk, IfErr, [], vec_len, get_or, vec_items};
+ghost use Rattle.std.specs.Prelude.{◌≡◌, ℕ, ◌<◌, All, IfOk, IfErr, OnOk, [], vec_len, get_or, vec_items};
 ghost use Rattle.crossbeam_deque.specs.Handles.{worker_view};
 ghost use Rattle.herd_pool.specs.Workers.{AreBlocks, IsWorkerOutput, IsStarterOf, IsBlockPass};
 ghost use Rattle.herd_pool.specs.declared.pool_fault.PoolFault.{PoolFault};
@@ -56,8 +56,9 @@ pub fn compute_blocks<R: Threads + Wait + Sync, A: Allocator + Copy + Send + Syn
         blocks,
         idle,
     };
-    let starter = share(rt, alloc, work, &stealer, starter, workers)?;
-    let Starter { blocks, idle, .. } = take_blocks(rt, alloc, work, starter)?;
+    let mut starter = share(rt, alloc, work, &stealer, starter, workers)?;
+    take_blocks(rt, alloc, work, &mut starter)?;
+    let Starter { blocks, idle, .. } = starter;
     Ok((blocks, idle))
 }
 
@@ -93,11 +94,31 @@ fn share<R: Threads + Wait + Sync, A: Allocator + Copy + Send + Sync, W: Work<A>
                 (IsStarterOf W.Work work.entry.now stealer.entry.now 0 (worker_view starter.queue).pushed) }
         {
             let task = Task { work, stealer };
-            let (starter, started) = start_all(scope, rt, alloc, task, starter, threads)?;
-            let starter = take_blocks(rt, alloc, work, starter)?;
-            Ok(join_all(rt, task, started, starter)?)
+            let mut starter = starter;
+            work_beside(scope, rt, alloc, task, &mut starter, threads)?;
+            Ok(starter)
         },
     )
+}
+
+// Takes blocks beside so many workers, and joins them.
+fn work_beside<'s, E, R: Threads + Wait + Sync, A: Allocator + Copy + Send + Sync, W: Work<A>>(
+    scope: &'s Scope<'s, E>,
+    rt: &'s R,
+    alloc: A,
+    task: Task<'s, W, A>,
+    starter: &mut Starter<W::Scratch, W::Output, A>,
+    threads: usize,
+) -> Result<(), PoolFault>
+    requires knows { W.knows task.work.now }
+    requires starter { IsStarterOf W.Work task.work.now task.stealer.now 0 (worker_view starter.old.queue).pushed
+        starter.old }
+    ensures { OnOk result (IsStarterOf W.Work task.entry.work.now task.entry.stealer.now 0
+        (worker_view starter.old.queue).pushed starter.new) }
+{
+    let started = start_all(scope, rt, alloc, task, starter, threads)?;
+    take_blocks(rt, alloc, task.work, starter)?;
+    Ok(join_all(rt, task, started, starter)?)
 }
 
 // Starts so many workers, each with a pass of the queue's.
@@ -106,21 +127,16 @@ fn start_all<'s, E, R: Wait + Sync, A: Allocator + Copy + Send + Sync, W: Work<A
     rt: &'s R,
     alloc: A,
     task: Task<'s, W, A>,
-    mut starter: Starter<W::Scratch, W::Output, A>,
+    starter: &mut Starter<W::Scratch, W::Output, A>,
     threads: usize,
-) -> Result<
-    (
-        Starter<W::Scratch, W::Output, A>,
-        Vec<WorkerThread<'s, W, W::Scratch, W::Output, A>, A>,
-    ),
-    PoolFault,
->
+) -> Result<Vec<WorkerThread<'s, W, W::Scratch, W::Output, A>, A>, PoolFault>
     requires knows { W.knows task.work.now }
-    requires starter { IsStarterOf W.Work task.work.now task.stealer.now 0 (worker_view starter.queue).pushed starter }
-    ensures starter { IfOk result (λ r. IsStarterOf W.Work task.entry.work.now task.entry.stealer.now (vec_len r.1)
-        (worker_view starter.queue).pushed r.0) }
+    requires starter { IsStarterOf W.Work task.work.now task.stealer.now 0 (worker_view starter.old.queue).pushed
+        starter.old }
+    ensures starter { IfOk result (λ workers. IsStarterOf W.Work task.entry.work.now task.entry.stealer.now
+        (vec_len workers) (worker_view starter.old.queue).pushed starter.new) }
     ensures task { IfOk result
-        (λ r. (k : ℕ) (d : _) → k < vec_len r.1 → (get_or (vec_items r.1) k d).promise ≡ task.entry) }
+        (λ workers. (k : ℕ) (d : _) → k < vec_len workers → (get_or (vec_items workers) k d).promise ≡ task.entry) }
 {
     let mut workers = Vec::with_capacity(alloc, threads)?;
     for _ in 0..threads {
@@ -128,7 +144,7 @@ fn start_all<'s, E, R: Wait + Sync, A: Allocator + Copy + Send + Sync, W: Work<A
         let pass = starter.queue.another::<ForWorker>();
         workers.push_reserved(start_one(scope, rt, alloc, task, pass, scratch)?);
     }
-    Ok((starter, workers))
+    Ok(workers)
 }
 
 // Starts a worker.
@@ -170,13 +186,13 @@ fn join_all<'s, R: Threads, A: Allocator + Copy, W: Work<A>>(
     rt: &R,
     task: Task<'s, W, A>,
     started: Vec<WorkerThread<'s, W, W::Scratch, W::Output, A>, A>,
-    mut starter: Starter<W::Scratch, W::Output, A>,
-) -> Result<Starter<W::Scratch, W::Output, A>, AllocError>
+    starter: &mut Starter<W::Scratch, W::Output, A>,
+) -> Result<(), AllocError>
     requires task { (k : ℕ) (d : _) → k < vec_len started → (get_or (vec_items started) k d).promise ≡ task }
     requires starter { IsStarterOf W.Work task.work.now task.stealer.now (vec_len started)
-        (worker_view starter.queue).pushed starter }
-    ensures { IfOk result (IsStarterOf W.Work task.entry.work.now task.entry.stealer.now 0
-        (worker_view starter.queue).pushed) }
+        (worker_view starter.old.queue).pushed starter.old }
+    ensures { OnOk result (IsStarterOf W.Work task.entry.work.now task.entry.stealer.now 0
+        (worker_view starter.old.queue).pushed starter.new) }
 {
     for worker in started {
         let WorkerOutput {
@@ -188,5 +204,5 @@ fn join_all<'s, R: Threads, A: Allocator + Copy, W: Work<A>>(
         starter.blocks.append(&mut blocks)?;
         starter.idle.push(scratch)?;
     }
-    Ok(starter)
+    Ok(())
 }

@@ -1,11 +1,12 @@
 //! The thread that starts the others of a level, and works beside them.
-ghost use Rattle.std.specs.Prelude.{◌≡◌, ◌==◌, ℕ, All, IfOk, count_by};
+ghost use Rattle.std.specs.Prelude.{◌≡◌, ◌==◌, ℕ, All, IfOk, OnOk, count_by};
 ghost use Rattle.crossbeam_deque.specs.Handles.{worker_deque, worker_view};
 ghost use Rattle.herd_pool.specs.Blocks.{once_below};
 ghost use Rattle.herd_pool.specs.Workers.{IsStarter, numbers};
 
 use crate::queue::{BlockQueue, Popped};
 use crate::work::{ComputedBlock, Work};
+use crate::worker::add_block;
 use std::alloc::{AllocError, Allocator};
 use std::sync::Wait;
 
@@ -40,33 +41,24 @@ pub fn take_blocks<R: Wait, A: Allocator + Copy, W: Work<A>>(
     rt: &R,
     alloc: A,
     work: &W,
-    starter: Starter<W::Scratch, W::Output, A>,
-) -> Result<Starter<W::Scratch, W::Output, A>, AllocError>
+    starter: &mut Starter<W::Scratch, W::Output, A>,
+) -> Result<(), AllocError>
     requires knows { W.knows work.now }
-    requires starter { IsStarter W.Work work.now (worker_view starter.queue).out (worker_view starter.queue).pushed
-        starter }
-    ensures deque { IfOk result (λ r. worker_deque r.queue ≡ worker_deque starter.queue) }
-    ensures starter { IfOk result (IsStarter W.Work work.now (worker_view starter.queue).out
-        (worker_view starter.queue).pushed) }
-    ensures each_once { IfOk result (λ r. (worker_view starter.queue).out ≡ 0 → (number : ℕ)
-        → count_by (λ n. n == number) (numbers r.blocks.items) ≡ once_below number (worker_view starter.queue).pushed) }
+    requires starter { IsStarter W.Work work.now (worker_view starter.old.queue).out
+        (worker_view starter.old.queue).pushed starter.old }
+    ensures deque { OnOk result (worker_deque starter.new.queue ≡ worker_deque starter.old.queue) }
+    ensures starter { OnOk result (IsStarter W.Work work.now (worker_view starter.old.queue).out
+        (worker_view starter.old.queue).pushed starter.new) }
+    ensures each_once { OnOk result ((worker_view starter.old.queue).out ≡ 0 → (number : ℕ)
+        → count_by (λ n. n == number) (numbers starter.new.blocks.items)
+        ≡ once_below number (worker_view starter.old.queue).pushed) }
 {
-    let Starter {
-        mut queue,
-        mut blocks,
-        mut idle,
-    } = starter;
-    let mut scratch = hire(alloc, work, &mut idle)?;
+    let mut scratch = hire(alloc, work, &mut starter.idle)?;
     for _ in rt.forever() {
-        match queue.pop_as::<Popped>() {
-            Some(number) => blocks.push(work.compute(alloc, &mut scratch, number)?)?,
+        match starter.queue.pop_as::<Popped>() {
+            Some(number) => add_block(alloc, work, &mut scratch, number, &mut starter.blocks)?,
             None => break,
         }
     }
-    idle.push(scratch)?;
-    Ok(Starter {
-        queue,
-        blocks,
-        idle,
-    })
+    Ok(starter.idle.push(scratch)?)
 }

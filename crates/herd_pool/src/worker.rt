@@ -1,6 +1,6 @@
 //! What the workers of a level do.
-ghost use Rattle.std.specs.Prelude.{IfOk, []};
-ghost use Rattle.herd_pool.specs.Workers.{IsWorkerOutput, IsBlockPass};
+ghost use Rattle.std.specs.Prelude.{◌≡◌, ◌++◌, All, IfOk, OnOk, [], ◌∷◌};
+ghost use Rattle.herd_pool.specs.Workers.{IsWorkerOutput, IsBlockPass, numbers};
 
 use crate::queue::{BlockPass, BlockStealer, Stolen};
 use crate::work::{ComputedBlock, Work};
@@ -40,7 +40,7 @@ pub fn steal_blocks<R: Wait, A: Allocator + Copy, W: Work<A>>(
     for _ in rt.forever() {
         match task.stealer.steal_as::<Stolen>(&mut pass) {
             Steal::Success(number) => {
-                blocks.push(task.work.compute(alloc, &mut scratch, number)?)?;
+                add_block(alloc, task.work, &mut scratch, number, &mut blocks)?;
             }
             Steal::Empty => break,
             Steal::Retry => {}
@@ -51,4 +51,23 @@ pub fn steal_blocks<R: Wait, A: Allocator + Copy, W: Work<A>>(
         blocks,
         scratch,
     })
+}
+
+/// Computes a block, and adds it to those that were computed.
+pub fn add_block<A: Allocator + Copy, W: Work<A>>(
+    alloc: A,
+    work: &W,
+    scratch: &mut W::Scratch,
+    number: u32,
+    blocks: &mut Vec<ComputedBlock<W::Output>, A>,
+) -> Result<(), AllocError>
+    requires knows { W.knows work.now }
+    requires ready { W.is_ready work.now scratch.old }
+    requires computed { All (W.is_computed work.now) blocks.old.items }
+    ensures ready { OnOk result (W.is_ready work.now scratch.new) }
+    ensures number { OnOk result (numbers blocks.new.items ≡ numbers blocks.old.items ++ number ∷ []) }
+    ensures computed { OnOk result (All (W.is_computed work.now) blocks.new.items) }
+{
+    let block = work.compute(alloc, scratch, number)?;
+    Ok(blocks.push(block)?)
 }

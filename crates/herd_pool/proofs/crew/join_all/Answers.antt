@@ -32,7 +32,7 @@ loop-worker-preserved g c =
           first = c.absorb.ensures.same.0.2 ∙ was.starter.starter.first;
           view =
               absorbed _ _ _ _ _ _ _ _ was.starter.starter.view c.in_ok-pass.ensures.pass.view c.absorb.ensures.rule joined
-              ∙ ap (λ n. pass_view n (worker_view c.args.starter.queue).pushed (numbers c.append.new.self.items)) (sym left);
+              ∙ ap (λ n. pass_view n (worker_view c.args.starter.now.queue).pushed (numbers c.append.new.self.items)) (sym left);
           computed = All-same IsRight _ _ joined (All-append IsRight _ _ was.starter.starter.computed kept.computed);
           ready = All-same IsReady _ _ idle (All-push IsReady _ c.in_ok-pass.field-0.scratch was.starter.starter.ready kept.ready);
         };

@@ -7,10 +7,11 @@ use Rattle.herd_pool.proofs.starter.take_blocks.Given as goal
 
 abbrev pub invariant-loop : goal.invariant-loop
 invariant-loop g l = record {
-  deque : worker_deque l.queue ≡ worker_deque l.initial.queue;
-  fifo : worker_flavor l.queue ≡ 0;
-  first : worker_port l.queue ≡ 0;
-  view : worker_view l.queue ≡ pass_view (worker_view l.initial.queue).out (worker_view l.initial.queue).pushed (numbers l.blocks.items);
-  computed : All (g.W.Work.is_computed l.work) l.blocks.items;
+  deque : worker_deque l.starter.queue ≡ worker_deque l.fn.starter.queue;
+  fifo : worker_flavor l.starter.queue ≡ 0;
+  first : worker_port l.starter.queue ≡ 0;
+  view : worker_view l.starter.queue ≡ pass_view (worker_view l.fn.starter.queue).out (worker_view l.fn.starter.queue).pushed (numbers l.starter.blocks.items);
+  computed : All (g.W.Work.is_computed l.work) l.starter.blocks.items;
+  idle : All (g.W.Work.is_ready l.work) l.starter.idle.items;
   ready : g.W.Work.is_ready l.work l.scratch;
 }
