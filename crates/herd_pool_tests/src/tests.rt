@@ -143,10 +143,16 @@ fn expect_traced_where_entered<R: Threads + Wait + Abort + Sync>(
 fn traced_on_the_thread_that_entered(rt: HostRuntime) -> Result<(), Fail> {
     let frozen = founders(rt.alloc(), 6)?;
     expect_traced_where_entered(&rt, rt.alloc(), &frozen, 0, 3)?;
-    let frozen = generations(rt.alloc(), 5)?;
-    expect_traced_where_entered(&rt, rt.alloc(), &frozen, 0, 1)?;
-    expect_traced_where_entered(&rt, rt.alloc(), &frozen, 1, 1)?;
-    Ok(())
+    full_sibs_are_traced_where_entered(&rt, rt.alloc())
+}
+
+fn full_sibs_are_traced_where_entered<R: Threads + Wait + Sync + Abort>(
+    rt: &R,
+    alloc: Global,
+) -> Result<(), Fail> {
+    let frozen = generations(alloc, 5)?;
+    expect_traced_where_entered(rt, alloc, &frozen, 0, 1)?;
+    Ok(expect_traced_where_entered(rt, alloc, &frozen, 1, 1)?)
 }
 
 // The meeting tells workers that run one after another.
@@ -201,14 +207,24 @@ fn each_block_of_each_level_once(rt: HostRuntime) -> Result<(), Fail> {
 fn memory_refused_to_a_tracing(rt: HostRuntime) -> Result<(), Fail> {
     let frozen = generations(rt.alloc(), 5)?;
     for rank in 0..10 {
-        let gate = OneRefused::of(rank);
-        let refused = coefficients(&rt, rt.alloc(), &frozen, 2, 1, &gate);
-        assert!(rt;
-            matches!(&refused, Err(PoolFault::Memory)),
-            "tracing {rank}"
-        );
-        let found = coefficients(&rt, rt.alloc(), &frozen, 2, 1, &gate)?;
-        assert_eq!(rt; found.list(), FIVE_GENERATIONS.as_slice());
+        memory_is_refused_once(&rt, rt.alloc(), &frozen, rank)?;
     }
+    Ok(())
+}
+
+fn memory_is_refused_once<R: Threads + Wait + Sync + Abort>(
+    rt: &R,
+    alloc: Global,
+    frozen: &Frozen<Global>,
+    rank: u64,
+) -> Result<(), Fail> {
+    let gate = OneRefused::of(rank);
+    let refused = coefficients(rt, alloc, frozen, 2, 1, &gate);
+    assert!(rt;
+        matches!(&refused, Err(PoolFault::Memory)),
+        "tracing {rank}"
+    );
+    let found = coefficients(rt, alloc, frozen, 2, 1, &gate)?;
+    assert_eq!(rt; found.list(), FIVE_GENERATIONS.as_slice());
     Ok(())
 }

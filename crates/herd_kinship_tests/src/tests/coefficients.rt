@@ -77,7 +77,15 @@ fn finds_the_inbreeding_of_half_cousins(rt: HostRuntime) -> Result<(), Fail> {
 #[test]
 fn finds_the_inbreeding_of_sixty_one_generations(rt: HostRuntime) -> Result<(), Fail> {
     let frozen = generations(rt.alloc(), 61)?;
-    let coefficients = coefficients_plain(rt.alloc(), &frozen)?;
+    youngest_of_sixty_one_generations_is_inbred(&rt, rt.alloc(), &frozen)
+}
+
+fn youngest_of_sixty_one_generations_is_inbred(
+    rt: &impl Abort,
+    alloc: Global,
+    frozen: &Frozen<Global>,
+) -> Result<(), Fail> {
+    let coefficients = coefficients_plain(alloc, frozen)?;
     assert_eq!(rt; frozen.len(), 122);
     let youngest = fraction(coefficients.numerator(121));
     assert_eq!(rt; youngest.numerator, 1_152_917_451_867_309_095);
@@ -86,7 +94,7 @@ fn finds_the_inbreeding_of_sixty_one_generations(rt: HostRuntime) -> Result<(), 
     let sire = Bull(121).number();
     let dam = Cow(122).number();
     assert_eq!(rt;
-        mating(rt.alloc(), &frozen, &coefficients, &sire, &dam),
+        mating(alloc, frozen, &coefficients, &sire, &dam),
         Err(MatingFault::TooDeep)
     );
     Ok(())

@@ -5,7 +5,7 @@ ghost use Rattle.std.specs.Prelude.{false};
 use super::books::{with_inbred_parents, with_one_parent};
 use herd_animal::AnimalNumber;
 use herd_fixtures::Name::{Bull, Cow};
-use herd_fixtures::{Name, frozen_of};
+use herd_fixtures::{Birth, Name, frozen_of};
 use herd_frozen::Frozen;
 use herd_kinship::*;
 use std::alloc::Global;
@@ -91,18 +91,30 @@ fn contributes(
 
 #[test]
 fn lists_contributions(rt: HostRuntime) -> Result<(), Fail> {
-    let frozen = frozen_of(rt.alloc(), &with_one_parent())?;
-    let inbred = frozen_of(rt.alloc(), &with_inbred_parents())?;
-    let animals: [(&Frozen<Global>, Name, &[Element]); 6] = [
-        (&frozen, Bull(1), &FOUNDER),
-        (&frozen, Cow(9), &SIRE_ALONE),
-        (&frozen, Bull(3), &BOTH_PARENTS),
-        (&frozen, Bull(8), &INBRED_SIRE),
-        (&inbred, Bull(8), &BOTH_INBRED),
-        (&inbred, Bull(9), &DAM_ALONE),
+    let of_one_parent: [(Name, &[Element]); 4] = [
+        (Bull(1), &FOUNDER),
+        (Cow(9), &SIRE_ALONE),
+        (Bull(3), &BOTH_PARENTS),
+        (Bull(8), &INBRED_SIRE),
     ];
-    for (frozen, name, expected) in animals {
-        contributes(&rt, rt.alloc(), frozen, name.number(), expected)?;
+    let of_inbred_parents: [(Name, &[Element]); 2] = [
+        (Bull(8), &BOTH_INBRED),
+        (Bull(9), &DAM_ALONE),
+    ];
+    contribute(&rt, rt.alloc(), &with_one_parent(), &of_one_parent)?;
+    contribute(&rt, rt.alloc(), &with_inbred_parents(), &of_inbred_parents)
+}
+
+// Each of these animals of a book makes its contributions.
+fn contribute(
+    rt: &impl Abort,
+    alloc: Global,
+    births: &[Birth],
+    animals: &[(Name, &[Element])],
+) -> Result<(), Fail> {
+    let frozen = frozen_of(alloc, births)?;
+    for (name, expected) in animals {
+        contributes(rt, alloc, &frozen, name.number(), expected)?;
     }
     Ok(())
 }

@@ -16,12 +16,20 @@ use std::test::Fail;
 #[test]
 fn traces_an_animal(rt: HostRuntime) -> Result<(), Fail> {
     let frozen = frozen_of(rt.alloc(), &full_sibs())?;
-    let coefficients = coefficients_plain(rt.alloc(), &frozen)?;
+    calf_of_full_sibs_is_traced(&rt, rt.alloc(), &frozen)
+}
+
+fn calf_of_full_sibs_is_traced(
+    rt: &impl Abort,
+    alloc: Global,
+    frozen: &Frozen<Global>,
+) -> Result<(), Fail> {
+    let coefficients = coefficients_plain(alloc, frozen)?;
     let rank = frozen.rank(&Bull(5).number()).ok_or("absent")?;
-    let traced = trace(rt.alloc(), &frozen, coefficients.list(), rank)?;
+    let traced = trace(alloc, frozen, coefficients.list(), rank)?;
     assert_eq!(rt; traced, (1 << 120) + (1 << 118));
     assert_eq!(rt; inbred(traced), 1 << 118);
-    assert_eq!(rt; mendelian(&frozen, coefficients.list(), rank), 1 << 119);
+    assert_eq!(rt; mendelian(frozen, coefficients.list(), rank), 1 << 119);
     Ok(())
 }
 

@@ -75,11 +75,9 @@ fn use_office<'r, N: OfficeName, R: Wait + Abort, A: Allocator + Copy>(
     (mut desks, mut inspectors): (Vec<Desk<N>, A>, Vec<Inspector<N>, A>),
     crowd: &mut Crowd<'_>,
 ) -> Result<(u32, u32), Fail> {
-    let mut desk = desks.pop().expect(rt, "a desk");
-    let mut inspector = inspectors.pop().expect(rt, "an inspector");
-    let refused = file_and_freeze(rt, allocators, &office, (&mut desk, &mut inspector), crowd);
-    desks.push(desk).expect(rt, "room");
-    inspectors.push(inspector).expect(rt, "room");
+    let desk = desks.first_mut().expect(rt, "a desk");
+    let inspector = inspectors.first_mut().expect(rt, "an inspector");
+    let refused = file_and_freeze(rt, allocators, &office, (desk, inspector), crowd);
     // Closing takes no memory.
     crowd.fill()?;
     let register = closed(rt, office, desks, inspectors)?;
