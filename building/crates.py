@@ -5,12 +5,14 @@ import functools
 import os
 import pathlib
 import shutil
-from typing import Iterator
+from typing import Iterable, Iterator
 
 from building.telling import Stop
 
 # Where rt keeps the library that a crate is proved as.
 RLIB = pathlib.Path("out", "rlib")
+# The folder in which rt keeps work for the next proof of a crate.
+WORK = pathlib.Path("out", "incremental")
 TOP = pathlib.Path(__file__).resolve().parent.parent
 
 
@@ -42,6 +44,11 @@ class Crates:
 
         return sorted(self.lines, key=lambda name: -chain(name))
 
+    def is_awaited(self, name: str, left: list[str], running: Iterable[str]) -> bool:
+        """Whether all crates that are left wait for this one, and for each that runs not as long."""
+        order = self.by_chain.index
+        return all(name in self.all_below(it) for it in left) and all(order(name) < order(it) for it in running)
+
     def newest_source(self) -> float:
         """When the newest source was changed."""
         files = [TOP / "crates.txt", *(file for name in self.lines for file in sources(name))]
@@ -56,6 +63,9 @@ class Crates:
             shutil.copytree(folder(it), room / "crates" / it, ignore=shutil.ignore_patterns("out", "must-fail"))
             if (folder(it) / RLIB).exists():
                 shutil.copytree(folder(it) / RLIB, room / "crates" / it / RLIB, copy_function=link)
+        # The room is used once. With a file there rt keeps no work for a next proof, and several processes are faster.
+        (room / "crates" / name / WORK).parent.mkdir(exist_ok=True)
+        (room / "crates" / name / WORK).touch()
 
     def keep(self, room: pathlib.Path, name: str) -> None:
         """Keeps the library that a crate was proved as, for those above it and for later calls."""

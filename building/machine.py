@@ -9,10 +9,10 @@ import shutil
 import tempfile
 from typing import Iterator
 
-# What the proof of one crate takes.
+# What the proof of one crate takes, and what a process of it may take.
 MEMORY = 4_000_000_000
-# Four were no faster where both were measured.
-MOST_JOBS = 2
+MEMORY_OF_JOB = 2_000_000_000
+MOST_JOBS = 4
 # A container's limit, and what it holds of that.
 GROUPS = (
     ("/sys/fs/cgroup/memory.max", "/sys/fs/cgroup/memory.stat", r"^anon (\d+)"),
@@ -27,14 +27,16 @@ class Machine:
     """
 
     def __init__(self) -> None:
+        free = free_memory()
         self.processors = len(os.sched_getaffinity(0))
-        self.most_runs = max(1, min(max(2, self.processors // 2), free_memory() // MEMORY))
+        self.most_runs = max(1, min(max(2, self.processors // 2), free // MEMORY))
+        self.most_jobs = max(1, min(self.processors, MOST_JOBS, free // MEMORY_OF_JOB))
 
     def shares(self, ready: list[str], running: list[int]) -> list[tuple[str, int]]:
         """The first of those that are ready that can begin beside runs of so many jobs each, and with how many jobs."""
         idle = self.processors - sum(running)
         first = ready[: min(idle, self.most_runs - len(running))]
-        return [(it, min(MOST_JOBS, idle // len(first))) for it in first]
+        return [(it, min(self.most_jobs, idle // len(first))) for it in first]
 
 
 def free_memory() -> int:

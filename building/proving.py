@@ -34,8 +34,11 @@ class Proving:
             try:
                 while left and is_well or running:
                     ready = [name for name in left if self.crates.below[name] <= self.proved] if is_well else []
+                    begun = [name for name, _ in running.values()]
                     for name, jobs in self.machine.shares(ready, [jobs for _, jobs in running.values()]):
                         left.remove(name)
+                        if self.crates.is_awaited(name, left, begun):
+                            jobs = self.machine.most_jobs
                         self.say(f"proving {name}")
                         running[pool.submit(self.prove, name, jobs)] = name, jobs
                     for it in concurrent.futures.wait(running, return_when=concurrent.futures.FIRST_COMPLETED).done:
