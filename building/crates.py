@@ -63,9 +63,12 @@ class Crates:
             shutil.copytree(folder(it), room / "crates" / it, ignore=shutil.ignore_patterns("out", "must-fail"))
             if (folder(it) / RLIB).exists():
                 shutil.copytree(folder(it) / RLIB, room / "crates" / it / RLIB, copy_function=link)
-        # The room is used once. With a file there rt keeps no work for a next proof, and several processes are faster.
-        (room / "crates" / name / WORK).parent.mkdir(exist_ok=True)
-        (room / "crates" / name / WORK).touch()
+
+    def keep_no_work(self, room: pathlib.Path, name: str) -> None:
+        """Has rt keep no work for a next proof of a crate in that room, by a file where the work would be."""
+        at = room / "crates" / name / WORK
+        at.parent.mkdir(exist_ok=True)
+        at.touch()
 
     def keep(self, room: pathlib.Path, name: str) -> None:
         """Keeps the library that a crate was proved as, for those above it and for later calls."""

@@ -14,6 +14,8 @@ from building.telling import Teller
 
 PROVED = re.compile(r"logic=proved\b")
 LAST_LINES = 20
+# So many processes are faster where they share what rt keeps, more where each begins with what one has loaded.
+SHARED_JOBS = 2
 
 
 class Proving:
@@ -57,6 +59,8 @@ class Proving:
         try:
             with room() as at:
                 self.crates.copy_to(at, name)
+                if jobs > SHARED_JOBS:
+                    self.crates.keep_no_work(at, name)
                 told.extend(self.runs.lines(self.words(name, jobs), at / "crates" / name))
                 if name == self.crates.program:
                     self.place.put(at / "crates" / name / "out" / name, self.begun)
