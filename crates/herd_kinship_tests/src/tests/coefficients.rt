@@ -77,7 +77,8 @@ fn finds_the_inbreeding_of_half_cousins(rt: HostRuntime) -> Result<(), Fail> {
 #[test]
 fn finds_the_inbreeding_of_sixty_one_generations(rt: HostRuntime) -> Result<(), Fail> {
     let frozen = generations(rt.alloc(), 61)?;
-    youngest_of_sixty_one_generations_is_inbred(&rt, rt.alloc(), &frozen)
+    youngest_of_sixty_one_generations_is_inbred(&rt, rt.alloc(), &frozen)?;
+    youngest_of_sixty_one_generations_are_too_deep(&rt, rt.alloc(), &frozen)
 }
 
 fn youngest_of_sixty_one_generations_is_inbred(
@@ -91,6 +92,15 @@ fn youngest_of_sixty_one_generations_is_inbred(
     assert_eq!(rt; youngest.numerator, 1_152_917_451_867_309_095);
     assert_eq!(rt; youngest.denominator, 1_152_921_504_606_846_976);
     assert_eq!(rt; coefficients.numerator(120), coefficients.numerator(121));
+    Ok(())
+}
+
+fn youngest_of_sixty_one_generations_are_too_deep(
+    rt: &impl Abort,
+    alloc: Global,
+    frozen: &Frozen<Global>,
+) -> Result<(), Fail> {
+    let coefficients = coefficients_plain(alloc, frozen)?;
     let sire = Bull(121).number();
     let dam = Cow(122).number();
     assert_eq!(rt;

@@ -78,11 +78,20 @@ fn use_office<'r, N: OfficeName, R: Wait + Abort, A: Allocator + Copy>(
     let desk = desks.first_mut().expect(rt, "a desk");
     let inspector = inspectors.first_mut().expect(rt, "an inspector");
     let refused = file_and_freeze(rt, allocators, &office, (desk, inspector), crowd);
-    // Closing takes no memory.
+    close_with_no_memory(rt, office, (desks, inspectors), crowd)?;
+    Ok(refused)
+}
+
+fn close_with_no_memory<'r, N: OfficeName, R: Wait + Abort, A: Allocator + Copy>(
+    rt: &'r R,
+    office: Office<N, &'r R, A>,
+    (desks, inspectors): (Vec<Desk<N>, A>, Vec<Inspector<N>, A>),
+    crowd: &mut Crowd<'_>,
+) -> Result<(), Fail> {
     crowd.fill()?;
     let register = closed(rt, office, desks, inspectors)?;
     assert_eq!(rt; register.journal().len(), 5);
-    Ok(refused)
+    Ok(())
 }
 
 // Files five births, and freezes the book after each. How often memory was refused while they were filed, and while

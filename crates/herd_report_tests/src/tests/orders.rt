@@ -58,14 +58,22 @@ where
     R: AllocGlobal + Abort + Threads + Wait + Sync,
     F: Read + Drop,
 {
+    let mut text = Vec::new(rt.alloc());
+    let outcome = run(rt, rt.alloc(), LIMITS, Order::File, file, &mut text);
+    assert_eq!(rt; outcome, end);
+    expect_first_replies(rt, text.as_slice(), count)
+}
+
+fn expect_first_replies<R: AllocGlobal + Abort>(
+    rt: &R,
+    text: &[u8],
+    count: usize,
+) -> Result<(), Fail> {
     let mut replies = Vec::new(rt.alloc());
     for line in REPLIES.iter().take(count) {
         replies.extend_from_slice(line)?;
     }
-    let mut text = Vec::new(rt.alloc());
-    let outcome = run(rt, rt.alloc(), LIMITS, Order::File, file, &mut text);
-    assert_eq!(rt; outcome, end);
-    assert_eq!(rt; text.as_slice(), replies.as_slice());
+    assert_eq!(rt; text, replies.as_slice());
     Ok(())
 }
 
