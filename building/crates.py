@@ -45,7 +45,7 @@ class Crates:
         return sorted(self.lines, key=lambda name: -chain(name))
 
     def is_awaited(self, name: str, left: list[str], running: Iterable[str]) -> bool:
-        """Whether all crates that are left wait for this one, and for each that runs not as long."""
+        """Whether all crates that are left wait for this one, and it has a longer chain than each that runs."""
         order = self.by_chain.index
         return all(name in self.all_below(it) for it in left) and all(order(name) < order(it) for it in running)
 

@@ -14,7 +14,7 @@ from building.telling import Teller
 
 PROVED = re.compile(r"logic=proved\b")
 LAST_LINES = 20
-# So many processes are faster where they share what rt keeps, more where each begins with what one has loaded.
+# Above so many processes rt keeps no work for a next proof: two crates that were proved alone so took less time.
 SHARED_JOBS = 2
 
 
