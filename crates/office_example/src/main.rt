@@ -34,6 +34,25 @@ const CALF: &str = "HOLGBRF000000000007";
 // How often the inspector freezes the book beside the clerks.
 const READINGS: u16 = 100;
 
+// The births that are filed before the calf's.
+#[derive(Drop)]
+struct Births {
+    founders: [Command; 2],
+    sons: [Command; 2],
+    daughters: [Command; 2],
+}
+
+impl Births {
+    fn new() -> Result<Births> {
+        let parents = Some((FOUNDERS[0], FOUNDERS[1]));
+        Ok(Births {
+            founders: births_of(FOUNDERS, "2015-03-01", None)?,
+            sons: births_of(SONS, "2018-02-20", parents)?,
+            daughters: births_of(DAUGHTERS, "2019-06-08", parents)?,
+        })
+    }
+}
+
 fn main(rt: HostRuntime) -> Result<()> {
     // These are the widest limits. The inspectors' room for all that they allow is made here, once.
     let limits = Limits {
@@ -97,18 +116,13 @@ fn work<N: OfficeName + Send + Sync, R: Threads + Wait + Print + Sync>(
     office: &Office<N, &R>,
     (first, second, inspector): Staff<N>,
 ) -> Result<Staff<N>> {
-    let founders = births_of(FOUNDERS, "2015-03-01", None)?;
-    let first = file_births(rt, office, first, &founders)?;
-    let (first, mut second, mut inspector) = work_side_by_side(
-        rt,
-        alloc,
-        office,
-        (first, second),
-        inspector,
-    )?;
-    let frozen = file_calf(rt, alloc, office, &mut second, &mut inspector)?;
-    print_coefficient(rt, alloc, &frozen, CALF)?;
-    Ok((first, second, inspector))
+    let births = Births::new()?;
+    let first = file_births(rt, office, first, &births.founders)?;
+    let staff = (first, second, inspector);
+    let mut staff = work_side_by_side(rt, alloc, office, staff, &births)?;
+    let (_, desk, inspector) = &mut staff;
+    print_calf(rt, alloc, office, desk, inspector)?;
+    Ok(staff)
 }
 
 // The sons are filed at the first desk and the daughters at the second, in whatever order the threads run.
@@ -116,15 +130,13 @@ fn work_side_by_side<N: OfficeName + Send + Sync, R: Threads + Wait + Sync>(
     rt: &R,
     alloc: Global,
     office: &Office<N, &R>,
-    desks: (Desk<N>, Desk<N>),
-    inspector: Inspector<N>,
+    (first, second, inspector): Staff<N>,
+    births: &Births,
 ) -> Result<Staff<N>> {
-    let (first, second) = desks;
-    let parents = Some((FOUNDERS[0], FOUNDERS[1]));
-    let sons = &births_of(SONS, "2018-02-20", parents)?;
-    let daughters = &births_of(DAUGHTERS, "2019-06-08", parents)?;
+    let sons = &births.sons;
+    let daughters = &births.daughters;
     // `join` runs two closures at once, each with what was moved into it, and gives what both return.
-    let ((first, second), inspector) = join(
+    let (filed, inspector) = join(
         rt,
         move || {
             join(
@@ -135,6 +147,13 @@ fn work_side_by_side<N: OfficeName + Send + Sync, R: Threads + Wait + Sync>(
         },
         move || freeze_beside(alloc, inspector),
     );
+    staff_back(filed, inspector)
+}
+
+fn staff_back<N: OfficeName>(
+    (first, second): (Result<Desk<N>, FileFault>, Result<Desk<N>, FileFault>),
+    inspector: Result<Inspector<N>, FreezeFault>,
+) -> Result<Staff<N>> {
     Ok((first?, second?, inspector?))
 }
 
@@ -166,6 +185,18 @@ fn freeze_beside<N: OfficeName>(
         let _frozen = inspector.freeze(alloc)?;
     }
     Ok(inspector)
+}
+
+// Files the calf's birth, and prints its coefficient of inbreeding.
+fn print_calf<N: OfficeName, R: Wait + Print>(
+    rt: &R,
+    alloc: Global,
+    office: &Office<N, &R>,
+    desk: &mut Desk<N>,
+    inspector: &mut Inspector<N>,
+) -> Result<()> {
+    let frozen = file_calf(rt, alloc, office, desk, inspector)?;
+    print_coefficient(rt, alloc, &frozen, CALF)
 }
 
 // Files the last birth and freezes the book. Who learns the slip of a call has seen all steps up to the one it made.

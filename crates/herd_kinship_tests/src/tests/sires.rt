@@ -1,12 +1,44 @@
 //! A sire's calves by themselves, as threads ask for them.
+ghost use Rattle.std.specs.Prelude.{◌<◌, length};
+ghost use Rattle.herd_kinship.specs.CalfLinks.{AreCalvesOf};
 
 use herd_fixtures::Name::{Bull, Cow};
 use herd_fixtures::{Name, frozen_of, full_sibs};
 use herd_frozen::Frozen;
 use herd_kinship::*;
-use std::alloc::Global;
+use std::alloc::{AllocError, Global};
 use std::process::Abort;
 use std::test::Fail;
+
+fn append_calves(
+    alloc: Global,
+    frozen: &Frozen<Global>,
+    calves: &Calves<Global>,
+    sire: u32,
+    list: &mut Vec<CalfCoefficient>,
+) -> Result<(), AllocError>
+    requires calves { AreCalvesOf frozen.now calves.now }
+    requires sire { sire < length frozen.now }
+{
+    let coefficients = coefficients_plain(alloc, frozen)?;
+    let mut mates = Mates::with_room(alloc, frozen.len())?;
+    mates.append_calves(frozen, calves, coefficients.list(), sire, list)
+}
+
+// The sire's calves by known dams, each with its coefficient; as many as are counted.
+fn calves_by_known_dams(
+    rt: &impl Abort,
+    alloc: Global,
+    frozen: &Frozen<Global>,
+    sire: Name,
+) -> Result<Vec<CalfCoefficient>, Fail> {
+    let sire = frozen.rank(&sire.number()).ok_or("absent")?;
+    let calves = Calves::of(alloc, frozen)?;
+    let mut list = Vec::new(alloc);
+    append_calves(alloc, frozen, &calves, sire, &mut list)?;
+    assert_eq!(rt; calves.count(frozen, sire) as usize, list.len());
+    Ok(list)
+}
 
 // The sire has these calves by known dams, each with its coefficient, and no more.
 fn has_calves(
@@ -16,14 +48,8 @@ fn has_calves(
     sire: Name,
     expected: &[(Name, u128)],
 ) -> Result<(), Fail> {
-    let coefficients = coefficients_plain(alloc, frozen)?;
-    let calves = Calves::of(alloc, frozen)?;
-    let mut mates = Mates::with_room(alloc, frozen.len())?;
-    let mut list = Vec::new(alloc);
-    let sire = frozen.rank(&sire.number()).ok_or("absent")?;
-    mates.append_calves(frozen, &calves, coefficients.list(), sire, &mut list)?;
+    let list = calves_by_known_dams(rt, alloc, frozen, sire)?;
     assert_eq!(rt; list.len(), expected.len());
-    assert_eq!(rt; calves.count(frozen, sire) as usize, expected.len());
     for (name, numerator) in expected {
         let rank = frozen.rank(&name.number()).ok_or("absent")?;
         assert!(rt;

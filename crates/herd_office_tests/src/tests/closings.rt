@@ -3,7 +3,7 @@ ghost use Rattle.std.specs.Prelude.{◌≡◌};
 ghost use Rattle.herd_office.specs.Parts.{AreNamed};
 
 use super::commands::founder;
-use super::filing::{closed, frozen_length, limits, not_closed};
+use super::filing::{Handed, closed, frozen_length, limits, not_closed};
 use herd_fixtures::Name::Bull;
 use herd_office::*;
 use std::alloc::Global;
@@ -25,21 +25,35 @@ fn close_thrice<N: OfficeName, R: Wait + Abort>(
 ) -> Result<(), Fail>
     requires { AreNamed N.name N.parts N.all N.book N.limits parts }
 {
-    let (office, mut desks, mut inspectors) = Office::<N, &R>::open(alloc, parts)?;
-    let kept = desks.pop().expect(rt, "two desks");
+    let (office, desks, mut inspectors) = Office::<N, &R>::open(alloc, parts)?;
     let inspector = inspectors.pop().expect(rt, "an inspector");
-    let handed = (office, desks, inspectors);
-    let (office, mut desks, inspectors) = not_closed(rt, handed, CloseFault::DeskMissing);
-    let mut desk = desks.pop().expect(rt, "a desk");
-    desk.file(rt, &office, founder(rt, Bull(1)))
-        .expect(rt, "filed");
-    desks.push(desk).expect(rt, "room");
-    desks.push(kept).expect(rt, "room");
-    let handed = (office, desks, inspectors);
+    let handed = without_a_desk(rt, (office, desks, inspectors));
     let (office, desks, mut inspectors) = not_closed(rt, handed, CloseFault::InspectorMissing);
     inspectors.push(inspector).expect(rt, "room");
     assert_eq!(rt; inspectors.len(), 16);
     expect_one_birth(rt, alloc, &mut inspectors);
+    close_with_one_birth(rt, (office, desks, inspectors))
+}
+
+// A desk is missing, and then it's back. Meanwhile the other one files a birth.
+fn without_a_desk<'a, N: OfficeName, R: Wait + Abort>(
+    rt: &'a R,
+    (office, mut desks, inspectors): Handed<N, &'a R>,
+) -> Handed<N, &'a R> {
+    let kept = desks.pop().expect(rt, "two desks");
+    let handed = (office, desks, inspectors);
+    let (office, mut desks, inspectors) = not_closed(rt, handed, CloseFault::DeskMissing);
+    let desk = desks.first_mut().expect(rt, "a desk");
+    desk.file(rt, &office, founder(rt, Bull(1)))
+        .expect(rt, "filed");
+    desks.push(kept).expect(rt, "room");
+    (office, desks, inspectors)
+}
+
+fn close_with_one_birth<N: OfficeName, R: Wait + Abort>(
+    rt: &R,
+    (office, desks, inspectors): Handed<N, &R>,
+) -> Result<(), Fail> {
     let register = closed(rt, office, desks, inspectors)?;
     assert_eq!(rt;
         (register.journal().len(), register.pedigree().len()),

@@ -69,7 +69,8 @@ pub(super) fn closed<N: OfficeName, R: Wait, A: Allocator + Copy>(
     }
 }
 
-type Handed<N, R> = (Office<N, R>, Vec<Desk<N>>, Vec<Inspector<N>>);
+/// An office with all that it is closed with.
+pub(super) type Handed<N, R> = (Office<N, R>, Vec<Desk<N>>, Vec<Inspector<N>>);
 
 /// What is handed back by an office that isn't closed for this cause.
 pub(super) fn not_closed<'a, N: OfficeName, R: Wait + Abort>(

@@ -124,14 +124,25 @@ impl Duel {
         };
         let mut winners = Winners::None;
         for count in 0..MOST_RACES {
-            let raced = race.run(rt, alloc, count % 2 == 1)?;
-            winners = winners.add(self.expect_end(rt, &raced));
+            winners = winners.add(self.first_of(rt, alloc, &race, count % 2 == 1)?);
             if winners == Winners::More {
                 break;
             }
         }
         winners.expect_more(rt);
         Ok(())
+    }
+
+    // The desk that came first in one race.
+    fn first_of<R: Threads + Wait + Abort + Sync>(
+        &self,
+        rt: &R,
+        alloc: Global,
+        race: &Race<'_>,
+        last_first: bool,
+    ) -> Result<u16, Fail> {
+        let raced = race.run(rt, alloc, last_first)?;
+        Ok(self.expect_end(rt, &raced))
     }
 
     // The desk whose command came first, in a race that ended as it may.
@@ -254,14 +265,25 @@ fn three_steps_are_all_that_fit(rt: HostRuntime) -> Result<(), Fail> {
     };
     let mut winners = Winners::None;
     for count in 0..MOST_RACES {
-        let raced = race.run(&rt, rt.alloc(), count % 2 == 1)?;
-        winners = winners.add(expect_three(&rt, &raced, (&one, &two)));
+        let first = first_of_three(&rt, rt.alloc(), &race, (&one, &two), count % 2 == 1)?;
+        winners = winners.add(first);
         if winners == Winners::More {
             break;
         }
     }
     winners.expect_more(&rt);
     Ok(())
+}
+
+fn first_of_three<R: Threads + Wait + Abort + Sync>(
+    rt: &R,
+    alloc: Global,
+    race: &Race<'_>,
+    births: (&[Command], &[Command]),
+    last_first: bool,
+) -> Result<u16, Fail> {
+    let raced = race.run(rt, alloc, last_first)?;
+    Ok(expect_three(rt, &raced, births))
 }
 
 // The desk that filed the first of three births. Each desk's are the first of its turn, in order.

@@ -45,6 +45,15 @@ fn inspect<N: OfficeName + Send + Sync, R: Threads + Wait + Abort + Sync>(
     let desk = see_three(rt, alloc, &office, desk, &mut inspector);
     desks.push(desk).expect(rt, "room");
     inspectors.push(inspector).expect(rt, "room");
+    close_with_three(rt, office, desks, inspectors)
+}
+
+fn close_with_three<N: OfficeName, R: Wait + Abort>(
+    rt: &R,
+    office: Office<N, &R>,
+    desks: Vec<Desk<N>>,
+    inspectors: Vec<Inspector<N>>,
+) -> Result<(), Fail> {
     let register = closed(rt, office, desks, inspectors)?;
     assert_eq!(rt; register.journal().len(), 3);
     Ok(())
