@@ -5,14 +5,12 @@ import functools
 import os
 import pathlib
 import shutil
-from typing import Iterable, Iterator
+from typing import Iterator
 
 from building.telling import Stop
 
 # Where rt keeps the library that a crate is proved as.
 RLIB = pathlib.Path("out", "rlib")
-# The folder in which rt keeps work for the next proof of a crate.
-WORK = pathlib.Path("out", "incremental")
 TOP = pathlib.Path(__file__).resolve().parent.parent
 
 
@@ -44,11 +42,6 @@ class Crates:
 
         return sorted(self.lines, key=lambda name: -chain(name))
 
-    def is_awaited(self, name: str, left: list[str], running: Iterable[str]) -> bool:
-        """Whether all crates that are left wait for this one, and it has a longer chain than each that runs."""
-        order = self.by_chain.index
-        return all(name in self.all_below(it) for it in left) and all(order(name) < order(it) for it in running)
-
     def newest_source(self) -> float:
         """When the newest source was changed."""
         files = [TOP / "crates.txt", *(file for name in self.lines for file in sources(name))]
@@ -63,12 +56,6 @@ class Crates:
             shutil.copytree(folder(it), room / "crates" / it, ignore=shutil.ignore_patterns("out", "must-fail"))
             if (folder(it) / RLIB).exists():
                 shutil.copytree(folder(it) / RLIB, room / "crates" / it / RLIB, copy_function=link)
-
-    def keep_no_work(self, room: pathlib.Path, name: str) -> None:
-        """Has rt keep no work for a next proof of a crate in that room, by a file where the work would be."""
-        at = room / "crates" / name / WORK
-        at.parent.mkdir(exist_ok=True)
-        at.touch()
 
     def keep(self, room: pathlib.Path, name: str) -> None:
         """Keeps the library that a crate was proved as, for those above it and for later calls."""

@@ -29,14 +29,13 @@ class Machine:
     def __init__(self) -> None:
         free = free_memory()
         self.processors = len(os.sched_getaffinity(0))
-        self.most_runs = max(1, min(max(2, self.processors // 2), free // MEMORY))
-        self.most_jobs = max(1, min(self.processors, MOST_JOBS, free // MEMORY_OF_JOB))
+        self.most_runs = max(1, min(self.processors, max(2, self.processors // 2), free // MEMORY))
+        # One run has so many processes, and each other one half as many: all of them are to fit into the memory.
+        self.most_jobs = max(1, min(self.processors, MOST_JOBS, 2 * free // (MEMORY_OF_JOB * (self.most_runs + 1))))
 
-    def shares(self, ready: list[str], running: list[int]) -> list[tuple[str, int]]:
-        """The first of those that are ready that can begin beside runs of so many jobs each, and with how many jobs."""
-        idle = self.processors - sum(running)
-        first = ready[: min(idle, self.most_runs - len(running))]
-        return [(it, min(self.most_jobs, idle // len(first))) for it in first]
+    def jobs(self, running: list[int]) -> int:
+        """The processes of a run that begins beside runs of so many: one run at a time has all, others half as many."""
+        return max(1, self.most_jobs // 2) if self.most_jobs in running else self.most_jobs
 
 
 def free_memory() -> int:

@@ -14,8 +14,6 @@ from building.telling import Teller
 
 PROVED = re.compile(r"logic=proved\b")
 LAST_LINES = 20
-# Above so many processes rt keeps no work for a next proof: two crates that were proved alone so took less time.
-SHARED_JOBS = 2
 
 
 class Proving:
@@ -36,11 +34,9 @@ class Proving:
             try:
                 while left and is_well or running:
                     ready = [name for name in left if self.crates.below[name] <= self.proved] if is_well else []
-                    begun = [name for name, _ in running.values()]
-                    for name, jobs in self.machine.shares(ready, [jobs for _, jobs in running.values()]):
+                    for name in ready[: self.machine.most_runs - len(running)]:
                         left.remove(name)
-                        if self.crates.is_awaited(name, left, begun):
-                            jobs = self.machine.most_jobs
+                        jobs = self.machine.jobs([jobs for _, jobs in running.values()])
                         self.say(f"proving {name}")
                         running[pool.submit(self.prove, name, jobs)] = name, jobs
                     for it in concurrent.futures.wait(running, return_when=concurrent.futures.FIRST_COMPLETED).done:
@@ -59,8 +55,6 @@ class Proving:
         try:
             with room() as at:
                 self.crates.copy_to(at, name)
-                if jobs > SHARED_JOBS:
-                    self.crates.keep_no_work(at, name)
                 told.extend(self.runs.lines(self.words(name, jobs), at / "crates" / name))
                 if name == self.crates.program:
                     self.place.put(at / "crates" / name / "out" / name, self.begun)
