@@ -56,7 +56,7 @@ pub fn compute_blocks<R: Threads + Wait + Sync, A: Allocator + Copy + Send + Syn
         blocks,
         idle,
     };
-    let mut starter = share(rt, alloc, work, &stealer, starter, workers)?;
+    let mut starter = share(rt, work, &stealer, starter, workers)?;
     take_blocks(rt, alloc, work, &mut starter)?;
     let Starter { blocks, idle, .. } = starter;
     Ok((blocks, idle))
@@ -67,7 +67,6 @@ pub fn compute_blocks<R: Threads + Wait + Sync, A: Allocator + Copy + Send + Syn
 // struct of references.
 fn share<R: Threads + Wait + Sync, A: Allocator + Copy + Send + Sync, W: Work<A>>(
     rt: &R,
-    alloc: A,
     work: &W,
     stealer: &BlockStealer<A>,
     starter: Starter<W::Scratch, W::Output, A>,
@@ -95,6 +94,7 @@ fn share<R: Threads + Wait + Sync, A: Allocator + Copy + Send + Sync, W: Work<A>
         {
             let task = Task { work, stealer };
             let mut starter = starter;
+            let alloc = *starter.blocks.allocator();
             work_beside(scope, rt, alloc, task, &mut starter, threads)?;
             Ok(starter)
         },
