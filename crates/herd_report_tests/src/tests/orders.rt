@@ -7,7 +7,6 @@ use herd_animal::AnimalNumber;
 use herd_fixtures::Name::{Bull, Cow};
 use herd_register::Limits;
 use herd_report::{LineCause, LineFault, Order, RunFault, run};
-use std::io::Read;
 use std::process::Abort;
 use std::sync::Wait;
 use std::test::Fail;
@@ -48,16 +47,12 @@ fn line(record_number: u32, cause: LineCause) -> Result<(), RunFault> {
 }
 
 // Files a file, and wants the first so many replies and this end.
-fn expect_replies<R, F>(
+fn expect_replies<R: AllocGlobal + Abort + Threads + Wait + Sync>(
     rt: &R,
-    file: F,
+    file: BreaksAfter<'_>,
     count: usize,
     end: Result<(), RunFault>,
-) -> Result<(), Fail>
-where
-    R: AllocGlobal + Abort + Threads + Wait + Sync,
-    F: Read + Drop,
-{
+) -> Result<(), Fail> {
     let mut text = Vec::new(rt.alloc());
     let outcome = run(rt, rt.alloc(), LIMITS, Order::File, file, &mut text);
     assert_eq!(rt; outcome, end);
@@ -80,8 +75,11 @@ fn expect_first_replies<R: AllocGlobal + Abort>(
 #[test]
 fn replies_up_to_where_the_file_ends_or_fails(rt: HostRuntime) -> Result<(), Fail> {
     let end = TRANSFERS.len();
-    expect_replies(&rt, &TRANSFERS[..end - 2], 8, line(9, LineCause::Fields))?;
-    expect_replies(&rt, &TRANSFERS[..end - 1], 9, Ok(()))?;
+    // These readers give their text to its end.
+    let cut = BreaksAfter::new(&TRANSFERS[..end - 2], end);
+    expect_replies(&rt, cut, 8, line(9, LineCause::Fields))?;
+    let whole = BreaksAfter::new(&TRANSFERS[..end - 1], end);
+    expect_replies(&rt, whole, 9, Ok(()))?;
     for left in 0..=end {
         let given = &TRANSFERS[..left];
         let lines = given.iter().filter(|byte| **byte == b'\n').count();
