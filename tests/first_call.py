@@ -1,0 +1,240 @@
+#!/usr/bin/env python3
+"""first_call.py: tries build.py, which proves the program's crates side by side, with a stand-in for rt.
+
+The repository's Python and crates.txt are copied to a folder in which each crate has one short source. The stand-in
+proves nothing: it notes when a crate begins and ends, and leaves a library or a program as rt does. The last line is
+`N passed, M failed`; the status is 1 if anything failed.
+"""
+from __future__ import annotations
+
+import itertools
+import os
+import pathlib
+import shutil
+import signal
+import subprocess
+import sys
+import tempfile
+import time
+import unittest.mock
+
+TOP = pathlib.Path(__file__).resolve().parent.parent
+sys.path.insert(0, str(TOP))
+
+from building.crates import closure, lines_of, named  # noqa: E402
+from building.machine import Machine  # noqa: E402
+
+PROGRAM = "herdbook"
+LINES = lines_of(TOP / "crates.txt")
+CRATES = closure(LINES, PROGRAM)
+BELOW = {name: named(LINES[name]) & CRATES for name in CRATES}
+SECONDS = 60
+
+# What stands in for rt. The file NAME.seconds says how long a crate takes, and with NAME.fails it isn't proved.
+STAND_IN = """#!/usr/bin/env python3
+import os, pathlib, sys, time
+notes, name = pathlib.Path(os.environ["NOTES"]), pathlib.Path.cwd().name
+def note(what):
+    with open(notes / "log", "a", encoding="utf-8") as log:
+        log.write(f"{what} {name}\\n")
+note("begin")
+(notes / f"{os.getpid()}.run").touch()
+for line in pathlib.Path("../../crates.txt").read_text(encoding="utf-8").splitlines():
+    other = line.split(":")[0].split()[0]
+    if other != name and not (pathlib.Path("..") / other / "out/rlib" / f"{other}.rlib").exists():
+        note(f"lacks {other}")
+seconds = notes / f"{name}.seconds"
+time.sleep(float(seconds.read_text(encoding="utf-8")) if seconds.exists() else 0.05)
+if (notes / f"{name}.fails").exists():
+    sys.exit("a contract isn't met")
+if sys.argv[1] == "run":
+    pathlib.Path("out").mkdir(exist_ok=True)
+    pathlib.Path("out", name).write_text('#!/bin/sh\\necho "$@"\\n', encoding="utf-8")
+    pathlib.Path("out", name).chmod(0o755)
+else:
+    pathlib.Path("out/rlib", f"{name}.rlib").mkdir(parents=True, exist_ok=True)
+note("end")
+print("logic=proved")
+"""
+
+
+class Repository:
+    """A copy of the repository with short sources, and the stand-in before it on the path."""
+
+    def __init__(self, room: pathlib.Path) -> None:
+        self.top, self.notes, self.rooms = room / "repository", room / "notes", room / "rooms"
+        for folder in (self.notes, self.rooms, room / "bin"):
+            folder.mkdir(parents=True)
+        shutil.copytree(TOP / "building", self.top / "building", ignore=shutil.ignore_patterns("__pycache__"))
+        for file in ("build.py", "crates.txt", "herdbook"):
+            shutil.copy(TOP / file, self.top / file)
+        for name in CRATES:
+            source = self.top / "crates" / name / "src" / ("main.rt" if name == PROGRAM else "lib.rt")
+            source.parent.mkdir(parents=True)
+            source.write_text("// a crate\n", encoding="utf-8")
+        (room / "bin/rt").write_text(STAND_IN, encoding="utf-8")
+        (room / "bin/rt").chmod(0o755)
+        path = f"{room / 'bin'}:{os.environ['PATH']}"
+        self.env = {**os.environ, "PATH": path, "NOTES": str(self.notes), "TMPDIR": str(self.rooms)}
+
+    def begin(self, *words: str) -> subprocess.Popen[str]:
+        pipe = subprocess.PIPE
+        return subprocess.Popen(words, env=self.env, stdout=pipe, stderr=pipe, text=True, start_new_session=True)
+
+    def begin_program(self) -> subprocess.Popen[str]:
+        return self.begin(str(self.top / "herdbook"), "is", "built")
+
+    def call(self) -> tuple[int, str, str]:
+        """The status of a call, and what it wrote."""
+        call = self.begin_program()
+        out, err = call.communicate(timeout=SECONDS)
+        return call.returncode, out, err
+
+    def noted(self) -> list[tuple[str, str]]:
+        """What the stand-in noted since the last look: `begin`, `end` or what was missing, and the crate."""
+        log = self.notes / "log"
+        lines = log.read_text(encoding="utf-8").splitlines() if log.exists() else []
+        log.unlink(missing_ok=True)
+        return [(what, name) for what, _, name in (line.rpartition(" ") for line in lines)]
+
+    def kept(self) -> set[str]:
+        """The crates whose libraries are kept."""
+        return {name for name in CRATES if (self.top / "crates" / name / "out/rlib").exists()}
+
+    def under_way(self) -> bool:
+        """Whether a run of the stand-in is under way."""
+        return any(pathlib.Path("/proc", it.stem).exists() for it in self.notes.glob("*.run"))
+
+
+def in_order(noted: list[tuple[str, str]]) -> bool:
+    """Whether each crate began once all below it had ended, and none began twice or lacked a library."""
+    ended: set[str] = set()
+    begun: list[str] = []
+    for what, name in noted:
+        if what == "begin" and BELOW[name] <= ended:
+            begun.append(name)
+        elif what == "end":
+            ended.add(name)
+        else:
+            return False
+    return len(begun) == len(set(begun))
+
+
+def tells(err: str, *ends: str) -> bool:
+    """Whether lines of standard error end so."""
+    return all(any(line.endswith(end) for line in err.splitlines()) for end in ends)
+
+
+class Checks:
+    """What passed and what failed."""
+
+    def __init__(self, room: pathlib.Path) -> None:
+        self.rooms = (room / str(count) for count in itertools.count())
+        self.passed = self.failed = 0
+
+    def count(self, right: object, what: object) -> None:
+        self.passed, self.failed = self.passed + bool(right), self.failed + (not right)
+        if not right:
+            print(f"FAILED {what}")
+
+    def builds(self) -> None:
+        """A first call, the next one, and one after a change."""
+        here = Repository(next(self.rooms))
+        for why in ("nothing is built", "a source is newer"):
+            status, out, err = here.call()
+            noted = here.noted()
+            self.count((status, out) == (0, "is built\n"), f"{why}: {status} {out!r} {err!r}")
+            self.count(in_order(noted) and {name for _, name in noted} == CRATES, f"{why}: {noted}")
+            told = [f"min: proving {name}" for name in CRATES] + [f"min: {name} is proved" for name in CRATES]
+            self.count(tells(err, *told, "herdbook is built"), f"{why}: {err!r}")
+            self.count(here.kept() == CRATES - {PROGRAM}, f"{why}: {here.kept()}")
+            self.count(here.call() == (0, "is built\n", "") and not here.noted(), f"{why}: the next call")
+            (here.top / "crates/herd_kinship/src/lib.rt").touch()
+        self.count(not any(here.rooms.iterdir()), "rooms are left")
+
+    def fails(self) -> None:
+        """A crate that isn't proved: no other is begun, those proved are kept, and the next call goes on."""
+        here = Repository(next(self.rooms))
+        (here.notes / "herd_kinship.fails").touch()
+        (here.notes / "herd_pedigree.seconds").write_text("1", encoding="utf-8")
+        status, out, err = here.call()
+        begun = {name for what, name in here.noted() if what == "begin"}
+        self.count((status, out) == (1, ""), f"a crate that fails: {status} {out!r}")
+        why = "herd_kinship is not proved: rt check in crates/herd_kinship says why"
+        self.count(tells(err, "a contract isn't met", why, "still proving herd_pedigree"), err)
+        proved = {"herd_animal", "herd_frozen", "herd_pedigree"}
+        self.count(begun == proved | {"herd_kinship"}, f"begun in spite of a crate that failed: {begun}")
+        self.count(here.kept() == proved, f"kept: {here.kept()}")
+        (here.notes / "herd_kinship.fails").unlink()
+        self.count(here.call()[:2] == (0, "is built\n"), "the call after one that failed")
+
+    def ends(self) -> None:
+        """Calls ended by Control-C and by a signal to build.py alone: their runs end, and what is proved is kept."""
+        for number in (signal.SIGINT, signal.SIGTERM):
+            here = Repository(next(self.rooms))
+            slow = here.notes / "herd_pedigree.seconds"
+            slow.write_text(f"{10 * SECONDS}", encoding="utf-8")
+            is_key = number == signal.SIGINT
+            call = here.begin_program() if is_key else here.begin(sys.executable, str(here.top / "build.py"), PROGRAM)
+            until = time.monotonic() + SECONDS
+            while "herd_kinship" not in here.kept() and time.monotonic() < until:
+                time.sleep(0.05)
+            os.killpg(call.pid, number) if is_key else call.send_signal(number)
+            _, err = call.communicate(timeout=SECONDS)
+            self.count(call.returncode == (-number if is_key else 1), f"{number.name}: status {call.returncode}")
+            self.count("interrupted: the next call keeps the crates that are proved" in err, f"{number.name}: {err!r}")
+            self.count({"herd_animal", "herd_frozen", "herd_kinship"} <= here.kept(), f"{number.name}: {here.kept()}")
+            self.count(not here.under_way(), f"{number.name}: a run goes on")
+            self.count(not any(here.rooms.iterdir()), f"{number.name}: rooms are left")
+            slow.unlink()
+            self.count(here.call()[:2] == (0, "is built\n"), f"{number.name}: the call after it")
+
+    def waits(self) -> None:
+        """Two calls at once: one builds, the other waits for it."""
+        here = Repository(next(self.rooms))
+        calls = [here.begin_program(), here.begin_program()]
+        done = [(*call.communicate(timeout=SECONDS), call.returncode) for call in calls]
+        self.count([(out, status) for out, _, status in done] == [("is built\n", 0)] * 2, done)
+        self.count(in_order(here.noted()), "two calls prove each crate once")
+
+    def shares(self) -> None:
+        """What a machine's processors and free memory give: runs at once, and the processes of each."""
+        for processors, free, runs, first, second in SHARES:
+            with (
+                unittest.mock.patch("os.sched_getaffinity", return_value=range(processors)),
+                unittest.mock.patch("building.machine.free_memory", return_value=free * 10**9),
+            ):
+                machine = Machine()
+            got = (machine.most_runs, machine.jobs([]), machine.jobs([machine.most_jobs]))
+            self.count(got == (runs, first, second), f"{processors} processors, {free} GB: {got}")
+
+
+# processors, free memory in GB; runs at once, processes of the first, of one beside it
+SHARES = [
+    (1, 60, 1, 1, 1),
+    (2, 24, 2, 2, 1),
+    (4, 24, 2, 4, 2),
+    (4, 8, 2, 2, 1),
+    (4, 4, 1, 2, 1),
+    (4, 2, 1, 1, 1),
+    (16, 60, 8, 4, 2),
+]
+
+
+GROUPS = "builds fails ends waits shares".split()
+
+
+def main() -> int:
+    with tempfile.TemporaryDirectory(prefix="herdbook-first-call-") as room:
+        checks = Checks(pathlib.Path(room))
+        for group in GROUPS:
+            try:
+                getattr(checks, group)()
+            except (OSError, subprocess.SubprocessError) as error:
+                checks.count(False, f"{group}: {error}")
+    print(f"{checks.passed} passed, {checks.failed} failed")
+    return 1 if checks.failed else 0
+
+
+if __name__ == "__main__":
+    sys.exit(main())
