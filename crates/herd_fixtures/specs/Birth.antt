@@ -13,7 +13,15 @@ named (Some name) = Some (number_named name)
 
 -- born in herd 1
 abbrev pub newborn : Birth → Animal
-newborn birth = record { birth = day_number birth.1; sire = named birth.2.sire; dam = named birth.2.dam; embryo = false; herd = 1; since = day_number birth.1; left = None }
+newborn birth = record {
+  birth = day_number birth.1;
+  sire = named birth.2.sire;
+  dam = named birth.2.dam;
+  embryo = false;
+  herd = 1;
+  since = day_number birth.1;
+  left = None;
+}
 
 -- the animal in a book
 abbrev pub entry : Birth → List ℕ × Animal

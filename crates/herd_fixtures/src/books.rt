@@ -10,7 +10,7 @@ use crate::birth::{Birth, DayText, Pair, UNKNOWN};
 use crate::name::Name::{Bull, Cow};
 use herd_animal::DayFault;
 use herd_frozen::{Frozen, MOST_ANIMALS, ParentFault};
-use herd_pedigree::Pedigree;
+use herd_pedigree::{Pedigree, Registration};
 use std::alloc::{AllocError, Allocator};
 use thiserror::Error;
 
@@ -51,15 +51,16 @@ pub fn file_birth<A: Allocator + Copy>(
 {
     let number = birth.0.number();
     let animal = birth.newborn()?;
-    if pedigree.get(&number).is_some() {
-        return Err(BirthFault::Registered);
-    }
     if pedigree.len() >= MOST_ANIMALS {
-        return Err(BirthFault::BookFull);
+        return match pedigree.get(&number) {
+            Some(_) => Err(BirthFault::Registered),
+            None => Err(BirthFault::BookFull),
+        };
     }
-    match pedigree.add_if_sound(number, animal)? {
-        None => Ok(()),
-        Some(fault) => Err(BirthFault::Parents(fault)),
+    match pedigree.add_if_new(number, animal)? {
+        Registration::Added => Ok(()),
+        Registration::AlreadyThere => Err(BirthFault::Registered),
+        Registration::Unsound(fault) => Err(BirthFault::Parents(fault)),
     }
 }
 
@@ -158,8 +159,8 @@ pub fn pair_of(generation: u8) -> [Birth; 2] {
     ]
 }
 
-// The first day of the year that is so many after 2000. There is none after 2099.
-fn new_year(after: u8) -> DayText {
+/// The first day of the year that is so many after 2000. There is none after 2099.
+pub fn new_year(after: u8) -> DayText {
     let mut text = *b"2000-01-01";
     text[2] = b'0' + after / 10 % 10;
     text[3] = b'0' + after % 10;

@@ -1,5 +1,5 @@
 //! What the tests begin with: animals named short, births, the books of small families and of many generations, and
-//! heaps that are too small. Only tests and the programs that are to be timed stand on it.
+//! heaps that are too small. Only tests stand on it, and the programs that are to be timed or refused memory.
 #![tactic(auto)]
 
 mod birth;
@@ -12,7 +12,8 @@ mod rows;
 
 pub use birth::{Birth, DayText, Pair, UNKNOWN};
 pub use books::{
-    BirthFault, file_birth, file_births, founders, frozen_of, generations, pair_of, pedigree_of,
+    BirthFault, file_birth, file_births, founders, frozen_of, generations, new_year, pair_of,
+    pedigree_of,
 };
 pub use families::{descendants_of_full_sibs, full_sibs};
 pub use heaps::{Crowd, MOST_BLOCKS, heap_of, small_heap, spare_of};

@@ -1,3 +1,4 @@
+pub mod ListFacts
 pub mod freezing
 pub mod places
 pub mod rules

@@ -23,7 +23,8 @@ use Rattle.herd_pedigree.specs.declared.store.correction.Correction.{Correction}
 use Rattle.herd_pedigree.specs.store.Correction.{AreDepthsBefore, corrected}
 use Rattle.herd_pedigree.specs.store.Exchange.{IsSound, exchanged}
 use Rattle.herd_frozen.proofs.lemmas.rules.PathFacts.{Path, path-from_test, test-from_path, path-at_most, path-there, below_from, depths-fall, depths-path, depths-shallow}
-use Rattle.herd_frozen.proofs.lemmas.rules.BookFacts.{entry_from_key, lookup_at, length-keys, there}
+use Rattle.herd_frozen.proofs.lemmas.rules.BookFacts.{entry_from_key, lookup_at, length-keys}
+use Rattle.herd_frozen.proofs.lemmas.ListFacts.{there}
 use Rattle.herd_frozen.proofs.lemmas.rules.FaultFacts.{fault-split}
 use Rattle.herd_pedigree.proofs.lemmas.store.PlaceFacts.{path_by_place, path_by_number, place_from_there, number_from_there, number_from_place}
 use Rattle.herd_pedigree.proofs.lemmas.store.DepthFacts.{IsLeafSet, depths-leaf, from-most}

@@ -8,7 +8,8 @@ use Rattle.herd_frozen.specs.declared.rules.parent_fault.ParentFault.{ParentFaul
 use Rattle.herd_frozen.specs.rules.Book.{Book, changed, record_of}
 use Rattle.herd_frozen.specs.rules.Lawful.{IsLawful}
 use Rattle.herd_frozen.specs.rules.ParentFault.{fault_by_records, parent_fault}
-use Rattle.herd_frozen.proofs.lemmas.rules.BookFacts.{entry_from_both, lookup_at}
+use Rattle.herd_frozen.proofs.lemmas.rules.BookFacts.{lookup_at}
+use Rattle.herd_frozen.proofs.lemmas.ListFacts.{entry_from_both}
 use Rattle.herd_pedigree.specs.declared.found.Found.{Found}
 use Rattle.herd_pedigree.specs.declared.store.records.StoredRecord.{StoredRecord}
 use Rattle.herd_pedigree.specs.Pedigree.{IfShownWith, IsFaultWith, IsFound}

@@ -19,7 +19,8 @@ use Rattle.herd_pedigree.specs.declared.store.undo.Undo.TheVariants.{Birth, Noth
 use Rattle.herd_pedigree.specs.store.Undo.{IsHeld}
 use Rattle.herd_frozen.proofs.lemmas.places.NumberFacts.{place-within}
 use Rattle.herd_frozen.proofs.lemmas.rules.PathFacts.{Path, depths-path, test-from_path}
-use Rattle.herd_frozen.proofs.lemmas.rules.BookFacts.{push_cases, push_keeps, push_last, keys-push, length-keys, distinct-push, key_from_entry}
+use Rattle.herd_frozen.proofs.lemmas.rules.BookFacts.{keys-push, length-keys, distinct-push, key_from_entry}
+use Rattle.herd_frozen.proofs.lemmas.ListFacts.{push_cases, push_keeps, push_last}
 use Rattle.herd_pedigree.proofs.lemmas.store.PlaceFacts.{no_longer_path, path_by_number, there_by_place, depth_by_number}
 use Rattle.herd_pedigree.proofs.lemmas.store.DepthFacts.{depths-push, new_depth-most}
 use Rattle.herd_frozen.proofs.lemmas.rules.FaultFacts.{HasNoFault, no_fault}

@@ -6,7 +6,7 @@ use Rattle.herd_frozen.specs.declared.rules.animal.Animal.{Animal}
 use Rattle.herd_frozen.specs.declared.rules.parent_fault.ParentFault.{ParentFault}
 use Rattle.herd_frozen.specs.rules.Book.{Book, is_there, record_of}
 use Rattle.herd_frozen.specs.rules.ParentFault.{parent_fault}
-use Rattle.herd_frozen.proofs.lemmas.rules.BookFacts.{none_if}
+use Rattle.herd_frozen.proofs.lemmas.ListFacts.{none_if}
 use Rattle.herd_pedigree.specs.declared.registration.Registration.{Registration}
 use Rattle.herd_pedigree.specs.declared.registration.Registration.TheVariants.{Added, AlreadyThere, Unsound}
 use Rattle.herd_pedigree.specs.Pedigree.{registration, unsound}

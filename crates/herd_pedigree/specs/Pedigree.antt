@@ -44,16 +44,14 @@ pub record IsFound (book : Book) (found : Found) : Type 0 where
 
 -- the record may be added under the number
 pub record IsBirth (l most : ℕ) (book : Book) (number : List ℕ) (animal : Animal) : Type 0 where
-  pub absent : record_of book number ≡ None
-  pub room : length book < most
+  pub newborn : IsNewborn most book number animal
   pub parents : parent_fault l book number animal.birth animal.sire animal.dam animal.embryo ≡ None
-  pub since : animal.since ≡ animal.birth
-  pub left : animal.left ≡ None
 
 -- this tells whether some path would be too long, once the animal of the number has the parents at these places
 abbrev pub TellsTooDeep : ℕ → Book → List ℕ → Option ℕ → Option ℕ → Bool → Type 0
 TellsTooDeep l book number sire dam deep =
-    (s d : Option (List ℕ)) → IsIndexIn (keys_of book) sire s → IsIndexIn (keys_of book) dam d → deep ≡ is_too_deep l book number s d
+    (s d : Option (List ℕ)) → IsIndexIn (keys_of book) sire s → IsIndexIn (keys_of book) dam d →
+    deep ≡ is_too_deep l book number s d
 
 -- of the animal of the number with these parents, this is the first fault, or that it has none
 abbrev pub IsFaultWith : ℕ → Book → List ℕ → Option (List ℕ) → Option (List ℕ) → Option ParentFault → Type 0

@@ -4,5 +4,4 @@ pub(crate) mod correction;
 pub(crate) mod depth;
 pub(crate) mod progeny;
 pub(crate) mod records;
-pub(crate) mod registered;
 pub(crate) mod undo;

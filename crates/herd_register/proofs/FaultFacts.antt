@@ -5,8 +5,9 @@ use Rattle.std.specs.Option.{option_map, option_map_or}
 use Rattle.std.specs.Map.{keys_of}
 use Rattle.std.specs.Str.{bytes_eq}
 use Rattle.std.proofs.lemmas.Option.{same_Some}
+use Rattle.herd_frozen.proofs.lemmas.ListFacts.{none_if}
 use Rattle.herd_frozen.proofs.lemmas.rules.BookFacts.{bytes_itself}
-use Rattle.std.proofs.lemmas.Bool.{false≢true, true≢false, lt-ltb, ltb-true, not-false}
+use Rattle.std.proofs.lemmas.Bool.{false≢true, lt-ltb, ltb-true, not-false}
 use lib.Signed.{lt_z_no}
 use Rattle.herd_frozen.specs.rules.Book.{Book, record_of, is_there}
 use Rattle.herd_frozen.specs.rules.ParentFault.{first_that_holds, parent_fault, parent_faults}
@@ -95,10 +96,6 @@ option_map-none : {A B : Type 0} (f : A → B) (o : Option A) → option_map f o
 option_map-none f None none = refl
 option_map-none f (Some x) none = absurd (cc (none))
 
-is_some-false : {A : Type 0} (o : Option A) → is_some o ≡ false → o ≡ None
-is_some-false None none = refl
-is_some-false (Some x) none = absurd (true≢false none)
-
 -- parents of which no refusal holds have no fault
 no_parent_fault : (book : Book) (number : List ℕ) (birth : ℤ) (sire dam : Option (List ℕ)) (embryo : Bool) → first_that_holds (parent_refusals book number birth sire dam embryo) ≡ None → parent_fault DEPTH_LIMIT book number birth sire dam embryo ≡ None
 no_parent_fault book number birth sire dam embryo none =
@@ -116,7 +113,7 @@ present book animal day there stayed since = by (record_of book animal) refl whe
   by (Some here) is = record {
     animal = here;
     there = is;
-    stayed = is_some-false here.left (rw is at stayed);
+    stayed = none_if here.left (rw is at stayed);
     since = int_lt-false day here.since (rw is at since);
   }
 
@@ -132,11 +129,13 @@ no_birth_fault : (limits : Limits) (book : Book) (animal : List ℕ) (day : ℤ)
 no_birth_fault limits book animal day sire dam herd embryo most none =
     let room = birth_room limits book animal day sire dam herd embryo none in
     record {
-      absent = is_some-false (record_of book animal) room.0;
-      room = omega arith;
+      newborn = record {
+        absent = none_if (record_of book animal) room.0;
+        room = omega arith;
+        since = refl;
+        left = refl;
+      };
       parents = no_parent_fault book animal day sire dam embryo room.2;
-      since = refl;
-      left = refl;
     }
 
 no_correction_fault : (book : Book) (animal : List ℕ) (sire dam : Option (List ℕ)) → first_that_holds (correction_refusals book animal sire dam) ≡ None → IsCorrection DEPTH_LIMIT book animal sire dam

@@ -8,7 +8,8 @@ use Rattle.herd_register.specs.Run.{newborn}
 
 -- the change that the command makes leaves the book lawful
 abbrev pub IsAllowed : Book → Command → Type 0
-IsAllowed book (Birth animal day sire dam herd embryo) = IsBirth DEPTH_LIMIT MOST_ANIMALS book animal (newborn day sire dam herd embryo)
+IsAllowed book (Birth animal day sire dam herd embryo) =
+    IsBirth DEPTH_LIMIT MOST_ANIMALS book animal (newborn day sire dam herd embryo)
 IsAllowed book (Parents animal sire dam) = IsCorrection DEPTH_LIMIT book animal sire dam
 IsAllowed book (Transfer animal day giver taker) = IsPresentOn book animal day
 IsAllowed book (Exit animal day) = IsExit book animal day

@@ -21,7 +21,8 @@ copybook_of limits book journal = record { limits = limits; book = book; journal
 
 -- the book of at most so many animals as a command sets it: a new record only where there is room for it
 abbrev pub set_in : ℕ → Book → Command → Book
-set_in most book (Birth animal day sire dam herd embryo) = with_record_in most book animal (newborn day sire dam herd embryo)
+set_in most book (Birth animal day sire dam herd embryo) =
+    with_record_in most book animal (newborn day sire dam herd embryo)
 set_in most book (Parents animal sire dam) = set book (Parents animal sire dam)
 set_in most book (Transfer animal day giver taker) = set book (Transfer animal day giver taker)
 set_in most book (Exit animal day) = set book (Exit animal day)
@@ -40,7 +41,9 @@ taken_from limits book (step ∷ steps) = taken_from limits (set_where limits bo
 abbrev pub taken_over : Copybook → Step → Copybook
 taken_over copybook step =
     if nat_lt (length copybook.journal) copybook.limits.steps
-    then copybook_of copybook.limits (set_where copybook.limits copybook.book step.command step.reply) (copybook.journal ++ step ∷ [])
+    then copybook_of copybook.limits
+    (set_where copybook.limits copybook.book step.command step.reply)
+    (copybook.journal ++ step ∷ [])
     else copybook
 
 -- the book is the one that the steps make, and there is room for all that the limits allow

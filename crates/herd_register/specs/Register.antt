@@ -1,7 +1,8 @@
 -- A register as contracts see it, and what its calls make of it.
-use Rattle.std.specs.Prelude.{◌≡◌, ℕ, ◌-◌, ◌==◌, ◌≤◌, ◌<◌, Bool, true, false, IsTrue, List, [], ◌∷◌, ◌++◌, length, take, slice_get, if◌then◌else◌, Option, Some, None}
+use Rattle.std.specs.Prelude.{◌≡◌, ℕ, ◌-◌, ◌==◌, ◌≤◌, ◌<◌, Bool, true, false, IsTrue, List, [], ◌∷◌, ◌++◌, length, slice_get, if◌then◌else◌, Option, Some, None}
 use Rattle.herd_frozen.specs.rules.Book.{Book}
 use Rattle.herd_pedigree.specs.Pedigree.{Pedigree}
+use Rattle.herd_pedigree.specs.store.Undo.{without_last}
 use Rattle.herd_register.specs.Limits.{Limits}
 use Rattle.herd_register.specs.declared.reply.Reply.TheVariants.{Accepted}
 use Rattle.herd_register.specs.declared.step.Step.{Step}
@@ -28,13 +29,9 @@ new_register limits = register_of limits [] false
 abbrev pub with_step : Register → Step → Register
 with_step register step = record register { journal = register.journal ++ step ∷ []; can_withdraw = true }
 
--- all steps but the last
-abbrev pub all_but_last : List Step → List Step
-all_but_last steps = take (length steps - 1) steps
-
 -- the register without its last step
 abbrev pub without_last_step : Register → Register
-without_last_step register = record register { journal = all_but_last register.journal; can_withdraw = false }
+without_last_step register = record register { journal = without_last register.journal; can_withdraw = false }
 
 -- the step of a serial number, which counts from 1
 abbrev pub step_at : List Step → ℕ → Option Step
@@ -43,7 +40,8 @@ step_at steps serial = if serial == 0 then None else slice_get steps (serial - 1
 -- there is a last step, and where it was accepted this is the book of those before it
 pub record HasBefore (limits : Limits) (steps : List Step) (before : Option Book) : Type 0 where
   pub some : 0 < length steps
-  pub book : (earlier : List Step) (last : Step) → steps ≡ earlier ++ last ∷ [] → last.reply ≡ Accepted → before ≡ Some (run_book limits (commands_of earlier))
+  pub book : (earlier : List Step) (last : Step) → steps ≡ earlier ++ last ∷ [] → last.reply ≡ Accepted
+      → before ≡ Some (run_book limits (commands_of earlier))
 
 -- pedigree and replies are those of the commands in the journal, within the limits
 pub record IsRegister (register : Register) (pedigree : Pedigree) : Type 0 where

@@ -1,5 +1,5 @@
 -- What a register of one thread does: the refusal of a command, its step, and the run of commands one after the other.
-use Rattle.std.specs.Prelude.{◌≡◌, ℕ, Bool, true, false, List, [], ◌∷◌, ◌++◌, map, length, not, nat_lt, nat_eq, int_lt, is_some, if◌then◌else◌, Option, None, Some, ℤ}
+use Rattle.std.specs.Prelude.{◌≡◌, ℕ, Bool, true, false, List, [], ◌∷◌, ◌++◌, map, length, not, nat_lt, nat_eq, int_lt, is_some, if◌then◌else◌, Option, None, ℤ}
 use Rattle.std.specs.Option.{option_map_or}
 use Rattle.herd_frozen.specs.rules.Book.{Book, record_of, is_there, changed, with_parents, with_owner, with_left, has_calved_after}
 use Rattle.herd_frozen.specs.rules.ParentFault.{first_that_holds, parent_faults}
@@ -25,7 +25,8 @@ abbrev pub has_record : Book → List ℕ → (Animal → Bool) → Bool
 has_record book number test = option_map_or test (record_of book number) false
 
 -- the refusals of a birth in the order in which they are asked, each with its test in the book before it
-abbrev pub birth_refusals : Limits → Book → List ℕ → ℤ → Option (List ℕ) → Option (List ℕ) → Bool → List (Bool × Refusal)
+abbrev pub birth_refusals :
+    Limits → Book → List ℕ → ℤ → Option (List ℕ) → Option (List ℕ) → Bool → List (Bool × Refusal)
 birth_refusals limits book animal day sire dam embryo =
     (is_there book animal, refusal.AlreadyThere)
     ∷ (not (nat_lt (length book) limits.animals), refusal.BookFull)
@@ -73,11 +74,6 @@ fault limits book command = first_that_holds (refusals limits book command)
 abbrev pub newborn : ℤ → Option (List ℕ) → Option (List ℕ) → ℕ → Bool → Animal
 newborn day sire dam herd embryo =
     record { birth = day; sire = sire; dam = dam; embryo = embryo; herd = herd; since = day; left = None }
-
--- the record that a command makes, if it is a birth
-abbrev pub newborn_of : Command → Option Animal
-newborn_of (Birth animal day sire dam herd embryo) = Some (newborn day sire dam herd embryo)
-newborn_of command = None
 
 -- the book with the record of a number: in its place, or at the end where the number is new
 abbrev pub with_record : Book → List ℕ → Animal → Book

@@ -1,5 +1,5 @@
-ghost use Rattle.std.specs.Prelude.{◌≡◌, Some, IsSome};
-ghost use Rattle.herd_register.specs.Run.{newborn_of};
+ghost use Rattle.std.specs.Prelude.{◌≡◌};
+ghost use Rattle.herd_register.specs.Run.{newborn};
 
 use herd_animal::{AnimalNumber, Day, Herd};
 use herd_frozen::Animal;
@@ -51,31 +51,23 @@ pub enum Command {
     },
 }
 
-impl Command {
-    /// The record that a birth makes.
-    pub(crate) fn newborn(&self) -> Animal
-        requires { IsSome (newborn_of self.now) }
-        ensures { newborn_of self.now ≡ Some result }
-    {
-        let Command::Birth {
-            animal: _,
-            day,
-            sire,
-            dam,
-            herd,
-            embryo,
-        } = *self
-        else {
-            unreachable!();
-        };
-        Animal {
-            birth: day,
-            sire,
-            dam,
-            embryo,
-            herd,
-            since: day,
-            left: None,
-        }
+/// The record that a birth makes.
+pub(crate) fn newborn(
+    day: Day,
+    sire: Option<AnimalNumber>,
+    dam: Option<AnimalNumber>,
+    herd: Herd,
+    embryo: bool,
+) -> Animal
+    ensures { result ≡ newborn day sire dam herd embryo }
+{
+    Animal {
+        birth: day,
+        sire,
+        dam,
+        embryo,
+        herd,
+        since: day,
+        left: None,
     }
 }

@@ -6,7 +6,7 @@ ghost use Rattle.herd_register.specs.Copybook.{copybook_of, set_in, taken_over};
 ghost use Rattle.herd_register.specs.CopiedRecords.{records_of};
 ghost use Rattle.herd_register.specs.Run.{IsLegal, commands_of, run_book};
 
-use crate::command::Command;
+use crate::command::{Command, newborn};
 use crate::copied_records::CopiedRecords;
 use crate::limits::Limits;
 use crate::reply::Reply;
@@ -99,7 +99,14 @@ fn set<A: Allocator>(records: &mut CopiedRecords<A>, command: &Command)
     ensures { records.new ≡ records_of (set_in records.old.most records.old.book command.now) records.old.most }
 {
     match *command {
-        Command::Birth { animal, .. } => records.put(animal, command.newborn()),
+        Command::Birth {
+            animal,
+            day,
+            sire,
+            dam,
+            herd,
+            embryo,
+        } => records.put(animal, newborn(day, sire, dam, herd, embryo)),
         Command::Parents { animal, sire, dam } => {
             records.change(&animal, |was| was.with_parents(sire, dam))
         }

@@ -5,7 +5,7 @@ ghost use Rattle.herd_frozen.specs.rules.ParentFault.{first_that_holds};
 ghost use Rattle.herd_pedigree.specs.Pedigree.{IsFound, changed_to};
 ghost use Rattle.herd_register.specs.Run.{answer, birth_refusals, correction_refusals, exit_refusals, next, transfer_refusals, with_record};
 
-use crate::command::Command;
+use crate::command::{Command, newborn};
 use crate::limits::Limits;
 use crate::reply::{Refusal, Reply};
 use herd_animal::{AnimalNumber, Day, Herd};
@@ -28,7 +28,19 @@ impl Command {
         ensures err { OnErr result (pedigree.new ≡ pedigree.old) }
     {
         let refusal = match *self {
-            Command::Birth { animal, .. } => file_birth(limits, pedigree, animal, self.newborn())?,
+            Command::Birth {
+                animal,
+                day,
+                sire,
+                dam,
+                herd,
+                embryo,
+            } => file_birth(
+                limits,
+                pedigree,
+                animal,
+                newborn(day, sire, dam, herd, embryo),
+            )?,
             Command::Parents { animal, sire, dam } => correct(pedigree, animal, sire, dam)?,
             Command::Transfer {
                 animal,

@@ -22,14 +22,6 @@ first_of-more birth n = map-range_with_len_more (λ place. entry (birth place)) 
 pub length-first_of : (birth : ℕ → Birth) (n : ℕ) → length (first_of birth n) ≡ n
 length-first_of birth n = length-map-range_with_len (λ place. entry (birth place)) 0 n
 
-pub keys_of-changed : (book : Book) (number : List ℕ) (change : Animal → Animal) → keys_of (changed book number change) ≡ keys_of book
-keys_of-changed [] number change = refl
-keys_of-changed (entry ∷ book) number change =
-    elim (bytes_eq number entry.0) as (λ b. keys_of (if b then (entry.0, change entry.1) ∷ book else entry ∷ changed book number change) ≡ keys_of (entry ∷ book)) [
-      | true ↦ refl
-      | false ↦ ap (λ keys. entry.0 ∷ keys) (keys_of-changed book number change)
-    ]
-
 pub length-keys_of : (book other : Book) → keys_of book ≡ keys_of other → length book ≡ length other
 length-keys_of book other same =
     sym (length-map book (λ entry. entry.0)) ∙ ap length same ∙ length-map other (λ entry. entry.0)

@@ -101,10 +101,10 @@ fn file_correction(
     ensures corrected { OnOk result (pedigree.new.book ≡ changed pedigree.old.book number (with_parents sire None)) }
     ensures err { OnErr result (pedigree.new ≡ pedigree.old) }
 {
-    if pedigree.get(&number).is_none() {
+    let Some(found) = pedigree.find(&number) else {
         bail!("there is no such animal")
-    }
-    match pedigree.set_parents_if_sound(number, sire, None)? {
+    };
+    match pedigree.set_parents_at_if_sound(&found, sire, None)? {
         None => Ok(()),
         Some(_) => bail!("a correction is refused"),
     }

@@ -20,7 +20,9 @@ age_key entry = record { birth = entry.1.1.birth; number = entry.1.0; place = en
 
 -- by birth days, and on the same day by numbers; two records never differ by their places alone
 abbrev pub key_cmp : AgeKey → AgeKey → Ordering
-key_cmp x y = ordering_then (int_cmp x.birth y.birth) (ordering_then (slice_cmp nat_cmp x.number y.number) (nat_cmp x.place y.place))
+key_cmp x y =
+    ordering_then (int_cmp x.birth y.birth)
+    (ordering_then (slice_cmp nat_cmp x.number y.number) (nat_cmp x.place y.place))
 
 -- the keys are those of the book's records, in age order
 pub record IsAgeOrder (book : Book) (keys : List AgeKey) : Type 0 where
@@ -57,11 +59,14 @@ pub record IsRowOf (book : Book) (keys : List AgeKey) (key : AgeKey) (row : Row)
 
 -- each row is that of its key
 abbrev pub AreRows : Book → List AgeKey → List Row → Type 0
-AreRows book keys rows = (rank : ℕ) (key : AgeKey) (row : Row) → slice_get keys rank ≡ Some key → slice_get rows rank ≡ Some row → IsRowOf book keys key row
+AreRows book keys rows =
+    (rank : ℕ) (key : AgeKey) (row : Row) → slice_get keys rank ≡ Some key → slice_get rows rank ≡ Some row →
+    IsRowOf book keys key row
 
 -- what is found under each number is its place
 abbrev pub FindsPlaces : List (List ℕ) → (List ℕ → Option ℕ) → Type 0
-FindsPlaces numbers find = (place : ℕ) (number : List ℕ) → slice_get numbers place ≡ Some number → find number ≡ Some place
+FindsPlaces numbers find =
+    (place : ℕ) (number : List ℕ) → slice_get numbers place ≡ Some number → find number ≡ Some place
 
 -- the places that are found for the known parents
 abbrev pub link_by : (List ℕ → Option ℕ) → Animal → Link

@@ -16,15 +16,19 @@ bucket_of count number = hash_of number * count / 2 ^ 64
 -- one more than the last rank of a bucket before the bound, and 0 where it has none
 pub record IsAfterLast (numbers : List (List ℕ)) (count bound bucket after : ℕ) : Type 0 where
   pub within : after ≤ bound
-  pub here : (rank : ℕ) (number : List ℕ) → after ≡ rank + 1 → slice_get numbers rank ≡ Some number → bucket_of count number ≡ bucket
-  pub last : (rank : ℕ) (number : List ℕ) → rank < bound → slice_get numbers rank ≡ Some number → bucket_of count number ≡ bucket → rank < after
+  pub here : (rank : ℕ) (number : List ℕ) → after ≡ rank + 1 → slice_get numbers rank ≡ Some number
+      → bucket_of count number ≡ bucket
+  pub last : (rank : ℕ) (number : List ℕ) → rank < bound → slice_get numbers rank ≡ Some number
+      → bucket_of count number ≡ bucket → rank < after
 
 -- the first n numbers stand in the buckets
 pub record AreBucketed (numbers : List (List ℕ)) (n : ℕ) (lasts earlier : List ℕ) : Type 0 where
   pub wide : length lasts ≡ length numbers + 1
   pub long : length earlier ≡ n
-  pub lasts_are : (bucket : ℕ) → bucket < length numbers + 1 → IsAfterLast numbers (length numbers + 1) n bucket (slice_index lasts bucket)
-  pub earlier_are : (rank : ℕ) (number : List ℕ) → rank < n → slice_get numbers rank ≡ Some number → IsAfterLast numbers (length numbers + 1) rank (bucket_of (length numbers + 1) number) (slice_index earlier rank)
+  pub lasts_are : (bucket : ℕ) → bucket < length numbers + 1
+      → IsAfterLast numbers (length numbers + 1) n bucket (slice_index lasts bucket)
+  pub earlier_are : (rank : ℕ) (number : List ℕ) → rank < n → slice_get numbers rank ≡ Some number
+      → IsAfterLast numbers (length numbers + 1) rank (bucket_of (length numbers + 1) number) (slice_index earlier rank)
 
 -- all numbers of the rows stand in the buckets of the index
 abbrev pub IsIndexOf : {A : Type 0} → List Row → NumberIndex A → Type 0

@@ -7,7 +7,14 @@ use Rattle.herd_frozen.specs.places.Places.{number_at}
 
 -- what is kept of a row beside its parents
 abbrev pub record_of_row : Row → RowRecord
-record_of_row row = record { number = row.number; embryo = row.animal.embryo; birth = row.animal.birth; herd = row.animal.herd; since = row.animal.since; left = row.animal.left }
+record_of_row row = record {
+  number = row.number;
+  embryo = row.animal.embryo;
+  birth = row.animal.birth;
+  herd = row.animal.herd;
+  since = row.animal.since;
+  left = row.animal.left;
+}
 
 -- what is kept of its parents
 abbrev pub packed_parents : Row → PackedParents
@@ -46,7 +53,9 @@ rows_kept records parents = rows_with (numbers_kept records) records parents
 
 -- parents stand among n rows
 abbrev pub ParentsAmong : ℕ → List PackedParents → Type 0
-ParentsAmong n parents = (rank : ℕ) (its : PackedParents) → slice_get parents rank ≡ Some its → IfSome its.sire (λ p. p < n) × IfSome its.dam (λ p. p < n)
+ParentsAmong n parents =
+    (rank : ℕ) (its : PackedParents) → slice_get parents rank ≡ Some its →
+    IfSome its.sire (λ p. p < n) × IfSome its.dam (λ p. p < n)
 
 -- each row has its parents, and they stand among the rows
 pub record AreKept (records : List RowRecord) (parents : List PackedParents) : Type 0 where

@@ -32,4 +32,5 @@ IsIndexIn elements (Some index) (Some element) = slice_get elements index ≡ So
 -- the places are those of one parent of each animal of the book
 pub record AreParents (book : Book) (parent_of : Animal → Option (List ℕ)) (parents : List (Option ℕ)) : Type 0 where
   pub long : length parents ≡ length book
-  pub each : (place : ℕ) (entry : List ℕ × Animal) → slice_get book place ≡ Some entry → IsIndexIn (keys_of book) (parent_at parents place) (parent_of entry.1)
+  pub each : (place : ℕ) (entry : List ℕ × Animal) → slice_get book place ≡ Some entry
+      → IsIndexIn (keys_of book) (parent_at parents place) (parent_of entry.1)

@@ -48,7 +48,8 @@ abbrev pub is_found_gone : ℤ → Option Animal → Bool
 is_found_gone birth found = option_map_or (has_left_before birth) found false
 
 -- the faults that the records of the parents show, in the order in which they are asked, each with its test
-abbrev pub record_faults : ℤ → Option (List ℕ) → Option Animal → Option (List ℕ) → Option Animal → Bool → List (Bool × ParentFault)
+abbrev pub record_faults :
+    ℤ → Option (List ℕ) → Option Animal → Option (List ℕ) → Option Animal → Bool → List (Bool × ParentFault)
 record_faults birth sire sire_found dam dam_found embryo =
     (is_missing sire sire_found, SireMissing)
     ∷ (is_missing dam dam_found, DamMissing)
@@ -61,7 +62,8 @@ record_faults birth sire sire_found dam dam_found embryo =
 
 -- the first fault that the book's records of the parents show
 abbrev pub fault_by_records : Book → ℤ → Option (List ℕ) → Option (List ℕ) → Bool → Option ParentFault
-fault_by_records book birth sire dam embryo = first_that_holds (record_faults birth sire (record_named book sire) dam (record_named book dam) embryo)
+fault_by_records book birth sire dam embryo =
+    first_that_holds (record_faults birth sire (record_named book sire) dam (record_named book dam) embryo)
 
 -- who is in the book and their known parents, once the animal of a number has these
 abbrev pub parentage_with : Book → List ℕ → Option (List ℕ) → Option (List ℕ) → Parentage (List ℕ)
@@ -73,7 +75,8 @@ parentage_with book number sire dam = record {
 
 -- some path of the whole book would then be longer than l; one that comes back to its animal is
 abbrev pub is_too_deep : ℕ → Book → List ℕ → Option (List ℕ) → Option (List ℕ) → Bool
-is_too_deep l book number sire dam = list_any (has_path (parentage_with book number sire dam) (l + 1)) (number ∷ keys_of book)
+is_too_deep l book number sire dam =
+    list_any (has_path (parentage_with book number sire dam) (l + 1)) (number ∷ keys_of book)
 
 -- the faults of parents in the order in which they are asked: those that the book's records of them show, and last
 -- that a path is too long

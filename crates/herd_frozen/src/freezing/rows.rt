@@ -173,7 +173,7 @@ impl<A: Allocator> Rows<A> {
 
     /// Adds a row whose parents stand among those before it.
     #[inline(always)]
-    pub fn push(&mut self, row: Row) -> Result<(), AllocError>
+    pub(crate) fn push(&mut self, row: Row) -> Result<(), AllocError>
         requires few { length self.old < nowhere }
         requires sire { IsIndexIn (numbers_of self.old) row.sire row.animal.sire }
         requires dam { IsIndexIn (numbers_of self.old) row.dam row.animal.dam }

@@ -109,7 +109,7 @@ paths-written l old new number animal w low =
 -- a birth that has no fault
 pub lawful-birth : (l most : ℕ) (book : Book) (number : List ℕ) (animal : Animal) → IsLawful l most book → IsBirth l most book number animal → IsLawful l most (book ++ (number, animal) ∷ [])
 lawful-birth l most book number animal lawful birth =
-    let absent = birth.absent in
+    let absent = birth.newborn.absent in
     let more : Book = book ++ (number, animal) ∷ [] in
     let w = written-push book number animal absent in
     let fine = no_fault l book number animal.birth animal.sire animal.dam animal.embryo birth.parents in
@@ -118,12 +118,12 @@ lawful-birth l most book number animal lawful birth =
     let none : list_any too_long (keys_of more) ≡ false = ap (λ ks. list_any too_long ks) (keys-push book number animal) ∙ list_any-append too_long (keys_of book) (number ∷ []) ∙ (rw (short.1, short.0) refl) in
     lawful-written book more number animal w (λ was e. absurd (cc)) l most lawful
     (distinct-push book number animal lawful.once absent)
-    (let n = length_push book (number, animal) in let room = birth.room in omega (arith, n, room))
+    (let n = length_push book (number, animal) in let room = birth.newborn.room in omega (arith, n, room))
     (not_from_false (list_any too_long (keys_of more)) none)
     (sire-may_be book animal.birth animal.sire animal.dam animal.embryo fine.records)
     (dam-may_be book animal.birth animal.sire animal.dam animal.embryo fine.records)
-    (subst (λ day. animal.birth ≤ℤ day) (sym birth.since) (grind (arith, ints)))
-    (λ day e. let left = birth.left in absurd (cc))
+    (subst (λ day. animal.birth ≤ℤ day) (sym birth.newborn.since) (grind (arith, ints)))
+    (λ day e. let left = birth.newborn.left in absurd (cc))
     (λ x calf e is d fresh. let there = d.there in absurd (cc))
 
 -- a book in which the record of an animal is changed, which keeps its birth day

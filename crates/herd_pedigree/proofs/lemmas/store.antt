@@ -6,6 +6,7 @@ pub mod DepthFacts
 pub mod SetFacts
 pub mod UndoFacts
 pub mod ListFacts
+pub mod PigeonholeFacts
 pub mod ProgenyFacts
 pub mod JoinFacts
 pub mod PartFacts

@@ -40,9 +40,13 @@ pub record AreChained (nodes : List ChainNode) : Type 0 where
   pub top : ℕ
   pub below : (calf : ℕ) → seniority calf < top
   pub within : (calf parent : ℕ) → parent_of nodes calf ≡ Some parent → parent < length nodes
-  pub first : (parent calf : ℕ) → first_of nodes parent ≡ Some calf → (parent_of nodes calf ≡ Some parent) × (previous_of nodes calf ≡ None)
-  pub foremost : (parent calf : ℕ) → parent_of nodes calf ≡ Some parent → previous_of nodes calf ≡ None → first_of nodes parent ≡ Some calf
-  pub next : (calf other : ℕ) → next_of nodes calf ≡ Some other → (previous_of nodes other ≡ Some calf) × ((parent_of nodes other ≡ parent_of nodes calf) × (seniority other < seniority calf))
+  pub first : (parent calf : ℕ) → first_of nodes parent ≡ Some calf
+      → (parent_of nodes calf ≡ Some parent) × (previous_of nodes calf ≡ None)
+  pub foremost : (parent calf : ℕ) → parent_of nodes calf ≡ Some parent → previous_of nodes calf ≡ None
+      → first_of nodes parent ≡ Some calf
+  pub next : (calf other : ℕ) → next_of nodes calf ≡ Some other
+      → (previous_of nodes other ≡ Some calf)
+      × ((parent_of nodes other ≡ parent_of nodes calf) × (seniority other < seniority calf))
   pub previous : (calf other : ℕ) → previous_of nodes other ≡ Some calf → next_of nodes calf ≡ Some other
   pub single : (calf : ℕ) → parent_of nodes calf ≡ None → (next_of nodes calf ≡ None) × (previous_of nodes calf ≡ None)
 

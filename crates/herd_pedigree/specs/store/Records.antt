@@ -28,7 +28,19 @@ animal_of numbers entry = record {
   left = entry.left;
 }
 
--- what is kept of an animal, with parents at other places, another owner or an exit
+-- what is kept of an animal whose parents stand at these places
+abbrev pub stored_of : Animal → Option ℕ → Option ℕ → StoredRecord
+stored_of animal sire dam = record {
+  birth = animal.birth;
+  sire = sire;
+  dam = dam;
+  embryo = animal.embryo;
+  herd = animal.herd;
+  since = animal.since;
+  left = animal.left;
+}
+
+-- the same with parents at other places, another owner or an exit
 abbrev pub stored_with_parents : Option ℕ → Option ℕ → StoredRecord → StoredRecord
 stored_with_parents sire dam stored = record stored { sire = sire; dam = dam }
 
@@ -54,7 +66,9 @@ stored_book entries = book_with (keys_of entries) entries
 
 -- the parents of entries stand among n animals
 abbrev pub StandAmong : ℕ → List (List ℕ × StoredRecord) → Type 0
-StandAmong n entries = (place : ℕ) (entry : List ℕ × StoredRecord) → slice_get entries place ≡ Some entry → IfSome entry.1.sire (λ p. p < n) × IfSome entry.1.dam (λ p. p < n)
+StandAmong n entries =
+    (place : ℕ) (entry : List ℕ × StoredRecord) → slice_get entries place ≡ Some entry →
+    IfSome entry.1.sire (λ p. p < n) × IfSome entry.1.dam (λ p. p < n)
 
 -- and they stand among the entries
 abbrev pub AreClosed : List (List ℕ × StoredRecord) → Type 0
@@ -63,4 +77,5 @@ AreClosed entries = StandAmong (length entries) entries
 -- each parent that a book names stands in it
 abbrev pub NamesItsOwn : Book → Type 0
 NamesItsOwn book = (place : ℕ) (entry : List ℕ × Animal) → slice_get book place ≡ Some entry →
-    ((sire : Option ℕ) × IsIndexIn (keys_of book) sire entry.1.sire) × ((dam : Option ℕ) × IsIndexIn (keys_of book) dam entry.1.dam)
+    ((sire : Option ℕ) × IsIndexIn (keys_of book) sire entry.1.sire)
+    × ((dam : Option ℕ) × IsIndexIn (keys_of book) dam entry.1.dam)

@@ -52,7 +52,10 @@ IsWithin Birth log n = 0 < n
 IsWithin (Record place was) log n = (place < n) × All (λ write. write.0 < n) log
 
 -- what the pedigree keeps, now and before the last change
-pub record IsHeld (l most : ℕ) (book : Book) (sires dams : List (Option ℕ)) (depths : List ℕ) (log : List (ℕ × ℕ)) (undo : Undo) : Type 0 where
+pub record IsHeld
+    (l most : ℕ) (book : Book) (sires dams : List (Option ℕ)) (depths : List ℕ) (log : List (ℕ × ℕ)) (undo : Undo)
+    : Type 0 where
   pub kept : IsKept l most book sires dams depths
   pub within : IsWithin undo log (length book)
-  pub before : (old : Book) → undone_book undo book ≡ Some old → IsKept l most old (undone_sires undo sires) (undone_dams undo dams) (undone_depths undo log depths)
+  pub before : (old : Book) → undone_book undo book ≡ Some old
+      → IsKept l most old (undone_sires undo sires) (undone_dams undo dams) (undone_depths undo log depths)

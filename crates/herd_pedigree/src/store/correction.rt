@@ -145,6 +145,9 @@ impl<A: Allocator> Correction<'_, A> {
         let mut pending = Vec::new(alloc);
         pending.push(self.place)?;
         for _ in 0..DEPTH_LIMIT + 1 {
+            if pending.as_slice().is_empty() {
+                return Ok(true);
+            }
             let mut calves = Vec::new(alloc);
             self.settle(&pending, depths, log, &mut calves)?;
             pending = calves;

@@ -124,7 +124,7 @@ impl<A: Allocator> Progeny<A> {
     }
 
     /// Adds an animal with this parent. It takes no memory.
-    pub fn push(&mut self, parent: Option<u32>)
+    pub(crate) fn push(&mut self, parent: Option<u32>)
         requires few { length self.old.parents + 1 < 2 ^ 32 }
         requires within { (p : ℕ) → parent ≡ Some p → p < length self.old.parents }
         requires room { 0 < self.old.room }
@@ -153,7 +153,7 @@ impl<A: Allocator> Progeny<A> {
     }
 
     /// Sets the parent of the animal at a place. It takes no memory.
-    pub fn set(&mut self, place: u32, parent: Option<u32>)
+    pub(crate) fn set(&mut self, place: u32, parent: Option<u32>)
         requires here { place < length self.old.parents }
         requires within { (p : ℕ) → parent ≡ Some p → p < length self.old.parents }
         ensures { self.new.parents ≡ slice_set self.old.parents place parent }
@@ -165,7 +165,7 @@ impl<A: Allocator> Progeny<A> {
     }
 
     /// Takes the last animal away, which has no calves.
-    pub fn pop(&mut self)
+    pub(crate) fn pop(&mut self)
         requires some { 0 < length self.old.parents }
         requires childless { (calf : ℕ) → parent_at self.old.parents calf ≡ Some (length self.old.parents - 1) → ⊥ }
         ensures { self.new.parents ≡ without_last self.old.parents }

@@ -5,14 +5,13 @@ ghost use Rattle.std.specs.Map.{keys_of, values_of};
 ghost use Rattle.std.specs.Str.{bytes_eq};
 ghost use Rattle.indexmap.specs.IndexMap.{get};
 ghost use Rattle.herd_frozen.specs.rules.Book.{is_there, record_of};
-ghost use Rattle.herd_frozen.specs.places.Links.{IsLinkAt};
 ghost use Rattle.herd_frozen.specs.places.PackedIndex.{nowhere};
 ghost use Rattle.herd_frozen.specs.places.Places.{IsIndexIn, number_at};
-ghost use Rattle.herd_pedigree.specs.store.Records.{IsStoredAt, NamesItsOwn, animal_of, set_value_at, stored_with_left, stored_with_owner, stored_with_parents};
+ghost use Rattle.herd_pedigree.specs.store.Records.{IsStoredAt, NamesItsOwn, animal_of, set_value_at, stored_of, stored_with_left, stored_with_owner, stored_with_parents};
 ghost use Rattle.herd_pedigree.specs.store.Undo.{without_last};
 
 use herd_animal::{AnimalNumber, Day, Herd};
-use herd_frozen::{Animal, Link, PackedIndex};
+use herd_frozen::{Animal, Link, PackedIndex, Registered};
 use indexmap::IndexMap;
 use indexmap::map::Entry;
 use std::alloc::{AllocError, Allocator};
@@ -52,13 +51,7 @@ impl StoredRecord {
     fn new(animal: Animal, sire: Option<u32>, dam: Option<u32>) -> StoredRecord
         requires sire { IfSome sire (λ place. place < nowhere) }
         requires dam { IfSome dam (λ place. place < nowhere) }
-        ensures sire { result.sire ≡ sire }
-        ensures dam { result.dam ≡ dam }
-        ensures birth { result.birth ≡ animal.birth }
-        ensures embryo { result.embryo ≡ animal.embryo }
-        ensures herd { result.herd ≡ animal.herd }
-        ensures since { result.since ≡ animal.since }
-        ensures left { result.left ≡ animal.left }
+        ensures { result ≡ stored_of animal sire dam }
     {
         StoredRecord {
             birth: animal.birth,
@@ -167,17 +160,8 @@ impl<A: Allocator> Records<A> {
     pub fn get(&self, number: &AnimalNumber) -> Option<Animal>
         ensures { result ≡ record_of self.now.book number.now }
     {
-        let entry = self.entries.get(number)?;
-        Some(self.animal_of(entry))
-    }
-
-    /// The number and the record at a place.
-    #[inline(always)]
-    pub fn entry_at(&self, place: usize) -> (AnimalNumber, Animal)
-        requires { place < length self.now.book }
-        ensures { slice_get self.now.book place ≡ Some result }
-    {
-        (self.entries.keys()[place], self.animal_at(place))
+        let stored = self.entries.get(number)?;
+        Some(self.animal_of(stored))
     }
 
     /// What is kept at a place.
@@ -189,28 +173,19 @@ impl<A: Allocator> Records<A> {
         self.entries[place]
     }
 
-    /// The places of the parents of the animal at a place.
+    // The animal of which this is kept.
     #[inline(always)]
-    pub(crate) fn parents_at(&self, place: usize) -> Link
-        requires { place < length self.now.book }
-        ensures { IsLinkAt self.now.book place result }
-    {
-        self.entries[place].parents()
-    }
-
-    // The animal that an entry is of.
-    #[inline(always)]
-    fn animal_of(&self, entry: &StoredRecord) -> Animal
-        ensures { result ≡ animal_of (keys_of self.now.book) entry.now }
+    fn animal_of(&self, stored: &StoredRecord) -> Animal
+        ensures { result ≡ animal_of (keys_of self.now.book) stored.now }
     {
         Animal {
-            birth: entry.birth,
-            sire: self.number_at(entry.sire.get()),
-            dam: self.number_at(entry.dam.get()),
-            embryo: entry.embryo,
-            herd: entry.herd,
-            since: entry.since,
-            left: entry.left,
+            birth: stored.birth,
+            sire: self.number_at(stored.sire.get()),
+            dam: self.number_at(stored.dam.get()),
+            embryo: stored.embryo,
+            herd: stored.herd,
+            since: stored.since,
+            left: stored.left,
         }
     }
 
@@ -226,7 +201,7 @@ impl<A: Allocator> Records<A> {
 
     /// Adds an animal whose parents stand at these places, unless its number is there, and returns whether it was new.
     /// The only error is a growth of memory that is refused; a number that is there needs none.
-    pub fn push_if_new(
+    pub(crate) fn push_if_new(
         &mut self,
         number: AnimalNumber,
         animal: Animal,
@@ -257,12 +232,34 @@ impl<A: Allocator> Records<A> {
     }
 
     /// Takes the last animal away, which is nobody's parent. It takes no memory.
-    pub fn pop(&mut self)
+    pub(crate) fn pop(&mut self)
         requires once { IsDistinct bytes_eq (keys_of self.old.book) }
         requires childless { NamesItsOwn (without_last self.old.book) }
         ensures { self.new.book ≡ without_last self.old.book }
     {
         let _ = self.entries.pop();
+    }
+}
+
+// The records as freezing reads them.
+impl<A: Allocator> Registered for Records<A> {
+    ghost book = { λ records. records.book };
+
+    ghost knows_parents = { λ _. Unit {0} };
+
+    #[inline(always)]
+    fn count(&self) -> usize {
+        self.len()
+    }
+
+    #[inline(always)]
+    fn record_at(&self, place: usize) -> (AnimalNumber, Animal) {
+        (self.entries.keys()[place], self.animal_at(place))
+    }
+
+    #[inline(always)]
+    fn link_at(&self, place: usize) -> Link {
+        self.entries[place].parents()
     }
 }
 

@@ -4,22 +4,14 @@ use super::changes::{Change, expect_filed, file_all};
 use super::seen::{depth_of, seen_of};
 use super::taking_back::take_back;
 use herd_fixtures::Name::{Bull, Cow};
-use herd_fixtures::{DayText, Pair, UNKNOWN};
+use herd_fixtures::{Pair, UNKNOWN, new_year};
 use herd_frozen::{DEPTH_LIMIT, ParentFault};
 use herd_pedigree::Pedigree;
 use std::alloc::Global;
 use std::process::Abort;
 use std::test::Fail;
 
-// The pairs of the generations are born a year apart.
-fn birth_day(generation: u8) -> DayText {
-    let mut text = *b"2000-01-01";
-    text[2] = b'0' + generation / 10 % 10;
-    text[3] = b'0' + generation % 10;
-    text
-}
-
-// The pair of the generation before.
+// The pair of the generation before, which was born a year before.
 fn parents_of(generation: u8) -> Pair {
     match generation.checked_sub(1) {
         Some(before) => {
@@ -32,7 +24,7 @@ fn parents_of(generation: u8) -> Pair {
 
 fn file_pair(rt: &impl Abort, pedigree: &mut Pedigree<Global>, generation: u8) -> Result<(), Fail> {
     let serial = u32::from(generation);
-    let birth = birth_day(generation);
+    let birth = new_year(generation);
     let parents = parents_of(generation);
     let bull = Change::Birth(Bull(serial), birth, parents);
     let cow = Change::Birth(Cow(serial), birth, parents);

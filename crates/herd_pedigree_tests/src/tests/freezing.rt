@@ -35,18 +35,18 @@ fn births() -> [Birth; 3] {
     ]
 }
 
-// Lets a book go. Its records are lawful, as it tells with any depth.
-fn let_go(pedigree: Pedigree<Global>)
+// The depth of the bull, with which a book tells that its records are lawful.
+fn depth_of_bull(pedigree: Pedigree<Global>) -> Option<u8>
     ensures { IsLawful DEPTH_LIMIT MOST_ANIMALS pedigree.book }
 {
-    pedigree.depth(&Bull(1).number());
+    pedigree.depth(&Bull(1).number())
 }
 
 // Births that a book takes are lawful records.
-fn expect_lawful(alloc: Global, births: &[Birth]) -> Result<(), BirthFault>
+fn depth_in_book(alloc: Global, births: &[Birth]) -> Result<Option<u8>, BirthFault>
     ensures { OnOk result (IsLawful DEPTH_LIMIT MOST_ANIMALS (map entry births.now)) }
 {
-    pedigree_of(alloc, births).map(let_go)
+    pedigree_of(alloc, births).map(depth_of_bull)
 }
 
 fn records_of(bull: Birth, cow: Birth, calf: Birth) -> Result<[(AnimalNumber, Animal); 3], DayFault>
@@ -56,23 +56,23 @@ fn records_of(bull: Birth, cow: Birth, calf: Birth) -> Result<[(AnimalNumber, An
 }
 
 fn lawful_records(
-    alloc: Global,
+    rt: &(impl Abort + AllocGlobal),
     bull: Birth,
     cow: Birth,
     calf: Birth,
 ) -> Result<[(AnimalNumber, Animal); 3], Fail>
     ensures { IfOk result (IsLawful DEPTH_LIMIT MOST_ANIMALS) }
 {
-    expect_lawful(alloc, &[bull, cow, calf])?;
+    assert_eq!(rt; depth_in_book(rt.alloc(), &[bull, cow, calf])?, Some(0));
     Ok(records_of(bull, cow, calf)?)
 }
 
 // The records of the family, which are lawful.
-fn family(alloc: Global) -> Result<[(AnimalNumber, Animal); 3], Fail>
+fn family(rt: &(impl Abort + AllocGlobal)) -> Result<[(AnimalNumber, Animal); 3], Fail>
     ensures { IfOk result (IsLawful DEPTH_LIMIT MOST_ANIMALS) }
 {
     let [bull, cow, calf] = births();
-    lawful_records(alloc, bull, cow, calf)
+    lawful_records(rt, bull, cow, calf)
 }
 
 // The rows of the family in age order: of one day, the cow's number is the smaller.
@@ -137,7 +137,7 @@ fn expect_family<A: Allocator>(
 
 #[test]
 fn freezes_a_family(rt: HostRuntime) -> Result<(), Fail> {
-    let records = family(rt.alloc())?;
+    let records = family(&rt)?;
     let frozen = freeze_list(rt.alloc(), &records)?;
     expect_family(&rt, &frozen, &records);
     Ok(())
@@ -145,7 +145,7 @@ fn freezes_a_family(rt: HostRuntime) -> Result<(), Fail> {
 
 #[test]
 fn finds_ranks(rt: HostRuntime) -> Result<(), Fail> {
-    let frozen = freeze_list(rt.alloc(), &family(rt.alloc())?)?;
+    let frozen = freeze_list(rt.alloc(), &family(&rt)?)?;
     let ranks = [(Cow(2), Some(0)), (Bull(3), Some(2)), (Bull(4), None)];
     for (name, rank) in ranks {
         assert_eq!(rt; frozen.rank(&name.number()), rank, "{name:?}");
@@ -156,7 +156,7 @@ fn finds_ranks(rt: HostRuntime) -> Result<(), Fail> {
 // The heap is a block larger each time, so that each growth in turn is the first for which there is no room.
 #[test]
 fn answers_memory_or_the_family(rt: HostRuntime) -> Result<(), Fail> {
-    let records = family(rt.alloc())?;
+    let records = family(&rt)?;
     let mut refused = 0u32;
     for blocks in 1..400 {
         let heap = LocalHeap::new(rt.alloc(), 16 * blocks)?;

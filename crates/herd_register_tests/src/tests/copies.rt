@@ -58,8 +58,8 @@ fn copy_of<A: Allocator, B: Allocator + Copy>(
     Ok(copybook)
 }
 
-// Takes over the steps of a whole journal.
-fn take_over_all<A: Allocator>(copybook: &mut Copybook<A>, steps: &[Step])
+/// Takes over the steps of a whole journal.
+pub(super) fn take_over_all<A: Allocator>(copybook: &mut Copybook<A>, steps: &[Step])
     requires empty { copybook.old.journal ≡ [] }
     requires room { length steps.now ≤ copybook.old.limits.steps }
     ensures limits { copybook.new.limits ≡ copybook.old.limits }

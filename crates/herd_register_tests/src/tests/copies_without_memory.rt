@@ -1,6 +1,7 @@
 //! Copies on heaps that are too small.
+ghost use Rattle.std.specs.Prelude.{◌≡◌, ◌≤◌, [], length};
 
-use super::copies::{freezes_to, full_register, rows};
+use super::copies::{freezes_to, full_register, rows, take_over_all};
 use herd_fixtures::{heap_of, spare_of};
 use herd_frozen::Row;
 use herd_register::{Copybook, Register, Step};
@@ -9,26 +10,22 @@ use std::alloc::{AllocError, Allocator, Global};
 use std::process::Abort;
 use std::test::Fail;
 
-fn take_over_each<A: Allocator>(copybook: &mut Copybook<A>, steps: &[Step]) {
-    for step in steps {
-        copybook.take_over(step);
-    }
-}
-
 // Whether a copy takes over eight steps, and no memory for them.
-fn takes_no_memory(heap: &LocalHeap, copybook: Copybook<&LocalHeap>, steps: &[Step]) -> bool {
+fn takes_no_memory(heap: &LocalHeap, copybook: Copybook<&LocalHeap>, steps: &[Step]) -> bool
+    requires empty { copybook.journal ≡ [] }
+    requires room { length steps.now ≤ copybook.limits.steps }
+{
     let mut copybook = copybook;
     let used = heap.used();
-    take_over_each(&mut copybook, steps);
+    take_over_all(&mut copybook, steps);
     copybook.steps() == 8 && heap.used() == used
 }
 
 // Whether a heap has room for a copy of a register.
 fn is_copied(rt: &impl Abort, heap: &LocalHeap, register: &Register<Global>) -> bool {
-    let copied = Copybook::new(heap, register.limits());
-    match copied.map(|copybook| takes_no_memory(heap, copybook, register.journal())) {
-        Ok(right) => {
-            assert!(rt; right);
+    match Copybook::new(heap, register.limits()) {
+        Ok(copybook) => {
+            assert!(rt; takes_no_memory(heap, copybook, register.journal()));
             true
         }
         Err(_) => false,

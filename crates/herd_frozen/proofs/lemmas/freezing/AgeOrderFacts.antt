@@ -18,7 +18,7 @@ use Rattle.herd_frozen.specs.declared.rules.animal.Animal.{Animal}
 use Rattle.herd_frozen.specs.declared.freezing.age_order.AgeKey.{AgeKey}
 use Rattle.herd_frozen.specs.rules.Book.{Book}
 use Rattle.herd_frozen.specs.freezing.Freeze.{IsAgeOrder, age_key, places_of}
-use Rattle.herd_frozen.proofs.lemmas.rules.BookFacts.{there}
+use Rattle.herd_frozen.proofs.lemmas.ListFacts.{there}
 
 -- a comparison that begins with another is no less where that one isn't
 first_not_less : (first rest : Ordering) → is_lt (ordering_then first rest) ≡ false → is_lt first ≡ false

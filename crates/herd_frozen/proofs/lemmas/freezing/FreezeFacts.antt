@@ -21,7 +21,7 @@ use Rattle.herd_frozen.specs.freezing.Freeze.{AreRows, IsAgeOrder, IsRowOf, age_
 use Rattle.herd_frozen.specs.rules.Lawful.{IsLawful}
 use Rattle.herd_frozen.specs.places.Places.{IsIndexIn}
 use Rattle.herd_frozen.proofs.lemmas.freezing.AgeOrderFacts.{IsKeyOf, key-at}
-use Rattle.herd_frozen.proofs.lemmas.rules.BookFacts.{there}
+use Rattle.herd_frozen.proofs.lemmas.ListFacts.{there}
 use Rattle.herd_frozen.proofs.lemmas.rules.PermutedFacts.{IsDepthOf-permuted, IsLawful-permuted}
 
 -- two comparisons are no less where a third decides only after them

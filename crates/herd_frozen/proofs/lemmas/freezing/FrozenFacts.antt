@@ -11,7 +11,8 @@ use Rattle.std.proofs.lemmas.List.FromFn.{length-map-range_with_len, get_or-map-
 use Rattle.herd_frozen.specs.declared.freezing.frozen.Row.{Row}
 use Rattle.herd_frozen.specs.rules.Book.{is_there, record_of}
 use Rattle.herd_frozen.specs.freezing.Frozen.{IsFrozen, book_of, numbers_of, depth_at, level_of, levels_of}
-use Rattle.herd_frozen.proofs.lemmas.rules.BookFacts.{is_some_with, key_from_entry, place_of, there}
+use Rattle.herd_frozen.proofs.lemmas.rules.BookFacts.{key_from_entry, place_of}
+use Rattle.herd_frozen.proofs.lemmas.ListFacts.{is_some_with, there}
 use Rattle.herd_frozen.proofs.lemmas.freezing.FrozenDepthFacts.{IsDepthOf-le}
 
 -- the numbers of the book are those of the rows

@@ -17,7 +17,8 @@ use Rattle.herd_frozen.specs.freezing.Freeze.{AreRows, IsAbove, IsRanked, IsRowO
 use Rattle.herd_frozen.specs.places.Links.{IsLinkAt}
 use Rattle.herd_frozen.specs.places.Places.{IsIndexIn}
 use Rattle.herd_frozen.proofs.lemmas.freezing.AgeOrderFacts.{IsKeyOf, key-at, length-keys, older-before}
-use Rattle.herd_frozen.proofs.lemmas.rules.BookFacts.{key_from_entry, entry_from_key, lookup_at, push_cases, there}
+use Rattle.herd_frozen.proofs.lemmas.rules.BookFacts.{key_from_entry, entry_from_key, lookup_at}
+use Rattle.herd_frozen.proofs.lemmas.ListFacts.{push_cases, there}
 use Rattle.herd_frozen.proofs.lemmas.freezing.FrozenDepthFacts.{IsDepth-from_parents, IsDepthOf-le}
 use Rattle.herd_frozen.proofs.lemmas.freezing.RankFacts.{place-at}
 

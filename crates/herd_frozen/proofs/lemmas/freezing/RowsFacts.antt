@@ -11,7 +11,7 @@ use Rattle.herd_frozen.specs.freezing.Frozen.{depth_at, numbers_of, parents_of}
 use Rattle.herd_frozen.specs.places.PackedIndex.{nowhere}
 use Rattle.herd_frozen.specs.places.Places.{IsIndexIn, number_at}
 use Rattle.herd_frozen.specs.freezing.Rows.{AreKept, ParentsAmong, numbers_kept, packed_parents, record_of_row, row_kept, rows_kept, rows_with}
-use Rattle.herd_frozen.proofs.lemmas.rules.BookFacts.{push_cases, there}
+use Rattle.herd_frozen.proofs.lemmas.ListFacts.{push_cases, there}
 use Rattle.herd_frozen.proofs.lemmas.places.NumberFacts.{further, number_at-place, number_at-push, place-within}
 
 module _ (numbers : List (List ℕ)) where

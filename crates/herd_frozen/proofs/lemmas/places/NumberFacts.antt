@@ -2,7 +2,7 @@
 use Rattle.std.proofs.Common.{ℕ, ◌<◌, ◌≤◌, ◌≡◌, arith, refl, sym, ◌∙◌, List, [], ◌∷◌, ◌++◌, Option, Some, None, IfSome, length}
 use Rattle.std.proofs.lemmas.Option.{slice_get_within}
 use Rattle.herd_frozen.specs.places.Places.{IsIndexIn, number_at}
-use Rattle.herd_frozen.proofs.lemmas.rules.BookFacts.{push_keeps, there}
+use Rattle.herd_frozen.proofs.lemmas.ListFacts.{push_keeps, there}
 
 -- one number more changes none of those before it
 pub number_at-push : (numbers : List (List ℕ)) (x : List ℕ) (o : Option ℕ) → IfSome o (λ p. p < length numbers) → number_at (numbers ++ x ∷ []) o ≡ number_at numbers o

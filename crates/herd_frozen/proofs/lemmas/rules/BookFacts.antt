@@ -1,5 +1,5 @@
 -- A record of the book by its place and by its number.
-use Rattle.std.proofs.Common.{ℕ, zero, suc, ◌<◌, ◌≡◌, ◌⊎◌, ⊎_elim, inl, inr, arith, refl, sym, ap, ◌∙◌, subst, true, false, is_some, List, [], ◌∷◌, ◌++◌, Option, Some, None, length, slice_get, get_or, position}
+use Rattle.std.proofs.Common.{ℕ, zero, suc, ◌<◌, ◌≡◌, ⊎_elim, arith, refl, sym, ap, ◌∙◌, subst, true, false, List, [], ◌∷◌, ◌++◌, Some, None, length, slice_get, get_or, position}
 use Rattle.std.specs.Str.{bytes_eq}
 use Rattle.std.specs.List.{IsDistinct, AllByRecursion}
 use Rattle.std.specs.Map.{keys_of, values_of, lookup}
@@ -9,6 +9,7 @@ use Rattle.std.proofs.lemmas.List.Quantifiers.{position-Some}
 use Rattle.std.proofs.lemmas.Slice.Eq.{bytes_eq-Decides}
 use Rattle.herd_frozen.specs.declared.rules.animal.Animal.{Animal}
 use Rattle.herd_frozen.specs.rules.Book.{Book, changed}
+use Rattle.herd_frozen.proofs.lemmas.ListFacts.{all-push, all_at}
 
 pub same_bytes : (x y : List ℕ) → bytes_eq x y ≡ true → x ≡ y
 same_bytes x y e = (bytes_eq-Decides x y).0 e
@@ -64,56 +65,10 @@ module _ {X : Type 0} where
   key_from_entry (e ∷ es) zero x a h = let k : e ≡ (x, a) = cc in ap (λ p. Some p.0) k
   key_from_entry (e ∷ es) (suc c) x a h = key_from_entry es c x a h
 
--- within a list there is an element
-pub there : {X : Type 0} (xs : List X) (c : ℕ) → c < length xs → (x : X) × (slice_get xs c ≡ Some x)
-there [] c h = absurd (omega arith)
-there (x ∷ xs) zero h = (x, refl)
-there (x ∷ xs) (suc c) h = there xs c (omega arith)
-
-pub is_some_with : {X : Type 0} (o : Option X) → is_some o ≡ true → (x : X) × (o ≡ Some x)
-is_some_with None h = absurd (cc)
-is_some_with (Some x) h = (x, refl)
-
-pub some_is : {X : Type 0} (o : Option X) (x : X) → o ≡ Some x → is_some o ≡ true
-some_is o x e = rw e refl
-
 pub at_position : (book : Book) (x : List ℕ) (i : ℕ) → position (bytes_eq x) (keys_of book) ≡ Some i → slice_get (keys_of book) i ≡ Some x
 at_position book x i e =
     let s = position-Some (bytes_eq x) (keys_of book) i x e in
     slice_get-get_or (keys_of book) i x s.0 ∙ ap Some (sym (same_bytes x (get_or (keys_of book) i x) s.1))
-
-pub entry_from_both : {X : Type 0} (es : List (List ℕ × X)) (i : ℕ) (x : List ℕ) (a : X) → slice_get (keys_of es) i ≡ Some x → slice_get (values_of es) i ≡ Some a → slice_get es i ≡ Some (x, a)
-entry_from_both [] i x a k v = absurd (cc)
-entry_from_both (e ∷ es) zero x a k v = let s = same_Some _ _ k in let t = same_Some _ _ v in ap Some (λ j. (s j, t j))
-entry_from_both (e ∷ es) (suc i) x a k v = entry_from_both es i x a k v
-
--- the record of the number that was looked up
-pub entry_found : (book : Book) (x : List ℕ) (i : ℕ) (a : Animal) → Some i ≡ position (bytes_eq x) (keys_of book) → slice_get (values_of book) i ≡ Some a → slice_get book i ≡ Some (x, a)
-entry_found book x i a found value = entry_from_both book i x a (at_position book x i (sym found)) value
-
--- a record stands under some number
-pub entry_from_value : {X : Type 0} (es : List (List ℕ × X)) (i : ℕ) (a : X) → slice_get (values_of es) i ≡ Some a → (x : List ℕ) × (slice_get es i ≡ Some (x, a))
-entry_from_value [] i a v = absurd (cc)
-entry_from_value (e ∷ es) zero a v = let t = same_Some _ _ v in (e.0, ap Some (λ j. (e.0, t j)))
-entry_from_value (e ∷ es) (suc i) a v = entry_from_value es i a v
-
-module _ {X : Type 0} where
-  -- an element after a push is an earlier one or the pushed
-  pub push_cases : (xs : List X) (y z : X) (i : ℕ) → slice_get (xs ++ y ∷ []) i ≡ Some z → (slice_get xs i ≡ Some z) ⊎ ((i ≡ length xs) × (y ≡ z))
-  push_cases [] y z zero e = inr (refl, same_Some _ _ e)
-  push_cases [] y z (suc i) e = absurd (cc)
-  push_cases (x ∷ xs) y z zero e = inl e
-  push_cases (x ∷ xs) y z (suc i) e =
-      ⊎_elim (λ l. inl l) (λ r. inr (ap suc r.0, r.1)) (push_cases xs y z i e)
-
-  pub push_keeps : (xs : List X) (y z : X) (i : ℕ) → slice_get xs i ≡ Some z → slice_get (xs ++ y ∷ []) i ≡ Some z
-  push_keeps [] y z i e = absurd (cc)
-  push_keeps (x ∷ xs) y z zero e = e
-  push_keeps (x ∷ xs) y z (suc i) e = push_keeps xs y z i e
-
-  pub push_last : (xs : List X) (y : X) → slice_get (xs ++ y ∷ []) (length xs) ≡ Some y
-  push_last [] y = refl
-  push_last (x ∷ xs) y = push_last xs y
 
 pub keys-push : {X : Type 0} (book : List (List ℕ × X)) (number : List ℕ) (animal : X) → keys_of (book ++ (number, animal) ∷ []) ≡ keys_of book ++ number ∷ []
 keys-push [] number animal = refl
@@ -136,10 +91,6 @@ keys-changed (e ∷ es) number change =
 pub length-changed : (book : Book) (number : List ℕ) (change : Animal → Animal) → length (changed book number change) ≡ length book
 length-changed book number change = sym (length-keys (changed book number change)) ∙ ap (λ ks. length ks) (keys-changed book number change) ∙ length-keys book
 
-all-push : {X : Type 0} (P : X → Type 0) (xs : List X) (y : X) → AllByRecursion P xs → P y → AllByRecursion P (xs ++ y ∷ [])
-all-push P [] y h p = (p, tt)
-all-push P (x ∷ xs) y h p = (h.0, all-push P xs y h.1 p)
-
 -- a number that isn't there is apart from those that are
 pub distinct-push : (book : Book) (number : List ℕ) (animal : Animal) → IsDistinct bytes_eq (keys_of book) → lookup (bytes_eq number) book ≡ None → IsDistinct bytes_eq (keys_of (book ++ (number, animal) ∷ []))
 unfolding IsDistinct
@@ -153,20 +104,11 @@ distinct-push (e ∷ es) number animal d none =
     (apart, distinct-push es number animal d.1 (rw t at none)))
     (cases_Bool (bytes_eq number e.0))
 
-pub none_if : {X : Type 0} (o : Option X) → is_some o ≡ false → o ≡ None
-none_if None h = refl
-none_if (Some x) h = absurd (cc)
-
 -- the record that is read at a place
 pub value_at : (es : Book) (i : ℕ) (a : Animal) (d : List ℕ × Animal) → slice_get (values_of es) i ≡ Some a → (i < length es) × ((get_or es i d).1 ≡ a)
 value_at [] i a d h = absurd (cc)
 value_at (e ∷ es) zero a d h = (omega arith, same_Some _ _ h)
 value_at (e ∷ es) (suc i) a d h = let r = value_at es i a d h in (omega (arith, r.0), r.1)
-
-all_at : {X : Type 0} (P : X → Type 0) (xs : List X) (c : ℕ) (x : X) → AllByRecursion P xs → slice_get xs c ≡ Some x → P x
-all_at P [] c x h at = absurd (cc)
-all_at P (y ∷ ys) zero x h at = subst P (same_Some _ _ at) h.0
-all_at P (y ∷ ys) (suc c) x h at = all_at P ys c x h.1 at
 
 -- a number stands at one place
 pub stands_once : (ks : List (List ℕ)) → IsDistinct bytes_eq ks → (i j : ℕ) (x : List ℕ) → slice_get ks i ≡ Some x → slice_get ks j ≡ Some x → i ≡ j

@@ -11,7 +11,7 @@ use Rattle.herd_frozen.specs.declared.rules.parent_fault.ParentFault.TheVariants
 use Rattle.herd_frozen.specs.rules.Book.{Book, record_of}
 use Rattle.herd_frozen.specs.rules.ParentFault.{first_that_holds, has_left_before, has_sex, is_found_gone, is_found_not_older, is_missing, is_named, is_too_deep, parent_fault, record_faults, record_named}
 use Rattle.herd_frozen.specs.rules.Lawful.{IsSireOf, IsDamOf}
-use Rattle.herd_frozen.proofs.lemmas.rules.BookFacts.{is_some_with}
+use Rattle.herd_frozen.proofs.lemmas.ListFacts.{is_some_with}
 
 -- the first fault of two lists, one after the other
 first-append : {F : Type 0} (xs ys : List (Bool × F)) → first_that_holds (xs ++ ys) ≡ option_or (first_that_holds xs) (first_that_holds ys)

@@ -1,6 +1,7 @@
--- What a list holds, what a filter leaves of it, and what its front is.
-use Rattle.std.proofs.Common.{ℕ, zero, suc, ◌-◌, ◌<◌, ◌≡◌, ◌++◌, ◌∙◌, ◌⊎◌, ◌||◌, ⊎_elim, inl, inr, Bool, true, false, filter, Contains, arith, refl, sym, ap, subst, List, [], ◌∷◌, Some, get_or, length, slice_get, slice_set, take}
+-- What a list or an option holds, what a filter leaves of a list, and what its front is.
+use Rattle.std.proofs.Common.{ℕ, zero, suc, ◌-◌, ◌<◌, ◌≡◌, ◌++◌, ◌∙◌, ◌⊎◌, ◌||◌, ⊎_elim, inl, inr, Bool, true, false, filter, Contains, arith, refl, sym, ap, subst, List, [], ◌∷◌, is_some, Option, None, Some, get_or, length, slice_get, slice_set, take}
 use Rattle.std.specs.List.{list_any}
+use Rattle.std.specs.Option.{option_map}
 use Rattle.std.proofs.lemmas.Bool.{cases_Bool, or_left}
 use Rattle.std.proofs.lemmas.List.Elements.{Contains-append_right, Contains-append_cases}
 use Rattle.std.proofs.lemmas.List.{ext_get_or, get_or-set_other, get_or-take, length-set, length-take-le, length_push, take_at}
@@ -80,3 +81,8 @@ take-set xs n v h =
 pub nil_unless : {X : Type 0} (xs : List X) → (0 < length xs → ⊥) → xs ≡ []
 nil_unless [] never = refl
 nil_unless (x ∷ xs) never = absurd (never (omega arith))
+
+-- a value for what an option holds leaves it as full as it was
+pub is_some-map : {X Y : Type 0} (f : X → Y) (o : Option X) → is_some (option_map f o) ≡ is_some o
+is_some-map f None = refl
+is_some-map f (Some x) = refl

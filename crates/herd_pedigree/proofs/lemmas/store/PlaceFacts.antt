@@ -12,7 +12,8 @@ use Rattle.herd_frozen.specs.rules.Book.{Book, record_of, is_there, sire_of, dam
 use Rattle.herd_frozen.specs.rules.Depths.{IsParent, AreDepths}
 use Rattle.herd_frozen.specs.places.Places.{parent_at, parentage_at, IsIndexIn, AreParents}
 use Rattle.herd_frozen.proofs.lemmas.rules.PathFacts.{Path, path-from_test, path-moved, depths-path, depths-bound, depths-shallow, depth-from_paths, path-there}
-use Rattle.herd_frozen.proofs.lemmas.rules.BookFacts.{lookup_at, entry_from_key, key_from_entry, place_of, there, is_some_with, some_is}
+use Rattle.herd_frozen.proofs.lemmas.rules.BookFacts.{lookup_at, entry_from_key, key_from_entry, place_of}
+use Rattle.herd_frozen.proofs.lemmas.ListFacts.{there, is_some_with, some_is}
 
 -- the place of a named parent
 place_from_number : (numbers : List (List ℕ)) (o : Option ℕ) (n : Option (List ℕ)) (p : List ℕ) → IsIndexIn numbers o n → n ≡ Some p → (q : ℕ) × (o ≡ Some q) × (slice_get numbers q ≡ Some p)

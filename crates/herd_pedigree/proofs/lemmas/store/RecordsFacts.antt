@@ -12,9 +12,10 @@ use Rattle.herd_pedigree.specs.declared.store.records.StoredRecord.{StoredRecord
 use Rattle.herd_frozen.specs.places.Links.{IsLinkAt}
 use Rattle.herd_frozen.specs.places.Places.{AreParents, IsIndexIn, number_at, parent_at}
 use Rattle.herd_frozen.specs.rules.Book.{Book, changed, with_parents}
-use Rattle.herd_pedigree.specs.store.Records.{AreClosed, IsStoredAt, NamesItsOwn, StandAmong, stored_book, book_with, animal_of, set_value_at, stored_with_parents}
+use Rattle.herd_pedigree.specs.store.Records.{AreClosed, IsStoredAt, NamesItsOwn, StandAmong, stored_book, book_with, animal_of, set_value_at, stored_of, stored_with_parents}
 use Rattle.herd_pedigree.specs.store.Undo.{without_last}
-use Rattle.herd_frozen.proofs.lemmas.rules.BookFacts.{entry_from_both, is_some_with, keys-push, length-keys, none_if, push_cases, push_keeps, stands_once, there}
+use Rattle.herd_frozen.proofs.lemmas.rules.BookFacts.{keys-push, length-keys, stands_once}
+use Rattle.herd_frozen.proofs.lemmas.ListFacts.{entry_from_both, is_some_with, push_cases, push_keeps, there}
 use Rattle.herd_frozen.proofs.lemmas.places.NumberFacts.{further, number_at-place, number_at-push, place-within}
 use Rattle.herd_pedigree.proofs.lemmas.store.SetFacts.{keys-set, length-set-at, set-changed, set_value-cases}
 use Rattle.herd_pedigree.proofs.lemmas.store.ListFacts.{nil_unless, without_last-push}
@@ -61,21 +62,6 @@ module _ (numbers : List (List ℕ)) where
       let rest : book_with (numbers ++ x ∷ []) es ≡ book_with numbers es = book_with-push x es (λ place entry at. h (suc place) entry at) in
       λ i. (e.0, same i) ∷ rest i
 
-pub key_at : {X : Type 0} (es : List (List ℕ × X)) (i : ℕ) → slice_get (keys_of es) i ≡ option_map (λ e. e.0) (slice_get es i)
-key_at [] i = refl
-key_at (e ∷ es) zero = refl
-key_at (e ∷ es) (suc i) = key_at es i
-
-pub is_some-map : {X Y : Type 0} (f : X → Y) (o : Option X) → is_some (option_map f o) ≡ is_some o
-is_some-map f None = refl
-is_some-map f (Some x) = refl
-
--- a number that has no record has no entry
-pub absent-among : (es : List (List ℕ × StoredRecord)) (number : List ℕ) → lookup (bytes_eq number) (stored_book es) ≡ None → lookup (bytes_eq number) es ≡ None
-absent-among es number none =
-    none_if (lookup (bytes_eq number) es)
-    (sym (is_some-map (animal_of (keys_of es)) (lookup (bytes_eq number) es)) ∙ ap (λ o. is_some o) (sym (lookup-book_with (keys_of es) (bytes_eq number) es) ∙ none))
-
 -- the record at the place where a number is found is its own
 pub value-found : (es : List (List ℕ × StoredRecord)) (number : List ℕ) (place : Option ℕ) → is_some place ≡ is_some (lookup (bytes_eq number) es)
     → IfSome place (λ p. slice_get (values_of es) p ≡ lookup (bytes_eq number) es) → IfSome place (λ p. slice_get (values_of (stored_book es)) p ≡ lookup (bytes_eq number) (stored_book es))
@@ -86,17 +72,16 @@ value-found es number (Some p) some is =
     ∙ sym (lookup-book_with (keys_of es) (bytes_eq number) es ∙ ap (λ o. option_map (animal_of (keys_of es)) o) found.1)
 
 -- what is kept of an animal is its record
-pub animal_of-is : (numbers : List (List ℕ)) (entry : StoredRecord) (animal : Animal) → IsIndexIn numbers entry.sire animal.sire → IsIndexIn numbers entry.dam animal.dam
-    → entry.birth ≡ animal.birth → entry.embryo ≡ animal.embryo → entry.herd ≡ animal.herd → entry.since ≡ animal.since → entry.left ≡ animal.left → animal_of numbers entry ≡ animal
-animal_of-is numbers entry animal sire dam birth embryo herd since left =
+pub animal_of-stored : (numbers : List (List ℕ)) (entry : StoredRecord) (animal : Animal) (sire dam : Option ℕ) → entry ≡ stored_of animal sire dam → IsIndexIn numbers entry.sire animal.sire → IsIndexIn numbers entry.dam animal.dam → animal_of numbers entry ≡ animal
+animal_of-stored numbers entry animal sire dam is its_sire its_dam =
     λ i. record {
-      birth = birth i;
-      sire = number_at-place numbers entry.sire animal.sire sire i;
-      dam = number_at-place numbers entry.dam animal.dam dam i;
-      embryo = embryo i;
-      herd = herd i;
-      since = since i;
-      left = left i;
+      birth = (is i).birth;
+      sire = number_at-place numbers entry.sire animal.sire its_sire i;
+      dam = number_at-place numbers entry.dam animal.dam its_dam i;
+      embryo = (is i).embryo;
+      herd = (is i).herd;
+      since = (is i).since;
+      left = (is i).left;
     }
 
 module _ (es : List (List ℕ × StoredRecord)) where

@@ -1,18 +1,15 @@
 -- What a log of writes takes back.
-use Rattle.std.proofs.Common.{ℕ, ◌<◌, ◌≤◌, ◌≡◌, ◌≢◌, ⊎_elim, All, slice_index, arith, refl, sym, ap, ◌∙◌, subst, List, [], ◌∷◌, ◌++◌, Option, Some, length, slice_set}
+use Rattle.std.proofs.Common.{ℕ, ◌<◌, ◌≤◌, ◌≡◌, ◌≢◌, ⊎_elim, All, slice_index, arith, refl, sym, ap, ◌∙◌, subst, List, [], ◌∷◌, ◌++◌, Option, length, slice_set}
 use Rattle.std.proofs.lemmas.Bool.{cases_eq}
 use Rattle.std.proofs.lemmas.List.{get_or-set_other, length-set, set-get_or, set-set}
 use Rattle.std.proofs.lemmas.List.Elements.{All-append, All-cons, All-nil, All-rest}
 use Rattle.std.specs.Map.{keys_of}
-use Rattle.herd_frozen.specs.declared.rules.animal.Animal.{Animal}
 use Rattle.herd_pedigree.specs.declared.store.records.StoredRecord.{StoredRecord}
 use Rattle.herd_frozen.specs.rules.Book.{Book}
-use Rattle.herd_pedigree.specs.Pedigree.{Pedigree, changed_to}
 use Rattle.herd_pedigree.specs.store.Records.{animal_of, set_value_at}
 use Rattle.herd_pedigree.specs.declared.store.undo.Undo.{Undo}
 use Rattle.herd_pedigree.specs.declared.store.undo.Undo.TheVariants.{Nothing, Record}
-use Rattle.herd_pedigree.specs.store.Undo.{IsHeld, TakesBack, undone_writes, without_last}
-use Rattle.herd_pedigree.proofs.lemmas.store.ListFacts.{without_last-push}
+use Rattle.herd_pedigree.specs.store.Undo.{IsHeld, TakesBack, undone_writes}
 
 -- the last write is taken back first
 pub undone-last : (log : List (ℕ × ℕ)) (write : ℕ × ℕ) (depths : List ℕ) → undone_writes (log ++ write ∷ []) depths ≡ undone_writes log (slice_set depths write.0 write.1)
@@ -50,11 +47,6 @@ written-most l (write ∷ log) depths most x before =
     (λ (e : x ≡ write.0). subst (λ v. slice_index depths v ≤ l) (sym e) head)
     (λ (n : x ≢ write.0). written-most l log depths rest x (subst (λ v. v ≤ l) (get_or-set_other (undone_writes log depths) write.0 x write.1 0 n) before))
     (cases_eq x write.0)
-
--- the view after a birth
-pub birth-view : (was : Pedigree) (book entries : Book) (entry : List ℕ × Animal) → entries ≡ book ++ entry ∷ [] → book ≡ was.book → record { book = entries; before = Some (without_last entries) } ≡ changed_to was (was.book ++ entry ∷ [])
-birth-view was book entries entry e w =
-    λ i. record { book = (e ∙ ap (λ b. b ++ entry ∷ []) w) i; before = (ap (λ es. Some (without_last es)) e ∙ ap Some (without_last-push book entry ∙ w)) i }
 
 -- what is held once a write of a record is taken back
 pub IsHeld-undone : (l most : ℕ) (book : Book) (sires dams : List (Option ℕ)) (depths : List ℕ) (log : List (ℕ × ℕ)) (undo : Undo) → IsHeld l most book sires dams depths log undo →

@@ -4,7 +4,8 @@ use Rattle.std.proofs.lemmas.Grind.{common_steps}
 use Rattle.std.specs.Map.{keys_of}
 use Rattle.herd_fixtures.specs.Name.{number_named}
 use Rattle.herd_fixtures.specs.declared.name.Name.TheVariants.{Bull}
-use Rattle.pedigree_timing.proofs.BookFacts.{corrected-none, corrected-next, keys_of-changed}
+use Rattle.herd_frozen.proofs.lemmas.rules.BookFacts.{keys-changed}
+use Rattle.pedigree_timing.proofs.BookFacts.{corrected-none, corrected-next}
 use Rattle.pedigree_timing.proofs.filling.correct_heads.Goals.{then-is_multiple_of, else-is_multiple_of}
 use Rattle.pedigree_timing.proofs.filling.correct_heads.Goals as goal
 
@@ -19,5 +20,5 @@ loop-turn-preserved c =
       | else-is_multiple_of w ↦ grind (arith, common_steps, w.if-is_multiple_of.false, w.sire-is)
     ] in (
       corrected-next _ _ _ _ _ _ _ c.loop-turn.invariant.0 (rw c.len.ensures at c.max-lines.ensures) c.number-head.ensures.number sire c.in_ok-file_correction.ensures.corrected,
-      ap keys_of c.in_ok-file_correction.ensures.corrected ∙ keys_of-changed _ _ _ ∙ c.loop-turn.invariant.1,
+      ap keys_of c.in_ok-file_correction.ensures.corrected ∙ keys-changed _ _ _ ∙ c.loop-turn.invariant.1,
     )

@@ -50,12 +50,14 @@ birth g c depth =
     let i = c.self.inside in
     let absent = absent-new i.records.book c.args.number _ c.in_ok-push_if_new.ensures.new c.if-not-branch.false in
     record {
-      absent = absent;
-      room = subst (λ p. length p.book < MOST_ANIMALS) (sym c.self.view_is) c.requires.room;
+      newborn = record {
+        absent = absent;
+        room = subst (λ p. length p.book < MOST_ANIMALS) (sym c.self.view_is) c.requires.room;
+        since = c.requires.since;
+        left = c.requires.left;
+      };
       parents = sym (newborn-none DEPTH_LIMIT MOST_ANIMALS i.records.book c.args.self.now.book (ap (λ p. p.book) c.self.view_is) i.sires.parents i.dams.parents i.depths.items c.self.invariant.kept c.args.number absent
           c.args.animal c.requires.sound c.args.sire c.args.dam c.requires.sire c.requires.dam c.from.result c.depth_with-depth.result c.from.ensures depth c.if-depth-from.false);
-      since = c.requires.since;
-      left = c.requires.left;
     }
 
 pub invariant_of-self-2 : goal.invariant_of-self-2
@@ -73,11 +75,11 @@ invariant_of-self-2 g c =
     let dams_are : c.push-2.new.self.parents ≡ dams ++ c.args.dam ∷ [] = c.push-2.ensures ∙ ap (λ ps. ps ++ c.args.dam ∷ []) c.make_room.ensures.dams in
     let depths_are : c.push_reserved.new.self.items ≡ depths ++ depth_from (slice_index depths) c.args.sire c.args.dam ∷ [] = search (rules, depth) in
     rw (entries, sires_are, dams_are, depths_are)
-    (IsHeld-push DEPTH_LIMIT MOST_ANIMALS book sires dams depths c.self.invariant.kept c.args.number c.args.animal birth.absent c.args.sire c.args.dam (sire g here.After-depth_with-depth) (dam g here.After-depth_with-depth) birth i.old_depths.items)
+    (IsHeld-push DEPTH_LIMIT MOST_ANIMALS book sires dams depths c.self.invariant.kept c.args.number c.args.animal birth.newborn.absent c.args.sire c.args.dam (sire g here.After-depth_with-depth) (dam g here.After-depth_with-depth) birth i.old_depths.items)
 
 pub returns-clause-outcome : goal.returns-clause-outcome
 returns-clause-outcome g c =
     let here = goal.at.returns-clause-outcome g c in
     let birth = birth g here.After-push_reserved (depth g here.After-depth_with-depth) in
     subst (λ p. Added ≡ registration DEPTH_LIMIT p.book c.args.number c.args.animal) c.self.view_is
-    (registration-added DEPTH_LIMIT c.self.inside.records.book c.args.number c.args.animal birth.absent (sym birth.parents))
+    (registration-added DEPTH_LIMIT c.self.inside.records.book c.args.number c.args.animal birth.newborn.absent (sym birth.parents))

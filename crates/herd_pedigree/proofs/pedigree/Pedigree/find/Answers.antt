@@ -1,7 +1,8 @@
 -- `Pedigree::find`: its clauses `absent` and `found`.
 use Rattle.std.proofs.Common.{rules, sym, subst, ◌≡◌, None}
 use Rattle.herd_frozen.specs.rules.Book.{Book, record_of}
-use Rattle.herd_frozen.proofs.lemmas.rules.BookFacts.{at_position, none_if}
+use Rattle.herd_frozen.proofs.lemmas.rules.BookFacts.{at_position}
+use Rattle.herd_frozen.proofs.lemmas.ListFacts.{none_if}
 use Rattle.herd_pedigree.specs.Pedigree.{IsFound}
 use Rattle.herd_pedigree.proofs.pedigree.Pedigree.find.Goals as goal
 

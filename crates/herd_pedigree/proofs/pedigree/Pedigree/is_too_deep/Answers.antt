@@ -8,7 +8,8 @@ use Rattle.herd_pedigree.specs.Pedigree.{TellsTooDeep}
 use Rattle.herd_frozen.specs.rules.Depths.{depth_from}
 use Rattle.herd_pedigree.specs.store.Exchange.{exchanged}
 use Rattle.herd_frozen.specs.declared.TheConstants.{DEPTH_LIMIT, MOST_ANIMALS}
-use Rattle.herd_frozen.proofs.lemmas.rules.BookFacts.{at_position, none_if}
+use Rattle.herd_frozen.proofs.lemmas.rules.BookFacts.{at_position}
+use Rattle.herd_frozen.proofs.lemmas.ListFacts.{none_if}
 use Rattle.herd_pedigree.proofs.lemmas.store.CorrectionFacts.{IfOk-both}
 use Rattle.herd_pedigree.proofs.CheckFacts.{too_deep-absent, not_deep-lower, too_deep-leaf, too_deep-told_by, correction-depths, correction-sound}
 use Rattle.herd_pedigree.proofs.pedigree.Pedigree.is_too_deep.Goals as goal

@@ -10,7 +10,7 @@ use Rattle.herd_pedigree.specs.Pedigree.{changed_to}
 use Rattle.herd_pedigree.specs.store.Records.{IsStoredAt, animal_of, set_value_at}
 use Rattle.herd_pedigree.specs.store.Undo.{IsHeld}
 use Rattle.herd_frozen.specs.declared.TheConstants.{DEPTH_LIMIT, MOST_ANIMALS}
-use Rattle.herd_frozen.proofs.lemmas.rules.BookFacts.{entry_from_value}
+use Rattle.herd_frozen.proofs.lemmas.ListFacts.{entry_from_value}
 use Rattle.herd_pedigree.proofs.lemmas.store.RecordsFacts.{stored-parents}
 use Rattle.herd_pedigree.proofs.lemmas.store.SetFacts.{IsHeld-same, set-view}
 use Rattle.herd_pedigree.proofs.pedigree.Pedigree.set_record.Goals as goal

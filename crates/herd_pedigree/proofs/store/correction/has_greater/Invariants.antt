@@ -1,3 +1,4 @@
+-- None of the writes so far left a depth above the limit.
 use Rattle.std.proofs.Common.{◌<◌, ◌≤◌, ℕ, slice_index, slice_index_or}
 use Rattle.herd_pedigree.proofs.store.correction.has_greater.Given as goal
 

@@ -1,3 +1,4 @@
+-- The steps so far are in the copy.
 use Rattle.std.proofs.Common.{◌≡◌, take}
 use Rattle.herd_register_tests.proofs.tests.copies.take_over_all.Given as goal
 

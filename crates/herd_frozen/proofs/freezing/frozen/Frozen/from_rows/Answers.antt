@@ -1,7 +1,7 @@
 -- `Frozen::from_rows`: what `levels_of` requires.
 use Rattle.std.proofs.lemmas.Option.{get_or_from_slice_get}
 use Rattle.herd_frozen.specs.declared.TheConstants.{DEPTH_LIMIT, MOST_ANIMALS}
-use Rattle.herd_frozen.proofs.lemmas.rules.BookFacts.{there}
+use Rattle.herd_frozen.proofs.lemmas.ListFacts.{there}
 use Rattle.herd_frozen.proofs.lemmas.freezing.FrozenFacts.{depth-le}
 use Rattle.herd_frozen.proofs.freezing.frozen.Frozen.from_rows.Goals as goal
 

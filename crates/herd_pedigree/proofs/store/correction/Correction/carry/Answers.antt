@@ -56,4 +56,4 @@ returns-clause-deep g c =
     let x = c.args.self.now in
     let end : c.loop.counter ≡ DEPTH_LIMIT + 1 = search rules in
     some-path (corrected x) (DEPTH_LIMIT + 1) c.loop.pending.items (subst (λ n. HavePaths (corrected x) n c.loop.pending.items) end c.loop.invariant.paths)
-    (λ none. let t : c.is_empty.result ≡ true = c.is_empty.ensures ∙ ap (λ xs. length xs == 0) c.as_slice.ensures.value ∙ ap (λ n. n == 0) none in absurd (cc))
+    (λ none. let t : c.is_empty-2.result ≡ true = c.is_empty-2.ensures ∙ ap (λ xs. length xs == 0) c.as_slice-2.ensures.value ∙ ap (λ n. n == 0) none in absurd (cc))

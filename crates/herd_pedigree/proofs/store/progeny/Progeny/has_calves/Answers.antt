@@ -1,6 +1,6 @@
 -- `Progeny::has_calves`: its clauses `some` and `none`.
 use Rattle.std.proofs.Common.{sym, ap, ◌∙◌, ◌≡◌, ℕ, List, None, is_some}
-use Rattle.herd_frozen.proofs.lemmas.rules.BookFacts.{is_some_with, none_if}
+use Rattle.herd_frozen.proofs.lemmas.ListFacts.{is_some_with, none_if}
 use Rattle.herd_pedigree.specs.declared.store.progeny.ChainNode.{ChainNode}
 use Rattle.herd_pedigree.specs.store.Calves.{node_at, first_of}
 use Rattle.herd_frozen.specs.places.Places.{parent_at}

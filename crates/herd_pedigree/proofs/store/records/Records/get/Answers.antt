@@ -9,12 +9,12 @@ use Rattle.herd_pedigree.specs.declared.store.records.StoredRecord.{StoredRecord
 use Rattle.herd_pedigree.proofs.lemmas.store.RecordsFacts.{keys-stored_book, lookup-book_with}
 use Rattle.herd_pedigree.proofs.store.records.Records.get.Goals as goal
 
-pub returns-in_err-entry : goal.returns-in_err-entry
-returns-in_err-entry g c =
+pub returns-in_err-stored : goal.returns-in_err-stored
+returns-in_err-stored g c =
     let es : List (List ℕ × StoredRecord) = c.self.inside.entries.entries in
     let number : List ℕ = c.args.number.now in
     let told : None ≡ record_of (stored_book es) number =
-    ap (λ o. option_map (animal_of (keys_of es)) o) c.in_err-entry.ensures.value ∙ sym (lookup-book_with (keys_of es) (bytes_eq number) es) in
+    ap (λ o. option_map (animal_of (keys_of es)) o) c.in_err-stored.ensures.value ∙ sym (lookup-book_with (keys_of es) (bytes_eq number) es) in
     let none : c.from_residual.result ≡ None = search rules in
     none ∙ subst (λ r. None ≡ record_of r.book number) c.self.view_is told
 
@@ -22,7 +22,7 @@ pub returns : goal.returns
 returns g c =
     let es : List (List ℕ × StoredRecord) = c.self.inside.entries.entries in
     let number : List ℕ = c.args.number.now in
-    let same : c.animal_of.result ≡ animal_of (keys_of es) c.in_ok-entry.entry.now =
-    c.animal_of.ensures ∙ ap (λ ks. animal_of ks c.in_ok-entry.entry.now) (ap (λ r. keys_of r.book) (sym c.self.view_is) ∙ keys-stored_book es) in
+    let same : c.animal_of.result ≡ animal_of (keys_of es) c.in_ok-stored.stored.now =
+    c.animal_of.ensures ∙ ap (λ ks. animal_of ks c.in_ok-stored.stored.now) (ap (λ r. keys_of r.book) (sym c.self.view_is) ∙ keys-stored_book es) in
     subst (λ r. Some c.animal_of.result ≡ record_of r.book number) c.self.view_is
-    (ap Some same ∙ ap (λ o. option_map (animal_of (keys_of es)) o) c.in_ok-entry.ensures.value ∙ sym (lookup-book_with (keys_of es) (bytes_eq number) es))
+    (ap Some same ∙ ap (λ o. option_map (animal_of (keys_of es)) o) c.in_ok-stored.ensures.value ∙ sym (lookup-book_with (keys_of es) (bytes_eq number) es))

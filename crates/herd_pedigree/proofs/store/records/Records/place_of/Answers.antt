@@ -5,7 +5,8 @@ use Rattle.std.specs.Str.{bytes_eq}
 use Rattle.herd_frozen.specs.rules.Book.{is_there, record_of}
 use Rattle.herd_pedigree.specs.store.Records.{animal_of}
 use Rattle.herd_pedigree.specs.declared.store.records.StoredRecord.{StoredRecord}
-use Rattle.herd_pedigree.proofs.lemmas.store.RecordsFacts.{is_some-map, keys-stored_book, lookup-book_with, value-found}
+use Rattle.herd_pedigree.proofs.lemmas.store.ListFacts.{is_some-map}
+use Rattle.herd_pedigree.proofs.lemmas.store.RecordsFacts.{keys-stored_book, lookup-book_with, value-found}
 use Rattle.herd_pedigree.proofs.store.records.Records.place_of.Goals as goal
 
 pub returns-clause-index : goal.returns-clause-index

@@ -8,7 +8,8 @@ use Rattle.herd_frozen.specs.rules.Book.{is_there, record_of}
 use Rattle.herd_frozen.specs.places.Places.{IsIndexIn}
 use Rattle.herd_pedigree.specs.store.Records.{AreClosed, stored_book, animal_of}
 use Rattle.herd_pedigree.specs.declared.store.records.StoredRecord.{StoredRecord}
-use Rattle.herd_pedigree.proofs.lemmas.store.RecordsFacts.{OnErr-each, animal_of-is, closed-push, is_some-map, keys-stored_book, lookup-book_with, stored_book-push}
+use Rattle.herd_pedigree.proofs.lemmas.store.ListFacts.{is_some-map}
+use Rattle.herd_pedigree.proofs.lemmas.store.RecordsFacts.{OnErr-each, animal_of-stored, closed-push, keys-stored_book, lookup-book_with, stored_book-push}
 use Rattle.herd_pedigree.proofs.store.records.Records.push_if_new.Given.{Over}
 use Rattle.herd_pedigree.proofs.store.records.Records.push_if_new.Goals.{After-insert_if_new}
 use Rattle.herd_pedigree.proofs.store.records.Records.push_if_new.Goals as goal
@@ -18,7 +19,7 @@ parents : (g : Over) (c : After-insert_if_new g) →
     IsIndexIn (keys_of c.self.inside.entries.entries) c.new-stored.result.sire c.args.animal.sire × IsIndexIn (keys_of c.self.inside.entries.entries) c.new-stored.result.dam c.args.animal.dam
 parents g c =
     let keys : keys_of c.args.self.now.book ≡ keys_of c.self.inside.entries.entries = ap (λ r. keys_of r.book) (sym c.self.view_is) ∙ keys-stored_book c.self.inside.entries.entries in
-    (rw (c.new-stored.ensures.sire, ← keys) c.requires.sire, rw (c.new-stored.ensures.dam, ← keys) c.requires.dam)
+    (rw (c.new-stored.ensures, ← keys) c.requires.sire, rw (c.new-stored.ensures, ← keys) c.requires.dam)
 
 -- and stand among the entries, whether one was added or none
 closed-after : {E : Type 0} (es new : List (List ℕ × StoredRecord)) (x : List ℕ) (e : StoredRecord) (animal : Animal) (result : Result Bool E) → AreClosed es →
@@ -48,8 +49,7 @@ returns-clause-added g c =
     let es : List (List ℕ × StoredRecord) = c.self.inside.entries.entries in
     let entry : StoredRecord = c.new-stored.result in
     let are = parents g (goal.at.returns-clause-added g c).After-insert_if_new in
-    let e = c.new-stored.ensures in
-    let kept : animal_of (keys_of es) entry ≡ c.args.animal = animal_of-is (keys_of es) entry c.args.animal are.0 are.1 e.birth e.embryo e.herd e.since e.left in
+    let kept : animal_of (keys_of es) entry ≡ c.args.animal = animal_of-stored (keys_of es) entry c.args.animal c.args.sire c.args.dam c.new-stored.ensures are.0 are.1 in
     λ is.
     subst (λ r. stored_book c.insert_if_new.new.entries.entries ≡ r.book ++ (c.args.number, c.args.animal) ∷ []) c.self.view_is
     (ap (λ l. stored_book l) (c.insert_if_new.ensures.added is)

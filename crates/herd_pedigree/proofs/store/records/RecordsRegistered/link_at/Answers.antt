@@ -1,10 +1,10 @@
--- `Records::parents_at`: its result.
+-- `RecordsRegistered::link_at`: its result.
 use Rattle.std.proofs.Common.{sym, subst, ℕ, List, ◌≡◌}
 use Rattle.herd_frozen.specs.declared.places.links.Link.{Link}
 use Rattle.herd_frozen.specs.places.Links.{IsLinkAt}
 use Rattle.herd_pedigree.specs.declared.store.records.StoredRecord.{StoredRecord}
 use Rattle.herd_pedigree.proofs.lemmas.store.RecordsFacts.{link-kept}
-use Rattle.herd_pedigree.proofs.store.records.Records.parents_at.Goals as goal
+use Rattle.herd_pedigree.proofs.store.records.RecordsRegistered.link_at.Goals as goal
 
 pub returns : goal.returns
 returns g c =

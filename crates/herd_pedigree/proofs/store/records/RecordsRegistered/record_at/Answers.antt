@@ -1,10 +1,10 @@
--- `Records::entry_at`: its result.
+-- `RecordsRegistered::record_at`: its result.
 use Rattle.std.proofs.Common.{◌≡◌, ◌∙◌, sym, ap, slice_get}
 use Rattle.std.specs.Map.{keys_of}
 use Rattle.herd_frozen.specs.rules.Book.{Book}
-use Rattle.herd_frozen.proofs.lemmas.rules.BookFacts.{entry_from_both}
+use Rattle.herd_frozen.proofs.lemmas.ListFacts.{entry_from_both}
 use Rattle.herd_pedigree.proofs.lemmas.store.RecordsFacts.{keys-stored_book}
-use Rattle.herd_pedigree.proofs.store.records.Records.entry_at.Goals as goal
+use Rattle.herd_pedigree.proofs.store.records.RecordsRegistered.record_at.Goals as goal
 
 pub returns : goal.returns
 returns g c =
