@@ -41,7 +41,7 @@ Keeps f old new = (rank : ℕ) → (slice_index new rank ≡ slice_index old ran
 abbrev pub AreWritten : (ℕ → ℕ) → List ℕ → List CalfCoefficient → Type 0
 AreWritten f known calves = All (λ calf. slice_index known calf.rank ≡ f calf.rank) calves
 
--- f is written at these calves' ranks, and nothing else
+-- at these calves' ranks stands f, and nothing but f was written
 pub record HasWritten (f : ℕ → ℕ) (calves : List CalfCoefficient) (old new : List ℕ) : Type 0 where
   pub kept : Keeps f old new
   pub written : AreWritten f new calves
