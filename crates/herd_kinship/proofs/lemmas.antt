@@ -1,4 +1,5 @@
 pub mod Lists
+pub mod Options
 pub mod numbers
 pub mod ancestry
 pub mod laws

@@ -18,7 +18,8 @@ pub record IsCalfWith (rows : List Row) (sires : ℕ → Type 0) (f : ℕ → �
   pub value : calf.numerator ≡ f calf.rank
 
 -- all calves of these sires, each with f of its rank
-pub record AreCalvesWith (rows : List Row) (sires : ℕ → Type 0) (f : ℕ → ℕ) (calves : List CalfCoefficient) : Type 0 where
+pub record AreCalvesWith
+    (rows : List Row) (sires : ℕ → Type 0) (f : ℕ → ℕ) (calves : List CalfCoefficient) : Type 0 where
   pub each : All (IsCalfWith rows sires f) calves
   pub all : (s x : ℕ) → sires s → IsCalf rows s x → Any (λ calf. calf.rank ≡ x) calves
 
@@ -28,7 +29,19 @@ pub record GoesOnWith (rows : List Row) (sires : ℕ → Type 0) (f : ℕ → �
   pub appended : new ≡ old ++ more
   pub calves : AreCalvesWith rows sires f more
 
--- each number is kept or is f of its rank, and at each of these calves' ranks it is f of it
+-- each calf comes with f of its rank
+abbrev pub HaveValues : (ℕ → ℕ) → List CalfCoefficient → Type 0
+HaveValues f calves = All (λ calf. calf.numerator ≡ f calf.rank) calves
+
+-- each rank has the number that it had, or f of the rank
+abbrev pub Keeps : (ℕ → ℕ) → List ℕ → List ℕ → Type 0
+Keeps f old new = (rank : ℕ) → (slice_index new rank ≡ slice_index old rank) ⊎ (slice_index new rank ≡ f rank)
+
+-- at each calf's rank stands f of it
+abbrev pub AreWritten : (ℕ → ℕ) → List ℕ → List CalfCoefficient → Type 0
+AreWritten f known calves = All (λ calf. slice_index known calf.rank ≡ f calf.rank) calves
+
+-- at these calves' ranks stands f, and nothing but f was written
 pub record HasWritten (f : ℕ → ℕ) (calves : List CalfCoefficient) (old new : List ℕ) : Type 0 where
-  pub kept : (rank : ℕ) → (slice_index new rank ≡ slice_index old rank) ⊎ (slice_index new rank ≡ f rank)
-  pub written : All (λ calf. slice_index new calf.rank ≡ f calf.rank) calves
+  pub kept : Keeps f old new
+  pub written : AreWritten f new calves

@@ -19,11 +19,14 @@ pub record AreCoefficients (l : ℕ) (rows : List Row) (numerators : List ℕ) :
 -- there is a numerator for each animal, and at the ancestors of the animal at a rank it is their coefficient
 pub record KnowsAncestors (l : ℕ) (rows : List Row) (known : List ℕ) (rank : ℕ) : Type 0 where
   pub each : length known ≡ length rows
-  pub right : (p : ℕ) → p < length rows → IsAncestor (ancestry_of rows) (number_of_row rows p) (number_of_row rows rank) → slice_index known p ≡ coefficient_at l rows p
+  pub right : (p : ℕ) → p < length rows
+      → IsAncestor (ancestry_of rows) (number_of_row rows p) (number_of_row rows rank)
+      → slice_index known p ≡ coefficient_at l rows p
 
 -- the relationship of the animal at a rank with itself, which is the whole and its coefficient
 abbrev pub own_relationship : ℕ → List Row → ℕ → ℕ
-own_relationship l rows rank = entry (ancestry_of rows) (2 * l) (Some (number_of_row rows rank)) (Some (number_of_row rows rank))
+own_relationship l rows rank =
+    entry (ancestry_of rows) (2 * l) (Some (number_of_row rows rank)) (Some (number_of_row rows rank))
 
 -- a quarter of a parent's relationship with itself, which is the whole and its coefficient; 0 of an unknown one
 abbrev pub quarter_of : ℕ → List ℕ → Option ℕ → ℕ

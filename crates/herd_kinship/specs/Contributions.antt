@@ -29,7 +29,8 @@ contribution_at l rows i pair = record {
   column = pair.1;
   value =
       quarters_of l (mendelian (ancestry_of rows) l (number_of_row rows i))
-      (half_row (ancestry_of rows) (number_of_row rows i) (number_of_row rows pair.0) *ℤ half_row (ancestry_of rows) (number_of_row rows i) (number_of_row rows pair.1));
+      (half_row (ancestry_of rows) (number_of_row rows i) (number_of_row rows pair.0)
+      *ℤ half_row (ancestry_of rows) (number_of_row rows i) (number_of_row rows pair.1));
 }
 
 -- the contributions of i in their order

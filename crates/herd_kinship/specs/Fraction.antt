@@ -9,7 +9,11 @@ halvings n d = min (trailing_zeros w128 n) (trailing_zeros w128 d)
 
 -- both numbers halved as often as they can be
 abbrev pub halved : Bool → ℕ → ℕ → Fraction
-halved negative n d = record { negative = negative; numerator = n / 2 ^ halvings n d; denominator = d / 2 ^ halvings n d }
+halved negative n d = record {
+  negative = negative;
+  numerator = n / 2 ^ halvings n d;
+  denominator = d / 2 ^ halvings n d;
+}
 
 -- the fraction is n over d, or its negative, in lowest terms
 pub record IsLowest (negative : Bool) (n d : ℕ) (fraction : Fraction) : Type 0 where

@@ -12,7 +12,8 @@ use Rattle.herd_kinship.specs.Ancestry.{Ancestry}
 -- both are in the book, and the first is before the second in age order
 abbrev pub is_before : Book → List ℕ → List ℕ → Bool
 is_before book x y =
-    option_map_or (λ a. option_map_or (λ b. is_lt (age_cmp (x, a) (y, b))) (record_of book y) false) (record_of book x) false
+    option_map_or (λ a. option_map_or (λ b. is_lt (age_cmp (x, a) (y, b))) (record_of book y) false)
+    (record_of book x) false
 
 -- the ancestry that a book tells
 abbrev pub book_ancestry : Book → Ancestry (List ℕ)

@@ -21,4 +21,6 @@ sum_ints f (x ∷ xs) = f x +ℤ sum_ints f xs
 -- the rows of i and j, multiplied through A
 unfoldable pub row_product : {A : Type 0} → Ancestry A → ℕ → A → A → ℤ
 row_product kin l i j =
-    sum_ints (λ p. sum_ints (λ q. half_row kin i p *ℤ half_row kin j q *ℤ pos (entry kin (2 * l) (Some p) (Some q))) kin.animals) kin.animals
+    sum_ints
+    (λ p. sum_ints (λ q. half_row kin i p *ℤ half_row kin j q *ℤ pos (entry kin (2 * l) (Some p) (Some q))) kin.animals)
+    kin.animals

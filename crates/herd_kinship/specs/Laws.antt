@@ -30,4 +30,5 @@ IsDecomposed l rows x y =
 -- itself isn't formed or proved.
 abbrev pub IsDiagonalised : ℕ → List Row → List ℕ → List ℕ → Type 0
 IsDiagonalised l rows i j =
-    row_product (ancestry_of rows) l i j ≡ pos (if (ancestry_of rows).same i j then 4 * mendelian (ancestry_of rows) l i else 0)
+    row_product (ancestry_of rows) l i j
+    ≡ pos (if (ancestry_of rows).same i j then 4 * mendelian (ancestry_of rows) l i else 0)

@@ -56,7 +56,8 @@ pub record IsCandidate (l : ℕ) (rows : List Row) (number : List ℕ) (candidat
 -- the first fault of a mating of two animals that are in the book
 abbrev pub candidates_fault : Candidate → Candidate → Option MatingFault
 candidates_fault sire dam =
-    first_that_holds ((not sire.male, SireNotMale) ∷ (dam.male, DamNotFemale) ∷ (sire.deepest || dam.deepest, TooDeep) ∷ [])
+    first_that_holds
+    ((not sire.male, SireNotMale) ∷ (dam.male, DamNotFemale) ∷ (sire.deepest || dam.deepest, TooDeep) ∷ [])
 
 -- this is what is kept of a dam of a book
 pub record IsDam {A : Type 0} (l : ℕ) (rows : List Row) (number : List ℕ) (dam : Dam A) : Type 0 where

@@ -46,7 +46,8 @@ pub record IsTracing (l : ℕ) (rows : List Row) (x border : ℕ) (shares : List
   pub long : x < length shares
   pub whole : brought (kept_share l rows x shares) border (λ _. 1) ≤ 2 ^ l
   pub pending : (j : ℕ) → j < border →
-      brought (kept_share l rows x shares) border (λ p. share (ranked rows) l (Some p) j) ≡ 2 ^ l * share (ranked rows) l (Some x) j
+      brought (kept_share l rows x shares) border (λ p. share (ranked rows) l (Some p) j)
+      ≡ 2 ^ l * share (ranked rows) l (Some x) j
   pub met : (distance : ℕ) → (distance ≤ x → border ≤ x - distance) → slice_index shares distance ≡ 0
 
 -- x has this share of its ancestor j, in the unit of the two depths' difference, and it isn't 0

@@ -1,5 +1,5 @@
 ghost use Rattle.std.specs.Prelude.{◌≡◌, ℕ, ◌<◌, All, length};
-ghost use Rattle.herd_kinship.specs.CalfCoefficients.{HasWritten};
+ghost use Rattle.herd_kinship.specs.CalfCoefficients.{HasWritten, HaveValues};
 
 /// A calf and its coefficient of inbreeding.
 #[derive(Clone, Copy)]
@@ -14,8 +14,7 @@ pub struct CalfCoefficient {
 pub fn write_calves(calves: &[CalfCoefficient], known: &mut [u128])
     requires { All (λ calf. calf.rank < length known.old) calves.now }
     ensures each { length known.new ≡ length known.old }
-    ensures written { (f : ℕ → ℕ) → All (λ calf. calf.numerator ≡ f calf.rank) calves.now
-        → HasWritten f calves.now known.old known.new }
+    ensures written { (f : ℕ → ℕ) → HaveValues f calves.now → HasWritten f calves.now known.old known.new }
 {
     for calf in calves {
         known[calf.rank as usize] = calf.numerator;

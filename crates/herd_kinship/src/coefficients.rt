@@ -70,7 +70,7 @@ impl<A: Allocator> Coefficients<A> {
     }
 }
 
-/// Writes the coefficients of a sire's calves, by those of its ancestors.
+// Writes the coefficients of a sire's calves, by those of its ancestors.
 fn write_calves_of<F: Allocator, C: Allocator, A: Allocator>(
     frozen: &Frozen<F>,
     calves: &Calves<C>,
@@ -92,7 +92,7 @@ fn write_calves_of<F: Allocator, C: Allocator, A: Allocator>(
     Ok(())
 }
 
-/// Writes the coefficients of all calves, sire by sire.
+// Writes the coefficients of all calves, sire by sire.
 fn write_by_sires<F: Allocator, A: Allocator + Clone>(
     alloc: A,
     frozen: &Frozen<F>,
@@ -110,8 +110,8 @@ fn write_by_sires<F: Allocator, A: Allocator + Clone>(
     Ok(())
 }
 
-/// Writes the coefficients of all animals, where there is 0 yet. It takes no memory where no animal has two known
-/// parents.
+// Writes the coefficients of all animals, where there is 0 yet. It takes no memory where no animal has two known
+// parents.
 fn write_all<F: Allocator, A: Allocator + Clone>(
     alloc: A,
     frozen: &Frozen<F>,

@@ -15,7 +15,7 @@ use crate::tracing::mendelian;
 use herd_frozen::Frozen;
 use std::alloc::Allocator;
 
-/// The values that an animal contributes, by its Mendelian sampling variance.
+// The values that an animal contributes, by its Mendelian sampling variance.
 #[derive(Clone, Copy)]
 struct Weights {
     alpha: Fraction,
@@ -24,6 +24,7 @@ struct Weights {
 }
 
 impl Weights {
+    // The weights of an animal with this variance, in units of 2^-120.
     fn of(variance: u128) -> Weights
         requires { 0 < variance }
         ensures alpha { result.alpha ≡ halved false (2 ^ (2 * DEPTH_LIMIT)) variance }
@@ -37,6 +38,7 @@ impl Weights {
         }
     }
 
+    // On the diagonal, at the animal itself.
     fn own(self, rank: u32) -> Contribution
         ensures { result ≡ record { row = rank; column = rank; value = self.alpha } }
     {
@@ -47,6 +49,7 @@ impl Weights {
         }
     }
 
+    // Between the animal and a known parent, which is the older of the two.
     fn with_parent(self, rank: u32, parent: u32) -> Contribution
         ensures { result ≡ record { row = rank; column = parent; value = self.minus_half } }
     {
@@ -57,6 +60,7 @@ impl Weights {
         }
     }
 
+    // At one parent, twice the same rank, or between the two, whichever is older.
     fn of_parents(self, first: u32, second: u32) -> Contribution
         ensures { result ≡ record { row = max first second; column = min first second; value = self.quarter } }
     {
@@ -67,6 +71,7 @@ impl Weights {
         }
     }
 
+    // All that a founder contributes.
     fn without_parents(self, rank: u32) -> Contributions
         ensures { Lists result self.alpha (weighted self.alpha self.minus_half self.quarter rank None None) }
     {
@@ -77,6 +82,7 @@ impl Weights {
         }
     }
 
+    // All that an animal with one known parent contributes.
     fn with_one_parent(self, rank: u32, parent: u32) -> Contributions
         ensures { Lists result self.alpha (weighted self.alpha self.minus_half self.quarter rank (Some parent) None) }
     {
@@ -90,6 +96,7 @@ impl Weights {
         }
     }
 
+    // All that an animal with two known parents contributes.
     fn with_both_parents(self, rank: u32, sire: u32, dam: u32) -> Contributions
         ensures { Lists result self.alpha
             (weighted self.alpha self.minus_half self.quarter rank (Some sire) (Some dam)) }

@@ -22,7 +22,7 @@
 //! | shares, A = T D T', the laws | `Shares`, `InverseRows`, `Laws` | `laws` | `ancestry`, `laws` |
 //! | a frozen book as an ancestry | `FrozenAncestry`, `Ranks` | | `books` |
 //! | columns of A | `Columns` | `columns` | `sires` |
-//! | sire by sire | `Mates`, `CalfCoefficients` | `coefficients`, `mates` | `sires` |
+//! | sire by sire | `Mates`, `CalfCoefficients` | `coefficients`, `mates`, `calf_coefficients` | `sires` |
 //! | a sire's calves | `CalfLinks` | `calves` | `sires` |
 //! | animal by animal | `Tracing`, `Pending` | `tracing`, `pending` | `tracing`, `numbers` |
 //! | one animal's relationships | `Columns` | `relationships` | `sires` |
@@ -30,9 +30,9 @@
 //! | A's inverse | `InverseRows`, `Contributions` | `inverse`, `contribution` | `laws`, `advice` |
 //! | fractions and percentages | `Fraction` | `numerators`, `fractions` | `numbers` |
 //!
-//! The folders of `proofs/lemmas/`, beside its lemmas of lists, from what is used to what uses it:
+//! The folders of `proofs/lemmas/`, beside its lemmas of lists and options, from what is used to what uses it:
 //!
-//! - `numbers`: sums, whole numbers as differences, sets of distances as bits, and halving to lowest terms.
+//! - `numbers`: sums, products, whole numbers as differences, sets of distances as bits, and halving to lowest terms.
 //! - `ancestry`: any lawful ancestry: entries, shares, depths, ancestors, bounds and units, and that names don't count.
 //! - `laws`: A = T D T', the rows that diagonalise A, and the columns of A, in any lawful ancestry.
 //! - `books`: a frozen book is a lawful ancestry, by numbers and by ranks; what its rows say, and its laws.

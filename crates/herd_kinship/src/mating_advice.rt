@@ -53,6 +53,7 @@ impl MatingFault {
     }
 }
 
+// Whether an animal is male, by the sex letter of its number.
 fn is_male(number: &AnimalNumber) -> bool
     ensures { result ≡ is_male_number number.now }
 {

@@ -55,7 +55,7 @@ impl<A: Allocator> Pending<A> {
     }
 }
 
-/// The place of a chunk's lowest bit, and the chunk without it.
+// The place of a chunk's lowest bit, and the chunk without it.
 fn without_lowest(chunk: u64) -> (u32, u64)
     requires { 0 < chunk }
     ensures { IsCleared chunk result.1 result.0 }

@@ -49,8 +49,8 @@ impl<A: Allocator + Clone> Relationships<A> {
 }
 
 impl<A: Allocator> Relationships<A> {
-    /// The relationship with the animal at a rank, in units of 2^-120: 0 of unrelated animals, `ONE` and its
-    /// coefficient with itself, always below 2 * `ONE`. It is twice the coefficient that a calf of the two would have.
+    /// The relationship with the animal at a rank, in units of 2^-120. That it is the entry of the matrix, `of` ensures;
+    /// that entries are below 2 * `ONE`, `laws::bound`.
     pub fn with(&self, rank: u32) -> u128
         requires { rank < length self.now }
         ensures { result ≡ slice_index self.now rank }

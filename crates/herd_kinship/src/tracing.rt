@@ -111,7 +111,7 @@ impl<A: Allocator> Tracing<A> {
         Some(met)
     }
 
-    /// Gives half of an animal's share to its parent, in the parent's unit.
+    // Gives half of an animal's share to its parent, in the parent's unit.
     fn give<F: Allocator>(&mut self, frozen: &Frozen<F>, met: Met, parent: Option<u32>)
         requires depth { met.depth ≡ depth_at frozen.now met.rank }
         requires room { ForSome parent
@@ -134,7 +134,7 @@ impl<A: Allocator> Tracing<A> {
     }
 }
 
-/// A quarter of a parent's relationship with itself.
+// A quarter of a parent's relationship with itself.
 fn quarter(known: &[u128], parent: Option<u32>) -> u128
     requires { ForSome parent (IsKnownParent DEPTH_LIMIT known.now) }
     ensures value { result ≡ quarter_of DEPTH_LIMIT known.now parent }
@@ -184,7 +184,7 @@ pub fn term(variance: u128, steps: u8, share: u64, other: u64) -> u128
 /// The relationship of the animal at a rank with itself, by the coefficients of its ancestors (Meuwissen and Luo
 /// 1992).
 ///
-/// It is a whole number of units of 2^-120, from `ONE` on and below 2 * `ONE`; `inbred` makes the coefficient of it.
+/// It is a whole number of units of 2^-120, below 2 * `ONE` by `laws::bound`; `inbred` makes the coefficient of it.
 /// Only the numerators of the animal's ancestors need be right in `known`. The only error is a growth of memory that
 /// is refused; none is taken where a parent is unknown.
 pub fn trace<F: Allocator, A: Allocator + Clone>(

@@ -1,16 +1,18 @@
 -- Which ranks a level has, and how many.
-use Rattle.std.proofs.Common.{◌≡◌, ℕ, zero, suc, ◌+◌, ◌*◌, ◌<◌, ◌≤◌, ◌==◌, cond, Bool, true, false, List, [], ◌∷◌, ◌++◌, length, map, slice_index, take, arith, ap, ◌∙◌, subst, refl, sym, ⊎_elim, true≢false}
+use Rattle.std.proofs.Common.{◌≡◌, ℕ, ◌+◌, ◌*◌, ◌<◌, ◌≤◌, ◌==◌, List, [], ◌∷◌, ◌++◌, get_or, length, map, slice_index, take, arith, ap, ◌∙◌, subst, refl, sym}
 use Rattle.std.specs.Int.{div_ceil}
-use Rattle.std.specs.List.{All, Contains, filter, range_with_len}
+use Rattle.std.specs.List.{All, Contains, range_with_len}
 use Rattle.std.proofs.Math.Nat.{mul-le-mul_right}
-use Rattle.std.proofs.lemmas.Bool.{cases_eq, cases_lt, eq-eqb, eqb-true}
+use Rattle.std.proofs.lemmas.Bool.{eq-eqb, eqb-true}
 use Rattle.std.proofs.lemmas.Grind.{div_ceil_times}
-use Rattle.std.proofs.lemmas.List.Elements.{All-drop, All-filter, All-from_get_or, All-same, All-take, Contains-append_right, filter_passes}
+use Rattle.std.proofs.lemmas.List.Elements.{All-drop, All-filter, All-from_get_or, All-same, All-take, Contains-get_or, filter_passes}
 use Rattle.std.proofs.lemmas.List.{map_more}
 use Rattle.std.proofs.lemmas.List.FromFn.{get_or-range_with_len, length-range_with_len}
+use Rattle.std.proofs.lemmas.List.Sums.{count_by-le-length, length-filter}
 use Rattle.herd_frozen.specs.declared.freezing.frozen.Row.{Row}
 use Rattle.herd_frozen.specs.freezing.Frozen.{depth_at, level_of}
 use Rattle.herd_pool.specs.Levels.{block_of}
+use Rattle.herd_pool.proofs.Lists.{Contains-filter}
 
 -- a rank of the book, of this depth
 pub record IsRankOf (rows : List Row) (depth rank : ℕ) : Type 0 where
@@ -29,44 +31,22 @@ level_of-ranks depth rows =
       deep = eqb-true _ _ (filter_passes test (range_with_len 0 (length rows)) k d below);
     }
 
-no_longer : (b : Bool) (x : ℕ) (xs : List ℕ) (n : ℕ) → length xs ≤ n → length (cond b (x ∷ xs) xs) ≤ suc n
-no_longer true x xs n h = omega arith
-no_longer false x xs n h = omega arith
-
-filter_no_longer : (test : ℕ → Bool) (xs : List ℕ) → length (filter test xs) ≤ length xs
-filter_no_longer test [] = omega arith
-filter_no_longer test (x ∷ xs) = let rest = filter_no_longer test xs in no_longer (test x) x (filter test xs) (length xs) rest
-
-suc_low : (a rank : ℕ) → a ≤ rank → (a ≡ rank → ⊥) → a + 1 ≤ rank
-suc_low a rank low ne = ⊎_elim (λ (h : a < rank). omega arith) (λ (h : rank ≤ a). absurd (ne (omega arith))) (cases_lt a rank)
-
-contains_cond : (b : Bool) (x : ℕ) (xs : List ℕ) (rank : ℕ) → Contains xs rank → Contains (cond b (x ∷ xs) xs) rank
-contains_cond true x xs rank h = Contains-append_right (x ∷ []) xs rank h
-contains_cond false x xs rank h = h
-
-contains_here : (b : Bool) (x : ℕ) (xs : List ℕ) → b ≡ true → Contains (cond b (x ∷ xs) xs) x
-contains_here true x xs is = (0, omega arith, refl)
-contains_here false x xs is = absurd (true≢false (sym is))
-
-filter-has : (test : ℕ → Bool) (a n rank : ℕ) → a ≤ rank → rank < a + n → test rank ≡ true → Contains (filter test (range_with_len a n)) rank
-filter-has test a zero rank low high is = absurd (omega arith)
-filter-has test a (suc n) rank low high is =
-    ⊎_elim (λ (e : a ≡ rank). subst (λ p. Contains (cond (test a) (a ∷ filter test (range_with_len (a + 1) n)) (filter test (range_with_len (a + 1) n))) p) e (contains_here (test a) a (filter test (range_with_len (a + 1) n)) (ap test e ∙ is)))
-    (λ (ne : a ≡ rank → ⊥).
-    let rest = filter-has test (a + 1) n rank (suc_low a rank low ne) (omega arith) is in
-    contains_cond (test a) a (filter test (range_with_len (a + 1) n)) rank rest)
-    (cases_eq a rank)
-
 -- and all of them
 pub level_of-has : (rows : List Row) (rank : ℕ) → rank < length rows → Contains (level_of (depth_at rows rank) rows) rank
 unfolding level_of
-level_of-has rows rank below = filter-has (λ p. depth_at rows p == depth_at rows rank) 0 (length rows) rank (omega arith) (omega arith) (eq-eqb _ _ refl)
+level_of-has rows rank below =
+    let all = range_with_len 0 (length rows) in
+    let long = length-range_with_len 0 (length rows) in
+    let at : get_or all rank 0 ≡ rank = omega (arith, get_or-range_with_len 0 (length rows) rank 0 below) in
+    let there : Contains all rank = subst (Contains all) at (Contains-get_or all rank 0 (omega arith)) in
+    Contains-filter (λ p. depth_at rows p == depth_at rows rank) all rank there (eq-eqb _ _ refl)
 
 pub length-level_of : (depth : ℕ) (rows : List Row) → length (level_of depth rows) ≤ length rows
 unfolding level_of
 length-level_of depth rows =
     let test = λ (p : ℕ). depth_at rows p == depth in
-    omega (arith, filter_no_longer test (range_with_len 0 (length rows)), length-range_with_len 0 (length rows))
+    let all = range_with_len 0 (length rows) in
+    omega (arith, length-filter test all, count_by-le-length test all, length-range_with_len 0 (length rows))
 
 -- a block of a level has ranks of its depth
 pub block_of-ranks : (rows : List Row) (depth len number : ℕ) (ranks : List ℕ) → ranks ≡ block_of len number (level_of depth rows) → All (IsRankOf rows depth) ranks

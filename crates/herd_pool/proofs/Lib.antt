@@ -1,3 +1,5 @@
+-- lists
+pub mod Lists
 -- the ranks of a level, and what is known of them
 pub mod LevelFacts
 pub mod Known

@@ -1,10 +1,9 @@
 -- Each step of the pool keeps the rule.
-use Rattle.std.proofs.Common.{◌≡◌, ◌≢◌, ◌==◌, cond, ℕ, zero, suc, ◌+◌, ◌-◌, ◌<◌, ◌≤◌, ◌⊎◌, List, [], ◌∷◌, ◌++◌, set, sym, refl, ap, ◌∙◌, subst, ⊎_elim, arith}
+use Rattle.std.proofs.Common.{◌≡◌, ◌≢◌, ◌==◌, ℕ, zero, suc, ◌+◌, ◌-◌, ◌<◌, ◌≤◌, ◌⊎◌, List, [], ◌∷◌, ◌++◌, set, sym, refl, ap, ◌∙◌, subst, ⊎_elim, arith}
 use Rattle.std.specs.List.{count_by}
 use Rattle.std.proofs.lemmas.Bool.Decides.{nat_tests}
 use Rattle.std.proofs.lemmas.List.{map-append}
-use Rattle.std.proofs.lemmas.List.Sums.{sum_by-append}
-use mathlib.Core.Option.{some, some-ne-none}
+use mathlib.Core.Option.{some, some-injective, some-ne-none}
 use lib.ListN.{get_elem?}
 use Rattle.crossbeam_deque.proofs.Lists.{at_set, at_snoc}
 use Rattle.crossbeam_deque.specs.Tasks.{Pushes, Takes, Finds, Forks, Merges}
@@ -12,12 +11,7 @@ use Rattle.herd_pool.specs.declared.queue.PassView.{PassView}
 use Rattle.herd_pool.specs.declared.work.ComputedBlock.{ComputedBlock}
 use Rattle.herd_pool.specs.Blocks.{pass_view, once_below, total, EachOnce}
 use Rattle.herd_pool.specs.Workers.{numbers}
-
-same_some : {A : Type 0} (x y : A) → some x ≡ some y → x ≡ y
-same_some x y e = cc
-
-count-append : (x : ℕ) (xs ys : List ℕ) → count_by (λ n. n == x) (xs ++ ys) ≡ count_by (λ n. n == x) xs + count_by (λ n. n == x) ys
-count-append x xs ys = sum_by-append (λ n. cond (n == x) 1 0) xs ys
+use Rattle.herd_pool.proofs.Lists.{count_by-append}
 
 once_below-more : (x n : ℕ) → once_below x (n + 1) ≡ once_below x n + count_by (λ n. n == x) (n ∷ [])
 once_below-more x n = grind (arith, nat_tests)
@@ -29,7 +23,7 @@ total-append f (v ∷ vs) ws = let e = total-append f vs ws in omega arith
 -- the total after one view has changed
 total_set : (f : PassView → ℕ) (views : List PassView) (port : ℕ) (v w : PassView) → get_elem? views port ≡ some v → total f (set views port w) + f v ≡ total f views + f w
 total_set f [] port v w at = absurd (some-ne-none v (sym at))
-total_set f (u ∷ us) zero v w at = let e : f u ≡ f v = ap f (same_some u v at) in omega arith
+total_set f (u ∷ us) zero v w at = let e : f u ≡ f v = ap f (some-injective u v at) in omega arith
 total_set f (u ∷ us) (suc port) v w at = let e = total_set f us port v w at in omega arith
 
 total-none : (f : PassView → ℕ) (vs : List PassView) → ((port : ℕ) (v : PassView) → get_elem? vs port ≡ some v → f v ≡ 0) → total f vs ≡ 0
@@ -40,7 +34,7 @@ total-none f (v ∷ vs) none =
 -- one of the views counts no more than all
 total-at : (f : PassView → ℕ) (vs : List PassView) (port : ℕ) (v : PassView) → get_elem? vs port ≡ some v → f v ≤ total f vs
 total-at f [] port v at = absurd (some-ne-none v (sym at))
-total-at f (u ∷ us) zero v at = let e : f u ≡ f v = ap f (same_some u v at) in omega arith
+total-at f (u ∷ us) zero v at = let e : f u ≡ f v = ap f (some-injective u v at) in omega arith
 total-at f (u ∷ us) (suc port) v at = let e = total-at f us port v at in omega arith
 
 -- a spent view has taken nothing
@@ -54,7 +48,7 @@ spent_set views port w mine all j u at none =
 
 -- the view that the starter has is the first
 starter_first : (v s : PassView) (items : List ℕ) (others : List PassView) → some s ≡ some v → EachOnce items (s ∷ others) → EachOnce items (v ∷ others)
-starter_first v s items others at rule = subst (λ u. EachOnce items (u ∷ others)) (same_some s v at) rule
+starter_first v s items others at rule = subst (λ u. EachOnce items (u ∷ others)) (some-injective s v at) rule
 
 pushes_first : (v : PassView) (block : ℕ) → block ≡ v.pushed → Pushes EachOnce 0 v (block ∷ []) (λ w. w ≡ pass_view v.out (v.pushed + 1) v.taken)
 pushes_first v block next items [] rule at = absurd rule
@@ -66,7 +60,7 @@ pushes_first v block next items (s ∷ others) before at =
         (λ x.
             let b = rule.1 x in
             let n : count_by (λ n. n == x) (block ∷ []) ≡ count_by (λ n. n == x) (v.pushed ∷ []) = ap (λ y. count_by (λ n. n == x) (y ∷ [])) next in
-            omega (arith, count-append x items (block ∷ []), once_below-more x v.pushed)),
+            omega (arith, count_by-append (λ n. n == x) items (block ∷ []), once_below-more x v.pushed)),
         rule.2,
       ),
       refl,
@@ -86,7 +80,7 @@ takes zero v may xs items (s ∷ others) some_task one before at =
         rule.0,
         (λ x.
             let b = rule.1 x in
-            omega (arith, count-append x xs items, count-append x v.taken xs)),
+            omega (arith, count_by-append (λ n. n == x) xs items, count_by-append (λ n. n == x) v.taken xs)),
         rule.2,
       ),
       refl,
@@ -100,7 +94,7 @@ takes (suc port) v may xs items (s ∷ others) some_task one rule at =
         (λ x.
             let b = rule.1 x in
             let t = total_set (λ u. count_by (λ n. n == x) u.taken) others port v w at in
-            omega (arith, count-append x xs items, count-append x v.taken xs)),
+            omega (arith, count_by-append (λ n. n == x) xs items, count_by-append (λ n. n == x) v.taken xs)),
         spent_set others port w (λ none. absurd (omega arith)) rule.2,
       ),
       refl,
@@ -149,7 +143,7 @@ merges_first v (suc other) w one items (s ∷ others) before at two there =
       (λ x.
           let b = rule.1 x in
           let m = total_set (λ u. count_by (λ n. n == x) u.taken) others other w spent there in
-          omega (arith, count-append x v.taken w.taken)),
+          omega (arith, count_by-append (λ n. n == x) v.taken w.taken)),
       spent_set others other spent (λ none. refl) rule.2,
     )
 

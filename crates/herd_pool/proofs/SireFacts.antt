@@ -7,7 +7,7 @@ use Rattle.std.proofs.lemmas.List.Elements.{All-weaker}
 use Rattle.herd_frozen.specs.declared.TheConstants.{DEPTH_LIMIT, MOST_ANIMALS}
 use Rattle.herd_frozen.specs.declared.freezing.frozen.Row.{Row}
 use Rattle.herd_frozen.specs.freezing.Frozen.{depth_at, level_of}
-use Rattle.herd_kinship.specs.CalfCoefficients.{GoesOnWith}
+use Rattle.herd_kinship.specs.CalfCoefficients.{AreWritten, GoesOnWith, HaveValues, Keeps}
 use Rattle.herd_kinship.specs.CalfLinks.{IsCalf}
 use Rattle.herd_kinship.specs.Coefficients.{IsLessDeep, coefficient_at}
 use Rattle.herd_kinship.specs.declared.calf_coefficients.CalfCoefficient.{CalfCoefficient}
@@ -17,8 +17,8 @@ use Rattle.herd_kinship.proofs.lemmas.sires.CalfFacts.{calf-within}
 use Rattle.herd_kinship.proofs.lemmas.sires.CalfListFacts.{calves-more, calves-none, calves-values, calves-within, calves-written}
 use Rattle.herd_kinship.proofs.lemmas.books.FrozenFacts.{frozen-ranked}
 use Rattle.herd_pool.specs.Blocks.{once_below}
-use Rattle.herd_pool.specs.Levels.{Keeps, block_of}
-use Rattle.herd_pool.specs.Sires.{AreCalvesAmong, AreWritten, HasCalvesOf, HaveValues, IsAmong, KnowsCalvesBelow}
+use Rattle.herd_pool.specs.Levels.{block_of}
+use Rattle.herd_pool.specs.Sires.{AreCalvesAmong, HasCalvesOf, IsAmong, KnowsCalvesBelow}
 use Rattle.herd_pool.specs.Workers.{numbers}
 use Rattle.herd_pool.specs.declared.work.ComputedBlock.{ComputedBlock}
 use Rattle.herd_pool.proofs.Writes.{in_level}
@@ -77,5 +77,5 @@ calves_known {A = A} l rows calves known new depth len blocks some same knows ea
     here s (omega arith) deep x is in
     record {
       linked = knows.linked;
-      reached = reached-more l rows (IsLessDeep rows depth) (λ s. depth_at rows s ≡ depth) (IsLessDeep rows (depth + 1)) (less_deep-next rows depth) known new same (λ x low. kept x) mine knows.reached;
+      reached = reached-more l rows (IsLessDeep rows depth) (λ s. depth_at rows s ≡ depth) (IsLessDeep rows (depth + 1)) (less_deep-next rows depth) known new same kept mine knows.reached;
     }

@@ -1,21 +1,23 @@
 -- What the list of numerators has once ranks, blocks and levels are written.
-use Rattle.std.proofs.Common.{◌≡◌, ◌==◌, ℕ, suc, ◌+◌, ◌*◌, ◌/◌, ◌%◌, ◌^◌, ◌<◌, ◌≤◌, List, [], ◌∷◌, ◌++◌, length, drop, get_or, map, set, slice_index, take, Vec, sym, ap, subst, inl, inr, ◌∙◌, ⊎_elim, arith}
+use Rattle.std.proofs.Common.{◌≡◌, ◌==◌, ℕ, suc, ◌+◌, ◌*◌, ◌/◌, ◌%◌, ◌^◌, ◌<◌, ◌≤◌, List, [], ◌∷◌, ◌++◌, length, drop, get_or, map, set, slice_index, take, Vec, sym, ap, subst, ◌∙◌, ⊎_elim, arith}
 use Rattle.std.specs.Int.{div_ceil}
 use Rattle.std.specs.List.{All, Contains, count_by}
 use Rattle.std.proofs.lemmas.Bool.{cases_eq, cases_lt}
 use Rattle.std.proofs.lemmas.Bool.Decides.{nat_tests}
 use Rattle.std.proofs.lemmas.Grind.{div_ceil_times}
-use Rattle.std.proofs.lemmas.List.{get_or-drop, get_or-map, get_or-set_other, get_or-set_same, get_or-take, get_or_default, length-drop, length-take}
+use Rattle.std.proofs.lemmas.List.{get_or-drop, get_or-map, get_or-set_same, get_or-take, get_or_default, length-drop, length-take}
 use Rattle.std.proofs.lemmas.List.Elements.{All-from_get_or, All-more, All-weaker}
 use Rattle.std.proofs.lemmas.Nat.{div-add-mod', div_below}
 use Rattle.herd_frozen.specs.declared.freezing.frozen.Row.{Row}
 use Rattle.herd_frozen.specs.freezing.Frozen.{IsFrozen, depth_at, level_of}
+use Rattle.herd_kinship.specs.CalfCoefficients.{Keeps}
 use Rattle.herd_kinship.specs.Coefficients.{AreCoefficients, coefficient_at}
 use Rattle.herd_kinship.proofs.lemmas.books.FrozenDepths.{depth-at_most}
-use Rattle.herd_kinship.proofs.lemmas.sires.RelationshipFacts.{written}
+use Rattle.herd_kinship.proofs.lemmas.Lists.{take-written}
+use Rattle.herd_kinship.proofs.lemmas.sires.CalfListFacts.{kept-stays, kept-then, set-kept}
 use Rattle.herd_kinship.proofs.lemmas.tracing.KnownFacts.{frozen-coefficient_bound}
 use Rattle.herd_pool.specs.Blocks.{once_below}
-use Rattle.herd_pool.specs.Levels.{HasAt, Keeps, KnowsBelow, block_of}
+use Rattle.herd_pool.specs.Levels.{HasAt, KnowsBelow, block_of}
 use Rattle.herd_pool.specs.Sires.{IsAmong}
 use Rattle.herd_pool.specs.Workers.{numbers}
 use Rattle.herd_pool.specs.declared.work.ComputedBlock.{ComputedBlock}
@@ -25,31 +27,15 @@ use Rattle.herd_pool.proofs.LevelFacts.{level_of-has}
 abbrev pub HasBefore : (ℕ → ℕ) → List ℕ → List ℕ → ℕ → Type 0
 HasBefore f known ranks n = (i : ℕ) → i < n → slice_index known (slice_index ranks i) ≡ f (slice_index ranks i)
 
--- a write of f at one rank
-pub set_keeps : (f : ℕ → ℕ) (known : List ℕ) (rank value : ℕ) → value ≡ f rank → rank < length known → Keeps f known (set known rank value)
-set_keeps f known rank value is below p =
-    ⊎_elim (λ (e : p ≡ rank). inr (ap (slice_index (set known rank value)) e ∙ get_or-set_same known rank value 0 below ∙ is ∙ ap f (sym e)))
-    (λ (ne : p ≡ rank → ⊥). inl (get_or-set_other known rank p value 0 ne)) (cases_eq p rank)
-
--- where f stands, it stays
-pub stays : (f : ℕ → ℕ) (old new : List ℕ) → Keeps f old new → (p : ℕ) → slice_index old p ≡ f p → slice_index new p ≡ f p
-stays f old new keeps p at = ⊎_elim (λ (same : slice_index new p ≡ slice_index old p). same ∙ at) (λ (there : slice_index new p ≡ f p). there) (keeps p)
-
-pub keeps_on : (f : ℕ → ℕ) (old known new : List ℕ) → Keeps f old known → Keeps f known new → Keeps f old new
-keeps_on f old known new first then p =
-    ⊎_elim (λ (same : slice_index new p ≡ slice_index known p).
-    ⊎_elim (λ (s : slice_index known p ≡ slice_index old p). inl (same ∙ s)) (λ (t : slice_index known p ≡ f p). inr (same ∙ t)) (first p))
-    (λ (there : slice_index new p ≡ f p). inr there) (then p)
-
 -- one more rank is written
 pub rank_written : (f : ℕ → ℕ) (old known ranks numerators : List ℕ) (n m rank value : ℕ) → numerators ≡ map f ranks → m ≡ n + 1 → n < length ranks → rank ≡ get_or ranks n 0 → value ≡ get_or numerators n 0 → rank < length known
     → Keeps f old known × HasBefore f known ranks n
     → Keeps f old (set known rank value) × HasBefore f (set known rank value) ranks m
 rank_written f old known ranks numerators n m rank value is more within at_rank at_value below was =
     let there : value ≡ f rank = at_value ∙ ap (λ l. get_or l n 0) is ∙ get_or-map f ranks n 0 0 within ∙ ap f (sym at_rank) in
-    let keeps = set_keeps f known rank value there below in (
-      keeps_on f old known (set known rank value) was.0 keeps,
-      (λ i low. ⊎_elim (λ (before : i < n). stays f known (set known rank value) keeps (get_or ranks i 0) (was.1 i before))
+    let keeps = set-kept f known rank value there below in (
+      kept-then f old known (set known rank value) was.0 keeps,
+      (λ i low. ⊎_elim (λ (before : i < n). kept-stays f known (set known rank value) keeps (get_or ranks i 0) (was.1 i before))
           (λ (last : n ≤ i).
           let e : get_or ranks i 0 ≡ rank = ap (λ k. get_or ranks k 0) (let k : i ≡ n = omega arith in k) ∙ sym at_rank in
           ap (slice_index (set known rank value)) e ∙ get_or-set_same known rank value 0 below ∙ there ∙ ap f (sym e)) (cases_lt i n)),
@@ -69,7 +55,7 @@ pub block_written : {O : Type 0} (f : ℕ → ℕ) (Has : List ℕ → ComputedB
     → ((b : ComputedBlock O) → Has known b → Has new b) → Keeps f known new → Has new block → AreBlocksWritten f Has old known blocks n
     → AreBlocksWritten f Has old new blocks (n + 1)
 block_written f Has blocks n block old known new below at stay keeps here was = record {
-  kept = keeps_on f old known new was.kept keeps;
+  kept = kept-then f old known new was.kept keeps;
   written = All-more (Has new) blocks n block below (All-weaker (Has known) (Has new) stay (take n blocks) was.written) (subst (Has new) at here);
 }
 
@@ -136,7 +122,7 @@ level_known {O = O} l most rows known new depth len blocks some same knows each_
       frozen = knows.frozen;
       each = same ∙ knows.each;
       right = λ p low shallow.
-          ⊎_elim (λ (less : depth_at rows p < depth). stays f known new kept p (knows.right p low less))
+          ⊎_elim (λ (less : depth_at rows p < depth). kept-stays f known new kept p (knows.right p low less))
           (λ (more : depth ≤ depth_at rows p). here p low (omega arith)) (cases_lt (depth_at rows p) depth);
     }
 
@@ -148,7 +134,7 @@ pub level_written : {A : Type 0} (Knows : List ℕ → Type 0) (f : ℕ → ℕ)
 level_written Knows f known lent new is same kept knows =
     let ok = known.ok in
     let long = ap length is in
-    subst Knows (sym (written known.len new known.items (omega arith)))
+    subst Knows (sym (take-written known.len new known.items (omega arith)))
     (knows (omega arith) (subst (λ (xs : List ℕ). Keeps f xs new) is kept))
 
 -- where all levels are known, all coefficients are

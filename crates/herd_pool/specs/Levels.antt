@@ -1,5 +1,5 @@
 -- The levels of a frozen book, their blocks, and what is traced of each. l is the limit of depths.
-use Rattle.std.specs.Prelude.{◌≡◌, ℕ, ◌*◌, ◌<◌, ◌⊎◌, List, length, map, take, drop, slice_index}
+use Rattle.std.specs.Prelude.{◌≡◌, ℕ, ◌*◌, ◌<◌, List, length, map, take, drop, slice_index}
 use Rattle.herd_frozen.specs.declared.freezing.frozen.Row.{Row}
 use Rattle.herd_frozen.specs.freezing.Frozen.{IsFrozen, depth_at, level_of}
 use Rattle.herd_kinship.specs.Coefficients.{coefficient_at}
@@ -17,15 +17,13 @@ HasLongLevel rows len = (depth : ℕ) × (len < length (level_of depth rows))
 pub record KnowsBelow (l most : ℕ) (rows : List Row) (known : List ℕ) (depth : ℕ) : Type 0 where
   pub frozen : IsFrozen l most rows
   pub each : length known ≡ length rows
-  pub right : (rank : ℕ) → rank < length rows → depth_at rows rank < depth → slice_index known rank ≡ coefficient_at l rows rank
+  pub right : (rank : ℕ) → rank < length rows → depth_at rows rank < depth
+      → slice_index known rank ≡ coefficient_at l rows rank
 
 -- these are the coefficients of a block's ranks
 abbrev pub AreTraced : ℕ → List Row → ℕ → ℕ → ℕ → List ℕ → Type 0
-AreTraced l rows depth len number numerators = numerators ≡ map (coefficient_at l rows) (block_of len number (level_of depth rows))
-
--- each rank has the numerator that it had, or f of the rank
-abbrev pub Keeps : (ℕ → ℕ) → List ℕ → List ℕ → Type 0
-Keeps f old new = (rank : ℕ) → (slice_index new rank ≡ slice_index old rank) ⊎ (slice_index new rank ≡ f rank)
+AreTraced l rows depth len number numerators =
+    numerators ≡ map (coefficient_at l rows) (block_of len number (level_of depth rows))
 
 -- these ranks have f of themselves
 abbrev pub HasAt : (ℕ → ℕ) → List ℕ → List ℕ → Type 0

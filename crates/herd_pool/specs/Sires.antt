@@ -1,5 +1,5 @@
 -- What is known and computed where a level's sires are gone through. l is the limit of depths.
-use Rattle.std.specs.Prelude.{◌≡◌, ℕ, ◌+◌, ◌/◌, ◌<◌, All, List, count_by, length, min, nat_lt, slice_index, sum_by}
+use Rattle.std.specs.Prelude.{◌≡◌, ℕ, ◌+◌, ◌/◌, ◌<◌, List, count_by, length, min, nat_lt, slice_index, sum_by}
 use Rattle.std.specs.Int.{div_ceil}
 use Rattle.std.specs.List.{range_with_len}
 use Rattle.herd_frozen.specs.declared.freezing.frozen.Row.{Row}
@@ -14,7 +14,8 @@ use Rattle.herd_pool.specs.declared.limits.TheConstants.{CALVES_FOR_A_WORKER}
 
 -- The numerators of a frozen book on the way: there is one for each animal, and the calves of all sires of less depth
 -- have their coefficient
-pub record KnowsCalvesBelow {C : Type 0} (l : ℕ) (rows : List Row) (calves : Calves C) (known : List ℕ) (depth : ℕ) : Type 0 where
+pub record KnowsCalvesBelow {C : Type 0}
+    (l : ℕ) (rows : List Row) (calves : Calves C) (known : List ℕ) (depth : ℕ) : Type 0 where
   pub linked : AreCalvesOf rows calves
   pub reached : KnowsReached l rows (IsLessDeep rows depth) known
 
@@ -30,14 +31,6 @@ AreCalvesAmong l rows ranks n calves = AreCalvesWith rows (IsAmong ranks n) (coe
 abbrev pub HasCalvesOf : ℕ → List Row → ℕ → ℕ → ℕ → List CalfCoefficient → Type 0
 HasCalvesOf l rows depth len number calves =
     let ranks = block_of len number (level_of depth rows) in AreCalvesAmong l rows ranks (length ranks) calves
-
--- each calf comes with f of its rank
-abbrev pub HaveValues : (ℕ → ℕ) → List CalfCoefficient → Type 0
-HaveValues f calves = All (λ calf. calf.numerator ≡ f calf.rank) calves
-
--- at each calf's rank stands f of it
-abbrev pub AreWritten : (ℕ → ℕ) → List ℕ → List CalfCoefficient → Type 0
-AreWritten f known calves = All (λ calf. slice_index known calf.rank ≡ f calf.rank) calves
 
 -- how many calves the sires of a block have
 abbrev pub calves_of : List Row → ℕ → ℕ → ℕ → ℕ

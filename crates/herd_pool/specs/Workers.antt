@@ -14,13 +14,17 @@ abbrev pub numbers : {O : Type 0} → List (ComputedBlock O) → List ℕ
 numbers blocks = map (λ block. block.number) blocks
 
 -- these are the first blocks of a level, each once and computed
-pub record AreBlocks {O : Type 0} (IsComputed : ComputedBlock O → Type 0) (count : ℕ) (blocks : List (ComputedBlock O)) : Type 0 where
+pub record AreBlocks {O : Type 0}
+    (IsComputed : ComputedBlock O → Type 0) (count : ℕ) (blocks : List (ComputedBlock O)) : Type 0 where
   pub each_once : (number : ℕ) → count_by (λ n. n == number) (numbers blocks) ≡ once_below number count
   pub computed : All IsComputed blocks
 
 -- a worker's pass to this queue, by which it has taken these blocks
 abbrev pub IsBlockPass : {A P : Type 0} → Stealer ℕ A PassView P → Pass ℕ PassView A → List ℕ → Type 0
-IsBlockPass stealer pass taken = record { queue : IsPassOf (stealer_deque stealer) pass; view : view pass ≡ pass_view 1 0 taken }
+IsBlockPass stealer pass taken = record {
+  queue : IsPassOf (stealer_deque stealer) pass;
+  view : view pass ≡ pass_view 1 0 taken;
+}
 
 module _ {W A S O : Type 0} (kind : WorkOf W A S O) (work : W) where
   -- The starter's end of the queue is the first, first in first out. It knows how many passes are out and how many

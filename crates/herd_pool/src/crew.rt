@@ -94,6 +94,7 @@ fn share<R: Threads + Wait + Sync, A: Allocator + Copy + Send + Sync, W: Work<A>
         {
             let task = Task { work, stealer };
             let mut starter = starter;
+            // Taken from the list, so that the closure captures one value less: its proof is shorter then.
             let alloc = *starter.blocks.allocator();
             work_beside(scope, rt, alloc, task, &mut starter, threads)?;
             Ok(starter)
@@ -170,15 +171,9 @@ fn start_one<'s, E, R: Wait + Sync, A: Allocator + Copy + Send + Sync, W: Work<A
             requires pass { IsBlockPass stealer.now pass [] }
             requires ready { W.is_ready work.now scratch }
             ensures { IfOk result (IsWorkerOutput W.Work work.entry.now stealer.entry.now) }
-        {
-            let task = Task { work, stealer };
-            steal_blocks(rt, alloc, task, pass, scratch)
-        },
+        { steal_blocks(rt, alloc, work, stealer, pass, scratch) },
     );
-    match started {
-        Ok(worker) => Ok(worker),
-        Err(_) => Err(PoolFault::NoThread),
-    }
+    started.map_err(|_| PoolFault::NoThread)
 }
 
 // Joins each worker of this task, and takes its pass back.

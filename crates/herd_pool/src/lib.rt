@@ -20,7 +20,10 @@
 //!   that the next worker takes over (`worker`, `crew`; `specs/Workers`). The thread that starts the others is a worker
 //!   too (`starter`), so one worker starts none.
 //! - Once all are back, the blocks are written into one list (`merge`; `proofs/Writes`), and the next level begins
-//!   (`pool`; `proofs/Known`).
+//!   (`pool`).
+//!
+//! `proofs/Known` serves `traced` alone: a level's animals can be traced by what is known of the levels below it. What
+//! `sires` needs of them is a lemma of `herd_kinship`.
 #![tactic(auto)]
 
 mod crew;

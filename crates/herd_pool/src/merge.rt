@@ -2,9 +2,9 @@
 ghost use Rattle.std.specs.Prelude.{◌≡◌, ℕ, ◌<◌, All, length, map};
 ghost use Rattle.herd_frozen.specs.freezing.Frozen.{level_of};
 ghost use Rattle.herd_frozen.specs.declared.TheConstants.{DEPTH_LIMIT};
+ghost use Rattle.herd_kinship.specs.CalfCoefficients.{AreWritten, HaveValues, Keeps};
 ghost use Rattle.herd_kinship.specs.Coefficients.{coefficient_at};
-ghost use Rattle.herd_pool.specs.Levels.{AreTraced, block_of, HasAt, Keeps};
-ghost use Rattle.herd_pool.specs.Sires.{AreWritten, HaveValues};
+ghost use Rattle.herd_pool.specs.Levels.{AreTraced, block_of, HasAt};
 
 use crate::level::Level;
 use crate::work::ComputedBlock;

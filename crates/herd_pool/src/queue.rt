@@ -91,10 +91,7 @@ pub fn filled<A: Allocator + Copy>(alloc: A, count: u32) -> Result<BlockQueue<A>
 {
     let mut queue = BlockQueue::<A>::fifo_as(alloc, count as usize)?;
     for block in 0..count {
-        match queue.push_as::<Pushed>(block) {
-            Ok(()) => {}
-            Err(_) => unreachable!(),
-        }
+        queue.push_as::<Pushed>(block).unwrap();
     }
     Ok(queue)
 }

@@ -27,21 +27,20 @@ pub struct WorkerOutput<S, O, A: Allocator> {
 pub fn steal_blocks<R: Wait, A: Allocator + Copy, W: Work<A>>(
     rt: &R,
     alloc: A,
-    task: Task<'_, W, A>,
+    work: &W,
+    stealer: &BlockStealer<A>,
     mut pass: BlockPass<A>,
     mut scratch: W::Scratch,
 ) -> Result<WorkerOutput<W::Scratch, W::Output, A>, AllocError>
-    requires knows { W.knows task.work.now }
-    requires pass { IsBlockPass task.stealer.now pass [] }
-    requires ready { W.is_ready task.work.now scratch }
-    ensures { IfOk result (IsWorkerOutput W.Work task.entry.work.now task.entry.stealer.now) }
+    requires knows { W.knows work.now }
+    requires pass { IsBlockPass stealer.now pass [] }
+    requires ready { W.is_ready work.now scratch }
+    ensures { IfOk result (IsWorkerOutput W.Work work.now stealer.now) }
 {
     let mut blocks = Vec::new(alloc);
     for _ in rt.forever() {
-        match task.stealer.steal_as::<Stolen>(&mut pass) {
-            Steal::Success(number) => {
-                add_block(alloc, task.work, &mut scratch, number, &mut blocks)?;
-            }
+        match stealer.steal_as::<Stolen>(&mut pass) {
+            Steal::Success(number) => add_block(alloc, work, &mut scratch, number, &mut blocks)?,
             Steal::Empty => break,
             Steal::Retry => {}
         }

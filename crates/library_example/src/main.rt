@@ -16,6 +16,7 @@ use anyhow::Result;
 use herd_animal::{AnimalNumber, Day, Herd};
 use herd_frozen::{Frozen, MOST_ANIMALS};
 use herd_kinship::{Coefficients, Fraction, coefficients_plain, fraction, mating};
+use herd_pedigree::Pedigree;
 use herd_register::{Command, Limits, MOST_STEPS, Register, Reply};
 use std::alloc::Global;
 use std::io;
@@ -40,10 +41,13 @@ fn main(rt: HostRuntime) -> Result<()> {
     let mut register = Register::new(rt.alloc(), limits);
     file_births(&mut register)?;
     print_replies(&rt, &register)?;
+    print_pedigree(&rt, rt.alloc(), register.pedigree())
+}
 
+fn print_pedigree(rt: &impl Print, alloc: Global, pedigree: &Pedigree<Global>) -> Result<()> {
     // `freeze` gives the book of this moment, in age order, with each animal's parents as ranks in it.
-    let frozen = register.pedigree().freeze(rt.alloc())?;
-    print_book(&rt, rt.alloc(), &frozen)
+    let frozen = pedigree.freeze(alloc)?;
+    print_book(rt, alloc, &frozen)
 }
 
 // What is computed from a frozen book.

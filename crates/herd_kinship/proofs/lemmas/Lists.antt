@@ -1,8 +1,9 @@
--- Lists: what is mapped, one of two lists that are joined, where an element stands, and how often.
-use Rattle.std.proofs.Common.{ℕ, ◌+◌, ◌≡◌, ◌⊎◌, ◌++◌, inl, inr, ⊎_elim, All, Bool, true, false, cond, List, [], ◌∷◌, length, get_or, map, Some, lit<, refl, sym, ◌∙◌, ap, Contains, subst, arith}
+-- Lists: what is mapped, one of two lists that are joined, where an element stands and how often, and what is written
+-- over.
+use Rattle.std.proofs.Common.{ℕ, ◌+◌, ◌≡◌, ◌⊎◌, ◌++◌, inl, inr, ⊎_elim, All, Bool, true, false, cond, List, [], ◌∷◌, length, get_or, map, take, drop, Some, lit<, refl, sym, ◌∙◌, ap, Contains, subst, arith}
 use Rattle.std.specs.List.{Any, IsDistinct, AllByRecursion, count_by}
 use Rattle.std.proofs.lemmas.Bool.{cases_Bool}
-use Rattle.std.proofs.lemmas.List.{get_or-append-add, get_or_append_left, length-append}
+use Rattle.std.proofs.lemmas.List.{get_or-append-add, get_or_append_left, length-append, take-append-le, take_all}
 use Rattle.std.proofs.lemmas.List.Elements.{All-contains, All-cons, All-nil, All-weaker, Contains-append_cases, Contains-append_left, Contains-append_right}
 use Rattle.std.proofs.lemmas.List.Sums.{sum_by-cons}
 use Rattle.std.proofs.lemmas.Option.{get_or_from_slice_get, slice_get-get_or}
@@ -33,7 +34,7 @@ count-none e x [] a = refl
 count-none e x (y ∷ ys) a = rw (sum_by-cons (λ z. cond (e x z) 1 0) y ys, a.0, count-none e x ys a.1) refl
 
 -- what is in a list of one and others is the one or among the others
-in_cons : {X : Type 0} (x y : X) (ys : List X) → Contains (y ∷ ys) x → (y ≡ x) ⊎ Contains ys x
+pub in_cons : {X : Type 0} (x y : X) (ys : List X) → Contains (y ∷ ys) x → (y ≡ x) ⊎ Contains ys x
 in_cons x y ys c =
     ⊎_elim
     (λ one. inl (All-contains (λ z. y ≡ z) (y ∷ []) x (All-cons (λ z. y ≡ z) y [] refl (All-nil (λ z. y ≡ z))) one))
@@ -58,3 +59,7 @@ count-one {X} e exact itself x (y ∷ ys) d c =
     rw (sum_by-cons (λ z. cond (e x z) 1 0) y ys, t, count-one e exact itself x ys d.1 rest) refl)
     (in_cons x y ys c))
     (cases_Bool (e x y))
+
+-- a list that is written over as a whole, by way of a slice
+pub take-written : {X : Type 0} (n : ℕ) (new old : List X) → n ≡ length new → take n (new ++ drop (length new) old) ≡ new
+take-written n new old is = take-append-le n new (drop (length new) old) (omega arith) ∙ take_all n new (omega arith)

@@ -1,4 +1,5 @@
 -- Numbers, fractions and sets of bits.
+pub mod Products
 pub mod Sums
 pub mod Ints
 pub mod FractionFacts

@@ -23,7 +23,7 @@ fn has_coefficients(
             continue;
         };
         let told = fraction(coefficients.numerator(rank));
-        assert_eq!(rt; frozen.row(rank).number, name.number());
+        assert_eq!(rt; frozen.number(rank), name.number());
         assert_eq!(rt;
             (told.numerator, told.denominator),
             (*numerator, *denominator),

@@ -59,20 +59,33 @@ impl Draws {
 /// A book of this shape. An animal's parents are of the generation before, or, of one in eight, unknown.
 pub fn drawn(alloc: Global, shape: Shape) -> Result<Frozen<Global>, BirthFault> {
     let mut pedigree = Pedigree::new(alloc);
+    file_generations(&mut pedigree, shape)?;
+    Ok(pedigree.freeze(alloc)?)
+}
+
+fn file_generations(pedigree: &mut Pedigree<Global>, shape: Shape) -> Result<(), BirthFault> {
     let mut draws = Draws(1);
     for generation in 0..shape.generations {
-        for place in 0..shape.of_each_sex {
-            for name in [
-                Bull(serial(generation, place)),
-                Cow(serial(generation, place)),
-            ] {
-                let Birth(_, day, _) = pair_of(generation)[0];
-                let parents = parents(&mut draws, shape, generation);
-                file_birth(&mut pedigree, Birth(name, day, parents))?;
-            }
-        }
+        file_generation(pedigree, &mut draws, shape, generation)?;
     }
-    Ok(pedigree.freeze(alloc)?)
+    Ok(())
+}
+
+fn file_generation(
+    pedigree: &mut Pedigree<Global>,
+    draws: &mut Draws,
+    shape: Shape,
+    generation: u8,
+) -> Result<(), BirthFault> {
+    let Birth(_, day, _) = pair_of(generation)[0];
+    for place in 0..shape.of_each_sex {
+        let serial = serial(generation, place);
+        let of_bull = parents(draws, shape, generation);
+        file_birth(pedigree, Birth(Bull(serial), day, of_bull))?;
+        let of_cow = parents(draws, shape, generation);
+        file_birth(pedigree, Birth(Cow(serial), day, of_cow))?;
+    }
+    Ok(())
 }
 
 fn parents(draws: &mut Draws, shape: Shape, generation: u8) -> Pair {

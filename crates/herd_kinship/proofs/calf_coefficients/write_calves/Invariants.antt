@@ -1,11 +1,10 @@
 use Rattle.std.proofs.Common.{◌≡◌, ℕ, length, take}
-use Rattle.std.specs.List.{All}
-use Rattle.herd_kinship.specs.CalfCoefficients.{HasWritten}
+use Rattle.herd_kinship.specs.CalfCoefficients.{HasWritten, HaveValues}
 use Rattle.herd_kinship.proofs.calf_coefficients.write_calves.Given as goal
 
 -- the calves so far are written
 abbrev pub invariant-loop-calf : goal.invariant-loop-calf
 invariant-loop-calf l = record {
   each : length l.known ≡ length l.initial.known;
-  written : (f : ℕ → ℕ) → All (λ calf. calf.numerator ≡ f calf.rank) l.calves → HasWritten f (take l.calf-index l.calves) l.initial.known l.known;
+  written : (f : ℕ → ℕ) → HaveValues f l.calves → HasWritten f (take l.calf-index l.calves) l.initial.known l.known;
 }

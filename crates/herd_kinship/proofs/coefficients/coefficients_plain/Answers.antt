@@ -4,7 +4,7 @@ use Rattle.std.proofs.lemmas.List.{get_or-replicate, length-replicate}
 use Rattle.herd_frozen.specs.declared.TheConstants.{DEPTH_LIMIT, MOST_ANIMALS}
 use Rattle.herd_kinship.specs.Coefficients.{AreCoefficients, IsBefore, KnowsReached}
 use Rattle.herd_kinship.proofs.lemmas.sires.BySires.{coefficients-below_one, reached-all, reached-start}
-use Rattle.herd_kinship.proofs.lemmas.sires.RelationshipFacts.{written}
+use Rattle.herd_kinship.proofs.lemmas.Lists.{take-written}
 use Rattle.herd_kinship.proofs.coefficients.coefficients_plain.Given.{Over}
 use Rattle.herd_kinship.proofs.coefficients.coefficients_plain.Goals.{In_ok-write_all}
 use Rattle.herd_kinship.proofs.coefficients.coefficients_plain.Goals as goal
@@ -28,7 +28,7 @@ all_known g c =
     let ok = c.in_ok-known.known.ok in
     let len = c.in_ok-known.ensures.len in
     let all = c.len.ensures.value in
-    subst (λ xs. AreCoefficients DEPTH_LIMIT rows xs) (sym (written c.in_ok-known.known.len known c.in_ok-known.known.items (omega arith)))
+    subst (λ xs. AreCoefficients DEPTH_LIMIT rows xs) (sym (take-written c.in_ok-known.known.len known c.in_ok-known.known.items (omega arith)))
     (reached-all DEPTH_LIMIT MOST_ANIMALS rows c.len.ensures.frozen (IsBefore (length rows)) (λ s low. low) known reached)
 
 pub from_list-requires : goal.from_list-requires

@@ -37,5 +37,5 @@ returns-clause-known g c =
     let new : List ℕ = c.write_calves.new.known in
     let are : AreCalvesWith rows (λ t. t ≡ s) f calves = listed g (goal.at.returns-clause-known g c).In_ok-append_calves in
     let has : HasWritten f calves old new = subst (λ xs. HasWritten f xs old new) c.deref.ensures.value (c.write_calves.ensures.written f (rw c.deref.ensures.value (calves-values rows (λ t. t ≡ s) f calves are))) in
-    reached-more DEPTH_LIMIT rows (IsBefore s) (λ t. t ≡ s) (IsBefore (s + 1)) (before-next s) old new c.write_calves.ensures.each (λ x lx. has.kept x)
+    reached-more DEPTH_LIMIT rows (IsBefore s) (λ t. t ≡ s) (IsBefore (s + 1)) (before-next s) old new c.write_calves.ensures.each has.kept
     (calves-written rows (λ t. t ≡ s) f calves old new are has) c.requires.known

@@ -4,13 +4,15 @@ use Rattle.std.proofs.lemmas.Bool.{cases_lt}
 use Rattle.std.proofs.lemmas.List.Elements.{All-from_get_or}
 use Rattle.herd_frozen.specs.declared.freezing.frozen.Row.{Row}
 use Rattle.herd_frozen.specs.freezing.Frozen.{IsFrozen, depth_at}
+use Rattle.herd_kinship.specs.CalfCoefficients.{Keeps}
 use Rattle.herd_kinship.specs.Coefficients.{AreCoefficients, IsBefore, IsLessDeep, IsReached, KnowsAncestors, KnowsReached, coefficient_at}
 use Rattle.herd_kinship.specs.CalfLinks.{IsCalf}
 use Rattle.herd_kinship.specs.Ranks.{sire_rank, dam_rank}
-use Rattle.herd_kinship.proofs.lemmas.tracing.Brought.{option_cases}
+use Rattle.herd_kinship.proofs.lemmas.Options.{option_cases}
 use Rattle.herd_kinship.proofs.lemmas.books.FrozenDepths.{depth-at_most, parent-less_deep}
 use Rattle.herd_kinship.proofs.lemmas.books.FrozenFacts.{frozen-ranked}
 use Rattle.herd_kinship.proofs.lemmas.tracing.KnownFacts.{coefficient-unknown, frozen-coefficient_bound, known-from_below, known-from_levels}
+use Rattle.herd_kinship.proofs.lemmas.sires.CalfListFacts.{kept-stays}
 
 -- where nobody has two known parents, everybody is reached
 pub reached-nobody : (l : ℕ) (rows : List Row) (P Q : ℕ → Type 0) (known : List ℕ) → ((s x : ℕ) → IsCalf rows s x → ⊥) → KnowsReached l rows P known → KnowsReached l rows Q known
@@ -22,13 +24,13 @@ reached-nobody l rows P Q known none k = record {
 -- The calves of further sires are written, and every other number is kept or is right. So those that are reached from
 -- both kinds of sires are known.
 pub reached-more : (l : ℕ) (rows : List Row) (P N Q : ℕ → Type 0) → ((s : ℕ) → Q s → P s ⊎ N s) → (known now : List ℕ) → length now ≡ length known →
-    ((x : ℕ) → x < length rows → (get_or now x 0 ≡ get_or known x 0) ⊎ (get_or now x 0 ≡ coefficient_at l rows x)) →
+    Keeps (coefficient_at l rows) known now →
     ((s x : ℕ) → N s → IsCalf rows s x → get_or now x 0 ≡ coefficient_at l rows x) → KnowsReached l rows P known → KnowsReached l rows Q now
 reached-more l rows P N Q either known now each kept calves k = record {
   each = each ∙ k.each;
   right = λ x lx r.
       let before : IsReached rows P x → get_or now x 0 ≡ coefficient_at l rows x = λ b.
-      ⊎_elim (λ (same : get_or now x 0 ≡ get_or known x 0). same ∙ k.right x lx b) (λ (right : get_or now x 0 ≡ coefficient_at l rows x). right) (kept x lx) in
+      kept-stays (coefficient_at l rows) known now kept x (k.right x lx b) in
       ⊎_elim (λ (a : sire_rank rows x ≡ None). before (λ t d et ed. absurd (cc)))
       (λ a.
       ⊎_elim (λ (b : dam_rank rows x ≡ None). before (λ t d et ed. absurd (cc)))

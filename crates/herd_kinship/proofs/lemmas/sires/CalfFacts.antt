@@ -1,5 +1,5 @@
 -- The links from calf to calf: how they are made and read.
-use Rattle.std.proofs.Common.{ℕ, ◌+◌, ◌<◌, ◌≤◌, ◌≡◌, ◌⊎◌, inr, ⊎_elim, true, false, IfNone, IfSome, is_some, List, length, get_or, set, slice_get, Option, Some, None, arith, refl, sym, ◌∙◌, ap, subst}
+use Rattle.std.proofs.Common.{ℕ, ◌+◌, ◌<◌, ◌≤◌, ◌≡◌, ◌⊎◌, inr, ⊎_elim, true, false, is_some, List, length, get_or, set, slice_get, Option, Some, None, arith, refl, sym, ◌∙◌, ap, subst}
 use Rattle.std.proofs.lemmas.Bool.{cases_lt, cases_eq}
 use Rattle.std.proofs.lemmas.List.{get_or-set_same, get_or-set_other, length-set, get_or_read}
 use Rattle.std.proofs.lemmas.Option.{slice_get_within}
@@ -8,7 +8,7 @@ use Rattle.herd_frozen.specs.declared.freezing.frozen.Row.{Row}
 use Rattle.herd_frozen.specs.freezing.Frozen.{IsFrozen}
 use Rattle.herd_kinship.specs.CalfLinks.{IsCalf, IsLink, AreLinked}
 use Rattle.herd_kinship.specs.Ranks.{AreParentsAt, HasUnknownParent, dam_rank, sire_rank}
-use Rattle.herd_kinship.proofs.lemmas.tracing.Brought.{option_cases}
+use Rattle.herd_kinship.proofs.lemmas.Options.{option_cases}
 use Rattle.herd_kinship.proofs.lemmas.books.FrozenFacts.{frozen-ranked}
 use Rattle.herd_kinship.proofs.lemmas.books.ParentsFacts.{parents-sire, parents-dam, parents-within}
 
@@ -109,15 +109,6 @@ pair-known rows s x calf unknown =
     let sire = calf.0 in
     let dam = calf.2 in
     ⊎_elim (λ (none : sire_rank rows x ≡ None). absurd (cc)) (λ (none : dam_rank rows x ≡ None). absurd (cc)) unknown
-
--- what holds where one of the two isn't known, and what holds where both are
-pub if-none : {P : Type 0} (o : Option ℕ) → is_some o ≡ false → IfNone o P → P
-if-none None none p = p
-if-none (Some s) none p = absurd (cc)
-
-pub if-some : (P : ℕ → Type 0) (o : Option ℕ) → is_some o ≡ true → IfSome o P → (s : ℕ) × P s
-if-some P None some p = absurd (cc)
-if-some P (Some s) some p = (s, p)
 
 -- a known dam stands in the book
 pub dam-within : (l most : ℕ) (rows : List Row) (x : ℕ) (parents : Parents) → IsFrozen l most rows → AreParentsAt rows x parents → (d : ℕ) → parents.dam ≡ Some d → d < length rows

@@ -6,7 +6,7 @@ use Rattle.std.proofs.lemmas.List.{get_or-map, get_or-set_other, get_or-set_same
 use Rattle.std.proofs.lemmas.List.Elements.{All-append, All-contains, All-map, All-more, All-nil, All-same, All-weaker}
 use Rattle.herd_kinship.proofs.lemmas.Lists.{any-left, any-right}
 use Rattle.herd_frozen.specs.declared.freezing.frozen.Row.{Row}
-use Rattle.herd_kinship.specs.CalfCoefficients.{AreCalvesWith, GoesOnWith, HasWritten, IsCalfWith}
+use Rattle.herd_kinship.specs.CalfCoefficients.{AreCalvesWith, GoesOnWith, HasWritten, HaveValues, IsCalfWith, Keeps}
 use Rattle.herd_kinship.specs.CalfLinks.{calves_of_sire, IsCalf}
 use Rattle.herd_kinship.specs.declared.calf_coefficients.CalfCoefficient.{CalfCoefficient}
 use Rattle.herd_kinship.proofs.lemmas.sires.CalfFacts.{calf-within}
@@ -49,7 +49,7 @@ module _ (rows : List Row) where
   calves-within P f calves are = All-weaker (IsCalfWith rows P f) (λ calf. calf.rank < length rows) (λ calf is. calf-within rows is.sire calf.rank is.is_calf) calves are.each
 
   -- each has f of its rank
-  pub calves-values : (P : ℕ → Type 0) (f : ℕ → ℕ) (calves : List CalfCoefficient) → AreCalvesWith rows P f calves → All (λ calf. calf.numerator ≡ f calf.rank) calves
+  pub calves-values : (P : ℕ → Type 0) (f : ℕ → ℕ) (calves : List CalfCoefficient) → AreCalvesWith rows P f calves → HaveValues f calves
   calves-values P f calves are = All-weaker (IsCalfWith rows P f) (λ calf. calf.numerator ≡ f calf.rank) (λ calf is. is.value) calves are.each
 
   -- once they are written, each calf of these sires has f of its rank
@@ -85,28 +85,36 @@ pub written-start : (f : ℕ → ℕ) (old : List ℕ) → HasWritten f [] old o
 written-start f old = record { kept = λ rank. inl refl; written = All-nil (λ calf. get_or old calf.rank 0 ≡ f calf.rank) }
 
 -- a write of f at one rank
-set-kept : (f : ℕ → ℕ) (known : List ℕ) (rank value p : ℕ) → value ≡ f rank → rank < length known → (get_or (set known rank value) p 0 ≡ get_or known p 0) ⊎ (get_or (set known rank value) p 0 ≡ f p)
-set-kept f known rank value p is below =
+pub set-kept : (f : ℕ → ℕ) (known : List ℕ) (rank value : ℕ) → value ≡ f rank → rank < length known → Keeps f known (set known rank value)
+set-kept f known rank value is below p =
     ⊎_elim (λ (e : p ≡ rank). inr (ap (λ v. get_or (set known rank value) v 0) e ∙ get_or-set_same known rank value 0 below ∙ is ∙ ap f (sym e)))
     (λ (ne : p ≡ rank → ⊥). inl (get_or-set_other known rank p value 0 ne)) (cases_eq p rank)
 
+-- where f stands, it stays
+pub kept-stays : (f : ℕ → ℕ) (old new : List ℕ) → Keeps f old new → (p : ℕ) → get_or old p 0 ≡ f p → get_or new p 0 ≡ f p
+kept-stays f old new kept p at = ⊎_elim (λ (same : get_or new p 0 ≡ get_or old p 0). same ∙ at) (λ (there : get_or new p 0 ≡ f p). there) (kept p)
+
+-- one write after another
+pub kept-then : (f : ℕ → ℕ) (old known new : List ℕ) → Keeps f old known → Keeps f known new → Keeps f old new
+kept-then f old known new first then p =
+    ⊎_elim (λ (same : get_or new p 0 ≡ get_or known p 0).
+    ⊎_elim (λ (s : get_or known p 0 ≡ get_or old p 0). inl (same ∙ s)) (λ (t : get_or known p 0 ≡ f p). inr (same ∙ t)) (first p))
+    (λ (there : get_or new p 0 ≡ f p). inr there) (then p)
+
 -- one calf more is written
 pub written-next : (f : ℕ → ℕ) (calves : List CalfCoefficient) (i : ℕ) (d : CalfCoefficient) (old known : List ℕ) → i < length calves → (get_or calves i d).rank < length known →
-    All (λ c. c.numerator ≡ f c.rank) calves → HasWritten f (take i calves) old known → HasWritten f (take (i + 1) calves) old (set known (get_or calves i d).rank (get_or calves i d).numerator)
+    HaveValues f calves → HasWritten f (take i calves) old known → HasWritten f (take (i + 1) calves) old (set known (get_or calves i d).rank (get_or calves i d).numerator)
 written-next f calves i d old known low below values was =
-    let now = set known (get_or calves i d).rank (get_or calves i d).numerator in
-    let value : (get_or calves i d).numerator ≡ f (get_or calves i d).rank = values i d low in
-    let step : (p : ℕ) → (get_or now p 0 ≡ get_or known p 0) ⊎ (get_or now p 0 ≡ f p) = λ p. set-kept f known (get_or calves i d).rank (get_or calves i d).numerator p value below in
+    let rank : ℕ = (get_or calves i d).rank in
+    let numerator : ℕ = (get_or calves i d).numerator in
+    let now = set known rank numerator in
+    let value : numerator ≡ f rank = values i d low in
+    let step = set-kept f known rank numerator value below in
     record {
-      kept = λ p.
-          ⊎_elim
-          (λ (same : get_or now p 0 ≡ get_or known p 0).
-          ⊎_elim (λ (s : get_or known p 0 ≡ get_or old p 0). inl (same ∙ s)) (λ (t : get_or known p 0 ≡ f p). inr (same ∙ t)) (was.kept p))
-          (λ (there : get_or now p 0 ≡ f p). inr there)
-          (step p);
+      kept = kept-then f old known now was.kept step;
       written =
           All-more (λ c. get_or now c.rank 0 ≡ f c.rank) calves i d low
           (All-weaker (λ c. get_or known c.rank 0 ≡ f c.rank) (λ c. get_or now c.rank 0 ≡ f c.rank)
-          (λ c stood. ⊎_elim (λ (same : get_or now c.rank 0 ≡ get_or known c.rank 0). same ∙ stood) (λ (there : get_or now c.rank 0 ≡ f c.rank). there) (step c.rank)) (take i calves) was.written)
-          (get_or-set_same known (get_or calves i d).rank (get_or calves i d).numerator 0 below ∙ value);
+          (λ c stood. kept-stays f known now step c.rank stood) (take i calves) was.written)
+          (get_or-set_same known rank numerator 0 below ∙ value);
     }

@@ -13,7 +13,7 @@ use Rattle.herd_kinship.specs.Shares.{share}
 use Rattle.herd_kinship.specs.Table.{coefficient, entry, mendelian}
 use Rattle.herd_kinship.specs.Tracing.{IsShareOf}
 use Rattle.herd_kinship.proofs.lemmas.ancestry.Ancestors.{share-reached, path-joined}
-use Rattle.herd_kinship.proofs.lemmas.tracing.Brought.{cancel}
+use Rattle.herd_kinship.proofs.lemmas.numbers.Products.{cancel}
 use Rattle.herd_kinship.proofs.lemmas.laws.ColumnSums.{column}
 use Rattle.herd_kinship.proofs.lemmas.ancestry.Depth.{Below, Below-sire, Below-dam, known_some, unit}
 use Rattle.herd_kinship.proofs.lemmas.ancestry.Exact.{term-exact}

@@ -1,15 +1,10 @@
 -- The relationships of one animal with all, by numbers.
-use Rattle.std.proofs.Common.{ℕ, ◌*◌, ◌<◌, ◌≡◌, ◌++◌, List, length, get_or, take, drop, Some, arith, ◌∙◌}
-use Rattle.std.proofs.lemmas.List.{take_all, take-append-le}
+use Rattle.std.proofs.Common.{ℕ, ◌*◌, ◌<◌, ◌≡◌, List, length, get_or, Some, ◌∙◌}
 use Rattle.herd_frozen.specs.declared.TheConstants.{MOST_ANIMALS}
 use Rattle.herd_frozen.specs.declared.freezing.frozen.Row.{Row}
 use Rattle.herd_frozen.specs.freezing.Frozen.{IsFrozen}
 use Rattle.herd_kinship.specs.Columns.{related, AreRelationships}
 use Rattle.herd_kinship.proofs.lemmas.tracing.KnownFacts.{entry-rank}
-
--- a list whose slice is written as a whole
-pub written : (n : ℕ) (new old : List ℕ) → n ≡ length new → take n (new ++ drop (length new) old) ≡ new
-written n new old is = take-append-le n new (drop (length new) old) (omega arith) ∙ take_all n new (omega arith)
 
 module _ (l : ℕ) (rows : List Row) (f : IsFrozen l MOST_ANIMALS rows) where
   -- by the numbers of the animals

@@ -1,7 +1,6 @@
 -- What pending shares bring: sums over the ranks below a border, and a tracing's step at the youngest of them.
-use Rattle.std.proofs.Common.{ℕ, zero, suc, ◌+◌, ◌*◌, ◌/◌, ◌^◌, ◌<◌, ◌≤◌, ◌≡◌, ◌⊎◌, inl, inr, ⊎_elim, false, ltb, Option, Some, None, IsTrue, arith, refl, sym, Contains, ◌∙◌, ap, subst}
+use Rattle.std.proofs.Common.{ℕ, zero, suc, ◌+◌, ◌*◌, ◌/◌, ◌^◌, ◌<◌, ◌≤◌, ◌≡◌, inl, inr, ⊎_elim, false, ltb, Option, Some, None, IsTrue, arith, refl, sym, Contains, ◌∙◌, ap, subst}
 use Rattle.std.specs.List.{range_with_len, sum_by}
-use Rattle.std.proofs.Math.Nat.{mul-div_cancel_left}
 use Rattle.std.proofs.Math.Pow.{pow_pos}
 use Rattle.std.proofs.lemmas.Bool.{lt-ltb, ne_eqb, cases_eq}
 use Rattle.std.proofs.lemmas.List.Sums.{sum_by_push}
@@ -13,6 +12,8 @@ use Rattle.herd_kinship.proofs.lemmas.ancestry.LawfulAncestry.{IsLawful, IsShall
 use Rattle.herd_kinship.proofs.lemmas.ancestry.Depth.{Below, Below-shallow, known_some}
 use Rattle.herd_kinship.proofs.lemmas.ancestry.Shares.{share-none, share-itself, share-halved, share-later}
 use Rattle.herd_kinship.proofs.lemmas.ancestry.Exact.{share-even}
+use Rattle.herd_kinship.proofs.lemmas.Options.{option_cases}
+use Rattle.herd_kinship.proofs.lemmas.numbers.Products.{cancel}
 use Rattle.herd_kinship.proofs.lemmas.numbers.Sums.{range-more}
 use Rattle.herd_kinship.proofs.lemmas.books.Ranks.{AreRanked, ranks-are_lawful, rank-in}
 
@@ -77,10 +78,6 @@ share-within shares (suc b) p low =
     (omega (arith, more, rest)))
     (cases_eq p b)
 
-pub option_cases : {A : Type 0} (o : Option A) → (o ≡ None) ⊎ ((p : A) × (o ≡ Some p))
-option_cases None = inl refl
-option_cases (Some p) = inr (p, refl)
-
 halves : (s half t a b : ℕ) → 2 * half ≡ s → 2 * t ≡ a + b → s * t ≡ half * a + half * b
 halves s half t a b e f =
     let g : half * (2 * t) ≡ half * (a + b) = ap (λ n. half * n) f in
@@ -106,9 +103,6 @@ expanded {A} kin w l o y j b by' apart =
     (option_cases (kin.dam y)))
     (λ r. halves s (s / 2) t _ _ (share-even kin w l o y r.0 b by' (inl r.1)) halved)
     (option_cases (kin.sire y))
-
-pub cancel : (p a b : ℕ) → 0 < p → p * a ≡ p * b → a ≡ b
-cancel p a b pos e = sym (mul-div_cancel_left a pos) ∙ (ap (λ n. n / p) e ∙ mul-div_cancel_left b pos)
 
 -- what a known parent has, 0 where the parent is unknown
 abbrev pub of_known : (ℕ → ℕ) → Option ℕ → ℕ

@@ -1,5 +1,5 @@
 use Rattle.std.proofs.Common.{◌≡◌, ℕ, length, map}
-use Rattle.herd_pool.specs.Levels.{Keeps}
+use Rattle.herd_kinship.specs.CalfCoefficients.{Keeps}
 use Rattle.herd_pool.proofs.Writes.{HasBefore}
 use Rattle.herd_pool.proofs.merge.write_block.Given as goal
 

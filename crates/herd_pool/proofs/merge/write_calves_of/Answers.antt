@@ -2,11 +2,11 @@
 use Rattle.std.proofs.Common.{ℕ, List, Vec, arith, get_or, subst, sym}
 use Rattle.std.specs.List.{All}
 use Rattle.std.proofs.lemmas.List.{take_all}
-use Rattle.herd_kinship.specs.CalfCoefficients.{HasWritten}
+use Rattle.herd_kinship.specs.CalfCoefficients.{AreWritten, HasWritten, HaveValues}
 use Rattle.herd_kinship.specs.declared.calf_coefficients.CalfCoefficient.{CalfCoefficient}
-use Rattle.herd_pool.specs.Sires.{AreWritten, HaveValues}
+use Rattle.herd_kinship.proofs.lemmas.sires.CalfListFacts.{kept-stays}
 use Rattle.herd_pool.specs.declared.work.ComputedBlock.{ComputedBlock}
-use Rattle.herd_pool.proofs.Writes.{block_written, stays}
+use Rattle.herd_pool.proofs.Writes.{block_written}
 use Rattle.herd_pool.proofs.merge.write_calves_of.Goals as goal
 
 pub loop-block-preserved : goal.loop-block-preserved
@@ -22,7 +22,7 @@ loop-block-preserved g c = λ f values.
     (c.write_calves.ensures.written f (subst (λ (calves : List CalfCoefficient). HaveValues f calves) (sym c.deref.ensures.value) mine)) in
     let Has : List ℕ → ComputedBlock (Vec CalfCoefficient _) → Type 0 = λ now b. AreWritten f now b.output.items in
     block_written f Has c.args.blocks.now i block c.args.known.now known new c.loop-block-test.true c.block-item.is
-    (λ b had k d low. stays f known new has.kept (get_or b.output.items k d).rank (had k d low)) has.kept has.written (c.loop-block.invariant f values)
+    (λ b had k d low. kept-stays f known new has.kept (get_or b.output.items k d).rank (had k d low)) has.kept has.written (c.loop-block.invariant f values)
 
 pub returns : goal.returns
 returns g c = λ f values.

@@ -1,5 +1,5 @@
 use Rattle.std.proofs.Common.{ℕ, All}
-use Rattle.herd_pool.specs.Sires.{AreWritten, HaveValues}
+use Rattle.herd_kinship.specs.CalfCoefficients.{AreWritten, HaveValues}
 use Rattle.herd_pool.proofs.Writes.{AreBlocksWritten}
 use Rattle.herd_pool.proofs.merge.write_calves_of.Given as goal
 

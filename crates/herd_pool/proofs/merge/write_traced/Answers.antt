@@ -5,10 +5,11 @@ use Rattle.std.proofs.lemmas.List.{take_all}
 use Rattle.herd_frozen.specs.freezing.Frozen.{level_of}
 use Rattle.herd_frozen.specs.declared.TheConstants.{DEPTH_LIMIT}
 use Rattle.herd_kinship.specs.Coefficients.{coefficient_at}
+use Rattle.herd_kinship.proofs.lemmas.sires.CalfListFacts.{kept-stays}
 use Rattle.herd_pool.specs.Levels.{AreTraced, HasAt, block_of}
 use Rattle.herd_pool.specs.declared.work.ComputedBlock.{ComputedBlock}
 use Rattle.herd_pool.proofs.LevelFacts.{block_of-ranks}
-use Rattle.herd_pool.proofs.Writes.{HasBlock, block_written, stays}
+use Rattle.herd_pool.proofs.Writes.{HasBlock, block_written}
 use Rattle.herd_pool.proofs.merge.write_traced.Goals as goal
 
 pub write_block-requires : goal.write_block-requires
@@ -29,7 +30,7 @@ loop-block-preserved g c =
     let right : Right block = subst Right (sym c.block-item.is) (c.requires.traced c.loop-block.block-index block c.loop-block-test.true) in
     let wrote = c.write_block.ensures f (c.deref.ensures.value ∙ right ∙ ap (map f) (sym c.ranks.ensures)) in
     block_written f (HasBlock f level.block ranks) c.args.blocks.now c.loop-block.block-index block c.args.known.now known new c.loop-block-test.true c.block-item.is
-    (λ b had i low. stays f known new wrote.0 (slice_index (block_of level.block b.number ranks) i) (had i low)) wrote.0 (subst (HasAt f new) c.ranks.ensures wrote.1) c.loop-block.invariant
+    (λ b had i low. kept-stays f known new wrote.0 (slice_index (block_of level.block b.number ranks) i) (had i low)) wrote.0 (subst (HasAt f new) c.ranks.ensures wrote.1) c.loop-block.invariant
 
 pub returns-clause-written : goal.returns-clause-written
 returns-clause-written g c =

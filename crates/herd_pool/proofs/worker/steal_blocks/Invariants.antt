@@ -4,7 +4,7 @@ use Rattle.herd_pool.proofs.worker.steal_blocks.Given as goal
 
 abbrev pub invariant-loop : goal.invariant-loop
 invariant-loop g l = record {
-  pass : IsBlockPass l.task.stealer.now l.pass (numbers l.blocks.items);
-  computed : All (g.W.Work.is_computed l.task.work.now) l.blocks.items;
-  ready : g.W.Work.is_ready l.task.work.now l.scratch;
+  pass : IsBlockPass l.stealer l.pass (numbers l.blocks.items);
+  computed : All (g.W.Work.is_computed l.work) l.blocks.items;
+  ready : g.W.Work.is_ready l.work l.scratch;
 }

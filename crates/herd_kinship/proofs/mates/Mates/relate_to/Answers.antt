@@ -10,7 +10,7 @@ use Rattle.herd_kinship.proofs.lemmas.sires.CalvesBelow.{below-all, below-within
 use Rattle.herd_kinship.proofs.lemmas.sires.ColumnFacts.{coefficient-related}
 use Rattle.herd_kinship.proofs.lemmas.books.FrozenFacts.{frozen-ranked}
 use Rattle.herd_kinship.proofs.lemmas.sires.PassedOn.{has-all}
-use Rattle.herd_kinship.proofs.lemmas.sires.RelationshipFacts.{written}
+use Rattle.herd_kinship.proofs.lemmas.Lists.{take-written}
 use Rattle.herd_kinship.proofs.mates.Mates.relate_to.Goals as goal
 
 pub mark_mates-requires-clause-calves : goal.mark_mates-requires-clause-calves
@@ -39,6 +39,6 @@ returns-clause-halves g c =
     let value = ap length c.deref_mut.ensures.value in
     let ok = c.args.self.now.column.ok in
     rw is.2
-    (ap (λ xs. get_or xs dam 0 / 2) (written c.args.self.now.column.len column c.args.self.now.column.items (omega arith))
+    (ap (λ xs. get_or xs dam 0 / 2) (take-written c.args.self.now.column.len column c.args.self.now.column.items (omega arith))
     ∙ ap (λ v. v / 2) (has-all column c.collect.new.collected.items f dam all there)
     ∙ coefficient-related DEPTH_LIMIT MOST_ANIMALS rows frozen c.args.sire c.requires.sire dam calf within is.0 is.2)

@@ -4,7 +4,8 @@ use Rattle.std.proofs.lemmas.List.{get_or-replicate}
 use Rattle.herd_frozen.specs.declared.TheConstants.{DEPTH_LIMIT, MOST_ANIMALS}
 use Rattle.herd_kinship.proofs.lemmas.books.ParentsFacts.{parents-within}
 use Rattle.herd_kinship.proofs.lemmas.sires.PassedOn.{AreRelated, IsPassing, related-next, related-passing}
-use Rattle.herd_kinship.proofs.lemmas.sires.RelationshipFacts.{relationships-made, written}
+use Rattle.herd_kinship.proofs.lemmas.Lists.{take-written}
+use Rattle.herd_kinship.proofs.lemmas.sires.RelationshipFacts.{relationships-made}
 use Rattle.herd_kinship.proofs.relationships.Relationships.of.Given.{Over}
 use Rattle.herd_kinship.proofs.relationships.Relationships.of.Goals.{After-parents}
 use Rattle.herd_kinship.proofs.relationships.Relationships.of.Goals as goal
@@ -19,7 +20,7 @@ loop-j-init g c =
     let ok = c.in_ok-column.column.ok in
     let len = c.in_ok-column.ensures.len in
     let all = c.len.ensures.value in
-    subst (λ xs. AreRelated DEPTH_LIMIT rows c.args.rank 0 xs) (sym (written c.in_ok-column.column.len column c.in_ok-column.column.items (omega arith)))
+    subst (λ xs. AreRelated DEPTH_LIMIT rows c.args.rank 0 xs) (sym (take-written c.in_ok-column.column.len column c.in_ok-column.column.items (omega arith)))
     (record {
       each = omega arith;
       done = λ j low. absurd (omega arith);
@@ -48,7 +49,7 @@ loop-j-preserved g c =
     let each : length column ≡ length rows = next.each in
     let before : length items ≡ length rows = c.loop-j.invariant.each in
     let ok = c.loop-j.column.ok in
-    subst (λ xs. AreRelated DEPTH_LIMIT rows c.args.rank (c.loop-j.j + 1) xs) (sym (written c.loop-j.column.len column items (omega arith))) next
+    subst (λ xs. AreRelated DEPTH_LIMIT rows c.args.rank (c.loop-j.j + 1) xs) (sym (take-written c.loop-j.column.len column items (omega arith))) next
 
 pub returns : goal.returns
 returns g c =
