@@ -12,6 +12,7 @@ use crate::name::OfficeName;
 use std::alloc::Allocator;
 use std::sync::ledger::Share;
 
+/// So many desks, numbered from 1 on. Each gets a part of the ledger, and none is left.
 pub(crate) fn make_desks<N: OfficeName, A: Allocator>(
     alloc: A,
     count: u16,
@@ -33,6 +34,7 @@ pub(crate) fn make_desks<N: OfficeName, A: Allocator>(
     Ok(desks)
 }
 
+// A desk at which nothing was filed. It holds a copy of the history.
 fn make_desk<N: OfficeName>(number: u16, share: Share<N>, history: &History<N>) -> Desk<N>
     requires { (1 ≤ number) × (share.parts ≡ 1) × (share.amount ≡ 0) }
     ensures { (result.number ≡ number) × (result.answered ≡ 0) × (result.history ≡ history.now) }
@@ -67,6 +69,7 @@ pub(crate) fn all_apart<N: OfficeName>(desks: &[Desk<N>]) -> bool
     }
 }
 
+// Whether no desk has this number.
 fn has_none<N: OfficeName>(desks: &[Desk<N>], number: u16) -> bool
     ensures { IsTrue result ↔ (count_by (λ n. number == n) (map (λ d. d.number) desks.now) ≡ 0) }
 {

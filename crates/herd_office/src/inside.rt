@@ -1,8 +1,8 @@
 //! What lies under an office's lock.
-ghost use Rattle.std.specs.Prelude.{map, ◌≡◌, ◌↔◌, IsTrue, [], length, drop};
+ghost use Rattle.std.specs.Prelude.{map, ◌≡◌, ◌↔◌, IsTrue, [], length};
 ghost use Rattle.herd_office.specs.Beginnings.{BeginsWithAll};
 ghost use Rattle.herd_office.specs.Histories.{Apart};
-ghost use Rattle.herd_office.specs.Shelves.{AreOf, state_of};
+ghost use Rattle.herd_office.specs.Shelves.{AreOf, pending, published};
 
 use crate::copies::Held;
 use crate::desk::Desk;
@@ -30,8 +30,8 @@ pub struct Inside<N: OfficeName, R: Wait + Drop, A: Allocator = Global> {
     pub(crate) copies: Held<R>,
     pub ghost limits: { register.limits ≡ N.limits },
     pub ghost counted: { length register.journal ≡ ledger.total },
-    pub ghost shown: { AreOf (state_of copies.writer.desk.shown.value) register.journal N.limits N.book },
-    pub ghost settled: { drop copies.writer.behind copies.writer.log.items ≡ [] },
+    pub ghost shown: { AreOf (published copies.writer) register.journal N.limits N.book },
+    pub ghost settled: { pending copies.writer ≡ [] },
     pub ghost kept: { keeper.history ≡ register.journal },
     pub ghost none_left: { (rest.parts ≡ 0) × (rest.amount ≡ 0) },
 }
