@@ -1,7 +1,6 @@
 //! All desks of an office, when it opens and when they are handed in.
 ghost use Rattle.std.specs.Prelude.{count_by, map, ◌≡◌, ◌==◌, ◌≤◌, ◌↔◌, IsTrue, [], vec_len, IfOk, IfErr};
 ghost use Rattle.std.specs.List.{sum_by};
-ghost use Rattle.herd_office.specs.Beginnings.{BeginsWithAll};
 ghost use Rattle.herd_office.specs.Histories.{Apart};
 ghost use Rattle.herd_office.specs.Opening.{AreFresh};
 
@@ -45,18 +44,6 @@ fn make_desk<N: OfficeName>(number: u16, share: Share<N>, history: &History<N>) 
         share,
         history: history.again(),
     }
-}
-
-/// Whether the history begins with each desk's.
-pub(crate) fn all_begin<N: OfficeName>(desks: &[Desk<N>], history: &History<N>) -> bool
-    ensures { IsTrue result ↔ BeginsWithAll (λ d. d.history) desks.now history.now }
-{
-    for k in 0..desks.len() {
-        if !desks[k].history.begins(history) {
-            return false;
-        }
-    }
-    true
 }
 
 /// Whether no number stands twice among the desks'.

@@ -6,10 +6,11 @@ ghost use Rattle.herd_office.specs.Shelves.{AreOf, pending, published};
 
 use crate::copies::Held;
 use crate::desk::Desk;
+use crate::desks::all_apart;
+use crate::holders::all_begin;
 use crate::inspector::Inspector;
 use crate::keeper::Keeper;
 use crate::name::OfficeName;
-use crate::{desks, inspector};
 use herd_register::Register;
 use std::alloc::{Allocator, Global};
 use std::sync::Wait;
@@ -43,9 +44,9 @@ impl<N: OfficeName, R: Wait + Drop, A: Allocator> Inside<N, R, A> {
             × BeginsWithAll (λ d. d.history) desks.now self.now.register.journal
             × BeginsWithAll (λ i. i.history) inspectors.now self.now.register.journal) }
     {
-        desks::all_apart(desks)
-            && desks::all_begin(desks, &self.keeper.history)
-            && inspector::all_begin(inspectors, &self.keeper.history)
+        all_apart(desks)
+            && all_begin(desks, &self.keeper.history)
+            && all_begin(inspectors, &self.keeper.history)
     }
 
     /// The register, once the share that is handed in has every part.

@@ -58,7 +58,7 @@
 //! | a name's parts | `Parts` | `name`, `parts` | |
 //! | opening, closing | `Opening`, `Closing` | `office`, `staff` | `Counting`, `Stored` |
 //! | what lies under the lock | `Beginnings`, `Histories`, `Shelves` | `inside` | |
-//! | all desks, inspectors | `Beginnings`, `Histories` | `desks`, `inspector` | `Counting`, `Everyone`, `ListFacts` |
+//! | all desks, all inspectors | `Beginnings`, `Histories` | `desks`, `holders`, `inspector` | `Counting`, `ListFacts` |
 //! | a desk's call, its slip | `Filing`, `Histories`, `Standing` | `desk`, `filing` | `Stored` |
 //! | the history: its rule, claims, beginnings of it | `Keeping` | `history`, `keeper` | `Claiming`, `Fronts` |
 //! | the readers' copies, what is sent to them | `Copies`, `Shelves` | `copies`, `copy_update`, `shown` | `Sides` |
@@ -73,6 +73,7 @@ mod desks;
 mod faults;
 mod filing;
 mod history;
+mod holders;
 mod inside;
 mod inspector;
 mod keeper;
