@@ -58,7 +58,7 @@
 //! | a name's parts | `Parts` | `name`, `parts` | |
 //! | opening, closing | `Opening`, `Closing` | `office`, `staff` | `Counting`, `Stored` |
 //! | what lies under the lock | `Beginnings`, `Histories`, `Shelves` | `inside` | |
-//! | all desks, all inspectors | `Beginnings`, `Histories` | `desks`, `holders`, `inspector` | `Counting`, `ListFacts` |
+//! | all desks and inspectors | `Beginnings`, `Histories` | `desks`, `holders`, `inspector` | `Counting`, `ListFacts` |
 //! | a desk's call, its slip | `Filing`, `Histories`, `Standing` | `desk`, `filing` | `Stored` |
 //! | the history: its rule, claims, beginnings of it | `Keeping` | `history`, `keeper` | `Claiming`, `Fronts` |
 //! | the readers' copies, what is sent to them | `Copies`, `Shelves` | `copies`, `copy_update`, `shown` | `Sides` |
