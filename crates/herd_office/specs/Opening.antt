@@ -11,6 +11,7 @@ AreFresh {N} {O} desks = (place : ℕ) (desk : Desk N O) → slice_get desks pla
     → (desk.number ≡ place + 1) × (desk.answered ≡ 0) × (desk.history ≡ [])
 
 -- inspectors who have seen nothing
-abbrev pub HaveSeenNothing : {N : Type 0} {O : office_name.Ghosts N} {L : ledger.Ghosts N} → List (Inspector N O L) → Type 0
-HaveSeenNothing {N} {O} {L} inspectors = (place : ℕ) (inspector : Inspector N O L) → slice_get inspectors place ≡ Some inspector
-    → inspector.history ≡ []
+abbrev pub HaveSeenNothing : {N : Type 0} {O : office_name.Ghosts N} {L : ledger.Ghosts N}
+    → List (Inspector N O L) → Type 0
+HaveSeenNothing {N} {O} {L} inspectors = (place : ℕ) (inspector : Inspector N O L)
+    → slice_get inspectors place ≡ Some inspector → inspector.history ≡ []

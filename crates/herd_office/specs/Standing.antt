@@ -1,7 +1,6 @@
 -- How a call under the lock finds the office, and how it leaves it.
 use Rattle.std.specs.Prelude.{◌≡◌, ℕ, ◌+◌, ◌≤◌, List, length, Option, IsNone, IsSome}
 use mathlib.Core.List.{IsPrefix}
-use Rattle.herd_register.specs.Copybook.{Copybook}
 use Rattle.herd_register.specs.Run.{IsLegal}
 use Rattle.herd_register.specs.declared.command.Command.{Command}
 use Rattle.herd_register.specs.declared.file_fault.FileFault.{FileFault}
@@ -11,11 +10,11 @@ use Rattle.herd_register.specs.declared.step.Step.{Step}
 use Rattle.core.specs.declared.ledger.Ledger as ledger
 use Rattle.herd_office.specs.declared.desk.Desk.{Desk}
 use Rattle.herd_office.specs.declared.desk.Filed.{Filed}
-use Rattle.herd_office.specs.declared.history.Past.{Past}
 use Rattle.herd_office.specs.declared.name.OfficeName as office_name
 use Rattle.herd_office.specs.declared.inside.Inside.{Inside}
+use Rattle.herd_office.specs.declared.shown.Shown.{Shown}
 use Rattle.herd_office.specs.Filing.{answer_after, with_step_of}
-use Rattle.herd_office.specs.Shelves.{state_of}
+use Rattle.herd_office.specs.Shelves.{published}
 
 -- the journal, the total of answered calls, the desk's number, its own count and history, and what readers are shown
 pub record Standing : Type 0 where
@@ -24,9 +23,10 @@ pub record Standing : Type 0 where
   pub number : ℕ
   pub answered : ℕ
   pub history : List Step
-  pub shown : Copybook × Past
+  pub shown : Shown
 
-abbrev pub standing : {N R A : Type 0} {O : office_name.Ghosts N} {L : ledger.Ghosts N} → Inside N R A O L → Desk N O → Standing
+abbrev pub standing : {N R A : Type 0} {O : office_name.Ghosts N} {L : ledger.Ghosts N}
+    → Inside N R A O L → Desk N O → Standing
 standing inside desk =
     record {
       journal = inside.register.journal;
@@ -34,12 +34,13 @@ standing inside desk =
       number = desk.number;
       answered = desk.answered;
       history = desk.history;
-      shown = state_of inside.copies.writer.desk.shown.value;
+      shown = published inside.copies.writer;
     }
 
 -- a call was answered: the desk's step stands behind the journal with the reply of one thread, and was counted once;
 -- the history that the desk held begins the journal that was there, and now the desk and the slip hold the new one
-pub record IsFiled {N : Type 0} (limits : Limits) (command : Command) (old new : Standing) (filed : Filed N) : Type 0 where
+pub record IsFiled {N : Type 0} (limits : Limits) (command : Command) (old new : Standing)
+    (filed : Filed N) : Type 0 where
   pub stored : new.journal ≡ with_step_of old.journal old.number command filed.reply
   pub reply : filed.reply ≡ answer_after limits old.journal command
   pub serial : filed.serial ≡ length new.journal

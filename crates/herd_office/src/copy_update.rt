@@ -14,6 +14,8 @@ pub enum CopyUpdate {
 }
 
 impl CopyUpdate {
+    /// The update of a step that the caller goes on to use. `Filed(step)` in its place isn't proved: the check lets no
+    /// value be made of a struct that is used after.
     pub fn of_step(step: &Step) -> CopyUpdate
         ensures { result ≡ CopyUpdate.Filed step.now }
     {

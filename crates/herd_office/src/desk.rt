@@ -1,5 +1,5 @@
 //! The desks, and what they hold.
-ghost use Rattle.std.specs.Prelude.{◌≡◌, ◌+◌, ◌<◌, ◌≤◌, ◌^◌, length, IfOk, OnErr};
+ghost use Rattle.std.specs.Prelude.{◌≡◌, ◌+◌, ◌<◌, ◌≤◌, length, IfOk, OnErr};
 ghost use mathlib.Core.List.{IsPrefix};
 ghost use Rattle.herd_register.specs.Run.{IsLegal};
 ghost use Rattle.herd_office.specs.Filing.{EndsWith};
@@ -57,8 +57,7 @@ pub struct Desk<N: OfficeName> {
 impl<N: OfficeName> Desk<N> {
     /// Counts a call that was answered.
     pub(crate) fn answer(&mut self, ledger: &mut Book<N>, history: History<N>)
-        requires fits { self.old.answered + 1 < 2 ^ 64 }
-        requires stored { self.old.answered + 1 ≤ of_desk self.old.number history }
+        requires { self.old.answered + 1 ≤ of_desk self.old.number history }
         ensures total { ledger.new.total ≡ ledger.old.total + 1 }
         ensures answered { (self.new.answered ≡ self.old.answered + 1) × (self.new.number ≡ self.old.number)
             × (self.new.history ≡ history) }
@@ -116,7 +115,6 @@ impl<N: OfficeName> Desk<N> {
         ensures serial { IfOk result (λ f. f.serial ≡ length f.slip.history) }
         ensures answered { IfOk result (λ _. self.new.answered ≡ self.old.answered + 1) }
         ensures held { IfOk result (λ f. self.new.history ≡ f.slip.history) }
-        ensures stored { self.new.answered ≤ of_desk self.new.number self.new.history }
         ensures number { self.new.number ≡ self.old.number }
         ensures not_answered { OnErr result (self.new.answered ≡ self.old.answered) }
         ensures not_held { OnErr result (self.new.history ≡ self.old.history) }

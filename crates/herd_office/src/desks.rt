@@ -1,7 +1,6 @@
 //! All desks of an office, when it opens and when they are handed in.
 ghost use Rattle.std.specs.Prelude.{count_by, map, ◌≡◌, ◌==◌, ◌≤◌, ◌↔◌, IsTrue, [], vec_len, IfOk, IfErr};
 ghost use Rattle.std.specs.List.{sum_by};
-ghost use Rattle.herd_office.specs.Beginnings.{BeginsWithAll};
 ghost use Rattle.herd_office.specs.Histories.{Apart};
 ghost use Rattle.herd_office.specs.Opening.{AreFresh};
 
@@ -12,6 +11,7 @@ use crate::name::OfficeName;
 use std::alloc::Allocator;
 use std::sync::ledger::Share;
 
+/// So many desks, numbered from 1 on. Each gets a part of the ledger, and none is left.
 pub(crate) fn make_desks<N: OfficeName, A: Allocator>(
     alloc: A,
     count: u16,
@@ -33,6 +33,7 @@ pub(crate) fn make_desks<N: OfficeName, A: Allocator>(
     Ok(desks)
 }
 
+// A desk at which nothing was filed. It holds a copy of the history.
 fn make_desk<N: OfficeName>(number: u16, share: Share<N>, history: &History<N>) -> Desk<N>
     requires { (1 ≤ number) × (share.parts ≡ 1) × (share.amount ≡ 0) }
     ensures { (result.number ≡ number) × (result.answered ≡ 0) × (result.history ≡ history.now) }
@@ -45,18 +46,6 @@ fn make_desk<N: OfficeName>(number: u16, share: Share<N>, history: &History<N>) 
     }
 }
 
-/// Whether the history begins with each desk's.
-pub(crate) fn all_begin<N: OfficeName>(desks: &[Desk<N>], history: &History<N>) -> bool
-    ensures { IsTrue result ↔ BeginsWithAll (λ d. d.history) desks.now history.now }
-{
-    for k in 0..desks.len() {
-        if !desks[k].history.begins(history) {
-            return false;
-        }
-    }
-    true
-}
-
 /// Whether no number stands twice among the desks'.
 pub(crate) fn all_apart<N: OfficeName>(desks: &[Desk<N>]) -> bool
     ensures { IsTrue result ↔ Apart (map (λ d. d.number) desks.now) }
@@ -67,6 +56,7 @@ pub(crate) fn all_apart<N: OfficeName>(desks: &[Desk<N>]) -> bool
     }
 }
 
+// Whether no desk has this number.
 fn has_none<N: OfficeName>(desks: &[Desk<N>], number: u16) -> bool
     ensures { IsTrue result ↔ (count_by (λ n. number == n) (map (λ d. d.number) desks.now) ≡ 0) }
 {

@@ -1,7 +1,10 @@
 //! How a command is filed, on the value under the lock.
-ghost use Rattle.std.specs.Prelude.{◌≡◌, ◌+◌, ◌↔◌, ◌≢◌, [], ◌∷◌, ◌++◌, length, drop, IfOk, IfErr, OnErr};
+ghost use Rattle.std.specs.Prelude.{◌≡◌, ◌+◌, ◌<◌, ◌↔◌, ◌≢◌, [], ◌∷◌, ◌++◌, length, IfOk, IfErr, IsSome, OnErr};
+ghost use mathlib.Core.List.{IsPrefix};
 ghost use Rattle.herd_register.specs.Run.{IsLegal, step_of};
+ghost use Rattle.herd_register.specs.declared.limits.TheConstants.{MOST_STEPS};
 ghost use Rattle.herd_office.specs.Filing.{answer_after};
+ghost use Rattle.herd_office.specs.Shelves.{pending};
 ghost use Rattle.herd_office.specs.Standing.{IsFiled, Refuses, standing};
 
 use crate::copies::{Copies, show};
@@ -27,6 +30,34 @@ pub fn file_on<N: OfficeName, W: Wait, R: Wait + Drop, A: Allocator + Copy>(
     ensures unfiled { OnErr result (standing inside.new desk.new ≡ standing inside.old desk.old) }
     ensures fault { IfErr result (Refuses N.limits.steps (standing inside.old desk.old) inside.new.keeper.claim) }
 {
+    if inside.register.is_full() {
+        return Err(FileFault::JournalFull);
+    }
+    if !desk.history.begins(&inside.keeper.history) {
+        return Err(FileFault::NoReading);
+    }
+    inside.keeper.claim_next()?;
+    file_claimed(rt, inside, desk, command)
+}
+
+// Files a command, once its step is claimed.
+fn file_claimed<N: OfficeName, W: Wait, R: Wait + Drop, A: Allocator + Copy>(
+    rt: &W,
+    inside: &mut Inside<N, R, A>,
+    desk: &mut Desk<N>,
+    command: Command,
+) -> Result<Filed<N>, FileFault>
+    requires claim { IsSome inside.old.keeper.claim }
+    requires begins { IsPrefix desk.old.history inside.old.keeper.history }
+    requires not_full { length inside.old.register.journal ≢ N.limits.steps }
+    requires room { length inside.old.register.journal < MOST_STEPS }
+    ensures filed { IfOk result
+        (IsFiled N.limits command (standing inside.old desk.old) (standing inside.new desk.new)) }
+    ensures number { desk.new.number ≡ desk.old.number }
+    ensures unfiled { OnErr result (standing inside.new desk.new ≡ standing inside.old desk.old) }
+    ensures claim { OnErr result (IsSome inside.new.keeper.claim) }
+    ensures fault { IfErr result (λ fault. fault ≡ FileFault.Memory) }
+{
     let Inside {
         register,
         ledger,
@@ -34,15 +65,7 @@ pub fn file_on<N: OfficeName, W: Wait, R: Wait + Drop, A: Allocator + Copy>(
         keeper,
         copies,
     } = inside;
-    if register.is_full() {
-        return Err(FileFault::JournalFull);
-    }
     let steps = register.journal().len();
-    if !desk.history.begins(&keeper.history) {
-        return Err(FileFault::NoReading);
-    }
-    keeper.claim_next()?;
-    ledger.audit(&mut desk.share);
     let step = file_in(register, &mut copies.writer, desk.number, &command)?;
     keeper.add(&step);
     show(rt, &mut copies.writer, &step, keeper.history.past());
@@ -61,18 +84,18 @@ fn file_in<A: Allocator + Copy>(
     desk: u16,
     command: &Command,
 ) -> Result<Step, FileFault>
-    requires { drop copies.old.behind copies.old.log.items ≡ [] }
+    requires { pending copies.old ≡ [] }
     ensures step { IfOk result (λ step. step ≡ step_of desk command.now step.reply) }
     ensures reply { IfOk result
         (λ step. step.reply ≡ answer_after register.old.limits register.old.journal command.now) }
     ensures stored { IfOk result (λ step. register.new.journal ≡ register.old.journal ++ step ∷ []) }
-    ensures pending { IfOk result (λ step. drop copies.new.behind copies.new.log.items ≡ CopyUpdate.Filed step ∷ []) }
+    ensures pending { IfOk result (λ step. pending copies.new ≡ CopyUpdate.Filed step ∷ []) }
     ensures legal { IfOk result (λ _. IsLegal register.new.limits register.new.journal) }
     ensures limits { register.new.limits ≡ register.old.limits }
     ensures shown { copies.new.desk ≡ copies.old.desk }
     ensures full { (result ≡ Err FileFault.JournalFull) ↔ (length register.old.journal ≡ register.old.limits.steps) }
     ensures not_stored { OnErr result (register.new.journal ≡ register.old.journal) }
-    ensures not_pending { OnErr result (drop copies.new.behind copies.new.log.items ≡ []) }
+    ensures not_pending { OnErr result (pending copies.new ≡ []) }
     ensures faults { IfErr result (λ fault. fault ≢ FileFault.NoReading) }
 {
     let reply = register.file(desk, *command)?;

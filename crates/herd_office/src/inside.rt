@@ -1,15 +1,16 @@
 //! What lies under an office's lock.
-ghost use Rattle.std.specs.Prelude.{map, ◌≡◌, ◌↔◌, IsTrue, [], length, drop};
+ghost use Rattle.std.specs.Prelude.{map, ◌≡◌, ◌↔◌, IsTrue, [], length};
 ghost use Rattle.herd_office.specs.Beginnings.{BeginsWithAll};
 ghost use Rattle.herd_office.specs.Histories.{Apart};
-ghost use Rattle.herd_office.specs.Shelves.{AreOf, state_of};
+ghost use Rattle.herd_office.specs.Shelves.{AreOf, pending, published};
 
 use crate::copies::Held;
 use crate::desk::Desk;
+use crate::desks::all_apart;
+use crate::holders::all_begin;
 use crate::inspector::Inspector;
 use crate::keeper::Keeper;
 use crate::name::OfficeName;
-use crate::{desks, inspector};
 use herd_register::Register;
 use std::alloc::{Allocator, Global};
 use std::sync::Wait;
@@ -30,8 +31,8 @@ pub struct Inside<N: OfficeName, R: Wait + Drop, A: Allocator = Global> {
     pub(crate) copies: Held<R>,
     pub ghost limits: { register.limits ≡ N.limits },
     pub ghost counted: { length register.journal ≡ ledger.total },
-    pub ghost shown: { AreOf (state_of copies.writer.desk.shown.value) register.journal N.limits N.book },
-    pub ghost settled: { drop copies.writer.behind copies.writer.log.items ≡ [] },
+    pub ghost shown: { AreOf (published copies.writer) register.journal N.limits N.book },
+    pub ghost settled: { pending copies.writer ≡ [] },
     pub ghost kept: { keeper.history ≡ register.journal },
     pub ghost none_left: { (rest.parts ≡ 0) × (rest.amount ≡ 0) },
 }
@@ -43,9 +44,9 @@ impl<N: OfficeName, R: Wait + Drop, A: Allocator> Inside<N, R, A> {
             × BeginsWithAll (λ d. d.history) desks.now self.now.register.journal
             × BeginsWithAll (λ i. i.history) inspectors.now self.now.register.journal) }
     {
-        desks::all_apart(desks)
-            && desks::all_begin(desks, &self.keeper.history)
-            && inspector::all_begin(inspectors, &self.keeper.history)
+        all_apart(desks)
+            && all_begin(desks, &self.keeper.history)
+            && all_begin(inspectors, &self.keeper.history)
     }
 
     /// The register, once the share that is handed in has every part.

@@ -23,9 +23,9 @@
 //!
 //! The history of an office is kept by `logbook`, as the log of a book with two words: the number of steps, and the
 //! number of claims. Each step that was added spent a claim, and one claim waits at most. So whoever has the claim
-//! knows the whole history and alone can add to it. A `History` is a beginning of it; it takes no bytes but its length
-//! and may be copied. Desks, slips and inspectors each hold one. Of two histories of one office the longer begins with
-//! the shorter, which no thread has to be asked for.
+//! knows the whole history and alone can add to it. A `History` is a beginning of it; it holds its length and the
+//! register's limits but no step, and may be copied. Desks, slips and inspectors each hold one. Of two histories of
+//! one office the longer begins with the shorter, which no thread has to be asked for.
 //!
 //! # Two copies
 //!
@@ -57,11 +57,12 @@
 //! |---|---|---|---|
 //! | a name's parts | `Parts` | `name`, `parts` | |
 //! | opening, closing | `Opening`, `Closing` | `office`, `staff` | `Counting`, `Stored` |
-//! | what lies under the lock; all desks | `Beginnings`, `Histories` | `inside`, `desks` | `Counting`, `ListFacts` |
-//! | a desk's call, its slip | `Filing`, `Histories`, `Standing` | `desk`, `filing` | `Stored`, `Counting` |
+//! | what lies under the lock | `Beginnings`, `Histories`, `Shelves` | `inside` | |
+//! | all desks and inspectors | `Beginnings`, `Histories` | `desks`, `holders`, `inspector` | `Counting`, `ListFacts` |
+//! | a desk's call, its slip | `Filing`, `Histories`, `Standing` | `desk`, `filing` | `Stored` |
 //! | the history: its rule, claims, beginnings of it | `Keeping` | `history`, `keeper` | `Claiming`, `Fronts` |
 //! | the readers' copies, what is sent to them | `Copies`, `Shelves` | `copies`, `copy_update`, `shown` | `Sides` |
-//! | reading a copy with no lock | `Copies`, `Keeping` | `inspector` | `Sides`, `ListFacts` |
+//! | reading a copy with no lock | `Copies`, `Keeping` | `inspector` | `Sides` |
 //! | why an office isn't opened or closed, or a copy not frozen; the limits | | `faults`, `limits` | |
 #![tactic(auto)]
 
@@ -72,6 +73,7 @@ mod desks;
 mod faults;
 mod filing;
 mod history;
+mod holders;
 mod inside;
 mod inspector;
 mod keeper;

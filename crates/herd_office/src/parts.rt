@@ -1,9 +1,8 @@
 //! What an office has before it has a name.
-ghost use Rattle.std.specs.Prelude.{◌≡◌, ◌<◌, ◌≤◌, [], drop, Some, IfOk, IfErr};
-ghost use Rattle.herd_register.specs.Copybook.{copybook_of};
+ghost use Rattle.std.specs.Prelude.{◌≡◌, ◌<◌, ◌≤◌, [], Some, IfOk, IfErr};
 ghost use Rattle.left_right.specs.Sides.{view as seat_view};
 ghost use Rattle.herd_office.specs.Copies.{office_of};
-ghost use Rattle.herd_office.specs.Shelves.{state_of};
+ghost use Rattle.herd_office.specs.Shelves.{empty_copy, pending, published};
 ghost use Rattle.herd_office.specs.declared.limits.TheConstants.{MOST_DESKS, MOST_INSPECTORS};
 
 use crate::copies::{Held, make_copies};
@@ -28,8 +27,8 @@ pub struct OfficeParts<R: Wait + Drop> {
     ghost one_each: { blank.parts ≡ desks },
     ghost some: { 0 < inspectors },
     ghost same_limits: { opened.past.limits ≡ limits },
-    ghost shown: { state_of copies.writer.desk.shown.value ≡ (copybook_of limits [] [], opened.past) },
-    ghost settled: { drop copies.writer.behind copies.writer.log.items ≡ [] },
+    ghost shown: { published copies.writer ≡ empty_copy limits opened.past },
+    ghost settled: { pending copies.writer ≡ [] },
     ghost ours: { seat_view copies.writer.desk.place ≡ Some (office_of opened.past) },
 }
 

@@ -16,6 +16,7 @@ pub(crate) struct Staff<N: OfficeName> {
 }
 
 impl<N: OfficeName> Staff<N> {
+    /// The staff of an office that is opened with so many.
     pub fn new(desks: u16, inspectors: u16) -> Staff<N>
         requires all { desks ≡ N.all }
         requires whole { N.all ≡ N.parts }

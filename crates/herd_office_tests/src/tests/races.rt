@@ -1,7 +1,7 @@
 //! Races of desks, each run until two desks were first. Every end is compared.
 
 use super::commands::{birth, day, exit, founder, transfer};
-use super::racing::{MOST_RACES, Race, Raced, Winners};
+use super::racing::{Ends, Race, Raced};
 use herd_animal::Herd;
 use herd_fixtures::Name::{Bull, Cow};
 use herd_fixtures::{Birth, Name, Pair, UNKNOWN, herd_of};
@@ -122,31 +122,12 @@ impl Duel {
             before: &[birth(rt, BULL), birth(rt, COW), birth(rt, CALF)],
             turns: &turns,
         };
-        let mut winners = Winners::None;
-        for count in 0..MOST_RACES {
-            winners = winners.add(self.first_of(rt, alloc, &race, count % 2 == 1)?);
-            if winners == Winners::More {
-                break;
-            }
-        }
-        winners.expect_more(rt);
-        Ok(())
+        race.expect_two_winners(rt, alloc, self)
     }
+}
 
-    // The desk that came first in one race.
-    fn first_of<R: Threads + Wait + Abort + Sync>(
-        &self,
-        rt: &R,
-        alloc: Global,
-        race: &Race<'_>,
-        last_first: bool,
-    ) -> Result<u16, Fail> {
-        let raced = race.run(rt, alloc, last_first)?;
-        Ok(self.expect_end(rt, &raced))
-    }
-
-    // The desk whose command came first, in a race that ended as it may.
-    fn expect_end(&self, rt: &impl Abort, raced: &Raced) -> u16 {
+impl Ends for Duel {
+    fn first(&self, rt: &impl Abort, raced: &Raced) -> u16 {
         let [_, _, _, earlier, later] = raced.register.journal() else {
             panic!(rt; "a race without two steps");
         };
@@ -213,35 +194,33 @@ fn sixteen_desks_file_one_birth(rt: HostRuntime) -> Result<(), Fail> {
         before: &[],
         turns: &turns,
     };
-    let mut winners = Winners::None;
-    for count in 0..MOST_RACES {
-        let raced = race.run(&rt, rt.alloc(), count % 2 == 1)?;
-        winners = winners.add(expect_one_birth(&rt, &raced, &birth));
-        if winners == Winners::More {
-            break;
-        }
-    }
-    winners.expect_more(&rt);
-    Ok(())
+    race.expect_two_winners(&rt, rt.alloc(), &OneBirth { birth: &birth })
 }
 
-// The desk whose birth was accepted, the first of sixteen. Each of the others was told that the animal is there.
-fn expect_one_birth(rt: &impl Abort, raced: &Raced, birth: &Command) -> u16 {
-    let journal = raced.register.journal();
-    let [first, rest @ ..] = journal else {
-        panic!(rt; "a race without a step");
-    };
-    assert_eq!(rt; *first, accepted(first.desk, *birth));
-    for step in rest {
-        let there = Step {
-            reply: Reply::Refused(Refusal::AlreadyThere),
-            ..accepted(step.desk, *birth)
+// The first of sixteen births is accepted. Each of the other desks is told that the animal is there.
+#[derive(Drop)]
+struct OneBirth<'a> {
+    birth: &'a Command,
+}
+
+impl Ends for OneBirth<'_> {
+    fn first(&self, rt: &impl Abort, raced: &Raced) -> u16 {
+        let journal = raced.register.journal();
+        let [first, rest @ ..] = journal else {
+            panic!(rt; "a race without a step");
         };
-        assert_eq!(rt; *step, there);
+        assert_eq!(rt; *first, accepted(first.desk, *self.birth));
+        for step in rest {
+            let there = Step {
+                reply: Reply::Refused(Refusal::AlreadyThere),
+                ..accepted(step.desk, *self.birth)
+            };
+            assert_eq!(rt; *step, there);
+        }
+        expect_each_once(rt, journal);
+        assert_eq!(rt; (raced.full, raced.register.pedigree().len()), (0, 1));
+        first.desk
     }
-    expect_each_once(rt, journal);
-    assert_eq!(rt; (raced.full, raced.register.pedigree().len()), (0, 1));
-    first.desk
 }
 
 // Each of the sixteen desks has one step, and there are no others.
@@ -263,39 +242,31 @@ fn three_steps_are_all_that_fit(rt: HostRuntime) -> Result<(), Fail> {
         before: &[],
         turns: &turns,
     };
-    let mut winners = Winners::None;
-    for count in 0..MOST_RACES {
-        let first = first_of_three(&rt, rt.alloc(), &race, (&one, &two), count % 2 == 1)?;
-        winners = winners.add(first);
-        if winners == Winners::More {
-            break;
-        }
+    let ends = ThreeBirths {
+        one: &one,
+        two: &two,
+    };
+    race.expect_two_winners(&rt, rt.alloc(), &ends)
+}
+
+// Three births fit of what two desks file. Each desk's are the first of its turn, in order.
+#[derive(Drop)]
+struct ThreeBirths<'a> {
+    one: &'a [Command],
+    two: &'a [Command],
+}
+
+impl Ends for ThreeBirths<'_> {
+    fn first(&self, rt: &impl Abort, raced: &Raced) -> u16 {
+        let journal = raced.register.journal();
+        expect_turn(rt, journal, 1, self.one);
+        expect_turn(rt, journal, 2, self.two);
+        assert_eq!(rt;
+            (journal.len(), raced.full, raced.register.pedigree().len()),
+            (3, 3, 3)
+        );
+        journal.first().expect(rt, "a step").desk
     }
-    winners.expect_more(&rt);
-    Ok(())
-}
-
-fn first_of_three<R: Threads + Wait + Abort + Sync>(
-    rt: &R,
-    alloc: Global,
-    race: &Race<'_>,
-    births: (&[Command], &[Command]),
-    last_first: bool,
-) -> Result<u16, Fail> {
-    let raced = race.run(rt, alloc, last_first)?;
-    Ok(expect_three(rt, &raced, births))
-}
-
-// The desk that filed the first of three births. Each desk's are the first of its turn, in order.
-fn expect_three(rt: &impl Abort, raced: &Raced, (one, two): (&[Command], &[Command])) -> u16 {
-    let journal = raced.register.journal();
-    expect_turn(rt, journal, 1, one);
-    expect_turn(rt, journal, 2, two);
-    assert_eq!(rt;
-        (journal.len(), raced.full, raced.register.pedigree().len()),
-        (3, 3, 3)
-    );
-    journal.first().expect(rt, "a step").desk
 }
 
 // The desk's steps are of the first commands of its turn, each accepted.

@@ -15,8 +15,8 @@ use std::test::Fail;
 use std::thread;
 use std::thread::{JoinHandle, Scope, Threads};
 
-/// A race is run so often at most, since the rarer of two orders may come in few of a hundred runs.
-pub(super) const MOST_RACES: u32 = 10_000;
+// A race is run so often at most, since the rarer of two orders may come in few of a hundred runs.
+const MOST_RACES: u32 = 10_000;
 
 /// What desks file.
 #[derive(Clone, Copy)]
@@ -37,13 +37,49 @@ pub(super) struct Raced {
     pub full: u32,
 }
 
+/// How a race may end.
+pub(super) trait Ends {
+    /// The desk whose command came first, in a race that ended as it may.
+    fn first(&self, rt: &impl Abort, raced: &Raced) -> u16;
+}
+
 // A desk whose commands are filed, and how many of its calls found the journal full.
 type Returned<N> = (Desk<N>, u32);
 
 impl Race<'_> {
-    /// Runs the race in an office of its own, with a book of ten animals. The thread of desk 1 is started first, or
-    /// that of the last desk.
-    pub(super) fn run<R: Threads + Wait + Abort + Sync>(
+    /// Runs the race until two desks were first.
+    pub(super) fn expect_two_winners<R: Threads + Wait + Abort + Sync>(
+        &self,
+        rt: &R,
+        alloc: Global,
+        ends: &impl Ends,
+    ) -> Result<(), Fail> {
+        let mut winners = Winners::None;
+        for count in 0..MOST_RACES {
+            winners = winners.add(self.winner(rt, alloc, ends, count % 2 == 1)?);
+            if winners == Winners::More {
+                break;
+            }
+        }
+        winners.expect_more(rt);
+        Ok(())
+    }
+
+    // The desk that came first in one race.
+    fn winner<R: Threads + Wait + Abort + Sync>(
+        &self,
+        rt: &R,
+        alloc: Global,
+        ends: &impl Ends,
+        last_first: bool,
+    ) -> Result<u16, Fail> {
+        let raced = self.run(rt, alloc, last_first)?;
+        Ok(ends.first(rt, &raced))
+    }
+
+    // Runs the race in an office of its own, with a book of ten animals. The thread of desk 1 is started first, or that
+    // of the last desk.
+    fn run<R: Threads + Wait + Abort + Sync>(
         &self,
         rt: &R,
         alloc: Global,
@@ -90,9 +126,9 @@ impl Race<'_> {
         desks: Vec<Desk<N>>,
     ) -> (Vec<Desk<N>>, u32) {
         let start = Start::of(desks.len());
-        let (race, line) = (*self, &start);
+        let (race, start) = (*self, &start);
         thread::scope(thread::scope_env(), rt, |scope| {
-            let threads = race.start_all(rt, alloc, scope, office, desks, line);
+            let threads = race.start_all(rt, alloc, scope, office, desks, start);
             join_all(rt, alloc, threads)
         })
     }
@@ -106,11 +142,11 @@ impl<'a> Race<'a> {
         scope: &'a Scope<'a, E>,
         office: &'a Office<N, &'r R>,
         desks: Vec<Desk<N>>,
-        line: &'a Start,
+        start: &'a Start,
     ) -> Vec<JoinHandle<Returned<N>>> {
         let mut threads = Vec::new(alloc);
         for desk in desks {
-            let thread = self.start(rt, scope, office, desk, line);
+            let thread = self.start(rt, scope, office, desk, start);
             threads.push(thread).expect(rt, "room");
         }
         threads
@@ -123,10 +159,10 @@ impl<'a> Race<'a> {
         scope: &'a Scope<'a, E>,
         office: &'a Office<N, &'r R>,
         desk: Desk<N>,
-        line: &'a Start,
+        start: &'a Start,
     ) -> JoinHandle<Returned<N>> {
         let turn = self.turn(desk.number());
-        let started = scope.spawn(move || file_turn(rt, office, desk, turn, line));
+        let started = scope.spawn(move || file_turn(rt, office, desk, turn, start));
         started.ok().expect(rt, "a thread")
     }
 
@@ -160,9 +196,9 @@ fn file_turn<N: OfficeName, R: Wait + Abort>(
     office: &Office<N, &R>,
     mut desk: Desk<N>,
     turn: &[Command],
-    line: &Start,
+    start: &Start,
 ) -> Returned<N> {
-    line.wait();
+    start.wait();
     let full = file_each(rt, office, &mut desk, turn);
     (desk, full)
 }
@@ -184,16 +220,16 @@ fn file_each<N: OfficeName, R: Wait + Abort>(
     full
 }
 
-/// The desks whose commands came first in races: none yet, always one, or more than one.
+// The desks whose commands came first in races: none yet, always one, or more than one.
 #[derive(Clone, Copy, Debug, PartialEq, Eq)]
-pub(super) enum Winners {
+enum Winners {
     None,
     One(u16),
     More,
 }
 
 impl Winners {
-    pub(super) fn add(self, desk: u16) -> Winners {
+    fn add(self, desk: u16) -> Winners {
         match self {
             Winners::None => Winners::One(desk),
             Winners::One(other) if other == desk => self,
@@ -201,8 +237,8 @@ impl Winners {
         }
     }
 
-    /// With one processor a thread may always file before the others run.
-    pub(super) fn expect_more<R: Threads + Abort>(self, rt: &R) {
+    // With one processor a thread may always file before the others run.
+    fn expect_more<R: Threads + Abort>(self, rt: &R) {
         let processors = thread::available_parallelism(rt).expect(rt, "processors");
         assert!(rt; self == Winners::More || processors.get() == 1, "{self:?}");
     }

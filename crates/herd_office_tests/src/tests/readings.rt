@@ -215,7 +215,7 @@ fn freeze_often<N: OfficeName>(
 fn contains(after: &Frozen<Global>, before: &Frozen<Global>) -> bool {
     let mut found = 0;
     for rank in 0..after.len() {
-        if found < before.len() && after.row(rank).number == before.row(found).number {
+        if found < before.len() && after.number(rank) == before.number(found) {
             found += 1;
         }
     }
