@@ -32,7 +32,7 @@ class Proving:
         running: dict[concurrent.futures.Future[bool], tuple[str, int]] = {}
         with concurrent.futures.ThreadPoolExecutor(self.machine.most_runs) as pool:
             try:
-                while left and is_well or running:
+                while (left and is_well) or running:
                     ready = [name for name in left if self.crates.below[name] <= self.proved] if is_well else []
                     for name in ready[: self.machine.most_runs - len(running)]:
                         left.remove(name)
@@ -41,8 +41,10 @@ class Proving:
                         running[pool.submit(self.prove, name, jobs)] = name, jobs
                     for it in concurrent.futures.wait(running, return_when=concurrent.futures.FIRST_COMPLETED).done:
                         name, _ = running.pop(it)
-                        is_well = it.result() and is_well
-                        self.proved.add(name)
+                        if it.result():
+                            self.proved.add(name)
+                        else:
+                            is_well = False
                     if running and not is_well:
                         self.say(f"still proving {', '.join(name for name, _ in running.values())}")
             finally:

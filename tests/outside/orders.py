@@ -28,6 +28,11 @@ def each_order() -> list[list[str]]:
     ]
 
 
+def long_orders(dam: str, sires: list[str]) -> list[list[str]]:
+    """The orders whose texts have a line for each command, animal or sire."""
+    return [["file"], ["inbreeding"], ["inverse"], ["mating", "--dam", dam, *sires]]
+
+
 def order_names() -> list[str]:
     """The orders, as help lists them."""
     return list(dict.fromkeys(words[0] for words in each_order()))

@@ -4,6 +4,7 @@ from __future__ import annotations
 import os
 
 from outside.books import HEADER, SAMPLES, animal, founder
+from outside.orders import each_order
 from outside.runs import Checks, Words, fault
 
 # words that are no command line, and what is told of them
@@ -77,11 +78,10 @@ class StatusChecks(Checks):
             self.expect("number", wanted, ["mating", "--dam", number, "HOLGBRM1"])
 
     def line_faults(self) -> None:
-        mating = ["mating", "--dam", animal("F", 2), animal("M", 1)]
         for text, record, told in FAULTY_FILES:
             answered = "1,accepted\n" if record == 2 else ""
             self.expect("line fault", fault(f"record {record}: fault {told}", answered), ["file"], text)
-            for words in ["inbreeding"], ["inverse"], ["clerks"], ["certificate", animal("M", 9)], mating:
+            for words in each_order()[1:]:
                 self.expect("line fault", fault(f"record {record}: fault {told}"), words, text)
         many = HEADER + f"exit,{animal('M', 1)},2000-01-01,,,,\n" * 1_000_001
         answers = "".join(f"{serial},refused,11\n" for serial in range(1, 1_000_001))

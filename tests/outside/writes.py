@@ -6,7 +6,7 @@ from collections.abc import Callable
 from typing import IO
 
 from outside.books import animal, founder, males
-from outside.orders import each_order
+from outside.orders import each_order, long_orders
 from outside.refusals import ALL, Refusals, is_fault
 from outside.runs import Done, Words, fault, wrote
 from outside.small import SMALL
@@ -67,7 +67,7 @@ class WriteChecks(Refusals):
         """A text of several parts is written part by part; where a write is refused, the parts before it are there."""
         text = males(12_000) + founder(animal("F", 1))
         sires = [animal("M", one) for one in range(1, 5_001)]
-        for words in ["file"], ["inbreeding"], ["inverse"], ["mating", "--dam", animal("F", 1), *sires]:
+        for words in long_orders(animal("F", 1), sires):
             self.long_text(words, text)
 
     def long_text(self, words: list[str], text: str) -> None:

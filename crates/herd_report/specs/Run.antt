@@ -49,7 +49,8 @@ replies_to limits commands = replies_text (filed_from limits [] commands)
 -- what an order wants of commands, and of the frozen rows of their book
 abbrev pub wanted : Order → Limits → List Command → List Row → List ℕ
 wanted File limits commands rows = replies_to limits commands
-wanted (Inbreeding workers block) limits commands rows = inbreeding_text (coefficient (ancestry_of rows) DEPTH_LIMIT) rows
+wanted (Inbreeding workers block) limits commands rows =
+    inbreeding_text (coefficient (ancestry_of rows) DEPTH_LIMIT) rows
 wanted (Certificate number) limits commands rows = certificate_of rows number
 wanted (Mating dam sires) limits commands rows = mating_text (book_of rows) dam sires.now
 wanted Inverse limits commands rows = inverse_text rows
@@ -93,7 +94,8 @@ CanEndBy order Memory = ⊤
 CanEndBy order Write = ⊤
 
 -- a text that an order wants of commands passes a test; only for the replies no frozen rows are needed
-pub record IsReport (limits : Limits) (order : Order) (commands : List Command) (Passes : List ℕ → Type 0) : Type 0 where
+pub record IsReport (limits : Limits) (order : Order) (commands : List Command)
+    (Passes : List ℕ → Type 0) : Type 0 where
   pub rows : List Row
   pub frozen : order ≢ File → IsFrozenFrom DEPTH_LIMIT MOST_ANIMALS (run_book limits commands) rows
   pub passes : Passes (wanted order limits commands rows)
@@ -110,7 +112,8 @@ IsWrittenBefore limits File commands old new = Appends old new (replies_to limit
 IsWrittenBefore limits order commands old new = new ≡ old
 
 -- a line fault, or an interruption of the reading, was met after these commands
-pub record EndsByLine (limits : Limits) (order : Order) (file : CommandFile) (fault : LineFault) (old new : Option (List ℕ)) : Type 0 where
+pub record EndsByLine (limits : Limits) (order : Order) (file : CommandFile) (fault : LineFault)
+    (old new : Option (List ℕ)) : Type 0 where
   pub commands : List Command
   pub read : IsRead limits.steps file commands (Some fault)
   pub written : IsWrittenBefore limits order commands old new
@@ -125,7 +128,8 @@ NeedsMemory File commands = 0 < length commands
 NeedsMemory order commands = ⊤
 
 -- what the order wants was written, but for some of its end
-pub record StopsWriting (limits : Limits) (order : Order) (file : CommandFile) (old new : Option (List ℕ)) : Type 0 where
+pub record StopsWriting (limits : Limits) (order : Order) (file : CommandFile)
+    (old new : Option (List ℕ)) : Type 0 where
   pub there : IsThere order (run_book limits file.commands)
   pub front : IsReport limits order file.commands (AppendsFront old new)
 

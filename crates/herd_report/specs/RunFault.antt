@@ -7,7 +7,6 @@ use Rattle.herd_report.specs.reading.CommandFile.{CommandFile, IsReadUpTo}
 use Rattle.herd_report.specs.writing.Text.{AppendsFront}
 use Rattle.herd_report.specs.declared.writing.certificate_fault.CertificateFault.{CertificateFault}
 use Rattle.herd_report.specs.declared.writing.certificate_fault.CertificateFault.TheVariants as certificate
-use Rattle.herd_report.specs.declared.reading.line_fault.LineFault.{LineFault}
 use Rattle.herd_report.specs.declared.writing.report_fault.ReportFault.{ReportFault}
 use Rattle.herd_report.specs.declared.writing.report_fault.ReportFault.TheVariants as report
 use Rattle.herd_report.specs.declared.run_fault.RunFault.{RunFault}
@@ -24,14 +23,6 @@ run_fault_of_certificate (certificate.Report fault) = run_fault_of fault
 abbrev pub run_fault_of_pool : PoolFault → RunFault
 run_fault_of_pool pool.NoThread = NoThread
 run_fault_of_pool pool.Memory = Memory
-
--- where it is a line fault, that passes a test
-abbrev pub IfLine : RunFault → (LineFault → Type 0) → Type 0
-IfLine (Line fault) Passes = Passes fault
-IfLine NotRegistered Passes = ⊤
-IfLine NoThread Passes = ⊤
-IfLine Memory Passes = ⊤
-IfLine Write Passes = ⊤
 
 -- a fault of reading and filing
 abbrev pub CanEndFreezing : RunFault → Type 0

@@ -8,7 +8,7 @@ ghost use Rattle.herd_report.specs.reading.CommandFile.{CommandFile, IsRead, IsR
 ghost use Rattle.herd_report.specs.reading.CommandReader.{HasGiven, IsOpen, IsReady};
 ghost use Rattle.herd_report.specs.reading.LineCause.{is_interruption};
 ghost use Rattle.herd_report.specs.Run.{HasFiled, IsFiledFile};
-ghost use Rattle.herd_report.specs.RunFault.{CanEndFreezing, EndsFreezing, IfLine};
+ghost use Rattle.herd_report.specs.RunFault.{CanEndFreezing, EndsFreezing};
 
 use crate::reading::command_reader::CommandReader;
 use crate::reading::line_fault::LineFault;
@@ -76,9 +76,6 @@ fn file_whole<R: Read>(
     ensures err { IfErr result (λ fault. (file : CommandFile) → HasGiven R.remaining file [] commands.old
         → EndsFreezing limits file fault) }
     ensures fault { IfErr result CanEndFreezing }
-    ensures record_number { IfErr result (λ fault. IfLine fault (λ line. line.record_number ≡ commands.new.given + 1)) }
-    ensures interrupted { IfErr result (λ fault. IfLine fault
-        (λ line. is_interruption line.cause ≡ has_failed commands.new.records)) }
 {
     let mut register = Register::new(alloc, limits);
     match file_each(commands, &mut register) {

@@ -20,7 +20,7 @@
 //! |---|---|---|---|
 //! | the records to come | `Upcoming` | `records` | `UpcomingFacts` |
 //! | the header | `Grammar`, `Columns` | `version`, `columns` | `HeaderFacts` |
-//! | a record as a command | `Grammar`, `Field` | `field` | `FieldFacts`, `HerdFacts` |
+//! | a record as a command | `Grammar`, `Field` | `columns`, `field` | `FieldFacts`, `HerdFacts` |
 //! | a command file, and where it goes wrong | `CommandFile`, `LineCause` | `command_file`, `line_fault` | |
 //! | its commands, one at a time | `CommandReader` | `command_reader` | `CommandReaderFacts` |
 //! | filing them | `Run` (`HasFiled`) | `command_filing` | `RunFacts` |
@@ -48,7 +48,6 @@ pub use orders::{Order, run};
 pub use reading::command_file::list_commands;
 pub use reading::command_file::{Commands, read_commands};
 pub use reading::line_fault::{LineCause, LineFault};
-pub use reading::version::Version;
 pub use run_fault::RunFault;
 pub use writing::certificate::write_certificate;
 pub use writing::certificate_fault::CertificateFault;

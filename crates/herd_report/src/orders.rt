@@ -1,12 +1,10 @@
-ghost use Rattle.std.specs.Prelude.{◌≡◌, ◌<◌, false, IfErr, IfOk, IfSome, OnOk};
+ghost use Rattle.std.specs.Prelude.{◌≡◌, ◌<◌, IfErr, IfOk, IfSome, OnOk};
 ghost use Rattle.std.specs.Io.KnownBytes.{Appends};
-ghost use Rattle.herd_frozen.specs.rules.Book.{is_there};
 ghost use Rattle.herd_frozen.specs.freezing.Frozen.{book_of};
 ghost use Rattle.herd_frozen.specs.declared.TheConstants.{DEPTH_LIMIT};
 ghost use Rattle.herd_kinship.specs.Coefficients.{AreCoefficients};
 ghost use Rattle.herd_kinship.specs.FrozenAncestry.{ancestry_of};
 ghost use Rattle.herd_kinship.specs.Table.{coefficient};
-ghost use Rattle.herd_report.specs.writing.Certificate.{EndsCertificate, IsCertified};
 ghost use Rattle.herd_report.specs.reading.CommandFile.{commands};
 ghost use Rattle.herd_report.specs.writing.InbreedingList.{inbreeding_text};
 ghost use Rattle.herd_report.specs.writing.InverseList.{inverse_text};
@@ -16,8 +14,7 @@ ghost use Rattle.herd_report.specs.RunFault.{CanEndFreezing, EndsFreezing, EndsL
 
 use crate::command_filing::{file_commands, file_faultless};
 use crate::run_fault::RunFault;
-use crate::writing::certificate::{rank_for, write_certificate_at};
-use crate::writing::certificate_fault::CertificateFault;
+use crate::writing::certificate::certify;
 use crate::writing::inbreeding_list::write_inbreeding;
 use crate::writing::inverse_list::write_inverse;
 use crate::writing::mating_list::write_mating;
@@ -79,22 +76,96 @@ pub fn run<H: Threads + Wait + Sync, R: Read + Drop, W: Write>(
     match order {
         Order::File => write_answers(alloc, limits, reader, writer),
         Order::Inbreeding { workers, block } => {
-            let frozen = frozen_book(alloc, limits, reader)?;
-            list_inbreeding(rt, alloc, &frozen, workers, block, writer)
+            list_of_file(rt, alloc, limits, workers, block, reader, writer)
         }
-        Order::Certificate(number) => {
-            let frozen = frozen_book(alloc, limits, reader)?;
-            Ok(certify(alloc, &frozen, number, writer)?)
-        }
-        Order::Mating { dam, sires } => {
-            let frozen = frozen_book(alloc, limits, reader)?;
-            Ok(advise(alloc, &frozen, dam, sires, writer)?)
-        }
-        Order::Inverse => {
-            let frozen = frozen_book(alloc, limits, reader)?;
-            Ok(list_inverse(alloc, &frozen, writer)?)
-        }
+        Order::Certificate(number) => certificate_in_file(alloc, limits, number, reader, writer),
+        Order::Mating { dam, sires } => advice_on_file(alloc, limits, dam, sires, reader, writer),
+        Order::Inverse => inverse_of_file(alloc, limits, reader, writer),
     }
+}
+
+// Writes the coefficients of the animals of a file.
+fn list_of_file<H: Threads + Wait + Sync, R: Read + Drop, W: Write>(
+    rt: &H,
+    alloc: Global,
+    limits: Limits,
+    workers: u32,
+    block: u32,
+    reader: R,
+    writer: &mut W,
+) -> Result<(), RunFault>
+    requires { IsOrder (Order.Inbreeding workers block) }
+    ensures ok { OnOk result (IfSome (R.remaining reader)
+        (λ bytes. IsAnswered limits (Order.Inbreeding workers block) (commands bytes limits.steps)
+        (W.contents writer.old) (W.contents writer.new))) }
+    ensures err { IfErr result (λ fault. IfSome (R.remaining reader)
+        (λ bytes. EndsBy limits (Order.Inbreeding workers block) (commands bytes limits.steps)
+        (W.contents writer.old) (W.contents writer.new) fault)) }
+    ensures fault { IfErr result (CanEndBy (Order.Inbreeding workers block)) }
+{
+    let frozen = frozen_book(alloc, limits, reader)?;
+    list_inbreeding(rt, alloc, &frozen, workers, block, writer)
+}
+
+// Writes the certificate of an animal of a file.
+fn certificate_in_file<R: Read + Drop, W: Write>(
+    alloc: Global,
+    limits: Limits,
+    number: AnimalNumber,
+    reader: R,
+    writer: &mut W,
+) -> Result<(), RunFault>
+    ensures ok { OnOk result (IfSome (R.remaining reader)
+        (λ bytes. IsAnswered limits (Order.Certificate number) (commands bytes limits.steps)
+        (W.contents writer.old) (W.contents writer.new))) }
+    ensures err { IfErr result (λ fault. IfSome (R.remaining reader)
+        (λ bytes. EndsBy limits (Order.Certificate number) (commands bytes limits.steps)
+        (W.contents writer.old) (W.contents writer.new) fault)) }
+    ensures fault { IfErr result (CanEndBy (Order.Certificate number)) }
+{
+    let frozen = frozen_book(alloc, limits, reader)?;
+    let none_given = None::<&Coefficients<Global>>;
+    Ok(certify(alloc, &frozen, none_given, number, writer)?)
+}
+
+// Writes mating advice for a dam from the book of a file.
+fn advice_on_file<R: Read + Drop, W: Write>(
+    alloc: Global,
+    limits: Limits,
+    dam: AnimalNumber,
+    sires: &[AnimalNumber],
+    reader: R,
+    writer: &mut W,
+) -> Result<(), RunFault>
+    ensures ok { OnOk result (IfSome (R.remaining reader)
+        (λ bytes. IsAnswered limits (Order.Mating dam sires.entry) (commands bytes limits.steps)
+        (W.contents writer.old) (W.contents writer.new))) }
+    ensures err { IfErr result (λ fault. IfSome (R.remaining reader)
+        (λ bytes. EndsBy limits (Order.Mating dam sires.entry) (commands bytes limits.steps)
+        (W.contents writer.old) (W.contents writer.new) fault)) }
+    ensures fault { IfErr result (CanEndBy (Order.Mating dam sires.entry)) }
+{
+    let frozen = frozen_book(alloc, limits, reader)?;
+    Ok(advise(alloc, &frozen, dam, sires, writer)?)
+}
+
+// Writes what the animals of a file contribute to the inverse.
+fn inverse_of_file<R: Read + Drop, W: Write>(
+    alloc: Global,
+    limits: Limits,
+    reader: R,
+    writer: &mut W,
+) -> Result<(), RunFault>
+    ensures ok { OnOk result (IfSome (R.remaining reader)
+        (λ bytes. IsAnswered limits Order.Inverse (commands bytes limits.steps)
+        (W.contents writer.old) (W.contents writer.new))) }
+    ensures err { IfErr result (λ fault. IfSome (R.remaining reader)
+        (λ bytes. EndsBy limits Order.Inverse (commands bytes limits.steps)
+        (W.contents writer.old) (W.contents writer.new) fault)) }
+    ensures fault { IfErr result (CanEndBy Order.Inverse) }
+{
+    let frozen = frozen_book(alloc, limits, reader)?;
+    Ok(list_inverse(alloc, &frozen, writer)?)
 }
 
 // Writes the coefficients of a book's animals.
@@ -133,22 +204,6 @@ fn shared_coefficients<H: Threads + Wait + Sync>(
     } else {
         herd_pool::coefficients_by_sires(rt, alloc, frozen, workers, block)
     }
-}
-
-// Writes an animal's certificate. Where the animal isn't in the book, nothing is computed.
-fn certify<W: Write>(
-    alloc: Global,
-    frozen: &Frozen<Global>,
-    number: AnimalNumber,
-    writer: &mut W,
-) -> Result<(), CertificateFault>
-    ensures ok { OnOk result (IsCertified frozen.now number (W.contents writer.old) (W.contents writer.new)) }
-    ensures err { IfErr result (EndsCertificate frozen.now number (W.contents writer.old) (W.contents writer.new)) }
-    ensures untouched { is_there (book_of frozen.now) number ≡ false → writer.new ≡ writer.old }
-{
-    let rank = rank_for(frozen, &number)?;
-    let coefficients = coefficients_plain(alloc, frozen)?;
-    Ok(write_certificate_at(alloc, frozen, &coefficients, rank, writer)?)
 }
 
 // Writes mating advice for a dam.

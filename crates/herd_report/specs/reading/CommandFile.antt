@@ -16,7 +16,8 @@ pub record CommandFile : Type 0 where
   pub fault : Option LineFault
 
 abbrev pub fault_at : ℕ → LineCause → CommandFile
-fault_at record_number cause = record { commands = []; fault = Some (record { record_number = record_number; cause = cause }) }
+fault_at record_number cause =
+    record { commands = []; fault = Some (record { record_number = record_number; cause = cause }) }
 
 -- commands, and what comes after them
 abbrev pub followed_by : List Command → CommandFile → CommandFile
@@ -53,7 +54,8 @@ IsNextRecord list record_number = ((record_number ≡ 0) × (list ≡ [])) ⊎ (
 abbrev pub IsReadBefore : ℕ → ℕ → List Command → CommandFile → Type 0
 IsReadBefore most record_number list file =
     ((record_number ≡ 0) × (list ≡ []))
-    ⊎ ((record_number ≡ length list + 1) × (version : Version) × (rest : List Fields) × (file ≡ followed_by list (commands_from version most record_number rest)))
+    ⊎ ((record_number ≡ length list + 1) × (version : Version) × (rest : List Fields)
+    × (file ≡ followed_by list (commands_from version most record_number rest)))
 
 -- commands that were read, and a fault, are what the file says, or the commands before an interruption
 abbrev pub IsRead : ℕ → CommandFile → List Command → Option LineFault → Type 0

@@ -24,14 +24,16 @@ abbrev pub IsOpen : {R : Type 0} → CommandReader R → Type 0
 IsOpen reader = IsReady reader.most reader.given reader
 
 -- a reader of a known file that gave its first commands, and has the others still to give
-pub record HasGiven {R : Type 0} (remaining : R → Option (List ℕ)) (file : CommandFile) (list : List Command) (reader : CommandReader R) : Type 0 where
+pub record HasGiven {R : Type 0} (remaining : R → Option (List ℕ)) (file : CommandFile) (list : List Command)
+    (reader : CommandReader R) : Type 0 where
   pub rest : List Fields
   pub to_come : upcoming remaining reader.records ≡ Some rest
   pub counts : reader.given ≡ length list
   pub same : file ≡ followed_by list (commands_from reader.version reader.most (reader.given + 1) rest)
 
 -- the next command of the file, its end, or its fault
-abbrev pub Gives : {R : Type 0} → (R → Option (List ℕ)) → ℕ → CommandFile → List Command → CommandReader R → Result (Option Command) LineFault → Type 0
+abbrev pub Gives : {R : Type 0} → (R → Option (List ℕ)) → ℕ → CommandFile → List Command → CommandReader R
+    → Result (Option Command) LineFault → Type 0
 Gives remaining most file list reader (Ok (Some command)) = HasGiven remaining file (list ++ command ∷ []) reader
 Gives remaining most file list reader (Ok None) = IsRead most file list None
 Gives remaining most file list reader (Err fault) = IsRead most file list (Some fault)
@@ -43,9 +45,13 @@ Opens remaining most file (Err fault) = IsRead most file [] (Some fault)
 
 -- where the records to come are known, the first of them, of this number, is this command, or there is none, or it is a
 -- fault
-abbrev pub TakesNext : Version → ℕ → ℕ → Option (List Fields) → Option (List Fields) → Result (Option Command) LineCause → Type 0
+abbrev pub TakesNext : Version → ℕ → ℕ → Option (List Fields) → Option (List Fields)
+    → Result (Option Command) LineCause → Type 0
 TakesNext version most record_number old new (Ok (Some command)) =
-    IfSome old (λ records. (rest : List Fields) × (new ≡ Some rest) × (commands_from version most record_number records ≡ followed_by (command ∷ []) (commands_from version most (record_number + 1) rest)))
+    IfSome old (λ records. (rest : List Fields) × (new ≡ Some rest)
+    × (commands_from version most record_number records
+    ≡ followed_by (command ∷ []) (commands_from version most (record_number + 1) rest)))
 TakesNext version most record_number old new (Ok None) = IfSome old (λ records. records ≡ [])
 TakesNext version most record_number old new (Err cause) =
-    MatchBool (is_interruption cause) ⊤ (IfSome old (λ records. commands_from version most record_number records ≡ fault_at record_number cause))
+    MatchBool (is_interruption cause) ⊤
+    (IfSome old (λ records. commands_from version most record_number records ≡ fault_at record_number cause))

@@ -19,7 +19,8 @@ parent_rank Dam parents = parents.dam
 -- the ancestor to which a path of parents leads from an animal, the nearest parent first
 abbrev pub ancestor_of : Book → List ℕ → List Parent → Option (List ℕ)
 ancestor_of book number [] = Some number
-ancestor_of book number (parent ∷ path) = option_and_then (λ known. ancestor_of book known path) (parent_of book parent number)
+ancestor_of book number (parent ∷ path) =
+    option_and_then (λ known. ancestor_of book known path) (parent_of book parent number)
 
 -- the paths of n parents, those through the sire before those through the dam
 abbrev pub paths_of : ℕ → List (List Parent)

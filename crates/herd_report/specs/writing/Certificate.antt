@@ -61,7 +61,8 @@ ancestors_text book number = flat_map (ancestor_line book number) three_generati
 -- the certificate of a number of the book, with the numerator of its coefficient
 abbrev pub certificate_text : Book → ℕ → List ℕ → List ℕ
 certificate_text book numerator number =
-    option_map_or (λ animal. animal_text number animal numerator ++ ancestors_text book number) (record_of book number) []
+    option_map_or (λ animal. animal_text number animal numerator ++ ancestors_text book number)
+    (record_of book number) []
 
 -- the certificate of a number of a frozen book
 abbrev pub certificate_of : List Row → List ℕ → List ℕ

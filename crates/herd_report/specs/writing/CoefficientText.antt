@@ -11,7 +11,8 @@ percentage_text hundredths = decimal (hundredths / 100) ++ codes "." ++ two_digi
 -- a coefficient with this numerator as a fraction and as a percentage, with a separator between them
 unfoldable pub coefficient_text : List ℕ → ℕ → List ℕ
 coefficient_text separator numerator =
-    fraction_text (halved false numerator (2 ^ (2 * DEPTH_LIMIT))) ++ separator ++ percentage_text (hundredths_of DEPTH_LIMIT numerator)
+    fraction_text (halved false numerator (2 ^ (2 * DEPTH_LIMIT))) ++ separator
+    ++ percentage_text (hundredths_of DEPTH_LIMIT numerator)
 
 -- what stands in the line of an animal after its number: the coefficient as a fraction and as a percentage
 abbrev pub coefficient_line_end : ℕ → List ℕ

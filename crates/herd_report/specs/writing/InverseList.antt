@@ -21,7 +21,8 @@ contribution_line rows number element =
 
 -- the lines of what the animal at a rank contributes
 abbrev pub contributions_text : List Row → ℕ → List ℕ
-contributions_text rows rank = flat_map (contribution_line rows (number_of_row rows rank)) (contributions_of DEPTH_LIMIT rows rank)
+contributions_text rows rank =
+    flat_map (contribution_line rows (number_of_row rows rank)) (contributions_of DEPTH_LIMIT rows rank)
 
 -- the lines of the animals of a frozen book in age order
 abbrev pub inverse_text : List Row → List ℕ

@@ -41,15 +41,15 @@ impl Kind {
 
 /// The fields of a record. In version 1 the embryo column is empty.
 #[derive(Clone, Copy)]
-pub struct Columns<'a> {
-    pub kind: &'a [u8],
-    pub animal: &'a [u8],
-    pub day: &'a [u8],
-    pub sire: &'a [u8],
-    pub dam: &'a [u8],
-    pub from: &'a [u8],
-    pub to: &'a [u8],
-    pub embryo: &'a [u8],
+pub(crate) struct Columns<'a> {
+    pub(crate) kind: &'a [u8],
+    pub(crate) animal: &'a [u8],
+    pub(crate) day: &'a [u8],
+    pub(crate) sire: &'a [u8],
+    pub(crate) dam: &'a [u8],
+    pub(crate) from: &'a [u8],
+    pub(crate) to: &'a [u8],
+    pub(crate) embryo: &'a [u8],
 }
 
 impl<'a> Columns<'a> {
@@ -58,7 +58,7 @@ impl<'a> Columns<'a> {
     ghost use Rattle.herd_report.specs.declared.reading.columns.Kind.TheVariants as kind;
 
     /// The fields by their places, each empty where the record has fewer.
-    pub fn of(row: &'a ByteRecord) -> Columns<'a>
+    pub(crate) fn of(row: &'a ByteRecord) -> Columns<'a>
         ensures { texts_of result ≡ texts_in (fields_of row.now) }
     {
         Columns {
@@ -144,7 +144,7 @@ impl<'a> Columns<'a> {
 
     /// The command, or the first fault.
     #[inline(always)]
-    pub fn command(&self) -> Result<Command, LineCause>
+    pub(crate) fn command(&self) -> Result<Command, LineCause>
         ensures { result ≡ command_in_columns (texts_of self.now) }
     {
         match Kind::parse(self.kind) {
@@ -157,7 +157,7 @@ impl<'a> Columns<'a> {
     }
 
     /// Whether these are the names of the columns, that of the embryo column apart.
-    pub fn are_names(&self) -> bool
+    pub(crate) fn are_names(&self) -> bool
         ensures { result ≡ are_names (texts_of self.now) }
     {
         self.kind == b"kind".as_slice()
@@ -173,7 +173,7 @@ impl<'a> Columns<'a> {
 /// The command of a record, or its fault. No such fault is an interruption.
 #[inline(always)]
 #[tactic(auto, unfolding(crate::specs::reading::Grammar::command_of))]
-pub fn parse_command(version: Version, row: &ByteRecord) -> Result<Command, LineCause>
+pub(crate) fn parse_command(version: Version, row: &ByteRecord) -> Result<Command, LineCause>
     ensures command { result ≡ command_of version (fields_of row.now) }
     ensures known { IfErr result (λ cause. is_interruption cause ≡ false) }
 {

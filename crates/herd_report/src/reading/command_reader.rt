@@ -1,5 +1,5 @@
 //! The commands of a file, one at a time.
-ghost use Rattle.std.specs.Prelude.{◌≡◌, ◌<◌, ◌≤◌, ◌+◌, List, [], IfErr, IfOk, IfSome, false, true};
+ghost use Rattle.std.specs.Prelude.{◌≡◌, ◌<◌, ◌≤◌, ◌+◌, List, IfErr, IfOk, IfSome, false, true};
 ghost use Rattle.csv.specs.Reading.{has_failed};
 ghost use Rattle.herd_register.specs.declared.command.Command.{Command};
 ghost use Rattle.herd_register.specs.declared.limits.TheConstants.{MOST_STEPS};

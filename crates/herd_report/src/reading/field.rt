@@ -8,21 +8,21 @@ use herd_animal::{AnimalNumber, Day, Herd};
 /// The animal number that a field is.
 // Not inlined: a birth calls it for three fields.
 #[inline(never)]
-pub fn animal(text: &[u8], cause: LineCause) -> Result<AnimalNumber, LineCause>
+pub(crate) fn animal(text: &[u8], cause: LineCause) -> Result<AnimalNumber, LineCause>
     ensures { result ≡ (if is_animal_number text.now then Ok text.now else Err cause) }
 {
     AnimalNumber::parse(text).or(Err(cause))
 }
 
 /// The day that a field tells.
-pub fn day(text: &[u8], cause: LineCause) -> Result<Day, LineCause>
+pub(crate) fn day(text: &[u8], cause: LineCause) -> Result<Day, LineCause>
     ensures { result ≡ (if is_day text.now then Ok (day_in text.now) else Err cause) }
 {
     Day::parse(text).or(Err(cause))
 }
 
 /// The herd that a field tells.
-pub fn herd(text: &[u8], cause: LineCause) -> Result<Herd, LineCause>
+pub(crate) fn herd(text: &[u8], cause: LineCause) -> Result<Herd, LineCause>
     ensures { result ≡ (if is_herd text.now then Ok (herd_in text.now) else Err cause) }
 {
     Herd::parse(text).or(Err(cause))
@@ -37,7 +37,7 @@ fn is_unknown(text: &[u8]) -> bool
 
 /// The parent that a field names: none where it's empty or `0`.
 #[tactic(auto, unfolding(crate::specs::reading::Field::is_parent, crate::specs::reading::Field::parent_in))]
-pub fn parent(text: &[u8], cause: LineCause) -> Result<Option<AnimalNumber>, LineCause>
+pub(crate) fn parent(text: &[u8], cause: LineCause) -> Result<Option<AnimalNumber>, LineCause>
     ensures { result ≡ (if is_parent text.now then Ok (parent_in text.now) else Err cause) }
 {
     if is_unknown(text) {
@@ -49,7 +49,7 @@ pub fn parent(text: &[u8], cause: LineCause) -> Result<Option<AnimalNumber>, Lin
 
 /// Whether a birth is of an embryo: `1`, or empty where it isn't.
 #[tactic(auto, unfolding(crate::specs::reading::Field::is_embryo, crate::specs::reading::Field::is_embryo_flag))]
-pub fn embryo(text: &[u8], cause: LineCause) -> Result<bool, LineCause>
+pub(crate) fn embryo(text: &[u8], cause: LineCause) -> Result<bool, LineCause>
     ensures { result ≡ (if is_embryo_flag text.now then Ok (is_embryo text.now) else Err cause) }
 {
     if text == b"1".as_slice() {
@@ -62,7 +62,7 @@ pub fn embryo(text: &[u8], cause: LineCause) -> Result<bool, LineCause>
 }
 
 /// Nothing, as in each field that a command doesn't use.
-pub fn unused(text: &[u8]) -> Result<(), LineCause>
+pub(crate) fn unused(text: &[u8]) -> Result<(), LineCause>
     ensures { result ≡ (if is_empty text.now then Ok tt else Err LineCause.FieldNotUsed) }
 {
     if text.is_empty() {

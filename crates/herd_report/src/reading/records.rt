@@ -11,7 +11,7 @@ use std::alloc::Global;
 use std::io::Read;
 
 /// A reader whose next record is the header.
-pub fn open<R: Read>(alloc: Global, reader: R) -> Reader<R>
+pub(crate) fn open<R: Read>(alloc: Global, reader: R) -> Reader<R>
     ensures set_up { IsSetUp result }
     ensures upcoming { upcoming R.remaining result
         ≡ option_map (λ bytes. records default_config (strip_bom bytes)) (R.remaining reader) }
@@ -23,7 +23,10 @@ pub fn open<R: Read>(alloc: Global, reader: R) -> Reader<R>
 }
 
 /// Reads the next record, if there is one.
-pub fn read_record<R: Read>(reader: &mut Reader<R>, row: &mut ByteRecord) -> Result<bool, LineCause>
+pub(crate) fn read_record<R: Read>(
+    reader: &mut Reader<R>,
+    row: &mut ByteRecord,
+) -> Result<bool, LineCause>
     requires { IsSetUp reader.old }
     ensures set_up { IfOk result (λ found. found ≡ true → IsSetUp reader.new) }
     ensures takes { IfOk result (TakesRecord (upcoming R.remaining reader.old)

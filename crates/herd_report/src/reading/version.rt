@@ -5,8 +5,8 @@ use crate::reading::columns::Columns;
 use csv::ByteRecord;
 
 /// The version of a command file, as its header tells it.
-#[derive(Clone, Copy, Debug, PartialEq, Eq)]
-pub enum Version {
+#[derive(Clone, Copy)]
+pub(crate) enum Version {
     /// Seven columns, from `kind` to `to`. All births are ordinary.
     One,
     /// The same and `embryo`, which says whether a calf was born from a stored embryo.

@@ -1,22 +1,20 @@
-ghost use Rattle.std.specs.Prelude.{◌≡◌, ◌<◌, ◌++◌, false, true, codes, length, IfErr, IfOk, OnErr, OnOk};
-ghost use Rattle.std.specs.Io.KnownBytes.{Appends};
+ghost use Rattle.std.specs.Prelude.{◌≡◌, ◌<◌, ◌++◌, false, codes, length, IfErr, IfOk, IfSome, OnOk};
 ghost use Rattle.herd_frozen.specs.rules.Book.{is_there};
 ghost use Rattle.herd_frozen.specs.freezing.Frozen.{book_of};
 ghost use Rattle.herd_frozen.specs.declared.TheConstants.{DEPTH_LIMIT};
 ghost use Rattle.herd_kinship.specs.Coefficients.{AreCoefficients};
-ghost use Rattle.herd_kinship.specs.FrozenAncestry.{number_of_row};
+ghost use Rattle.herd_kinship.specs.FrozenAncestry.{ancestry_of, number_of_row};
+ghost use Rattle.herd_kinship.specs.Table.{coefficient};
 ghost use Rattle.herd_report.specs.writing.Certificate.{EndsCertificate, IsCertified, animal_text, certificate_of, labelled_line, left_text, sex_text};
 ghost use Rattle.herd_report.specs.writing.CoefficientText.{coefficient_text};
-ghost use Rattle.herd_report.specs.writing.Text.{AppendsFront};
 
 use crate::writing::ancestors::push_ancestors;
 use crate::writing::certificate_fault::CertificateFault;
 use crate::writing::coefficient_text::{Coefficient, push_coefficient};
-use crate::writing::report_fault::ReportFault;
 use crate::writing::text::Text;
 use herd_animal::{AnimalNumber, Day, Sex};
 use herd_frozen::{Frozen, Row};
-use herd_kinship::Coefficients;
+use herd_kinship::{Coefficients, coefficients_plain};
 use itoa::Buffer;
 use std::alloc::{AllocError, Allocator};
 use std::io::Write;
@@ -34,62 +32,65 @@ pub fn write_certificate<W: Write, A: Allocator, F: Allocator, C: Allocator>(
     ensures err { IfErr result (EndsCertificate frozen.now number (W.contents writer.old) (W.contents writer.new)) }
     ensures untouched { is_there (book_of frozen.now) number ≡ false → writer.new ≡ writer.old }
 {
-    let rank = rank_for(frozen, &number)?;
-    Ok(write_certificate_at(alloc, frozen, coefficients, rank, writer)?)
+    certify(alloc, frozen, Some(coefficients), number, writer)
 }
 
-/// The rank of the animal that a certificate is asked for.
-pub(crate) fn rank_for<F: Allocator>(
+/// The same with coefficients that are computed once the animal is found, where none are given.
+pub(crate) fn certify<W: Write, A: Allocator, F: Allocator, C: Allocator>(
+    alloc: A,
     frozen: &Frozen<F>,
-    number: &AnimalNumber,
-) -> Result<u32, CertificateFault>
-    ensures within { IfOk result (λ rank. rank < length frozen.now) }
-    ensures own { IfOk result (λ rank. number_of_row frozen.now rank ≡ number.now) }
-    ensures there { OnOk result (is_there (book_of frozen.now) number.now ≡ true) }
-    ensures absent { IfErr result
-        (λ fault. (fault ≡ CertificateFault.NotRegistered) × (is_there (book_of frozen.now) number.now ≡ false)) }
+    given: Option<&Coefficients<C>>,
+    number: AnimalNumber,
+    writer: &mut W,
+) -> Result<(), CertificateFault>
+    requires { IfSome given (λ list. AreCoefficients DEPTH_LIMIT frozen.now list.now) }
+    ensures ok { OnOk result (IsCertified frozen.now number (W.contents writer.old) (W.contents writer.new)) }
+    ensures err { IfErr result (EndsCertificate frozen.now number (W.contents writer.old) (W.contents writer.new)) }
+    ensures untouched { is_there (book_of frozen.now) number ≡ false → writer.new ≡ writer.old }
 {
-    match frozen.rank(number) {
-        Some(rank) => Ok(rank),
-        None => Err(CertificateFault::NotRegistered),
+    let Some(rank) = frozen.rank(&number) else {
+        return Err(CertificateFault::NotRegistered);
+    };
+    let own = coefficient_at(&alloc, frozen, given, rank)?;
+    let mut text = Text::new(alloc);
+    push_certificate(&mut text, frozen, own, rank)?;
+    Ok(text.finish(writer)?)
+}
+
+// The coefficient of the animal at a rank.
+fn coefficient_at<A: Allocator, F: Allocator, C: Allocator>(
+    alloc: &A,
+    frozen: &Frozen<F>,
+    given: Option<&Coefficients<C>>,
+    rank: u32,
+) -> Result<Coefficient, AllocError>
+    requires rank { rank < length frozen.now }
+    requires given { IfSome given (λ list. AreCoefficients DEPTH_LIMIT frozen.now list.now) }
+    ensures { IfOk result
+        (λ own. own.numerator ≡ coefficient (ancestry_of frozen.now) DEPTH_LIMIT (number_of_row frozen.now rank)) }
+{
+    match given {
+        Some(list) => Ok(Coefficient {
+            numerator: list.numerator(rank),
+        }),
+        None => Ok(Coefficient {
+            numerator: coefficients_plain(alloc, frozen)?.numerator(rank),
+        }),
     }
 }
 
-/// Writes the certificate of the animal at a rank.
-pub(crate) fn write_certificate_at<W: Write, A: Allocator, F: Allocator, C: Allocator>(
-    alloc: A,
-    frozen: &Frozen<F>,
-    coefficients: &Coefficients<C>,
-    rank: u32,
-    writer: &mut W,
-) -> Result<(), ReportFault>
-    requires rank { rank < length frozen.now }
-    requires coefficients { AreCoefficients DEPTH_LIMIT frozen.now coefficients.now }
-    ensures ok { OnOk result (Appends (W.contents writer.old) (W.contents writer.new)
-        (certificate_of frozen.now (number_of_row frozen.now rank))) }
-    ensures err { OnErr result (AppendsFront (W.contents writer.old) (W.contents writer.new)
-        (certificate_of frozen.now (number_of_row frozen.now rank))) }
-{
-    let mut text = Text::new(alloc);
-    push_certificate(&mut text, frozen, coefficients, rank)?;
-    text.finish(writer)
-}
-
 // Adds the certificate of the animal at a rank.
-fn push_certificate<A: Allocator, F: Allocator, C: Allocator>(
+fn push_certificate<A: Allocator, F: Allocator>(
     text: &mut Text<A>,
     frozen: &Frozen<F>,
-    coefficients: &Coefficients<C>,
+    own: Coefficient,
     rank: u32,
 ) -> Result<(), AllocError>
     requires rank { rank < length frozen.now }
-    requires coefficients { AreCoefficients DEPTH_LIMIT frozen.now coefficients.now }
+    requires own { own.numerator ≡ coefficient (ancestry_of frozen.now) DEPTH_LIMIT (number_of_row frozen.now rank) }
     ensures { OnOk result (text.new ≡ text.old ++ certificate_of frozen.now (number_of_row frozen.now rank)) }
 {
-    let coefficient = Coefficient {
-        numerator: coefficients.numerator(rank),
-    };
-    push_animal(text, &frozen.row(rank), coefficient)?;
+    push_animal(text, &frozen.row(rank), own)?;
     push_ancestors(text, frozen, rank)
 }
 

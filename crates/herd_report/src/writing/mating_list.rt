@@ -19,7 +19,7 @@ use std::io::Write;
 /// Writes for each sire the coefficient that a calf of it and the dam would have, or why there is none.
 ///
 /// The dam's relationships with all animals are computed once for all sires, by one tracing and one pass over the book.
-pub fn write_mating<W: Write, A: Allocator + Clone, F: Allocator, C: Allocator>(
+pub fn write_mating<W: Write, A: Allocator, F: Allocator, C: Allocator>(
     alloc: A,
     frozen: &Frozen<F>,
     coefficients: &Coefficients<C>,
@@ -36,7 +36,7 @@ pub fn write_mating<W: Write, A: Allocator + Clone, F: Allocator, C: Allocator>(
     if sires.is_empty() {
         return Ok(());
     }
-    let matings = DamMatings::of(alloc.clone()?, frozen, coefficients, dam)?;
+    let matings = DamMatings::of(&alloc, frozen, coefficients, dam)?;
     let mut text = Text::new(&alloc);
     for sire in sires {
         text.pass_on(writer)?;

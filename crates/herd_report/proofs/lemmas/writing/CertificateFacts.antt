@@ -19,20 +19,20 @@ use Rattle.herd_report.proofs.lemmas.writing.CoefficientFacts.{numerator_is}
 use Rattle.herd_report.specs.writing.Certificate.{ancestors_text, animal_text, certificate_of, labelled_line}
 
 -- the lines on the animal of the row there, and then those of its ancestors, are the certificate
-pub certificate_made : (rows : List Row) (numerators : List ℕ) → IsFrozen DEPTH_LIMIT MOST_ANIMALS rows
-    → AreCoefficients DEPTH_LIMIT rows numerators → (rank : ℕ) (row : Row) → slice_get rows rank ≡ Some row
-    → (numerator : ℕ) → numerator ≡ slice_index numerators rank
+pub certificate_made : (rows : List Row) → IsFrozen DEPTH_LIMIT MOST_ANIMALS rows
+    → (rank : ℕ) (row : Row) → slice_get rows rank ≡ Some row
+    → (numerator : ℕ) → numerator ≡ coefficient (ancestry_of rows) DEPTH_LIMIT (number_of_row rows rank)
     → animal_text row.number row.animal numerator ++ ancestors_text (book_of rows) (number_of_row rows rank)
     ≡ certificate_of rows (number_of_row rows rank)
-certificate_made rows numerators frozen are rank row there numerator read =
+certificate_made rows frozen rank row there numerator own =
     let book = book_of rows in
-    let own = coefficient (ancestry_of rows) DEPTH_LIMIT row.number in
-    let text : certificate_of rows row.number ≡ animal_text row.number row.animal own ++ ancestors_text book row.number =
-    ap (λ found. option_map_or (λ (animal : Animal). animal_text row.number animal own ++ ancestors_text book row.number) found [])
+    let at = number_of_row-is rows rank row there in
+    let text : certificate_of rows row.number
+    ≡ animal_text row.number row.animal (coefficient (ancestry_of rows) DEPTH_LIMIT row.number) ++ ancestors_text book row.number =
+    ap (λ found. option_map_or (λ (animal : Animal). animal_text row.number animal (coefficient (ancestry_of rows) DEPTH_LIMIT row.number) ++ ancestors_text book row.number) found [])
     (record_at-row DEPTH_LIMIT MOST_ANIMALS rows frozen rank row there) in
-    rw (number_of_row-is rows rank row there)
-    (ap (λ n. animal_text row.number row.animal n ++ ancestors_text book row.number) (read ∙ numerator_is DEPTH_LIMIT rows numerators are rank row there)
-    ∙ sym text)
+    let same : numerator ≡ coefficient (ancestry_of rows) DEPTH_LIMIT row.number = own ∙ ap (coefficient (ancestry_of rows) DEPTH_LIMIT) at in
+    rw at (ap (λ n. animal_text row.number row.animal n ++ ancestors_text book row.number) same ∙ sym text)
 
 -- the number that stands at a rank is there
 pub number_is_there : (rows : List Row) (rank : ℕ) (number : List ℕ) → slice_get (numbers_of rows) rank ≡ Some number
@@ -66,9 +66,3 @@ some_text book numerator number (Some animal) there = omega arith
 pub some_certificate : (rows : List Row) (number : List ℕ) → is_there (book_of rows) number ≡ true → 0 < length (certificate_of rows number)
 some_certificate rows number there =
     some_text (book_of rows) (coefficient (ancestry_of rows) DEPTH_LIMIT number) number (record_of (book_of rows) number) there
-
--- nor is that of the animal at a rank
-pub some_certificate_at : (rows : List Row) (rank : ℕ) → rank < length rows → 0 < length (certificate_of rows (number_of_row rows rank))
-some_certificate_at rows rank within =
-    let there = slice_get-get_or (numbers_of rows) rank [] (rw (length-numbers_of rows) within) in
-    some_certificate rows (number_of_row rows rank) (number_is_there rows rank (number_of_row rows rank) there)

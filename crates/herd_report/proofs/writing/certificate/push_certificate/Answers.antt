@@ -11,9 +11,8 @@ pub returns : goal.returns
 returns g c =
     let rows = c.args.frozen.now in
     let row = c.row.result in
-    let own = animal_text row.number row.animal c.numerator.result in
+    let own = animal_text row.number row.animal c.args.own.numerator in
     let ancestors = ancestors_text (book_of rows) (number_of_row rows c.args.rank) in
-    let made = certificate_made rows c.args.coefficients.now c.row.ensures.frozen c.requires.coefficients c.args.rank row c.row.ensures.row
-    c.numerator.result c.numerator.ensures.value in
+    let made = certificate_made rows c.row.ensures.frozen c.args.rank row c.row.ensures.row c.args.own.numerator c.requires.own in
     IfOk-equal c.push_ancestors.result _ _ _ c.push_ancestors.ensures
     (rw c.in_ok-push_animal.ensures (append_assoc c.args.text.now own ancestors ∙ ap (λ (text : List ℕ). c.args.text.now ++ text) made))

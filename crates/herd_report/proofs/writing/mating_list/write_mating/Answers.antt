@@ -32,8 +32,5 @@ loop-sire-preserved g c =
 pub returns-clause-err : goal.returns-clause-err
 returns-clause-err g c = on_err_weaker c.finish.result (front_waiting c.loop-sire.invariant) c.finish.ensures.err
 
-pub returns-in_err-clone-clause-err : goal.returns-in_err-clone-clause-err
-returns-in_err-clone-clause-err g c = on_err c.from_residual.result (front_nothing _ _ (some_mating_text (book_of c.args.frozen.now) c.args.dam c.args.sires.now (grind arith)))
-
 pub returns-in_err-matings-clause-err : goal.returns-in_err-matings-clause-err
-returns-in_err-matings-clause-err g c = on_err c.from_residual-in_err-matings.result (front_nothing _ _ (some_mating_text (book_of c.args.frozen.now) c.args.dam c.args.sires.now (grind arith)))
+returns-in_err-matings-clause-err g c = on_err c.from_residual.result (front_nothing _ _ (some_mating_text (book_of c.args.frozen.now) c.args.dam c.args.sires.now (grind arith)))
