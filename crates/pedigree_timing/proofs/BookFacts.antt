@@ -1,15 +1,13 @@
 -- How the made books grow, and what a correction leaves.
-use Rattle.std.proofs.Common.{◌≡◌, ℕ, ◌+◌, ◌*◌, ◌/◌, ◌%◌, ◌==◌, true, false, if◌then◌else◌, List, [], ◌∷◌, ◌++◌, length, Option, Some, None, refl, sym, ap, ◌∙◌, arith, add-one}
+use Rattle.std.proofs.Common.{◌≡◌, ℕ, ◌+◌, ◌*◌, ◌/◌, ◌%◌, ◌==◌, if◌then◌else◌, List, [], ◌∷◌, ◌++◌, length, Option, Some, None, refl, sym, ap, ◌∙◌, arith, add-one}
 use Rattle.std.proofs.lemmas.List.{length-map}
 use Rattle.std.proofs.lemmas.List.Sorted.{length_permutation}
 use Rattle.std.proofs.lemmas.List.FromFn.{length-map-range_with_len, map-range_with_len_more}
 use Rattle.std.specs.Map.{keys_of}
-use Rattle.std.specs.Str.{bytes_eq}
 use Rattle.herd_fixtures.specs.Birth.{entry}
 use Rattle.herd_fixtures.specs.Name.{number_named}
 use Rattle.herd_fixtures.specs.declared.birth.Birth.{Birth}
 use Rattle.herd_fixtures.specs.declared.name.Name.TheVariants.{Bull}
-use Rattle.herd_frozen.specs.declared.rules.animal.Animal.{Animal}
 use Rattle.herd_frozen.specs.rules.Book.{Book, changed, with_parents}
 use Rattle.herd_frozen.specs.freezing.Frozen.{IsFrozenFrom, book_of}
 use Rattle.herd_frozen.specs.declared.freezing.frozen.Row.{Row}

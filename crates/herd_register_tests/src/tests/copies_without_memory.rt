@@ -6,7 +6,7 @@ use herd_fixtures::{heap_of, spare_of};
 use herd_frozen::Row;
 use herd_register::{Copybook, Register, Step};
 use linked_list_allocator::LocalHeap;
-use std::alloc::{AllocError, Allocator, Global};
+use std::alloc::{AllocError, Global};
 use std::process::Abort;
 use std::test::Fail;
 
