@@ -1,5 +1,7 @@
 //! Coefficients that are known.
 
+ghost use Rattle.std.specs.Prelude.{◌<◌, length};
+
 use super::books::{father_and_daughter, half_cousins, half_sibs};
 use herd_fixtures::Name::{Bull, Cow};
 use herd_fixtures::{Birth, Name, frozen_of, full_sibs, generations};
@@ -19,18 +21,24 @@ fn has_coefficients(
     let coefficients = coefficients_plain(alloc, frozen)?;
     assert_eq!(rt; coefficients.len(), expected.len());
     for rank in 0..frozen.len() {
-        let Some((name, numerator, denominator)) = expected.get(rank as usize) else {
+        let Some(animal) = expected.get(rank as usize) else {
             continue;
         };
-        let told = fraction(coefficients.numerator(rank));
-        assert_eq!(rt; frozen.number(rank), name.number());
-        assert_eq!(rt;
-            (told.numerator, told.denominator),
-            (*numerator, *denominator),
-            "{name:?}"
+        assert!(rt;
+            is_told(frozen, rank, coefficients.numerator(rank), animal),
+            "{rank}"
         );
     }
     Ok(())
+}
+
+// At the rank stands this animal, with this fraction.
+fn is_told(frozen: &Frozen<Global>, rank: u32, numerator: u128, animal: &(Name, u128, u128)) -> bool
+    requires { rank < length frozen.now }
+{
+    let (name, above, below) = animal;
+    let told = fraction(numerator);
+    frozen.number(rank) == name.number() && told.numerator == *above && told.denominator == *below
 }
 
 #[test]
