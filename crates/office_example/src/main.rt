@@ -120,22 +120,22 @@ fn work<N: OfficeName + Send + Sync, R: Threads + Wait + Print + Sync>(
     staff: Staff<N>,
 ) -> Result<Staff<N>> {
     let births = Births::new()?;
-    let staff = file_founders(rt, office, staff, &births.founders)?;
-    let mut staff = work_side_by_side(rt, alloc, office, staff, &births)?;
+    let mut staff = file_parents(rt, alloc, office, staff, &births)?;
     let (_, desk, inspector) = &mut staff;
     print_calf(rt, alloc, office, desk, inspector)?;
     Ok(staff)
 }
 
-// The founders are filed at the first desk, before the others work.
-fn file_founders<N: OfficeName, R: Wait>(
+// The founders are filed at the first desk, and then their calves.
+fn file_parents<N: OfficeName + Send + Sync, R: Threads + Wait + Sync>(
     rt: &R,
+    alloc: Global,
     office: &Office<N, &R>,
     (first, second, inspector): Staff<N>,
-    founders: &[Command],
-) -> Result<Staff<N>, FileFault> {
-    let first = file_births(rt, office, first, founders)?;
-    Ok((first, second, inspector))
+    births: &Births,
+) -> Result<Staff<N>> {
+    let first = file_births(rt, office, first, &births.founders)?;
+    work_side_by_side(rt, alloc, office, (first, second, inspector), births)
 }
 
 // The sons are filed at the first desk and the daughters at the second, in whatever order the threads run.
