@@ -43,6 +43,7 @@ struct Births {
 }
 
 impl Births {
+    // The founders are unrelated, and the others are full sibs.
     fn new() -> Result<Births> {
         let parents = Some((FOUNDERS[0], FOUNDERS[1]));
         Ok(Births {
@@ -66,6 +67,7 @@ fn main(rt: HostRuntime) -> Result<()> {
     keep_office::<Brand, _>(&rt, rt.alloc(), parts)
 }
 
+// Opens the office, lets its staff work, and closes it.
 fn keep_office<N: OfficeName + Send + Sync, R: Threads + Wait + Print + Sync>(
     rt: &R,
     alloc: Global,
@@ -98,6 +100,7 @@ fn staff_of<N: OfficeName>(
     Ok((first, second, inspector))
 }
 
+// The two desks and the inspector go back to the others.
 fn hand_back<N: OfficeName>(
     desks: &mut Vec<Desk<N>>,
     inspectors: &mut Vec<Inspector<N>>,
@@ -114,15 +117,25 @@ fn work<N: OfficeName + Send + Sync, R: Threads + Wait + Print + Sync>(
     rt: &R,
     alloc: Global,
     office: &Office<N, &R>,
-    (first, second, inspector): Staff<N>,
+    staff: Staff<N>,
 ) -> Result<Staff<N>> {
     let births = Births::new()?;
-    let first = file_births(rt, office, first, &births.founders)?;
-    let staff = (first, second, inspector);
-    let mut staff = work_side_by_side(rt, alloc, office, staff, &births)?;
+    let mut staff = file_parents(rt, alloc, office, staff, &births)?;
     let (_, desk, inspector) = &mut staff;
     print_calf(rt, alloc, office, desk, inspector)?;
     Ok(staff)
+}
+
+// The founders are filed at the first desk, and then their calves.
+fn file_parents<N: OfficeName + Send + Sync, R: Threads + Wait + Sync>(
+    rt: &R,
+    alloc: Global,
+    office: &Office<N, &R>,
+    (first, second, inspector): Staff<N>,
+    births: &Births,
+) -> Result<Staff<N>> {
+    let first = file_births(rt, office, first, &births.founders)?;
+    work_side_by_side(rt, alloc, office, (first, second, inspector), births)
 }
 
 // The sons are filed at the first desk and the daughters at the second, in whatever order the threads run.
@@ -147,10 +160,11 @@ fn work_side_by_side<N: OfficeName + Send + Sync, R: Threads + Wait + Sync>(
         },
         move || freeze_beside(alloc, inspector),
     );
-    staff_back(filed, inspector)
+    gathered(filed, inspector)
 }
 
-fn staff_back<N: OfficeName>(
+// All three, unless one of them met a fault.
+fn gathered<N: OfficeName>(
     (first, second): (Result<Desk<N>, FileFault>, Result<Desk<N>, FileFault>),
     inspector: Result<Inspector<N>, FreezeFault>,
 ) -> Result<Staff<N>> {
@@ -214,6 +228,7 @@ fn file_calf<N: OfficeName, R: Wait + Print>(
     Ok(inspector.freeze(alloc)?)
 }
 
+// Coefficients are counted in units of 2^-120. `fraction` gives one in lowest terms, which prints itself.
 fn print_coefficient(
     rt: &impl Print,
     alloc: Global,
@@ -223,7 +238,7 @@ fn print_coefficient(
     let coefficients = coefficients_plain(alloc, frozen)?;
     let rank = frozen.rank(&animal.parse()?).context("no such animal")?;
     let value = fraction(coefficients.numerator(rank));
-    println!(rt; "{animal} {}/{}", value.numerator, value.denominator)?;
+    println!(rt; "{animal} {value}")?;
     Ok(())
 }
 
@@ -244,11 +259,13 @@ fn steps_at_close<N: OfficeName, R: Wait>(
 
 type Parents<'a> = Option<(&'a str, &'a str)>;
 
+// Births of two animals with the same parents on one day.
 fn births_of(animals: [&str; 2], day: &str, parents: Parents<'_>) -> Result<[Command; 2]> {
     let [one, other] = animals;
     Ok([birth(one, day, parents)?, birth(other, day, parents)?])
 }
 
+// The command for a birth in herd 1, of texts that are parsed.
 fn birth(animal: &str, day: &str, parents: Parents<'_>) -> Result<Command> {
     let (sire, dam) = match parents {
         Some((sire, dam)) => (Some(sire.parse()?), Some(dam.parse()?)),
