@@ -91,7 +91,9 @@ abbrev pub line_with : App → App → App
 line_with line part = with_subcommand line part.top
 
 unfoldable pub runs_line : App
-runs_line = line_with (line_with (line_with (line_with (line_with program file_line) inbreeding_line) certificate_line) mating_line) inverse_line
+runs_line =
+    line_with (line_with (line_with (line_with (line_with program file_line) inbreeding_line) certificate_line) mating_line)
+    inverse_line
 
 unfoldable pub command_line : App
 command_line = line_with runs_line clerks_line

@@ -46,7 +46,8 @@ end_of_shown false = Early (Run Write)
 -- the end tells why words ask for nothing: memory ran out, they ask for help or the version, or they are wrong
 abbrev pub Explains : WordsFault → Ending → Type 0
 Explains (Words error) (Early fault) = (fault ≡ Run Memory) × (kind_of error ≡ OutOfMemory)
-Explains (Words error) (Shown text) = (text ≡ error) × ((kind_of error ≡ DisplayHelp) ⊎ (kind_of error ≡ DisplayVersion))
+Explains (Words error) (Shown text) =
+    (text ≡ error) × ((kind_of error ≡ DisplayHelp) ⊎ (kind_of error ≡ DisplayVersion))
 Explains (Words error) (Usage text) =
     (text ≡ error) × (kind_of error ≢ OutOfMemory) × (kind_of error ≢ DisplayHelp) × (kind_of error ≢ DisplayVersion)
 Explains (Words error) ending = ⊥

@@ -28,7 +28,8 @@ cause_name Embryo = codes "Embryo"
 
 abbrev pub run_fault_text : RunFault → List ℕ
 run_fault_text (Line fault) =
-    codes "record " ++ decimal fault.record_number ++ codes ": fault " ++ decimal (cause_number fault.cause) ++ codes " " ++ cause_name fault.cause
+    codes "record " ++ decimal fault.record_number ++ codes ": fault " ++ decimal (cause_number fault.cause)
+    ++ codes " " ++ cause_name fault.cause
 run_fault_text NotRegistered = codes "not registered"
 run_fault_text NoThread = codes "no thread"
 run_fault_text Memory = codes "no memory"

@@ -101,7 +101,8 @@ pub record IsFirstFault (texts : List Text) (fault : NumberFault) : Type 0 where
   pub text : Text
   pub there : slice_get texts place ≡ Some text
   pub wrong : IsNumberFault text fault
-  pub before : (earlier : ℕ) (other : Text) → earlier < place → slice_get texts earlier ≡ Some other → IsAnimalNumber other
+  pub before : (earlier : ℕ) (other : Text) → earlier < place → slice_get texts earlier ≡ Some other
+      → IsAnimalNumber other
 
 -- the fault of the first of a dam and then her sires that is no animal number
 abbrev pub IsMatingFault : List Row → NumberFault → Type 0
@@ -113,11 +114,6 @@ abbrev pub IsWrongNumber : Found → NumberFault → Type 0
 IsWrongNumber found fault =
     ((name_in found ≡ Some (codes "certificate")) × IsNumberFault (text_of (codes "NUMBER") (rows_in found)) fault)
     ⊎ ((name_in found ≡ Some (codes "mating")) × IsMatingFault (rows_in found) fault)
-
--- memory ran out
-abbrev pub IsOutOfMemory : WordsFault → Type 0
-IsOutOfMemory (Words error) = kind_of error ≡ OutOfMemory
-IsOutOfMemory (Number fault) = ⊥
 
 -- memory ran out, or a number is none
 abbrev pub IsUnread : (NumberFault → Type 0) → WordsFault → Type 0

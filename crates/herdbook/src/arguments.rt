@@ -66,9 +66,9 @@ impl From<clap::Error> for WordsFault {
 }
 
 impl From<AllocError> for WordsFault {
-    ghost use Rattle.herdbook.specs.Words.{IsOutOfMemory};
+    ghost use Rattle.herdbook.specs.Words.{IsUnread};
 
-    ghost from_gives = { λ _ fault. IsOutOfMemory fault };
+    ghost from_gives = { λ _ fault. IsUnread (λ _. ⊥) fault };
 
     fn from(error: AllocError) -> WordsFault {
         WordsFault::Words(clap::Error::from(error))

@@ -107,10 +107,7 @@ fn start<'s, N: OfficeName + Send + Sync, E, H: Wait + Sync, R: Wait + Drop + Se
             ensures filed { IfOk result (λ done. HasDone deal.entry done) }
         { filed(rt, office, desk, deal) },
     );
-    match started {
-        Ok(started) => Ok(started),
-        Err(_) => Err(ClerkFault::NoThread),
-    }
+    started.or(Err(ClerkFault::NoThread))
 }
 
 // A clerk's desk, once its turn is filed.

@@ -34,8 +34,7 @@ pub fn text_of(alloc: Global, summary: &Summary) -> Result<String, AllocError>
         seen,
     } = summary;
     let mut text = lines_of(alloc, desks.as_slice())?;
-    let rest = format!(in alloc; "steps {steps}\nanimals {animals}\nseen {seen}\n")?;
-    text.push_str(rest.as_str())?;
+    writeln!(text, "steps {steps}\nanimals {animals}\nseen {seen}")?;
     Ok(text)
 }
 
@@ -46,8 +45,7 @@ fn lines_of(alloc: Global, desks: &[DeskCount]) -> Result<String, AllocError>
     let mut text = String::new(alloc);
     for desk in desks {
         let DeskCount { number, answered } = desk;
-        let line = format!(in alloc; "desk {number} answered {answered}\n")?;
-        text.push_str(line.as_str())?;
+        writeln!(text, "desk {number} answered {answered}")?;
     }
     Ok(text)
 }

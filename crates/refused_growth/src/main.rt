@@ -8,24 +8,46 @@ mod office;
 mod pool;
 mod reading;
 
+use std::alloc::Global;
 use std::io;
+use std::sync::Wait;
+use std::thread::Threads;
 
 // How often a call is made until it is granted what it asks for.
 const TIMES: u8 = 2;
 
+#[derive(Clone, Copy)]
+enum Call {
+    Reading,
+    Pool,
+    Office,
+}
+
+impl Call {
+    // Makes the call, tells what it answers, and whether it was granted.
+    fn tell<R: Threads + Wait + Print + Sync>(self, rt: &R, alloc: Global) -> io::Result<bool> {
+        match self {
+            Call::Reading => reading::tell(rt, alloc),
+            Call::Pool => pool::tell(rt, alloc),
+            Call::Office => office::tell(rt, alloc),
+        }
+    }
+}
+
 fn main(rt: HostRuntime) -> io::Result<()> {
-    for _ in 0..TIMES {
-        if reading::tell(&rt, rt.alloc())? {
-            break;
-        }
+    for call in [Call::Reading, Call::Pool, Call::Office] {
+        tell_until_granted(&rt, rt.alloc(), call)?;
     }
+    Ok(())
+}
+
+fn tell_until_granted<R: Threads + Wait + Print + Sync>(
+    rt: &R,
+    alloc: Global,
+    call: Call,
+) -> io::Result<()> {
     for _ in 0..TIMES {
-        if pool::tell(&rt, rt.alloc())? {
-            break;
-        }
-    }
-    for _ in 0..TIMES {
-        if office::tell(&rt, rt.alloc())? {
+        if call.tell(rt, alloc)? {
             break;
         }
     }

@@ -43,7 +43,7 @@ fn tell_list(
     print!(rt; "pool:")?;
     for rank in 0..frozen.len() {
         let coefficient = fraction(coefficients.numerator(rank));
-        print!(rt; " {}/{}", coefficient.numerator, coefficient.denominator)?;
+        print!(rt; " {coefficient}")?;
     }
     println!(rt;)
 }
