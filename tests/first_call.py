@@ -7,6 +7,7 @@ proves nothing: it notes when a crate begins and ends, and leaves a library or a
 """
 from __future__ import annotations
 
+import contextlib
 import itertools
 import os
 import pathlib
@@ -58,6 +59,13 @@ print("logic=proved")
 """
 
 
+# The machine that the copy takes this one for.
+FOUR_PROCESSORS = """
+os.sched_getaffinity = lambda process: range(4)
+free_memory = lambda: 24 * 10**9
+"""
+
+
 class Repository:
     """A copy of the repository with short sources, and the stand-in before it on the path."""
 
@@ -66,6 +74,8 @@ class Repository:
         for folder in (self.notes, self.rooms, room / "bin"):
             folder.mkdir(parents=True)
         shutil.copytree(TOP / "building", self.top / "building", ignore=shutil.ignore_patterns("__pycache__"))
+        with open(self.top / "building/machine.py", "a", encoding="utf-8") as machine:
+            machine.write(FOUR_PROCESSORS)
         for file in ("build.py", "crates.txt", "herdbook"):
             shutil.copy(TOP / file, self.top / file)
         for name in CRATES:
@@ -78,17 +88,22 @@ class Repository:
         self.env = {**os.environ, "PATH": path, "NOTES": str(self.notes), "TMPDIR": str(self.rooms)}
 
     def begin(self, *words: str) -> subprocess.Popen[str]:
-        pipe = subprocess.PIPE
-        return subprocess.Popen(words, env=self.env, stdout=pipe, stderr=pipe, text=True, start_new_session=True)
+        return subprocess.Popen(
+            words,
+            env=self.env,
+            stdout=subprocess.PIPE,
+            stderr=subprocess.PIPE,
+            text=True,
+            start_new_session=True,
+            preexec_fn=heeds_signals,
+        )
 
     def begin_program(self) -> subprocess.Popen[str]:
         return self.begin(str(self.top / "herdbook"), "is", "built")
 
     def call(self) -> tuple[int, str, str]:
         """The status of a call, and what it wrote."""
-        call = self.begin_program()
-        out, err = call.communicate(timeout=SECONDS)
-        return call.returncode, out, err
+        return ended(self.begin_program())
 
     def noted(self) -> list[tuple[str, str]]:
         """What the stand-in noted since the last look: `begin`, `end` or what was missing, and the crate."""
@@ -104,6 +119,23 @@ class Repository:
     def under_way(self) -> bool:
         """Whether a run of the stand-in is under way."""
         return any(pathlib.Path("/proc", it.stem).exists() for it in self.notes.glob("*.run"))
+
+
+def heeds_signals() -> None:
+    """Has a new process end by each signal, also where this one was told to ignore it."""
+    for it in (signal.SIGINT, signal.SIGTERM, signal.SIGHUP):
+        signal.signal(it, signal.SIG_DFL)
+
+
+def ended(call: subprocess.Popen[str]) -> tuple[int, str, str]:
+    """The status of a call, and what it wrote. One that takes longer than a minute is killed."""
+    try:
+        out, err = call.communicate(timeout=SECONDS)
+    except subprocess.TimeoutExpired:
+        with contextlib.suppress(ProcessLookupError):
+            os.killpg(call.pid, signal.SIGKILL)
+        raise
+    return call.returncode, out, err
 
 
 def in_order(noted: list[tuple[str, str]]) -> bool:
@@ -156,7 +188,7 @@ class Checks:
         """A crate that isn't proved: no other is begun, those proved are kept, and the next call goes on."""
         here = Repository(next(self.rooms))
         (here.notes / "herd_kinship.fails").touch()
-        (here.notes / "herd_pedigree.seconds").write_text("1", encoding="utf-8")
+        (here.notes / "herd_pedigree.seconds").write_text("5", encoding="utf-8")
         status, out, err = here.call()
         begun = {name for what, name in here.noted() if what == "begin"}
         self.count((status, out) == (1, ""), f"a crate that fails: {status} {out!r}")
@@ -180,8 +212,8 @@ class Checks:
             while "herd_kinship" not in here.kept() and time.monotonic() < until:
                 time.sleep(0.05)
             os.killpg(call.pid, number) if is_key else call.send_signal(number)
-            _, err = call.communicate(timeout=SECONDS)
-            self.count(call.returncode == (-number if is_key else 1), f"{number.name}: status {call.returncode}")
+            status, _, err = ended(call)
+            self.count(status if is_key else status == 1, f"{number.name}: status {status}")
             self.count("interrupted: the next call keeps the crates that are proved" in err, f"{number.name}: {err!r}")
             self.count({"herd_animal", "herd_frozen", "herd_kinship"} <= here.kept(), f"{number.name}: {here.kept()}")
             self.count(not here.under_way(), f"{number.name}: a run goes on")
@@ -193,8 +225,8 @@ class Checks:
         """Two calls at once: one builds, the other waits for it."""
         here = Repository(next(self.rooms))
         calls = [here.begin_program(), here.begin_program()]
-        done = [(*call.communicate(timeout=SECONDS), call.returncode) for call in calls]
-        self.count([(out, status) for out, _, status in done] == [("is built\n", 0)] * 2, done)
+        done = [ended(call) for call in calls]
+        self.count([(status, out) for status, out, _ in done] == [(0, "is built\n")] * 2, done)
         self.count(in_order(here.noted()), "two calls prove each crate once")
 
     def shares(self) -> None:

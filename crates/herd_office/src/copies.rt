@@ -1,7 +1,6 @@
 //! The writer of the readers' copies, as the office uses it.
-ghost use Rattle.std.specs.Prelude.{◌≡◌, ◌+◌, ◌<◌, ◌≤◌, [], ◌∷◌, ◌++◌, length, drop, Some, None, IfErr, IfOk, IsOk, fold};
+ghost use Rattle.std.specs.Prelude.{◌≡◌, ◌<◌, [], ◌∷◌, ◌++◌, length, Some, IfErr, IfOk};
 ghost use Rattle.left_right.specs.Sides.{view};
-ghost use Rattle.herd_register.specs.Copybook.{copybook_of};
 ghost use Rattle.herd_office.specs.Copies.{IsTold, office_of};
 ghost use Rattle.herd_office.specs.Shelves.{AreOf, IsAsBefore, after, pending, published};
 

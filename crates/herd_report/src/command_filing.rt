@@ -1,12 +1,10 @@
 //! Filing commands in a register, one after the other at desk 0.
-ghost use Rattle.std.specs.Prelude.{◌≡◌, ◌<◌, ◌+◌, List, [], IfErr, IfOk, IfSome, OnErr, OnOk, length};
-ghost use Rattle.csv.specs.Reading.{has_failed};
+ghost use Rattle.std.specs.Prelude.{◌≡◌, ◌<◌, List, [], IfErr, IfOk, IfSome, OnErr, OnOk, length};
 ghost use Rattle.herd_register.specs.Register.{register_book, with_step};
 ghost use Rattle.herd_register.specs.Run.{answer, commands_of, step_of};
 ghost use Rattle.herd_register.specs.declared.command.Command.{Command};
 ghost use Rattle.herd_report.specs.reading.CommandFile.{CommandFile, IsRead, IsReadUpTo, commands};
 ghost use Rattle.herd_report.specs.reading.CommandReader.{HasGiven, IsOpen, IsReady};
-ghost use Rattle.herd_report.specs.reading.LineCause.{is_interruption};
 ghost use Rattle.herd_report.specs.Run.{HasFiled, IsFiledFile};
 ghost use Rattle.herd_report.specs.RunFault.{CanEndFreezing, EndsFreezing};
 
@@ -97,10 +95,6 @@ fn file_each<R: Read>(
     requires empty { register.old.journal ≡ [] }
     ensures file { IfOk result (λ fault. (file : CommandFile) → HasGiven R.remaining file [] commands.old
         → IsRead register.old.limits.steps file (commands_of register.new.journal) fault) }
-    ensures record_number { IfOk result
-        (λ found. IfSome found (λ fault. fault.record_number ≡ commands.new.given + 1)) }
-    ensures interrupted { IfOk result (λ found. IfSome found
-        (λ fault. is_interruption fault.cause ≡ has_failed commands.new.records)) }
     ensures filed { OnOk result (HasFiled register.old.limits (commands_of register.new.journal) register.new) }
     ensures some { OnErr result
         ((file : CommandFile) → HasGiven R.remaining file [] commands.old → 0 < length file.commands) }
@@ -120,10 +114,8 @@ fn file_each<R: Read>(
 // The first fault in the rest of a file, which is read and not filed.
 fn fault_of_rest<R: Read>(commands: &mut CommandReader<R>) -> Option<LineFault>
     requires { IsOpen commands.old }
-    ensures file { (file : CommandFile) → (list : List Command) → HasGiven R.remaining file list commands.old
+    ensures { (file : CommandFile) → (list : List Command) → HasGiven R.remaining file list commands.old
         → IsReadUpTo commands.old.most file result }
-    ensures record_number { IfSome result (λ fault. fault.record_number ≡ commands.new.given + 1) }
-    ensures interrupted { IfSome result (λ fault. is_interruption fault.cause ≡ has_failed commands.new.records) }
 {
     loop {
         match commands.next_command() {

@@ -6,7 +6,7 @@ ghost use Rattle.herd_animal.specs.AnimalNumber.{IsAnimalNumber};
 ghost use Rattle.herd_animal.specs.NumberFault.{IsNumberFault};
 ghost use Rattle.herdbook.specs.CommandLine.{IsArgumentOf, IsCommandOf, certificate_line, clerks_line, command_line, dam_rule, file_line, inbreeding_line, inverse_line, line_with, mating_line, number_option, program, runs_line, sires_rule};
 ghost use Rattle.herd_report.specs.Run.{IsOrder};
-ghost use Rattle.herdbook.specs.Words.{IsAsked, IsDeskPlanOf, IsFirstFault, IsNumberOr, IsOrderFor, IsRefused, IsUnread, IsWorkPlanOf, IsWrongNumber, text_of, texts_of};
+ghost use Rattle.herdbook.specs.Words.{IsAsked, IsDeskPlanOf, IsFirstFault, IsMatingFault, IsNumberOr, IsOrderFor, IsRefused, IsUnread, IsWorkPlanOf, IsWrongNumber, text_of, texts_of};
 
 use crate::help;
 use crate::plans::{DeskPlan, WorkPlan};
@@ -132,14 +132,27 @@ fn request_of(alloc: Global, matches: &ArgMatches<'_>) -> Result<Request, WordsF
             Ok(Request::Run(OwnedOrder::Certificate(number)))
         }
         Some(("mating", given)) => {
-            let dam = number_argument(given, "dam")?;
-            let sires = sires_of(alloc, given)?;
+            let (dam, sires) = candidates_of(alloc, given)?;
             Ok(Request::Run(OwnedOrder::Mating { dam, sires }))
         }
         Some(("inverse", _)) => Ok(Request::Run(OwnedOrder::Inverse)),
         Some(("clerks", given)) => Ok(Request::Clerks(desk_plan_of(given))),
         _ => Ok(Request::Run(OwnedOrder::File)),
     }
+}
+
+// The dam and the sires of a mating.
+fn candidates_of(
+    alloc: Global,
+    given: &ArgMatches<'_>,
+) -> Result<(AnimalNumber, Vec<AnimalNumber>), WordsFault>
+    ensures dam { IfOk result (λ read. text_of (codes "dam") (rows_of (found_of given.now)) ≡ read.0) }
+    ensures sires { IfOk result (λ read. texts_of (codes "SIRE") (rows_of (found_of given.now)) ≡ read.1.items) }
+    ensures unread { IfErr result (IsUnread (IsMatingFault (rows_of (found_of given.now)))) }
+{
+    let dam = number_argument(given, "dam")?;
+    let sires = sires_of(alloc, given)?;
+    Ok((dam, sires))
 }
 
 fn work_plan_of(given: &ArgMatches<'_>) -> WorkPlan

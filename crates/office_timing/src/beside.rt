@@ -7,7 +7,7 @@ use crate::filing::{Told, file_births, told_at_close};
 use crate::founders::Founders;
 use crate::freezing::freeze_until;
 use anyhow::{Context, Result};
-use herd_office::{Desk, Office, OfficeName, OfficeParts};
+use herd_office::{Desk, Inspector, Office, OfficeName, OfficeParts};
 use herd_register::{FileFault, Reply};
 use std::alloc::Global;
 use std::rt::Clock;
@@ -41,24 +41,40 @@ pub fn file_beside<N: OfficeName + Send + Sync, R: Threads + Wait + Clock + Sync
     let inspector = inspectors.pop().context("no inspector")?;
     let from = u64::from(before);
     let to = from + u64::from(births);
-    let (shared, done) = (&office, &AtomicBool::new(!freezing));
-    let (desk, early) = file_births(rt, shared, desk, founders, (0, from))?;
+    let staff = (desk, inspector);
+    let (staff, accepted, times) =
+        work_beside(rt, alloc, &office, staff, founders, (from, to), freezing)?;
+    desks.push(staff.0)?;
+    inspectors.push(staff.1)?;
+    let told = told_at_close(rt, office, desks, inspectors, to, accepted)?;
+    Ok((told, times))
+}
+
+// Files the births before a place, and then those up to another while the inspector freezes, if it is to. Both, how many
+// births were accepted, and what the later calls took.
+fn work_beside<N: OfficeName + Send + Sync, R: Threads + Wait + Clock + Sync>(
+    rt: &R,
+    alloc: Global,
+    office: &Office<N, &R>,
+    (desk, inspector): (Desk<N>, Inspector<N>),
+    founders: Founders,
+    (from, to): (u64, u64),
+    freezing: bool,
+) -> Result<((Desk<N>, Inspector<N>), u64, Times)> {
+    let done = &AtomicBool::new(!freezing);
+    let (desk, early) = file_births(rt, office, desk, founders, (0, from))?;
     // Where no thread can be made, the second closure runs before the first.
     let (frozen, filed) = join(
         rt,
         move || freeze_until(alloc, inspector, done),
         move || {
-            let filed = file_timed(rt, shared, desk, founders, (from, to));
+            let filed = file_timed(rt, office, desk, founders, (from, to));
             done.store(true, Ordering::SeqCst);
             filed
         },
     );
     let (desk, late, times) = filed?;
-    desks.push(desk)?;
-    inspectors.push(frozen?)?;
-    let accepted = early.saturating_add(late);
-    let told = told_at_close(rt, office, desks, inspectors, to, accepted)?;
-    Ok((told, times))
+    Ok(((desk, frozen?), early.saturating_add(late), times))
 }
 
 // Files the births from one place to before another, and times each call. The desk, how many were accepted, and what

@@ -37,10 +37,25 @@ pub fn write_mating<W: Write, A: Allocator, F: Allocator, C: Allocator>(
         return Ok(());
     }
     let matings = DamMatings::of(&alloc, frozen, coefficients, dam)?;
-    let mut text = Text::new(&alloc);
+    write_advice(&alloc, &matings, sires, writer)
+}
+
+// Writes the line of each sire.
+fn write_advice<W: Write, A: Allocator, F: Allocator, M: Allocator>(
+    alloc: A,
+    matings: &DamMatings<'_, F, M>,
+    sires: &[AnimalNumber],
+    writer: &mut W,
+) -> Result<(), ReportFault>
+    ensures ok { OnOk result (Appends (W.contents writer.old) (W.contents writer.new)
+        (mating_text matings.now.book matings.now.dam sires.now)) }
+    ensures err { OnErr result (AppendsFront (W.contents writer.old) (W.contents writer.new)
+        (mating_text matings.now.book matings.now.dam sires.now)) }
+{
+    let mut text = Text::new(alloc);
     for sire in sires {
         text.pass_on(writer)?;
-        push_advice(&mut text, &matings, *sire)?;
+        push_advice(&mut text, matings, *sire)?;
     }
     text.finish(writer)
 }

@@ -4,6 +4,7 @@ use super::books::pairs_and;
 use super::support::{advice, certificate, coefficients, expect, expect_last, filed, replies};
 use herd_fixtures::Name;
 use herd_fixtures::Name::{Bull, Cow};
+use std::alloc::Global;
 use std::test::Fail;
 
 const OLDER: [&str; 2] = ["birth,M101,1990-01-01,0,0,,1", "parents,M1,,M101,0,,"];
@@ -77,11 +78,16 @@ fn an_older_founder_just_fits(rt: HostRuntime) -> Result<(), Fail> {
     for (generations, records, last, youngest, depth) in books {
         let text = pairs_and(rt.alloc(), generations, &records)?;
         expect_last(&rt, replies(&rt, text.as_bytes()), &last)?;
-        let register = filed(rt.alloc(), text.as_bytes())?;
-        let found = register.pedigree().depth(&youngest.number());
+        let found = depth_in(rt.alloc(), text.as_bytes(), youngest)?;
         assert_eq!(rt; found, Some(depth));
     }
     Ok(())
+}
+
+// The depth of an animal in the book of a file.
+fn depth_in(alloc: Global, text: &[u8], animal: Name) -> Result<Option<u8>, Fail> {
+    let register = filed(alloc, text)?;
+    Ok(register.pedigree().depth(&animal.number()))
 }
 
 #[test]

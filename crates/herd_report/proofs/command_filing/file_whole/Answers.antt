@@ -30,9 +30,9 @@ returns-in-Some-clause-err g c =
     let steps : c.new-register.result.limits.steps ≡ c.args.limits.steps = ap (λ (r : Register). r.limits.steps) c.new-register.ensures in
     let stopped = c.in-Err.ensures in
     λ file given. let far = stopped.rest file given in
-    subst (λ (most : ℕ). IsReadUpTo most file (Some c.in-Some.fault)) (stopped.ready.most_is ∙ steps) (c.in-Some.ensures.file file far.0 far.1)
+    subst (λ (most : ℕ). IsReadUpTo most file (Some c.in-Some.fault)) (stopped.ready.most_is ∙ steps) (c.in-Some.ensures file far.0 far.1)
 
 pub returns-clause-err : goal.returns-clause-err
 returns-clause-err g c =
     λ file given. let far = c.in-Err.ensures.rest file given in
-    (c.in-None.ensures.file file far.0 far.1).1.1
+    (c.in-None.ensures file far.0 far.1).1.1

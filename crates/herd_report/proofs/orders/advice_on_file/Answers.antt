@@ -3,7 +3,7 @@ use Rattle.std.proofs.lemmas.Option.{IfSome_then}
 use Rattle.herd_report.proofs.lemmas.Exits.{if_err}
 use Rattle.herd_report.specs.reading.CommandFile.{commands}
 use Rattle.herd_report.specs.declared.orders.Order.TheVariants.{Mating}
-use Rattle.herd_report.proofs.RunFacts.{reported, stops_reporting}
+use Rattle.herd_report.proofs.RunFacts.{stops_reporting}
 use Rattle.herd_report.proofs.orders.advice_on_file.Goals as goal
 
 pub returns-in_err-advise-clause-err : goal.returns-in_err-advise-clause-err
