@@ -60,7 +60,7 @@ impl Weights {
         }
     }
 
-    // At one parent, twice the same rank, or between the two, whichever is older.
+    // Between two parents, in the row of the younger, or at one parent where both ranks are its own.
     fn of_parents(self, first: u32, second: u32) -> Contribution
         ensures { result ≡ record { row = max first second; column = min first second; value = self.quarter } }
     {

@@ -32,7 +32,8 @@ impl<A: Allocator + Clone> Mates<A> {
     /// Of no sire yet, with room for so many animals: 24 bytes and two bits for each, the bits in words of 64. The only
     /// error is a growth of memory that is refused.
     ///
-    /// What is collected for a sire takes four bytes more for each animal, in a list that grows as it is needed.
+    /// What is collected for a sire stands in a list of its own, four bytes for each animal in it, which grows as it is
+    /// needed.
     pub fn with_room(alloc: A, animals: u32) -> Result<Mates<A>, AllocError>
         ensures { IfOk result (IsReady animals) }
     {

@@ -49,8 +49,8 @@ impl<A: Allocator + Clone> Relationships<A> {
 }
 
 impl<A: Allocator> Relationships<A> {
-    /// The relationship with the animal at a rank, in units of 2^-120. That it is the entry of the matrix, `of` ensures;
-    /// that entries are below 2 * `ONE`, `laws::bound`.
+    /// The relationship with the animal at a rank, in units of 2^-120. `of` ensures that it is the entry of the matrix,
+    /// `laws::bound` that entries are below 2 * `ONE`.
     pub fn with(&self, rank: u32) -> u128
         requires { rank < length self.now }
         ensures { result ≡ slice_index self.now rank }

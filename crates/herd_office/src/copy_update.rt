@@ -14,8 +14,8 @@ pub enum CopyUpdate {
 }
 
 impl CopyUpdate {
-    /// The update of a step that the caller goes on to use. `Filed(step)` in its place isn't proved: the check lets no
-    /// value be made of a struct that is used after.
+    /// The update of a step that the caller goes on to use. `CopyUpdate::Filed(step)` by itself would take the step
+    /// away from the caller.
     pub fn of_step(step: &Step) -> CopyUpdate
         ensures { result ≡ CopyUpdate.Filed step.now }
     {

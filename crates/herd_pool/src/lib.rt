@@ -22,8 +22,9 @@
 //! - Once all are back, the blocks are written into one list (`merge`; `proofs/Writes`), and the next level begins
 //!   (`pool`).
 //!
-//! `proofs/Known` serves `traced` alone: a level's animals can be traced by what is known of the levels below it. What
-//! `sires` needs of them is a lemma of `herd_kinship`.
+//! `proofs/Known` serves `traced` alone: a level's animals can be traced by what is known of the levels below it.
+//! `sires` has `proofs/SireFacts`, over lemmas of `herd_kinship`. What a level is worth is defined in `specs/Sires`,
+//! with `proofs/WorthFacts`.
 #![tactic(auto)]
 
 mod crew;

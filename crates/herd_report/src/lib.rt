@@ -34,7 +34,7 @@
 //! | mating advice | `MatingList` | `mating_list` | `MatingFacts` |
 //! | the inverse of A | `InverseList` | `inverse_list` | `ContributionFacts` |
 //! | what a run writes, and how it may end | `Run`, `RunFault` | `orders`, `run_fault` | `RunFacts` |
-//! | how a text of its own may end | | `report_fault`, `certificate_fault` | |
+//! | how a text of its own may end | | `report_fault`, `certificate_fault` | `Exits` |
 #![tactic(auto)]
 
 mod command_filing;

@@ -23,6 +23,14 @@ pub struct Times {
     pub total: u128,
 }
 
+// Births are filed up to the place `from`, and then timed up to the place `to`, while an inspector freezes or not.
+#[derive(Clone, Copy)]
+struct Plan {
+    from: u64,
+    to: u64,
+    freezing: bool,
+}
+
 /// Births by the calling thread, and then as many as `births` while an inspector freezes, or none. Each was answered.
 pub fn file_beside<N: OfficeName + Send + Sync, R: Threads + Wait + Clock + Sync>(
     rt: &R,
@@ -35,32 +43,47 @@ pub fn file_beside<N: OfficeName + Send + Sync, R: Threads + Wait + Clock + Sync
     requires { AreNamed N.name N.parts N.all N.book N.limits parts }
     ensures { IfOk result (λ r. r.0.steps ≡ before + births) }
 {
-    let founders = Founders::new()?;
     let (office, mut desks, mut inspectors) = Office::<N, &R>::open(alloc, parts)?;
-    let desk = desks.pop().context("no desk")?;
-    let inspector = inspectors.pop().context("no inspector")?;
     let from = u64::from(before);
-    let to = from + u64::from(births);
-    let staff = (desk, inspector);
-    let (staff, accepted, times) =
-        work_beside(rt, alloc, &office, staff, founders, (from, to), freezing)?;
-    desks.push(staff.0)?;
-    inspectors.push(staff.1)?;
-    let told = told_at_close(rt, office, desks, inspectors, to, accepted)?;
+    let plan = Plan {
+        from,
+        to: from + u64::from(births),
+        freezing,
+    };
+    let (accepted, times) = use_staff(rt, alloc, &office, &mut desks, &mut inspectors, plan)?;
+    let told = told_at_close(rt, office, desks, inspectors, plan.to, accepted)?;
     Ok((told, times))
 }
 
-// Files the births before a place, and then those up to another while the inspector freezes, if it is to. Both, how many
-// births were accepted, and what the later calls took.
+// Has a desk and an inspector work, and puts them back. How many births were accepted, and what the timed calls took.
+fn use_staff<N: OfficeName + Send + Sync, R: Threads + Wait + Clock + Sync>(
+    rt: &R,
+    alloc: Global,
+    office: &Office<N, &R>,
+    desks: &mut Vec<Desk<N>>,
+    inspectors: &mut Vec<Inspector<N>>,
+    plan: Plan,
+) -> Result<(u64, Times)> {
+    let desk = desks.pop().context("no desk")?;
+    let inspector = inspectors.pop().context("no inspector")?;
+    let (desk, inspector, accepted, times) = work_beside(rt, alloc, office, desk, inspector, plan)?;
+    desks.push(desk)?;
+    inspectors.push(inspector)?;
+    Ok((accepted, times))
+}
+
+// Files the births before a place, and then those up to another while the inspector freezes, if it is to. Both, how
+// many births were accepted, and what the later calls took.
 fn work_beside<N: OfficeName + Send + Sync, R: Threads + Wait + Clock + Sync>(
     rt: &R,
     alloc: Global,
     office: &Office<N, &R>,
-    (desk, inspector): (Desk<N>, Inspector<N>),
-    founders: Founders,
-    (from, to): (u64, u64),
-    freezing: bool,
-) -> Result<((Desk<N>, Inspector<N>), u64, Times)> {
+    desk: Desk<N>,
+    inspector: Inspector<N>,
+    plan: Plan,
+) -> Result<(Desk<N>, Inspector<N>, u64, Times)> {
+    let founders = Founders::new()?;
+    let Plan { from, to, freezing } = plan;
     let done = &AtomicBool::new(!freezing);
     let (desk, early) = file_births(rt, office, desk, founders, (0, from))?;
     // Where no thread can be made, the second closure runs before the first.
@@ -74,7 +97,7 @@ fn work_beside<N: OfficeName + Send + Sync, R: Threads + Wait + Clock + Sync>(
         },
     );
     let (desk, late, times) = filed?;
-    Ok(((desk, frozen?), early.saturating_add(late), times))
+    Ok((desk, frozen?, early.saturating_add(late), times))
 }
 
 // Files the births from one place to before another, and times each call. The desk, how many were accepted, and what

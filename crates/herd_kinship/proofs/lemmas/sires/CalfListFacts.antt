@@ -3,7 +3,7 @@ use Rattle.std.proofs.Common.{ℕ, ◌+◌, ◌<◌, ◌≡◌, ◌++◌, [], �
 use Rattle.std.specs.List.{All, Any}
 use Rattle.std.proofs.lemmas.Bool.{cases_eq}
 use Rattle.std.proofs.lemmas.List.{get_or-map, get_or-set_other, get_or-set_same, length-map}
-use Rattle.std.proofs.lemmas.List.Elements.{All-append, All-contains, All-map, All-more, All-nil, All-same, All-weaker}
+use Rattle.std.proofs.lemmas.List.Elements.{All-append, All-contains, All-map, All-more, All-same, All-weaker}
 use Rattle.herd_kinship.proofs.lemmas.Lists.{any-left, any-right}
 use Rattle.herd_frozen.specs.declared.freezing.frozen.Row.{Row}
 use Rattle.herd_kinship.specs.CalfCoefficients.{AreCalvesWith, GoesOnWith, HasWritten, HaveValues, IsCalfWith, Keeps}
@@ -79,10 +79,6 @@ goes-on rows s f make old new rank value push =
             All-contains (λ v. Any (λ c. c.rank ≡ v) (map make calves)) calves x made (below-all rows s (length rows) x (calf-within rows s x mine) mine);
       };
     }
-
--- nothing is written yet
-pub written-start : (f : ℕ → ℕ) (old : List ℕ) → HasWritten f [] old old
-written-start f old = record { kept = λ rank. inl refl; written = All-nil (λ calf. get_or old calf.rank 0 ≡ f calf.rank) }
 
 -- a write of f at one rank
 pub set-kept : (f : ℕ → ℕ) (known : List ℕ) (rank value : ℕ) → value ≡ f rank → rank < length known → Keeps f known (set known rank value)
