@@ -173,7 +173,7 @@ fn start_one<'s, E, R: Wait + Sync, A: Allocator + Copy + Send + Sync, W: Work<A
             ensures { IfOk result (IsWorkerOutput W.Work work.entry.now stealer.entry.now) }
         { steal_blocks(rt, alloc, work, stealer, pass, scratch) },
     );
-    started.map_err(|_| PoolFault::NoThread)
+    started.or(Err(PoolFault::NoThread))
 }
 
 // Joins each worker of this task, and takes its pass back.
