@@ -23,14 +23,6 @@ pub struct Times {
     pub total: u128,
 }
 
-// Births are filed up to the place `from`, and then timed up to the place `to`, while an inspector freezes or not.
-#[derive(Clone, Copy)]
-struct Plan {
-    from: u64,
-    to: u64,
-    freezing: bool,
-}
-
 /// Births by the calling thread, and then as many as `births` while an inspector freezes, or none. Each was answered.
 pub fn file_beside<N: OfficeName + Send + Sync, R: Threads + Wait + Clock + Sync>(
     rt: &R,
@@ -45,13 +37,10 @@ pub fn file_beside<N: OfficeName + Send + Sync, R: Threads + Wait + Clock + Sync
 {
     let (office, mut desks, mut inspectors) = Office::<N, &R>::open(alloc, parts)?;
     let from = u64::from(before);
-    let plan = Plan {
-        from,
-        to: from + u64::from(births),
-        freezing,
-    };
-    let (accepted, times) = use_staff(rt, alloc, &office, &mut desks, &mut inspectors, plan)?;
-    let told = told_at_close(rt, office, desks, inspectors, plan.to, accepted)?;
+    let to = from + u64::from(births);
+    let (accepted, times) =
+        use_staff(rt, alloc, &office, &mut desks, &mut inspectors, (from, to), freezing)?;
+    let told = told_at_close(rt, office, desks, inspectors, to, accepted)?;
     Ok((told, times))
 }
 
@@ -62,11 +51,13 @@ fn use_staff<N: OfficeName + Send + Sync, R: Threads + Wait + Clock + Sync>(
     office: &Office<N, &R>,
     desks: &mut Vec<Desk<N>>,
     inspectors: &mut Vec<Inspector<N>>,
-    plan: Plan,
+    places: (u64, u64),
+    freezing: bool,
 ) -> Result<(u64, Times)> {
     let desk = desks.pop().context("no desk")?;
     let inspector = inspectors.pop().context("no inspector")?;
-    let (desk, inspector, accepted, times) = work_beside(rt, alloc, office, desk, inspector, plan)?;
+    let (desk, inspector, accepted, times) =
+        work_beside(rt, alloc, office, desk, inspector, places, freezing)?;
     desks.push(desk)?;
     inspectors.push(inspector)?;
     Ok((accepted, times))
@@ -80,10 +71,10 @@ fn work_beside<N: OfficeName + Send + Sync, R: Threads + Wait + Clock + Sync>(
     office: &Office<N, &R>,
     desk: Desk<N>,
     inspector: Inspector<N>,
-    plan: Plan,
+    (from, to): (u64, u64),
+    freezing: bool,
 ) -> Result<(Desk<N>, Inspector<N>, u64, Times)> {
     let founders = Founders::new()?;
-    let Plan { from, to, freezing } = plan;
     let done = &AtomicBool::new(!freezing);
     let (desk, early) = file_births(rt, office, desk, founders, (0, from))?;
     // Where no thread can be made, the second closure runs before the first.
