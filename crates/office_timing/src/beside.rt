@@ -38,8 +38,15 @@ pub fn file_beside<N: OfficeName + Send + Sync, R: Threads + Wait + Clock + Sync
     let (office, mut desks, mut inspectors) = Office::<N, &R>::open(alloc, parts)?;
     let from = u64::from(before);
     let to = from + u64::from(births);
-    let (accepted, times) =
-        use_staff(rt, alloc, &office, &mut desks, &mut inspectors, (from, to), freezing)?;
+    let (accepted, times) = use_staff(
+        rt,
+        alloc,
+        &office,
+        &mut desks,
+        &mut inspectors,
+        (from, to),
+        freezing,
+    )?;
     let told = told_at_close(rt, office, desks, inspectors, to, accepted)?;
     Ok((told, times))
 }
@@ -56,8 +63,9 @@ fn use_staff<N: OfficeName + Send + Sync, R: Threads + Wait + Clock + Sync>(
 ) -> Result<(u64, Times)> {
     let desk = desks.pop().context("no desk")?;
     let inspector = inspectors.pop().context("no inspector")?;
-    let (desk, inspector, accepted, times) =
-        work_beside(rt, alloc, office, desk, inspector, places, freezing)?;
+    let (desk, inspector, accepted, times) = work_beside(
+        rt, alloc, office, desk, inspector, places, freezing,
+    )?;
     desks.push(desk)?;
     inspectors.push(inspector)?;
     Ok((accepted, times))
