@@ -38,15 +38,8 @@ pub fn file_beside<N: OfficeName + Send + Sync, R: Threads + Wait + Clock + Sync
     let (office, mut desks, mut inspectors) = Office::<N, &R>::open(alloc, parts)?;
     let from = u64::from(before);
     let to = from + u64::from(births);
-    let (accepted, times) = use_staff(
-        rt,
-        alloc,
-        &office,
-        &mut desks,
-        &mut inspectors,
-        (from, to),
-        freezing,
-    )?;
+    let staff = (&mut desks, &mut inspectors);
+    let (accepted, times) = use_staff(rt, alloc, &office, staff, (from, to), freezing)?;
     let told = told_at_close(rt, office, desks, inspectors, to, accepted)?;
     Ok((told, times))
 }
@@ -56,8 +49,7 @@ fn use_staff<N: OfficeName + Send + Sync, R: Threads + Wait + Clock + Sync>(
     rt: &R,
     alloc: Global,
     office: &Office<N, &R>,
-    desks: &mut Vec<Desk<N>>,
-    inspectors: &mut Vec<Inspector<N>>,
+    (desks, inspectors): (&mut Vec<Desk<N>>, &mut Vec<Inspector<N>>),
     places: (u64, u64),
     freezing: bool,
 ) -> Result<(u64, Times)> {
