@@ -1,5 +1,4 @@
 //! The threads of a level.
-ghost use denote.Param.Send.{Frees, IsSend, IsSync};
 ghost use Rattle.std.specs.Prelude.{◌≡◌, ℕ, ◌<◌, All, IfOk, IfErr, OnOk, [], vec_len, get_or, vec_items};
 ghost use Rattle.crossbeam_deque.specs.Handles.{worker_view};
 ghost use Rattle.herd_pool.specs.Workers.{AreBlocks, IsWorkerOutput, IsStarterOf, IsBlockPass};
@@ -85,8 +84,6 @@ fn share<R: Threads + Wait + Sync, A: Allocator + Copy + Send + Sync, W: Work<A>
         thread::scope_env(),
         rt,
         |scope| -> Result<Starter<W::Scratch, W::Output, A>, PoolFault>
-            requires shared { IsSync W.row × IsSync A.row × IsSend A.row × IsSend W.Scratch.row × IsSend W.Output.row
-                × Frees A.Allocator A.dealloc_token }
             requires knows { W.knows work.now }
             requires starter { IsStarterOf W.Work work.now stealer.now 0 (worker_view starter.queue).pushed starter }
             ensures { IfOk result
