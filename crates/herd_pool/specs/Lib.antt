@@ -1,4 +1,5 @@
 pub mod Blocks
 pub mod Levels
+pub mod Sharing
 pub mod Sires
 pub mod Workers

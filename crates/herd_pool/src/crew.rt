@@ -1,6 +1,7 @@
 //! The threads of a level.
 ghost use Rattle.std.specs.Prelude.{◌≡◌, ℕ, ◌<◌, All, IfOk, IfErr, OnOk, [], vec_len, get_or, vec_items};
 ghost use Rattle.crossbeam_deque.specs.Handles.{worker_view};
+ghost use Rattle.herd_pool.specs.Sharing.{CanShare};
 ghost use Rattle.herd_pool.specs.Workers.{AreBlocks, IsWorkerOutput, IsStarterOf, IsBlockPass};
 ghost use Rattle.herd_pool.specs.declared.pool_fault.PoolFault.{PoolFault};
 
@@ -71,8 +72,7 @@ fn share<R: Threads + Wait + Sync, A: Allocator + Copy + Send + Sync, W: Work<A>
     starter: Starter<W::Scratch, W::Output, A>,
     workers: u32,
 ) -> Result<Starter<W::Scratch, W::Output, A>, PoolFault>
-    requires knows { W.knows work.now }
-    requires starter { IsStarterOf W.Work work.now stealer.now 0 (worker_view starter.queue).pushed starter }
+    requires { CanShare W.Work work.now stealer.now starter }
     ensures starter { IfOk result (IsStarterOf W.Work work.now stealer.now 0 (worker_view starter.queue).pushed) }
     ensures no_thread { result ≡ Err PoolFault.NoThread → 1 < workers }
 {
@@ -84,8 +84,7 @@ fn share<R: Threads + Wait + Sync, A: Allocator + Copy + Send + Sync, W: Work<A>
         thread::scope_env(),
         rt,
         |scope| -> Result<Starter<W::Scratch, W::Output, A>, PoolFault>
-            requires knows { W.knows work.now }
-            requires starter { IsStarterOf W.Work work.now stealer.now 0 (worker_view starter.queue).pushed starter }
+            requires { CanShare W.Work work.now stealer.now starter }
             ensures { IfOk result
                 (IsStarterOf W.Work work.entry.now stealer.entry.now 0 (worker_view starter.queue).pushed) }
         {
@@ -108,9 +107,7 @@ fn work_beside<'s, E, R: Threads + Wait + Sync, A: Allocator + Copy + Send + Syn
     starter: &mut Starter<W::Scratch, W::Output, A>,
     threads: usize,
 ) -> Result<(), PoolFault>
-    requires knows { W.knows task.work.now }
-    requires starter { IsStarterOf W.Work task.work.now task.stealer.now 0 (worker_view starter.old.queue).pushed
-        starter.old }
+    requires { CanShare W.Work task.work.now task.stealer.now starter.old }
     ensures { OnOk result (IsStarterOf W.Work task.entry.work.now task.entry.stealer.now 0
         (worker_view starter.old.queue).pushed starter.new) }
 {

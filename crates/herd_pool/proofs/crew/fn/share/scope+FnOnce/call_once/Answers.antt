@@ -4,5 +4,5 @@ use Rattle.herd_pool.proofs.crew.fn.share.scope+FnOnce.call_once.Goals as goal
 pub scope-requires : goal.scope-requires
 scope-requires g c =
     let clauses = c.requires.1.1.1.1.1 in
-    let bounds = clauses.1.1 in
-    (bounds.0, (bounds.1, (bounds.2, (bounds.3, (bounds.4, (bounds.5, (bounds.6, (clauses.0, clauses.1.0))))))))
+    let bounds = clauses.1 in
+    (bounds.0, (bounds.1, (bounds.2, (bounds.3, (bounds.4, (bounds.5, (bounds.6, clauses.0)))))))
