@@ -87,15 +87,33 @@ fn share<R: Threads + Wait + Sync, A: Allocator + Copy + Send + Sync, W: Work<A>
             requires { CanShare W.Work work.now stealer.now starter }
             ensures { IfOk result
                 (IsStarterOf W.Work work.entry.now stealer.entry.now 0 (worker_view starter.queue).pushed) }
-        {
-            let task = Task { work, stealer };
-            let mut starter = starter;
-            // Taken from the list, so that the closure captures one value less: its proof is shorter then.
-            let alloc = *starter.blocks.allocator();
-            work_beside(scope, rt, alloc, task, &mut starter, threads)?;
-            Ok(starter)
-        },
+        { starter_once_joined(scope, rt, work, stealer, starter, threads) },
     )
+}
+
+// The starter, once so many workers beside it are back.
+fn starter_once_joined<
+    's,
+    E,
+    R: Threads + Wait + Sync,
+    A: Allocator + Copy + Send + Sync,
+    W: Work<A>,
+>(
+    scope: &'s Scope<'s, E>,
+    rt: &'s R,
+    work: &'s W,
+    stealer: &'s BlockStealer<A>,
+    starter: Starter<W::Scratch, W::Output, A>,
+    threads: usize,
+) -> Result<Starter<W::Scratch, W::Output, A>, PoolFault>
+    requires { CanShare W.Work work.now stealer.now starter }
+    ensures { IfOk result (IsStarterOf W.Work work.now stealer.now 0 (worker_view starter.queue).pushed) }
+{
+    let task = Task { work, stealer };
+    let mut starter = starter;
+    let alloc = *starter.blocks.allocator();
+    work_beside(scope, rt, alloc, task, &mut starter, threads)?;
+    Ok(starter)
 }
 
 // Takes blocks beside so many workers, and joins them.
