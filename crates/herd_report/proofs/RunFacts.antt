@@ -29,7 +29,9 @@ use Rattle.herd_report.specs.declared.reading.line_fault.LineFault.{LineFault}
 use Rattle.herd_report.specs.declared.writing.report_fault.ReportFault.{ReportFault}
 use Rattle.herd_report.specs.declared.writing.report_fault.ReportFault.TheVariants as report
 use Rattle.herd_report.specs.declared.orders.Order.{Order}
-use Rattle.herd_report.specs.declared.orders.Order.TheVariants.{File, Certificate}
+use Rattle.herd_report.specs.declared.orders.Order.TheVariants.{File, Inbreeding, Certificate}
+use Rattle.herd_report.specs.declared.run_fault.RunFault.{RunFault}
+use Rattle.herd_report.specs.declared.run_fault.RunFault.TheVariants.{Line, NotRegistered, NoThread, Memory, Write}
 use Rattle.herd_report.proofs.lemmas.writing.TextFacts.{passes_before, some_before}
 
 -- ---- commands that are filed one after the other
@@ -184,6 +186,16 @@ stops_reporting limits order file rows old new report.Write made there needs end
     (λ reports. made.faultless, stopped limits order file rows old new made there ends)
 stops_reporting limits order file rows old new report.Memory made there needs ends =
     (λ reports. made.faultless, needs, ⊎_elim (λ none. inl none) (λ front. inr (stopped limits order file rows old new made there front)) ends)
+
+-- a run for the list of coefficients that stops
+pub stops_listing : (limits : Limits) (workers block : ℕ) (file : CommandFile) (rows : List Row) (old new : Option (List ℕ)) (fault : RunFault) →
+    IsFrozenFile limits file rows → EndsListing workers old new (wanted (Inbreeding workers block) limits file.commands rows) fault →
+    EndsBy limits (Inbreeding workers block) file old new fault
+stops_listing limits workers block file rows old new (Line fault) made ends = absurd ends
+stops_listing limits workers block file rows old new NotRegistered made ends = absurd ends
+stops_listing limits workers block file rows old new NoThread made ends = (ends.0, made.faultless, ends.1)
+stops_listing limits workers block file rows old new Memory made ends = stops_reporting limits (Inbreeding workers block) file rows old new report.Memory made tt tt ends
+stops_listing limits workers block file rows old new Write made ends = stops_reporting limits (Inbreeding workers block) file rows old new report.Write made tt tt ends
 
 -- a list of coefficients that ends before any was written
 pub nothing_listed : (workers : ℕ) (known : Option (List ℕ)) (text : List ℕ) (fault : PoolFault) → (fault ≡ pool.NoThread → 1 < workers) →

@@ -1,16 +1,15 @@
-ghost use Rattle.std.specs.Prelude.{◌≡◌, ◌≢◌, ◌<◌, IfErr, IfOk, IfSome, OnOk};
+ghost use Rattle.std.specs.Prelude.{◌≡◌, ◌<◌, IfErr, IfOk, IfSome, OnOk};
 ghost use Rattle.std.specs.Io.KnownBytes.{Appends};
 ghost use Rattle.herd_frozen.specs.freezing.Frozen.{book_of};
 ghost use Rattle.herd_frozen.specs.declared.TheConstants.{DEPTH_LIMIT};
 ghost use Rattle.herd_kinship.specs.Coefficients.{AreCoefficients};
 ghost use Rattle.herd_kinship.specs.FrozenAncestry.{ancestry_of};
 ghost use Rattle.herd_kinship.specs.Table.{coefficient};
-ghost use Rattle.herd_register.specs.Limits.{Limits};
-ghost use Rattle.herd_report.specs.reading.CommandFile.{CommandFile, commands};
+ghost use Rattle.herd_report.specs.reading.CommandFile.{commands};
 ghost use Rattle.herd_report.specs.writing.InbreedingList.{inbreeding_text};
 ghost use Rattle.herd_report.specs.writing.InverseList.{inverse_text};
 ghost use Rattle.herd_report.specs.writing.MatingList.{mating_text};
-ghost use Rattle.herd_report.specs.Run.{AnswersIfKnown, CanEndBy, EndsBy, EndsIfKnown, IsAnswered, IsFrozenFile, IsOrder};
+ghost use Rattle.herd_report.specs.Run.{AnswersIfKnown, CanEndBy, EndsIfKnown, IsFrozenFile, IsOrder};
 ghost use Rattle.herd_report.specs.RunFault.{CanEndFreezing, EndsFreezing, EndsListing, EndsReport};
 
 use crate::command_filing::{file_commands, file_faultless};
@@ -66,80 +65,97 @@ pub fn run<H: Threads + Wait + Sync, R: Read + Drop, W: Write>(
     writer: &mut W,
 ) -> Result<(), RunFault>
     requires { IsOrder order }
-    ensures ok { OnOk result
-        (AnswersIfKnown limits order.entry (R.remaining reader) (W.contents writer.old) (W.contents writer.new)) }
-    ensures err { IfErr result
-        (EndsIfKnown limits order.entry (R.remaining reader) (W.contents writer.old) (W.contents writer.new)) }
+    ensures ok { OnOk result (AnswersIfKnown limits order.entry
+        (R.remaining reader) (W.contents writer.old) (W.contents writer.new)) }
+    ensures err { IfErr result (EndsIfKnown limits order.entry
+        (R.remaining reader) (W.contents writer.old) (W.contents writer.new)) }
     ensures fault { IfErr result (CanEndBy order.entry) }
 {
-    // The order that was given can't be lent to a call: the check of loans refuses it. So each is made anew.
     match order {
         Order::File => write_answers(alloc, limits, reader, writer),
         Order::Inbreeding { workers, block } => {
-            let listing = Order::Inbreeding { workers, block };
-            report_on_file(rt, alloc, limits, &listing, reader, writer)
+            list_of_file(rt, alloc, limits, workers, block, reader, writer)
         }
-        Order::Certificate(number) => {
-            let certificate = Order::Certificate(number);
-            report_on_file(rt, alloc, limits, &certificate, reader, writer)
-        }
-        Order::Mating { dam, sires } => {
-            let advice = Order::Mating { dam, sires };
-            report_on_file(rt, alloc, limits, &advice, reader, writer)
-        }
-        Order::Inverse => report_on_file(rt, alloc, limits, &Order::Inverse, reader, writer),
+        Order::Certificate(number) => certificate_in_file(alloc, limits, number, reader, writer),
+        Order::Mating { dam, sires } => advice_on_file(alloc, limits, dam, sires, reader, writer),
+        Order::Inverse => inverse_of_file(alloc, limits, reader, writer),
     }
 }
 
-// Writes what an order other than `File` wants of the book of a file.
-fn report_on_file<H: Threads + Wait + Sync, R: Read + Drop, W: Write>(
+// Writes the coefficients of the animals of a file.
+fn list_of_file<H: Threads + Wait + Sync, R: Read + Drop, W: Write>(
     rt: &H,
     alloc: Global,
     limits: Limits,
-    order: &Order<'_>,
+    workers: u32,
+    block: u32,
     reader: R,
     writer: &mut W,
 ) -> Result<(), RunFault>
-    requires order { IsOrder order.now }
-    requires report { order.now ≢ Order.File }
-    ensures ok { OnOk result
-        (AnswersIfKnown limits order.now (R.remaining reader) (W.contents writer.old) (W.contents writer.new)) }
-    ensures err { IfErr result
-        (EndsIfKnown limits order.now (R.remaining reader) (W.contents writer.old) (W.contents writer.new)) }
-    ensures fault { IfErr result (CanEndBy order.now) }
+    requires { IsOrder (Order.Inbreeding workers block) }
+    ensures ok { OnOk result (AnswersIfKnown limits (Order.Inbreeding workers block)
+        (R.remaining reader) (W.contents writer.old) (W.contents writer.new)) }
+    ensures err { IfErr result (EndsIfKnown limits (Order.Inbreeding workers block)
+        (R.remaining reader) (W.contents writer.old) (W.contents writer.new)) }
+    ensures fault { IfErr result (CanEndBy (Order.Inbreeding workers block)) }
 {
     let frozen = frozen_book(alloc, limits, reader)?;
-    write_report(rt, alloc, &frozen, order, writer)
+    list_inbreeding(rt, alloc, &frozen, workers, block, writer)
 }
 
-// Writes what an order other than `File` wants of a frozen book, whatever file that is of.
-fn write_report<H: Threads + Wait + Sync, W: Write>(
-    rt: &H,
+// Writes the certificate of an animal of a file.
+fn certificate_in_file<R: Read + Drop, W: Write>(
     alloc: Global,
-    frozen: &Frozen<Global>,
-    order: &Order<'_>,
+    limits: Limits,
+    number: AnimalNumber,
+    reader: R,
     writer: &mut W,
 ) -> Result<(), RunFault>
-    requires order { IsOrder order.now }
-    requires report { order.now ≢ Order.File }
-    ensures ok { OnOk result ((limits : Limits) → (file : CommandFile) → IsFrozenFile limits file frozen.now
-        → IsAnswered limits order.now file (W.contents writer.old) (W.contents writer.new)) }
-    ensures err { IfErr result (λ fault. (limits : Limits) → (file : CommandFile) → IsFrozenFile limits file frozen.now
-        → EndsBy limits order.now file (W.contents writer.old) (W.contents writer.new) fault) }
-    ensures fault { IfErr result (CanEndBy order.now) }
+    ensures ok { OnOk result (AnswersIfKnown limits (Order.Certificate number)
+        (R.remaining reader) (W.contents writer.old) (W.contents writer.new)) }
+    ensures err { IfErr result (EndsIfKnown limits (Order.Certificate number)
+        (R.remaining reader) (W.contents writer.old) (W.contents writer.new)) }
+    ensures fault { IfErr result (CanEndBy (Order.Certificate number)) }
 {
-    match *order {
-        Order::File => unreachable!(),
-        Order::Inbreeding { workers, block } => {
-            list_inbreeding(rt, alloc, frozen, workers, block, writer)
-        }
-        Order::Certificate(number) => {
-            let none_given = None::<&Coefficients<Global>>;
-            Ok(certify(alloc, frozen, none_given, number, writer)?)
-        }
-        Order::Mating { dam, sires } => Ok(advise(alloc, frozen, dam, sires, writer)?),
-        Order::Inverse => Ok(list_inverse(alloc, frozen, writer)?),
-    }
+    let frozen = frozen_book(alloc, limits, reader)?;
+    let none_given = None::<&Coefficients<Global>>;
+    Ok(certify(alloc, &frozen, none_given, number, writer)?)
+}
+
+// Writes mating advice for a dam from the book of a file.
+fn advice_on_file<R: Read + Drop, W: Write>(
+    alloc: Global,
+    limits: Limits,
+    dam: AnimalNumber,
+    sires: &[AnimalNumber],
+    reader: R,
+    writer: &mut W,
+) -> Result<(), RunFault>
+    ensures ok { OnOk result (AnswersIfKnown limits (Order.Mating dam sires.entry)
+        (R.remaining reader) (W.contents writer.old) (W.contents writer.new)) }
+    ensures err { IfErr result (EndsIfKnown limits (Order.Mating dam sires.entry)
+        (R.remaining reader) (W.contents writer.old) (W.contents writer.new)) }
+    ensures fault { IfErr result (CanEndBy (Order.Mating dam sires.entry)) }
+{
+    let frozen = frozen_book(alloc, limits, reader)?;
+    Ok(advise(alloc, &frozen, dam, sires, writer)?)
+}
+
+// Writes what the animals of a file contribute to the inverse.
+fn inverse_of_file<R: Read + Drop, W: Write>(
+    alloc: Global,
+    limits: Limits,
+    reader: R,
+    writer: &mut W,
+) -> Result<(), RunFault>
+    ensures ok { OnOk result (AnswersIfKnown limits Order.Inverse
+        (R.remaining reader) (W.contents writer.old) (W.contents writer.new)) }
+    ensures err { IfErr result (EndsIfKnown limits Order.Inverse
+        (R.remaining reader) (W.contents writer.old) (W.contents writer.new)) }
+    ensures fault { IfErr result (CanEndBy Order.Inverse) }
+{
+    let frozen = frozen_book(alloc, limits, reader)?;
+    Ok(list_inverse(alloc, &frozen, writer)?)
 }
 
 // Writes the coefficients of a book's animals.
@@ -233,10 +249,10 @@ fn write_answers<R: Read + Drop, W: Write>(
     reader: R,
     writer: &mut W,
 ) -> Result<(), RunFault>
-    ensures ok { OnOk result
-        (AnswersIfKnown limits Order.File (R.remaining reader) (W.contents writer.old) (W.contents writer.new)) }
-    ensures err { IfErr result
-        (EndsIfKnown limits Order.File (R.remaining reader) (W.contents writer.old) (W.contents writer.new)) }
+    ensures ok { OnOk result (AnswersIfKnown limits Order.File
+        (R.remaining reader) (W.contents writer.old) (W.contents writer.new)) }
+    ensures err { IfErr result (EndsIfKnown limits Order.File
+        (R.remaining reader) (W.contents writer.old) (W.contents writer.new)) }
     ensures fault { IfErr result (CanEndBy Order.File) }
 {
     let filed = file_commands(alloc, limits, reader)?;
