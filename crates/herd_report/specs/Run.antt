@@ -1,5 +1,5 @@
 -- What a run writes for a command file, and how it may end.
-use Rattle.std.specs.Prelude.{◌≡◌, ◌≢◌, ◌⊎◌, ◌<◌, ◌≤◌, ℕ, List, [], ◌∷◌, ⊤, Option, Some, None, true, false, length}
+use Rattle.std.specs.Prelude.{◌≡◌, ◌≢◌, ◌⊎◌, ◌<◌, ◌≤◌, ℕ, List, [], ◌∷◌, ⊤, IfSome, Option, Some, None, true, false, length}
 use Rattle.std.specs.Io.KnownBytes.{Appends}
 use Rattle.herd_frozen.specs.rules.Book.{Book, is_there}
 use Rattle.herd_frozen.specs.freezing.Frozen.{IsFrozenFrom, book_of}
@@ -14,7 +14,7 @@ use Rattle.herd_kinship.specs.FrozenAncestry.{ancestry_of}
 use Rattle.herd_kinship.specs.Table.{coefficient}
 use Rattle.herd_pool.specs.declared.limits.TheConstants.{MOST_WORKERS}
 use Rattle.herd_report.specs.writing.Certificate.{certificate_of}
-use Rattle.herd_report.specs.reading.CommandFile.{CommandFile, IsRead}
+use Rattle.herd_report.specs.reading.CommandFile.{CommandFile, IsRead, commands}
 use Rattle.herd_report.specs.writing.InbreedingList.{inbreeding_text}
 use Rattle.herd_report.specs.writing.InverseList.{inverse_text}
 use Rattle.herd_report.specs.writing.MatingList.{mating_text}
@@ -144,3 +144,13 @@ EndsBy limits order file old new NoThread = IsShared order × (file.fault ≡ No
 EndsBy limits order file old new Memory =
     IsFaultlessFor order file × NeedsMemory order file.commands × ((new ≡ old) ⊎ StopsWriting limits order file old new)
 EndsBy limits order file old new Write = IsFaultlessFor order file × StopsWriting limits order file old new
+
+-- where the bytes of the command file are known, what the order wants of them was written
+abbrev pub AnswersIfKnown : Limits → Order → Option (List ℕ) → Option (List ℕ) → Option (List ℕ) → Type 0
+AnswersIfKnown limits order known old new =
+    IfSome known (λ bytes. IsAnswered limits order (commands bytes limits.steps) old new)
+
+-- where they are, how a run over them may end early
+abbrev pub EndsIfKnown : Limits → Order → Option (List ℕ) → Option (List ℕ) → Option (List ℕ) → RunFault → Type 0
+EndsIfKnown limits order known old new fault =
+    IfSome known (λ bytes. EndsBy limits order (commands bytes limits.steps) old new fault)

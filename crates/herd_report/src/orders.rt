@@ -9,7 +9,7 @@ ghost use Rattle.herd_report.specs.reading.CommandFile.{commands};
 ghost use Rattle.herd_report.specs.writing.InbreedingList.{inbreeding_text};
 ghost use Rattle.herd_report.specs.writing.InverseList.{inverse_text};
 ghost use Rattle.herd_report.specs.writing.MatingList.{mating_text};
-ghost use Rattle.herd_report.specs.Run.{CanEndBy, EndsBy, IsAnswered, IsFrozenFile, IsOrder};
+ghost use Rattle.herd_report.specs.Run.{AnswersIfKnown, CanEndBy, EndsIfKnown, IsFrozenFile, IsOrder};
 ghost use Rattle.herd_report.specs.RunFault.{CanEndFreezing, EndsFreezing, EndsListing, EndsReport};
 
 use crate::command_filing::{file_commands, file_faultless};
@@ -65,12 +65,10 @@ pub fn run<H: Threads + Wait + Sync, R: Read + Drop, W: Write>(
     writer: &mut W,
 ) -> Result<(), RunFault>
     requires { IsOrder order }
-    ensures ok { OnOk result (IfSome (R.remaining reader)
-        (λ bytes. IsAnswered limits order.entry (commands bytes limits.steps) (W.contents writer.old)
-        (W.contents writer.new))) }
-    ensures err { IfErr result (λ fault. IfSome (R.remaining reader)
-        (λ bytes. EndsBy limits order.entry (commands bytes limits.steps) (W.contents writer.old)
-        (W.contents writer.new) fault)) }
+    ensures ok { OnOk result (AnswersIfKnown limits order.entry
+        (R.remaining reader) (W.contents writer.old) (W.contents writer.new)) }
+    ensures err { IfErr result (EndsIfKnown limits order.entry
+        (R.remaining reader) (W.contents writer.old) (W.contents writer.new)) }
     ensures fault { IfErr result (CanEndBy order.entry) }
 {
     match order {
@@ -95,12 +93,10 @@ fn list_of_file<H: Threads + Wait + Sync, R: Read + Drop, W: Write>(
     writer: &mut W,
 ) -> Result<(), RunFault>
     requires { IsOrder (Order.Inbreeding workers block) }
-    ensures ok { OnOk result (IfSome (R.remaining reader)
-        (λ bytes. IsAnswered limits (Order.Inbreeding workers block) (commands bytes limits.steps)
-        (W.contents writer.old) (W.contents writer.new))) }
-    ensures err { IfErr result (λ fault. IfSome (R.remaining reader)
-        (λ bytes. EndsBy limits (Order.Inbreeding workers block) (commands bytes limits.steps)
-        (W.contents writer.old) (W.contents writer.new) fault)) }
+    ensures ok { OnOk result (AnswersIfKnown limits (Order.Inbreeding workers block)
+        (R.remaining reader) (W.contents writer.old) (W.contents writer.new)) }
+    ensures err { IfErr result (EndsIfKnown limits (Order.Inbreeding workers block)
+        (R.remaining reader) (W.contents writer.old) (W.contents writer.new)) }
     ensures fault { IfErr result (CanEndBy (Order.Inbreeding workers block)) }
 {
     let frozen = frozen_book(alloc, limits, reader)?;
@@ -115,12 +111,10 @@ fn certificate_in_file<R: Read + Drop, W: Write>(
     reader: R,
     writer: &mut W,
 ) -> Result<(), RunFault>
-    ensures ok { OnOk result (IfSome (R.remaining reader)
-        (λ bytes. IsAnswered limits (Order.Certificate number) (commands bytes limits.steps)
-        (W.contents writer.old) (W.contents writer.new))) }
-    ensures err { IfErr result (λ fault. IfSome (R.remaining reader)
-        (λ bytes. EndsBy limits (Order.Certificate number) (commands bytes limits.steps)
-        (W.contents writer.old) (W.contents writer.new) fault)) }
+    ensures ok { OnOk result (AnswersIfKnown limits (Order.Certificate number)
+        (R.remaining reader) (W.contents writer.old) (W.contents writer.new)) }
+    ensures err { IfErr result (EndsIfKnown limits (Order.Certificate number)
+        (R.remaining reader) (W.contents writer.old) (W.contents writer.new)) }
     ensures fault { IfErr result (CanEndBy (Order.Certificate number)) }
 {
     let frozen = frozen_book(alloc, limits, reader)?;
@@ -137,12 +131,10 @@ fn advice_on_file<R: Read + Drop, W: Write>(
     reader: R,
     writer: &mut W,
 ) -> Result<(), RunFault>
-    ensures ok { OnOk result (IfSome (R.remaining reader)
-        (λ bytes. IsAnswered limits (Order.Mating dam sires.entry) (commands bytes limits.steps)
-        (W.contents writer.old) (W.contents writer.new))) }
-    ensures err { IfErr result (λ fault. IfSome (R.remaining reader)
-        (λ bytes. EndsBy limits (Order.Mating dam sires.entry) (commands bytes limits.steps)
-        (W.contents writer.old) (W.contents writer.new) fault)) }
+    ensures ok { OnOk result (AnswersIfKnown limits (Order.Mating dam sires.entry)
+        (R.remaining reader) (W.contents writer.old) (W.contents writer.new)) }
+    ensures err { IfErr result (EndsIfKnown limits (Order.Mating dam sires.entry)
+        (R.remaining reader) (W.contents writer.old) (W.contents writer.new)) }
     ensures fault { IfErr result (CanEndBy (Order.Mating dam sires.entry)) }
 {
     let frozen = frozen_book(alloc, limits, reader)?;
@@ -156,12 +148,10 @@ fn inverse_of_file<R: Read + Drop, W: Write>(
     reader: R,
     writer: &mut W,
 ) -> Result<(), RunFault>
-    ensures ok { OnOk result (IfSome (R.remaining reader)
-        (λ bytes. IsAnswered limits Order.Inverse (commands bytes limits.steps)
-        (W.contents writer.old) (W.contents writer.new))) }
-    ensures err { IfErr result (λ fault. IfSome (R.remaining reader)
-        (λ bytes. EndsBy limits Order.Inverse (commands bytes limits.steps)
-        (W.contents writer.old) (W.contents writer.new) fault)) }
+    ensures ok { OnOk result (AnswersIfKnown limits Order.Inverse
+        (R.remaining reader) (W.contents writer.old) (W.contents writer.new)) }
+    ensures err { IfErr result (EndsIfKnown limits Order.Inverse
+        (R.remaining reader) (W.contents writer.old) (W.contents writer.new)) }
     ensures fault { IfErr result (CanEndBy Order.Inverse) }
 {
     let frozen = frozen_book(alloc, limits, reader)?;
@@ -259,12 +249,10 @@ fn write_answers<R: Read + Drop, W: Write>(
     reader: R,
     writer: &mut W,
 ) -> Result<(), RunFault>
-    ensures ok { OnOk result (IfSome (R.remaining reader)
-        (λ bytes. IsAnswered limits Order.File (commands bytes limits.steps) (W.contents writer.old)
-        (W.contents writer.new))) }
-    ensures err { IfErr result (λ fault. IfSome (R.remaining reader)
-        (λ bytes. EndsBy limits Order.File (commands bytes limits.steps) (W.contents writer.old)
-        (W.contents writer.new) fault)) }
+    ensures ok { OnOk result (AnswersIfKnown limits Order.File
+        (R.remaining reader) (W.contents writer.old) (W.contents writer.new)) }
+    ensures err { IfErr result (EndsIfKnown limits Order.File
+        (R.remaining reader) (W.contents writer.old) (W.contents writer.new)) }
     ensures fault { IfErr result (CanEndBy Order.File) }
 {
     let filed = file_commands(alloc, limits, reader)?;
