@@ -21,6 +21,7 @@ mod rules;
 pub use freezing::freeze::{freeze_list, frozen_from};
 pub use freezing::frozen::{Frozen, Parents, Row};
 pub use freezing::registered::Registered;
+pub use freezing::rows::RowRecord;
 pub use places::links::Link;
 pub use rules::animal::Animal;
 pub use rules::parent_fault::ParentFault;
@@ -29,7 +30,7 @@ pub use rules::parent_fault::ParentFault;
 #[doc(hidden)]
 pub use freezing::number_index::NumberIndex;
 #[doc(hidden)]
-pub use freezing::rows::{PackedParents, RowRecord, Rows};
+pub use freezing::rows::{PackedParents, Rows};
 #[doc(hidden)]
 pub use places::packed_index::PackedIndex;
 // `herd_pedigree` asks it too.

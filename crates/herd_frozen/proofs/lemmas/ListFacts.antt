@@ -4,6 +4,11 @@ use Rattle.std.specs.List.{AllByRecursion}
 use Rattle.std.specs.Map.{keys_of, values_of}
 use Rattle.std.proofs.lemmas.Option.{same_Some}
 
+-- an option holds nothing or something
+pub option_cases : {X : Type 0} (o : Option X) → (o ≡ None) ⊎ ((x : X) × (o ≡ Some x))
+option_cases None = inl refl
+option_cases (Some x) = inr (x, refl)
+
 -- an option that holds something, and one that holds nothing
 pub is_some_with : {X : Type 0} (o : Option X) → is_some o ≡ true → (x : X) × (o ≡ Some x)
 is_some_with None h = absurd (cc)

@@ -1,27 +1,33 @@
 -- The rows of a frozen book, kept with the ranks of the parents for their numbers.
 use Rattle.std.specs.Prelude.{◌≡◌, ℕ, ◌<◌, List, [], ◌∷◌, map, length, slice_get, Some, IfSome}
+use Rattle.herd_frozen.specs.declared.rules.animal.Animal.{Animal}
+use Rattle.herd_frozen.specs.declared.freezing.frozen.Parents.{Parents}
 use Rattle.herd_frozen.specs.declared.freezing.frozen.Row.{Row}
 use Rattle.herd_frozen.specs.declared.freezing.rows.PackedParents.{PackedParents}
 use Rattle.herd_frozen.specs.declared.freezing.rows.RowRecord.{RowRecord}
 use Rattle.herd_frozen.specs.places.Places.{number_at}
 
--- what is kept of a row beside its parents
-abbrev pub record_of_row : Row → RowRecord
-record_of_row row = record {
-  number = row.number;
-  embryo = row.animal.embryo;
-  birth = row.animal.birth;
-  herd = row.animal.herd;
-  since = row.animal.since;
-  left = row.animal.left;
+-- what a row keeps of an animal beside its parents
+abbrev pub kept_of : List ℕ × Animal → RowRecord
+kept_of entry = record {
+  number = entry.0;
+  embryo = entry.1.embryo;
+  birth = entry.1.birth;
+  herd = entry.1.herd;
+  since = entry.1.since;
+  left = entry.1.left;
 }
 
 -- what is kept of its parents
-abbrev pub packed_parents : Row → PackedParents
-packed_parents row = record { sire = row.sire; dam = row.dam; depth = row.depth }
+abbrev pub packed_parents : Parents → PackedParents
+packed_parents parents = record { sire = parents.sire; dam = parents.dam; depth = parents.depth }
 
--- the row of which this is kept, with the numbers of all rows
-abbrev pub row_kept : List (List ℕ) → RowRecord → PackedParents → Row
+-- the parents of which this is kept
+abbrev pub parents_kept : PackedParents → Parents
+parents_kept packed = record { sire = packed.sire; dam = packed.dam; depth = packed.depth }
+
+-- the row of an animal of which this is kept, with parents of these numbers by rank
+abbrev pub row_kept : List (List ℕ) → RowRecord → Parents → Row
 row_kept numbers kept parents = record {
   number = kept.number;
   animal = record {
@@ -42,7 +48,8 @@ row_kept numbers kept parents = record {
 unfoldable pub rows_with : List (List ℕ) → List RowRecord → List PackedParents → List Row
 rows_with numbers [] parents = []
 rows_with numbers (first ∷ rest) [] = []
-rows_with numbers (first ∷ rest) (parents ∷ others) = row_kept numbers first parents ∷ rows_with numbers rest others
+rows_with numbers (first ∷ rest) (parents ∷ others) =
+    row_kept numbers first (parents_kept parents) ∷ rows_with numbers rest others
 
 abbrev pub numbers_kept : List RowRecord → List (List ℕ)
 numbers_kept records = map (λ kept. kept.number) records

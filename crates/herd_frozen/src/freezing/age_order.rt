@@ -26,10 +26,10 @@ pub(crate) fn by_age<A: Allocator, S: Registered>(
     let count = records.count();
     let mut keys = Vec::with_capacity(alloc, count)?;
     for place in 0..count {
-        let entry = records.record_at(place);
+        let kept = records.kept_at(place);
         keys.push_reserved(AgeKey {
-            birth: entry.1.birth,
-            number: entry.0,
+            birth: kept.birth,
+            number: kept.number,
             place: place as u32,
         });
     }

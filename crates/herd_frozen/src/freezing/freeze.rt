@@ -2,15 +2,15 @@ ghost use Rattle.std.specs.Prelude.{◌≡◌, ◌<◌, length, slice_get, IfOk,
 ghost use Rattle.std.specs.Option.{option_and_then, option_map};
 ghost use Rattle.herd_frozen.specs.freezing.Frozen.{IsFrozenFrom, depth_at, numbers_of};
 ghost use Rattle.herd_frozen.specs.freezing.Freeze.{AreRows, IsRanked, IsRowOf};
+ghost use Rattle.herd_frozen.specs.freezing.Rows.{row_kept};
 ghost use Rattle.herd_frozen.specs.rules.Lawful.{IsLawful};
-ghost use Rattle.herd_frozen.specs.places.Places.{IsIndexIn};
 ghost use Rattle.herd_frozen.specs.declared.TheConstants.{DEPTH_LIMIT, MOST_ANIMALS};
 
 use crate::freezing::age_order::{AgeKey, by_age, ranks_of};
-use crate::freezing::frozen::{Frozen, Row};
+use crate::freezing::frozen::{Frozen, Parents};
 use crate::freezing::listed::{Listed, places_by_number};
 use crate::freezing::registered::Registered;
-use crate::freezing::rows::Rows;
+use crate::freezing::rows::{RowRecord, Rows};
 use crate::rules::animal::Animal;
 use crate::rules::depth::depth_of_calf;
 use herd_animal::AnimalNumber;
@@ -65,37 +65,35 @@ fn depth_of<A: Allocator>(rows: &Rows<A>, parent: Option<u32>) -> Option<u8>
     Some(rows.depth(rank))
 }
 
-// The row of the record whose turn it is, once the rows of all the older ones are made. Inlined: the numbers of its
-// parents, which are not kept, are then not looked up.
-#[inline(always)]
+// What is kept of the animal whose turn it is, and its parents, once the rows of all the older ones are made.
 fn next_row<A: Allocator, S: Registered>(
     records: &S,
     keys: &[AgeKey],
     ranks: &[u32],
     rows: &Rows<A>,
-) -> Row
+) -> (RowRecord, Parents)
     requires ranked { IsRanked DEPTH_LIMIT MOST_ANIMALS (S.book records.now) keys.now ranks.now }
     requires parents { S.knows_parents records.now }
     requires rows { AreRows (S.book records.now) keys.now rows.now }
     requires more { length rows.now < length keys.now }
     ensures row { IfSome (slice_get keys.now (length rows.now))
-        (λ key. IsRowOf (S.book records.now) keys.now key result) }
-    ensures sire { IsIndexIn (numbers_of rows.now) result.sire result.animal.sire }
-    ensures dam { IsIndexIn (numbers_of rows.now) result.dam result.animal.dam }
+        (λ key. IsRowOf (S.book records.now) keys.now key (row_kept (numbers_of rows.now) result.0 result.1)) }
+    ensures sire { IfSome result.1.sire (λ rank. rank < length rows.now) }
+    ensures dam { IfSome result.1.dam (λ rank. rank < length rows.now) }
 {
     let key = keys[rows.len()];
-    let entry = records.record_at(key.place as usize);
-    let link = records.link_at(key.place as usize);
+    let place = key.place as usize;
+    let kept = records.kept_at(place);
+    let link = records.link_at(place);
     let sire = rank_of(ranks, link.sire);
     let dam = rank_of(ranks, link.dam);
     let depth = depth_of_calf(depth_of(rows, sire), depth_of(rows, dam));
-    Row {
-        number: key.number,
-        animal: entry.1,
+    let parents = Parents {
         sire,
         dam,
         depth: depth as u8,
-    }
+    };
+    (kept, parents)
 }
 
 // The rows of the records, in age order.
@@ -112,8 +110,8 @@ fn rows_of<A: Allocator + Clone, S: Registered>(
 {
     let mut rows = Rows::with_capacity(alloc, keys.len())?;
     for _ in 0..keys.len() {
-        let row = next_row(records, keys, ranks, &rows);
-        rows.push(row)?;
+        let (kept, parents) = next_row(records, keys, ranks, &rows);
+        rows.push(kept, parents)?;
     }
     Ok(rows)
 }

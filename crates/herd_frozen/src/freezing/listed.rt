@@ -9,6 +9,7 @@ ghost use Rattle.herd_frozen.specs.freezing.Freeze.{FindsPlaces, link_by};
 ghost use Rattle.herd_frozen.specs.declared.TheConstants.{MOST_ANIMALS};
 
 use crate::freezing::registered::Registered;
+use crate::freezing::rows::RowRecord;
 use crate::places::links::Link;
 use crate::rules::animal::Animal;
 use herd_animal::AnimalNumber;
@@ -38,8 +39,9 @@ impl<A: Allocator> Registered for Listed<'_, A> {
         self.records.len()
     }
 
-    fn record_at(&self, place: usize) -> (AnimalNumber, Animal) {
-        self.records[place]
+    fn kept_at(&self, place: usize) -> RowRecord {
+        let (number, animal) = &self.records[place];
+        RowRecord::of(number, animal)
     }
 
     fn link_at(&self, place: usize) -> Link {

@@ -1,11 +1,11 @@
 //! Records that are read in the order of registration, with the places of their parents.
-ghost use Rattle.std.specs.Prelude.{◌≡◌, ◌<◌, Some, length, slice_get};
+ghost use Rattle.std.specs.Prelude.{◌≡◌, ◌<◌, Some, length, map, slice_get};
+ghost use Rattle.herd_frozen.specs.freezing.Rows.{kept_of};
 ghost use Rattle.herd_frozen.specs.rules.Book.{Book};
 ghost use Rattle.herd_frozen.specs.places.Links.{IsLinkAt};
 
+use crate::freezing::rows::RowRecord;
 use crate::places::links::Link;
-use crate::rules::animal::Animal;
-use herd_animal::AnimalNumber;
 
 /// The records of a book. A place counts from 0 in the order of registration.
 pub trait Registered {
@@ -18,10 +18,10 @@ pub trait Registered {
     fn count(&self) -> usize
         ensures { result ≡ length (book self.now) };
 
-    /// The number and the record at a place.
-    fn record_at(&self, place: usize) -> (AnimalNumber, Animal)
+    /// What a row keeps of the animal at a place.
+    fn kept_at(&self, place: usize) -> RowRecord
         requires { place < length (book self.now) }
-        ensures { slice_get (book self.now) place ≡ Some result };
+        ensures { slice_get (map kept_of (book self.now)) place ≡ Some result };
 
     /// The places of the parents of the animal at a place.
     fn link_at(&self, place: usize) -> Link

@@ -2,8 +2,8 @@
 ghost use Rattle.std.specs.Prelude.{◌≡◌, ◌<◌, [], ◌++◌, ◌∷◌, length, map, slice_get, Some, IfOk, IfSome, OnOk};
 ghost use Rattle.herd_frozen.specs.freezing.Frozen.{depth_at, numbers_of, parents_of};
 ghost use Rattle.herd_frozen.specs.places.PackedIndex.{nowhere};
-ghost use Rattle.herd_frozen.specs.places.Places.{IsIndexIn, number_at};
-ghost use Rattle.herd_frozen.specs.freezing.Rows.{packed_parents, record_of_row};
+ghost use Rattle.herd_frozen.specs.places.Places.{number_at};
+ghost use Rattle.herd_frozen.specs.freezing.Rows.{kept_of, packed_parents, row_kept};
 
 use crate::freezing::frozen::{Parents, Row};
 use crate::places::packed_index::PackedIndex;
@@ -12,15 +12,21 @@ use herd_animal::{AnimalNumber, Day, Herd};
 use std::alloc::{AllocError, Allocator};
 use std::marker::Model;
 
-/// What is kept of a row beside its parents and its depth, in forty bytes.
+/// What a row keeps of an animal beside its parents and its depth, in forty bytes.
 #[derive(Clone, Copy)]
 pub struct RowRecord {
-    number: AnimalNumber,
-    embryo: bool,
-    birth: Day,
-    herd: Herd,
-    since: Day,
-    left: Option<Day>,
+    /// Its number.
+    pub number: AnimalNumber,
+    /// Whether it was born from a stored embryo.
+    pub embryo: bool,
+    /// Its birth day.
+    pub birth: Day,
+    /// The herd that owns it, or owned it when it left.
+    pub herd: Herd,
+    /// The day from which this herd owns it.
+    pub since: Day,
+    /// The day on which it left, where it has.
+    pub left: Option<Day>,
 }
 
 /// What is kept of a row's parents, in twelve bytes.
@@ -51,18 +57,18 @@ impl<A: Allocator> Model for Rows<A> {
 }
 
 impl RowRecord {
-    // What is kept of a row beside its parents.
+    /// What a row keeps of an animal of a number.
     #[inline(always)]
-    fn of(row: &Row) -> RowRecord
-        ensures { result ≡ record_of_row row.now }
+    pub(crate) fn of(number: &AnimalNumber, animal: &Animal) -> RowRecord
+        ensures { result ≡ kept_of (number.now, animal.now) }
     {
         RowRecord {
-            number: row.number,
-            embryo: row.animal.embryo,
-            birth: row.animal.birth,
-            herd: row.animal.herd,
-            since: row.animal.since,
-            left: row.animal.left,
+            number: *number,
+            embryo: animal.embryo,
+            birth: animal.birth,
+            herd: animal.herd,
+            since: animal.since,
+            left: animal.left,
         }
     }
 }
@@ -70,15 +76,15 @@ impl RowRecord {
 impl PackedParents {
     // What is kept of a row's parents.
     #[inline(always)]
-    fn of(row: &Row) -> PackedParents
-        requires sire { IfSome row.now.sire (λ rank. rank < nowhere) }
-        requires dam { IfSome row.now.dam (λ rank. rank < nowhere) }
-        ensures { result ≡ packed_parents row.now }
+    fn of(parents: Parents) -> PackedParents
+        requires sire { IfSome parents.sire (λ rank. rank < nowhere) }
+        requires dam { IfSome parents.dam (λ rank. rank < nowhere) }
+        ensures { result ≡ packed_parents parents }
     {
         PackedParents {
-            sire: PackedIndex::of(row.sire),
-            dam: PackedIndex::of(row.dam),
-            depth: row.depth,
+            sire: PackedIndex::of(parents.sire),
+            dam: PackedIndex::of(parents.dam),
+            depth: parents.depth,
         }
     }
 }
@@ -171,20 +177,19 @@ impl<A: Allocator> Rows<A> {
         Some(kept.number)
     }
 
-    /// Adds a row whose parents stand among those before it.
+    /// Adds the row of what is kept of an animal, with parents that stand among the rows before it. Their numbers are
+    /// those of these rows.
     #[inline(always)]
-    pub(crate) fn push(&mut self, row: Row) -> Result<(), AllocError>
+    pub(crate) fn push(&mut self, kept: RowRecord, parents: Parents) -> Result<(), AllocError>
         requires few { length self.old < nowhere }
-        requires sire { IsIndexIn (numbers_of self.old) row.sire row.animal.sire }
-        requires dam { IsIndexIn (numbers_of self.old) row.dam row.animal.dam }
-        ensures { OnOk result (self.new ≡ self.old ++ row ∷ []) }
+        requires sire { IfSome parents.sire (λ rank. rank < length self.old) }
+        requires dam { IfSome parents.dam (λ rank. rank < length self.old) }
+        ensures { OnOk result (self.new ≡ self.old ++ row_kept (numbers_of self.old) kept parents ∷ []) }
     {
         self.records.reserve(1)?;
         self.parents.reserve(1)?;
-        let record = RowRecord::of(&row);
-        let parents = PackedParents::of(&row);
-        self.records.push_reserved(record);
-        self.parents.push_reserved(parents);
+        self.records.push_reserved(kept);
+        self.parents.push_reserved(PackedParents::of(parents));
         Ok(())
     }
 }

@@ -4,7 +4,7 @@ ghost use Rattle.std.specs.Prelude.{◌<◌};
 
 use herd_fixtures::Name::{Bull, Cow};
 use herd_fixtures::{
-    Birth, BirthFault, DayText, Name, Pair, UNKNOWN, file_birth, frozen_of, full_sibs,
+    Birth, BirthFault, Name, Pair, UNKNOWN, file_birth, frozen_of, full_sibs, new_year,
 };
 use herd_frozen::Frozen;
 use herd_kinship::*;
@@ -36,7 +36,7 @@ fn calf_of_full_sibs_is_traced(
 // How many animals a generation has, males and females in turn, and how many of each have calves.
 #[derive(Clone, Copy)]
 struct Shape {
-    generations: u32,
+    generations: u8,
     animals: u32,
     sires: u32,
     dams: u32,
@@ -45,7 +45,7 @@ struct Shape {
 }
 
 impl Shape {
-    fn of(generations: u32, animals: u32, sires: u32, dams: u32) -> Shape
+    fn of(generations: u8, animals: u32, sires: u32, dams: u32) -> Shape
         requires sires { 0 < sires }
         requires dams { 0 < dams }
     {
@@ -62,14 +62,6 @@ impl Shape {
 fn index_in(shape: Shape, generation: u32, position: u32) -> u32 {
     let older = generation.wrapping_mul(shape.animals);
     older.wrapping_add(position).wrapping_add(1)
-}
-
-// The first day of the year that is so many after 2000.
-fn new_year(after: u32) -> DayText {
-    let mut day = *b"2000-01-01";
-    day[2] = b'0' + (after / 10 % 10) as u8;
-    day[3] = b'0' + (after % 10) as u8;
-    day
 }
 
 fn name_in(shape: Shape, generation: u32, position: u32) -> Name {
@@ -102,10 +94,11 @@ fn parents_in(shape: Shape, generation: u32, position: u32) -> Pair {
 fn shaped(alloc: Global, shape: Shape) -> Result<Frozen<Global>, BirthFault> {
     let mut pedigree = Pedigree::new(alloc);
     for generation in 0..shape.generations {
+        let day = new_year(generation);
         for position in 0..shape.animals {
-            let name = name_in(shape, generation, position);
-            let parents = parents_in(shape, generation, position);
-            file_birth(&mut pedigree, Birth(name, new_year(generation), parents))?;
+            let name = name_in(shape, u32::from(generation), position);
+            let parents = parents_in(shape, u32::from(generation), position);
+            file_birth(&mut pedigree, Birth(name, day, parents))?;
         }
     }
     Ok(pedigree.freeze(alloc)?)

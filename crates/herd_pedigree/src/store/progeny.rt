@@ -45,17 +45,18 @@ impl<A: Allocator> Model for Progeny<A> {
 pub struct Calves<'a> {
     nodes: &'a [ChainNode],
     next: Option<u32>,
-    // No chain is longer than there are animals.
-    most: usize,
 }
 
 impl<'a> Model for Calves<'a> {
-    ghost use Rattle.std.specs.Prelude.{ℕ, List};
-    ghost use Rattle.herd_pedigree.specs.store.Calves.{chain};
+    ghost use Rattle.std.specs.Prelude.{ℕ, List, ◌<◌, length};
+    ghost use Rattle.std.specs.Option.{ForSome};
+    ghost use Rattle.herd_pedigree.specs.store.Calves.{AreChained, chain};
 
     ghost Value = { List ℕ };
 
-    ghost view = { λ c. chain c.nodes.now c.most c.next };
+    ghost view = { λ c. chain c.nodes.now (length c.nodes.now) c.next };
+
+    ghost invariant = { λ c. AreChained c.nodes.now × ForSome c.next (λ calf. calf < length c.nodes.now) };
 }
 
 impl<'a> Iterator for Calves<'a> {
@@ -66,12 +67,8 @@ impl<'a> Iterator for Calves<'a> {
     ghost remaining = { item_count (λ rest. rest) };
 
     fn next(&mut self) -> Option<u32> {
-        self.most = self.most.checked_sub(1)?;
         let calf = self.next?;
-        self.next = match self.nodes.get(calf as usize) {
-            Some(node) => node.next.get(),
-            None => None,
-        };
+        self.next = node_at(self.nodes, calf).next.get();
         Some(calf)
     }
 }
@@ -111,7 +108,6 @@ impl<A: Allocator> Progeny<A> {
         Calves {
             nodes: self.nodes.as_slice(),
             next: node_at(&self.nodes, place).first.get(),
-            most: self.nodes.len(),
         }
     }
 

@@ -11,7 +11,7 @@ ghost use Rattle.herd_pedigree.specs.store.Records.{IsStoredAt, NamesItsOwn, ani
 ghost use Rattle.herd_pedigree.specs.store.Undo.{without_last};
 
 use herd_animal::{AnimalNumber, Day, Herd};
-use herd_frozen::{Animal, Link, PackedIndex, Registered};
+use herd_frozen::{Animal, Link, PackedIndex, Registered, RowRecord};
 use indexmap::IndexMap;
 use indexmap::map::Entry;
 use std::alloc::{AllocError, Allocator};
@@ -253,8 +253,16 @@ impl<A: Allocator> Registered for Records<A> {
     }
 
     #[inline(always)]
-    fn record_at(&self, place: usize) -> (AnimalNumber, Animal) {
-        (self.entries.keys()[place], self.animal_at(place))
+    fn kept_at(&self, place: usize) -> RowRecord {
+        let stored = &self.entries[place];
+        RowRecord {
+            number: self.entries.keys()[place],
+            embryo: stored.embryo,
+            birth: stored.birth,
+            herd: stored.herd,
+            since: stored.since,
+            left: stored.left,
+        }
     }
 
     #[inline(always)]

@@ -7,7 +7,7 @@ use Rattle.std.specs.declared.cmp.Ordering.TheVariants.{Less, Equal, Greater}
 use Rattle.std.specs.List.Sorted.{IsSortedBy}
 use Rattle.std.specs.Ordering.{int_cmp, is_lt, ordering_then}
 use Rattle.std.specs.List.{enumerate_from, range_with_len}
-use Rattle.std.proofs.lemmas.Option.{slice_get_within, get_or_from_slice_get}
+use Rattle.std.proofs.lemmas.Option.{same_Some, slice_get-map, slice_get_within, get_or_from_slice_get}
 use Rattle.std.proofs.lemmas.Bool.{cases_lt}
 use Rattle.std.proofs.lemmas.Cmp.{int_cmp_total}
 use Rattle.std.proofs.lemmas.List.{length-map, take_more, map-append}
@@ -16,8 +16,10 @@ use Rattle.std.proofs.lemmas.List.Sorted.{All-permutation, IsPermutation-map, le
 use Rattle.std.proofs.lemmas.List.FromFn.{length-enumerate_from, get_or-enumerate_from}
 use Rattle.herd_frozen.specs.declared.rules.animal.Animal.{Animal}
 use Rattle.herd_frozen.specs.declared.freezing.age_order.AgeKey.{AgeKey}
+use Rattle.herd_frozen.specs.declared.freezing.rows.RowRecord.{RowRecord}
 use Rattle.herd_frozen.specs.rules.Book.{Book}
 use Rattle.herd_frozen.specs.freezing.Freeze.{IsAgeOrder, age_key, places_of}
+use Rattle.herd_frozen.specs.freezing.Rows.{kept_of}
 use Rattle.herd_frozen.proofs.lemmas.ListFacts.{there}
 
 -- a comparison that begins with another is no less where that one isn't
@@ -27,19 +29,21 @@ first_not_less Equal rest e = refl
 first_not_less Greater rest e = refl
 
 -- one more key
-pub key_more : (book : Book) (i : ℕ) (number : List ℕ) (animal : Animal) (keys new : List AgeKey) → keys ≡ map age_key (take i (enumerate_from 0 book)) → slice_get book i ≡ Some (number, animal) →
-    new ≡ keys ++ record { birth = animal.birth; number = number; place = i } ∷ [] → new ≡ map age_key (take (i + 1) (enumerate_from 0 book))
-key_more book i number animal keys new before at push =
+pub key_more : (book : Book) (i : ℕ) (kept : RowRecord) (keys new : List AgeKey) → keys ≡ map age_key (take i (enumerate_from 0 book)) → slice_get (map kept_of book) i ≡ Some kept →
+    new ≡ keys ++ record { birth = kept.birth; number = kept.number; place = i } ∷ [] → new ≡ map age_key (take (i + 1) (enumerate_from 0 book))
+key_more book i kept keys new before told push =
     let entries : List (ℕ × (List ℕ × Animal)) = enumerate_from 0 book in
-    let d : ℕ × (List ℕ × Animal) = (0, (number, animal)) in
-    let h : i < length book = slice_get_within book i (number, animal) at in
+    let h : i < length book = subst (λ n. i < n) (length-map book kept_of) (slice_get_within (map kept_of book) i kept told) in
     let w : i < length entries = subst (λ n. i < n) (sym (length-enumerate_from 0 book)) h in
+    let entry = there book i h in
+    let is : kept_of entry.0 ≡ kept = same_Some (kept_of entry.0) kept (sym (slice_get-map kept_of book i ∙ rw entry.1 refl) ∙ told) in
+    let d : ℕ × (List ℕ × Animal) = (0, entry.0) in
     let zero_more : 0 + i ≡ i = omega arith in
-    let item : get_or entries i d ≡ (i, (number, animal)) =
-    get_or-enumerate_from 0 book i d h ∙ (λ j. (zero_more j, get_or_from_slice_get book i (number, animal) (number, animal) at j)) in
-    let more : take (i + 1) entries ≡ take i entries ++ (i, (number, animal)) ∷ [] = take_more entries i d w ∙ ap (λ e. take i entries ++ e ∷ []) item in
-    let key : AgeKey = record { birth = animal.birth; number = number; place = i } in
-    push ∙ ap (λ ks. ks ++ key ∷ []) before ∙ sym (map-append age_key (take i entries) ((i, (number, animal)) ∷ [])) ∙ ap (λ l. map age_key l) (sym more)
+    let item : get_or entries i d ≡ (i, entry.0) =
+    get_or-enumerate_from 0 book i d h ∙ (λ j. (zero_more j, get_or_from_slice_get book i entry.0 entry.0 entry.1 j)) in
+    let more : take (i + 1) entries ≡ take i entries ++ (i, entry.0) ∷ [] = take_more entries i d w ∙ ap (λ e. take i entries ++ e ∷ []) item in
+    let same : record { birth = kept.birth; number = kept.number; place = i } ≡ age_key (i, entry.0) = λ j. record { birth = (sym is j).birth; number = (sym is j).number; place = i } in
+    push ∙ (λ j. before j ++ same j ∷ []) ∙ sym (map-append age_key (take i entries) ((i, entry.0) ∷ [])) ∙ ap (λ l. map age_key l) (sym more)
 
 -- a key is that of the record at its place
 pub record IsKeyOf (book : Book) (key : AgeKey) : Type 0 where

@@ -7,13 +7,16 @@ use Rattle.std.proofs.lemmas.List.{get_or-map, length-map}
 use Rattle.std.proofs.lemmas.Option.{slice_get-map, slice_get_read, slice_get_within, get_or_from_slice_get, same_Some}
 use Rattle.herd_frozen.specs.declared.rules.animal.Animal.{Animal}
 use Rattle.herd_frozen.specs.declared.freezing.age_order.AgeKey.{AgeKey}
+use Rattle.herd_frozen.specs.declared.freezing.frozen.Parents.{Parents}
 use Rattle.herd_frozen.specs.declared.freezing.frozen.Row.{Row}
+use Rattle.herd_frozen.specs.declared.freezing.rows.RowRecord.{RowRecord}
 use Rattle.herd_frozen.specs.declared.places.links.Link.{Link}
 use Rattle.herd_frozen.specs.rules.Book.{Book, IsDepthOf, parentage_of, record_of}
 use Rattle.herd_frozen.specs.rules.Depths.{depth_above, depth_from}
 use Rattle.herd_frozen.specs.rules.Lawful.{IsLawfulRecord}
 use Rattle.herd_frozen.specs.freezing.Frozen.{depth_at, numbers_of}
 use Rattle.herd_frozen.specs.freezing.Freeze.{AreRows, IsAbove, IsRanked, IsRowOf, places_of}
+use Rattle.herd_frozen.specs.freezing.Rows.{kept_of, row_kept}
 use Rattle.herd_frozen.specs.places.Links.{IsLinkAt}
 use Rattle.herd_frozen.specs.places.Places.{IsIndexIn}
 use Rattle.herd_frozen.proofs.lemmas.freezing.AgeOrderFacts.{IsKeyOf, key-at, length-keys, older-before}
@@ -21,6 +24,7 @@ use Rattle.herd_frozen.proofs.lemmas.rules.BookFacts.{key_from_entry, entry_from
 use Rattle.herd_frozen.proofs.lemmas.ListFacts.{push_cases, there}
 use Rattle.herd_frozen.proofs.lemmas.freezing.FrozenDepthFacts.{IsDepth-from_parents, IsDepthOf-le}
 use Rattle.herd_frozen.proofs.lemmas.freezing.RankFacts.{place-at}
+use Rattle.herd_frozen.proofs.lemmas.freezing.RowsFacts.{animal-back}
 
 -- a parent that is known is in the book, and born before the day
 abbrev pub IsOlder : Book → ℤ → Option (List ℕ) → Type 0
@@ -33,11 +37,26 @@ pub record IsParentOf (book : Book) (keys : List AgeKey) (ranks : List ℕ) (row
   pub earlier : IfSome (option_and_then (slice_get ranks) place) (λ rank. rank < length rows)
   pub above : IsAbove (parentage_of book) parent (depth_above (depth_at rows) (option_and_then (slice_get ranks) place))
 
--- what is known of the record of a key, with the places of its parents
-pub record IsNext (book : Book) (keys : List AgeKey) (ranks : List ℕ) (rows : List Row) (key : AgeKey) (animal : Animal) (link : Link) : Type 0 where
+-- what is known of the animal of a key by what is kept of it and the places of its parents
+pub record IsNext (book : Book) (keys : List AgeKey) (ranks : List ℕ) (rows : List Row) (key : AgeKey) (kept : RowRecord) (link : Link) : Type 0 where
+  pub animal : Animal
   pub entry : slice_get book key.place ≡ Some (key.number, animal)
+  pub is_kept : kept_of (key.number, animal) ≡ kept
   pub sire : IsParentOf book keys ranks rows link.sire animal.sire
   pub dam : IsParentOf book keys ranks rows link.dam animal.dam
+
+-- the rank of a parent whose row is made is where that row stands
+made-already : (book : Book) (keys : List AgeKey) (rows : List Row) → AreRows book keys rows → length rows < length keys → (rank : Option ℕ) (parent : Option (List ℕ))
+    → IsIndexIn (map (λ k. k.number) keys) rank parent → IfSome rank (λ p. p < length rows) → IsIndexIn (numbers_of rows) rank parent
+made-already book keys rows made few None None is earlier = tt
+made-already book keys rows made few None (Some x) is earlier = absurd is
+made-already book keys rows made few (Some p) None is earlier = absurd is
+made-already book keys rows made few (Some p) (Some x) is earlier =
+    let row = there rows p earlier in
+    let key = there keys p (omega (arith, earlier, few)) in
+    let its_row : IsRowOf book keys key.0 row.0 = made p key.0 row.0 key.1 row.1 in
+    let named : key.0.number ≡ x = same_Some key.0.number x (sym (slice_get-map (λ (k : AgeKey). k.number) keys p ∙ rw key.1 refl) ∙ is) in
+    slice_get-map (λ (r : Row). r.number) rows p ∙ rw row.1 (ap Some (its_row.number ∙ named))
 
 module _ (l most : ℕ) (book : Book) (keys : List AgeKey) (ranks : List ℕ) (rows : List Row) (is : IsRanked l most book keys ranks) (made : AreRows book keys rows) where
   module _ (key : AgeKey) (at : slice_get keys (length rows) ≡ Some key) where
@@ -79,46 +98,52 @@ module _ (l most : ℕ) (book : Book) (keys : List AgeKey) (ranks : List ℕ) (r
     pub place-within : key.place < length book
     place-within = let its_key : IsKeyOf book key = key-at book keys is.ordered (length rows) key at in slice_get_within book key.place (key.number, its_key.animal) its_key.entry
 
-    pub next : (entry : List ℕ × Animal) (link : Link) → slice_get book key.place ≡ Some entry → IsLinkAt book key.place link → IsNext book keys ranks rows key entry.1 link
-    next entry link there linked =
+    pub next : (kept : RowRecord) (link : Link) → slice_get (map kept_of book) key.place ≡ Some kept → IsLinkAt book key.place link → IsNext book keys ranks rows key kept link
+    next kept link told linked =
         let its_key : IsKeyOf book key = key-at book keys is.ordered (length rows) key at in
-        let animal : its_key.animal ≡ entry.1 = ap (λ (e : List ℕ × Animal). e.1) (same_Some (key.number, its_key.animal) entry (sym its_key.entry ∙ there)) in
-        let here : slice_get book key.place ≡ Some (key.number, entry.1) = its_key.entry ∙ ap (λ (a : Animal). Some (key.number, a)) animal in
-        let lawful : IsLawfulRecord book entry.1 = is.lawful.records key.number entry.1 (lookup_at book is.lawful.once key.place key.number entry.1 here) in
-        let born : key.birth ≡ entry.1.birth = its_key.birth ∙ ap (λ (a : Animal). a.birth) animal in
+        let animal : Animal = its_key.animal in
+        let here : slice_get book key.place ≡ Some (key.number, animal) = its_key.entry in
+        let lawful : IsLawfulRecord book animal = is.lawful.records key.number animal (lookup_at book is.lawful.once key.place key.number animal here) in
         record {
+          animal = animal;
           entry = here;
+          is_kept = same_Some (kept_of (key.number, animal)) kept (sym (slice_get-map kept_of book key.place ∙ rw here refl) ∙ told);
           sire =
-              parent-found link.sire entry.1.sire (linked.sire entry there)
-              (λ p e. let sire = lawful.sire p e in (sire.sire, sire.there, subst (λ birth. sire.sire.birth <ℤ birth) (sym born) sire.older));
+              parent-found link.sire animal.sire (linked.sire (key.number, animal) here)
+              (λ p e. let sire = lawful.sire p e in (sire.sire, sire.there, subst (λ birth. sire.sire.birth <ℤ birth) (sym its_key.birth) sire.older));
           dam =
-              parent-found link.dam entry.1.dam (linked.dam entry there)
-              (λ p e. let dam = lawful.dam p e in (dam.dam, dam.there, subst (λ birth. dam.dam.birth <ℤ birth) (sym born) dam.older));
+              parent-found link.dam animal.dam (linked.dam (key.number, animal) here)
+              (λ p e. let dam = lawful.dam p e in (dam.dam, dam.there, subst (λ birth. dam.dam.birth <ℤ birth) (sym its_key.birth) dam.older));
         }
 
-    -- its depth
-    depth-next : (animal : Animal) (link : Link) → IsNext book keys ranks rows key animal link →
-        IsDepthOf book key.number (depth_from (depth_at rows) (option_and_then (slice_get ranks) link.sire) (option_and_then (slice_get ranks) link.dam))
-    depth-next animal link n =
-        let found : record_of book key.number ≡ Some animal = lookup_at book is.lawful.once key.place key.number animal n.entry in
-        IsDepth-from_parents (parentage_of book) key.number _ _ (rw found refl) (rw found n.sire.above) (rw found n.dam.above)
+    module _ (kept : RowRecord) (link : Link) (n : IsNext book keys ranks rows key kept link) where
+      -- its depth
+      depth-next : IsDepthOf book key.number (depth_from (depth_at rows) (option_and_then (slice_get ranks) link.sire) (option_and_then (slice_get ranks) link.dam))
+      depth-next =
+          let found : record_of book key.number ≡ Some n.animal = lookup_at book is.lawful.once key.place key.number n.animal n.entry in
+          IsDepth-from_parents (parentage_of book) key.number _ _ (rw found refl) (rw found n.sire.above) (rw found n.dam.above)
 
-    pub depth_next-le : (animal : Animal) (link : Link) → IsNext book keys ranks rows key animal link → depth_from (depth_at rows) (option_and_then (slice_get ranks) link.sire) (option_and_then (slice_get ranks) link.dam) ≤ l
-    depth_next-le animal link n = IsDepthOf-le l book is.lawful.shallow key.number _ (depth-next animal link n)
+      pub depth_next-le : depth_from (depth_at rows) (option_and_then (slice_get ranks) link.sire) (option_and_then (slice_get ranks) link.dam) ≤ l
+      depth_next-le = IsDepthOf-le l book is.lawful.shallow key.number _ depth-next
 
-    -- its row
-    pub row-next : (animal : Animal) (link : Link) → IsNext book keys ranks rows key animal link → (row : Row) → row.number ≡ key.number → row.animal ≡ animal →
-        row.sire ≡ option_and_then (slice_get ranks) link.sire → row.dam ≡ option_and_then (slice_get ranks) link.dam →
-        row.depth ≡ depth_from (depth_at rows) (option_and_then (slice_get ranks) link.sire) (option_and_then (slice_get ranks) link.dam) →
-        IsRowOf book keys key row
-    row-next its link n row number animal sire dam depth =
-        record {
-          number = number;
-          entry = n.entry ∙ ap Some (λ i. (sym number i, sym animal i));
-          sire = rw (animal, sire) n.sire.ranked;
-          dam = rw (animal, dam) n.dam.ranked;
-          depth = rw (number, depth) (depth-next its link n);
-        }
+      -- its row
+      pub row-next : length rows < length keys → (parents : Parents) → parents.sire ≡ option_and_then (slice_get ranks) link.sire → parents.dam ≡ option_and_then (slice_get ranks) link.dam →
+          parents.depth ≡ depth_from (depth_at rows) (option_and_then (slice_get ranks) link.sire) (option_and_then (slice_get ranks) link.dam) →
+          IsRowOf book keys key (row_kept (numbers_of rows) kept parents)
+      row-next more parents sire dam depth =
+          let sire_ranked : IsIndexIn (map (λ k. k.number) keys) parents.sire n.animal.sire = rw sire n.sire.ranked in
+          let dam_ranked : IsIndexIn (map (λ k. k.number) keys) parents.dam n.animal.dam = rw dam n.dam.ranked in
+          let sire_made = made-already book keys rows made more parents.sire n.animal.sire sire_ranked (rw sire n.sire.earlier) in
+          let dam_made = made-already book keys rows made more parents.dam n.animal.dam dam_ranked (rw dam n.dam.earlier) in
+          let animal : (row_kept (numbers_of rows) kept parents).animal ≡ n.animal = animal-back (numbers_of rows) (key.number, n.animal) kept parents n.is_kept sire_made dam_made in
+          let number : kept.number ≡ key.number = ap (λ (k : RowRecord). k.number) (sym n.is_kept) in
+          record {
+            number = number;
+            entry = n.entry ∙ ap Some (λ i. (sym number i, sym animal i));
+            sire = subst (λ (a : Animal). IsIndexIn (map (λ k. k.number) keys) parents.sire a.sire) (sym animal) sire_ranked;
+            dam = subst (λ (a : Animal). IsIndexIn (map (λ k. k.number) keys) parents.dam a.dam) (sym animal) dam_ranked;
+            depth = rw (number, depth) depth-next;
+          }
 
 -- the key whose turn it is
 pub key-read : (keys : List AgeKey) (rows : List Row) → length rows < length keys → (n : ℕ) → n ≡ length rows → (key : AgeKey) → key ≡ get_or keys n key → slice_get keys (length rows) ≡ Some key
@@ -133,16 +158,3 @@ rows-more book keys rows row made next_made rank key other at_key at_row =
     let here : slice_get keys (length rows) ≡ Some key = ap (λ n. slice_get keys n) (sym last.0) ∙ at_key in
     subst (λ r. IsRowOf book keys key r) last.1 (rw here at next_made))
     (push_cases rows row other rank at_row)
-
--- the rank of a parent whose row is made is where that row stands
-pub made-already : (book : Book) (keys : List AgeKey) (rows : List Row) → AreRows book keys rows → length rows < length keys → (rank : Option ℕ) (parent : Option (List ℕ))
-    → IsIndexIn (map (λ k. k.number) keys) rank parent → IfSome rank (λ p. p < length rows) → IsIndexIn (numbers_of rows) rank parent
-made-already book keys rows made few None None is earlier = tt
-made-already book keys rows made few None (Some x) is earlier = absurd is
-made-already book keys rows made few (Some p) None is earlier = absurd is
-made-already book keys rows made few (Some p) (Some x) is earlier =
-    let row = there rows p earlier in
-    let key = there keys p (omega (arith, earlier, few)) in
-    let its_row : IsRowOf book keys key.0 row.0 = made p key.0 row.0 key.1 row.1 in
-    let named : key.0.number ≡ x = same_Some key.0.number x (sym (slice_get-map (λ (k : AgeKey). k.number) keys p ∙ rw key.1 refl) ∙ is) in
-    slice_get-map (λ (r : Row). r.number) rows p ∙ rw row.1 (ap Some (its_row.number ∙ named))

@@ -1,5 +1,5 @@
 -- A book with its records in another order has the same look-ups, and so the same paths and laws.
-use Rattle.std.proofs.Common.{ℕ, ◌+◌, ◌≤◌, ◌≡◌, ◌⊎◌, inl, inr, ⊎_elim, Bool, List, Option, Some, None, refl, sym, ◌∙◌, ap, subst, not, IsTrue}
+use Rattle.std.proofs.Common.{ℕ, ◌+◌, ◌≤◌, ◌≡◌, ⊎_elim, Bool, List, Option, Some, None, sym, ◌∙◌, ap, subst, not, IsTrue}
 use Rattle.std.specs.Prelude.{is_some, IsPermutation}
 use Rattle.std.specs.List.{IsDistinct, list_any}
 use Rattle.std.specs.Map.{keys_of}
@@ -13,11 +13,8 @@ use Rattle.herd_frozen.specs.declared.rules.animal.Animal.{Animal}
 use Rattle.herd_frozen.specs.rules.Paths.{Parentage, has_path, IsDepth}
 use Rattle.herd_frozen.specs.rules.Book.{Book, IsDepthOf, is_shallow, parentage_of, record_of}
 use Rattle.herd_frozen.specs.rules.Lawful.{IsLawful, IsLawfulRecord, IsSireOf, IsDamOf}
+use Rattle.herd_frozen.proofs.lemmas.ListFacts.{option_cases}
 use Rattle.herd_frozen.proofs.lemmas.rules.BookFacts.{same_bytes}
-
-option_cases : {X : Type 0} (o : Option X) → (o ≡ None) ⊎ ((v : X) × (o ≡ Some v))
-option_cases None = inl refl
-option_cases (Some v) = inr (v, refl)
 
 -- what is found in one order is found in the other
 found-permuted : (book other : Book) → IsDistinct bytes_eq (keys_of other) → IsPermutation book other → (x : List ℕ) (animal : Animal) → record_of book x ≡ Some animal → record_of other x ≡ Some animal

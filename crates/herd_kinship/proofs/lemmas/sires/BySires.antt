@@ -8,7 +8,7 @@ use Rattle.herd_kinship.specs.CalfCoefficients.{Keeps}
 use Rattle.herd_kinship.specs.Coefficients.{AreCoefficients, IsBefore, IsLessDeep, IsReached, KnowsAncestors, KnowsReached, coefficient_at}
 use Rattle.herd_kinship.specs.CalfLinks.{IsCalf}
 use Rattle.herd_kinship.specs.Ranks.{sire_rank, dam_rank}
-use Rattle.herd_kinship.proofs.lemmas.Options.{option_cases}
+use Rattle.herd_frozen.proofs.lemmas.ListFacts.{option_cases}
 use Rattle.herd_kinship.proofs.lemmas.books.FrozenDepths.{depth-at_most, parent-less_deep}
 use Rattle.herd_kinship.proofs.lemmas.books.FrozenFacts.{frozen-ranked}
 use Rattle.herd_kinship.proofs.lemmas.tracing.KnownFacts.{coefficient-unknown, frozen-coefficient_bound, known-from_below, known-from_levels}

@@ -8,7 +8,7 @@ use Rattle.herd_frozen.specs.declared.freezing.frozen.Row.{Row}
 use Rattle.herd_frozen.specs.freezing.Frozen.{IsFrozen}
 use Rattle.herd_kinship.specs.CalfLinks.{IsCalf, IsLink, AreLinked}
 use Rattle.herd_kinship.specs.Ranks.{AreParentsAt, HasUnknownParent, dam_rank, sire_rank}
-use Rattle.herd_kinship.proofs.lemmas.Options.{option_cases}
+use Rattle.herd_frozen.proofs.lemmas.ListFacts.{option_cases}
 use Rattle.herd_kinship.proofs.lemmas.books.FrozenFacts.{frozen-ranked}
 use Rattle.herd_kinship.proofs.lemmas.books.ParentsFacts.{parents-sire, parents-dam, parents-within}
 

@@ -8,11 +8,11 @@ use Rattle.herd_kinship.specs.Ancestry.{Ancestry}
 use Rattle.herd_kinship.specs.Shares.{share}
 use Rattle.herd_kinship.specs.Ranks.{ranks}
 use Rattle.herd_kinship.specs.Tracing.{brought}
+use Rattle.herd_frozen.proofs.lemmas.ListFacts.{option_cases}
 use Rattle.herd_kinship.proofs.lemmas.ancestry.LawfulAncestry.{IsLawful, IsShallow}
 use Rattle.herd_kinship.proofs.lemmas.ancestry.Depth.{Below, Below-shallow, known_some}
 use Rattle.herd_kinship.proofs.lemmas.ancestry.Shares.{share-none, share-itself, share-halved, share-later}
 use Rattle.herd_kinship.proofs.lemmas.ancestry.Exact.{share-even}
-use Rattle.herd_kinship.proofs.lemmas.Options.{option_cases}
 use Rattle.herd_kinship.proofs.lemmas.numbers.Products.{cancel}
 use Rattle.herd_kinship.proofs.lemmas.numbers.Sums.{range-more}
 use Rattle.herd_kinship.proofs.lemmas.books.Ranks.{AreRanked, ranks-are_lawful, rank-in}

@@ -2,9 +2,10 @@
 use Rattle.std.proofs.Common.{ℕ, ◌<◌, ◌^◌, ◌≡◌, ◌≢◌, ◌⊎◌, inl, inr, arith, refl, sym, ap, ◌∙◌, subst, List, Option, Some, None, length}
 use Rattle.std.proofs.lemmas.Bool.{cases_eq}
 use Rattle.std.proofs.lemmas.Option.{same_Some}
+use Rattle.herd_frozen.proofs.lemmas.ListFacts.{option_cases}
 use Rattle.herd_pedigree.specs.declared.store.progeny.ChainNode.{ChainNode}
 use Rattle.herd_pedigree.specs.store.Calves.{AreChained, Show, node_at, first_of, next_of, parent_of, previous_of, put}
-use Rattle.herd_pedigree.proofs.lemmas.store.ProgenyFacts.{animal-within, chained-same, everywhere, is_place, known, put_at, put_is, put_isnt, put_off}
+use Rattle.herd_pedigree.proofs.lemmas.store.ProgenyFacts.{chained-same, everywhere, is_place, put_at, put_is, put_isnt, put_off}
 
 -- the place before which a calf stands first, where it does
 pub record IsLedBy (nodes : List ChainNode) (c p : ℕ) (o : Option ℕ) : Type 0 where
@@ -185,18 +186,6 @@ parted old l1 l2 l3 l4 l5 new c own none o next previous is_own is_none is_next 
 
 -- a place that is shown to be none's, in a chain of nobody
 module _ (nodes : List ChainNode) (a : AreChained nodes) (c : ℕ) where
-  pub next-within : (x : ℕ) → next_of nodes c ≡ Some x → x < length nodes
-  next-within x e = elim (known (parent_of nodes c)) [
-    | inl none ↦ let bad : None ≡ Some x = sym (a.single c none).0 ∙ e in absurd (cc)
-    | inr some ↦ animal-within nodes x some.0 ((a.next c x e).1.0 ∙ some.1)
-  ]
-
-  pub previous-within : (x : ℕ) → previous_of nodes c ≡ Some x → x < length nodes
-  previous-within x e = elim (known (parent_of nodes c)) [
-    | inl none ↦ let bad : None ≡ Some x = sym (a.single c none).1 ∙ e in absurd (cc)
-    | inr some ↦ animal-within nodes x some.0 (sym (a.next x c (a.previous x c e)).1.0 ∙ some.1)
-  ]
-
   -- where it has no parent, all stays
   pub part-alone : (o : Option ℕ) (new : List ChainNode) → parent_of nodes c ≡ None → o ≡ None →
       Show new (length nodes) (put (Some c) None (parent_of nodes)) (put (Some c) None (put (next_of nodes c) (previous_of nodes c) (previous_of nodes))) (put (Some c) None (put (previous_of nodes c) (next_of nodes c) (next_of nodes))) (put o (next_of nodes c) (first_of nodes)) →
@@ -221,7 +210,7 @@ module _ (nodes : List ChainNode) (a : AreChained nodes) (c : ℕ) where
 
 -- the parent whose chain it leads is an animal
 pub led-within : (nodes : List ChainNode) → AreChained nodes → (c : ℕ) (o : Option ℕ) → (previous_of nodes c ≡ None → o ≡ parent_of nodes c) → ((q : ℕ) → previous_of nodes c ≡ Some q → o ≡ None) → (p : ℕ) → o ≡ Some p → p < length nodes
-led-within nodes a c o first later p e = elim (known (previous_of nodes c)) [
+led-within nodes a c o first later p e = elim (option_cases (previous_of nodes c)) [
   | inl none ↦ a.within c p (sym (first none) ∙ e)
   | inr some ↦ let bad : None ≡ Some p = sym (later some.0 some.1) ∙ e in absurd (cc)
 ]
@@ -230,7 +219,7 @@ led-within nodes a c o first later p e = elim (known (previous_of nodes c)) [
 pub chained-part : (old new : List ChainNode) → AreChained old → (c : ℕ) (o : Option ℕ) → (previous_of old c ≡ None → o ≡ parent_of old c) → ((q : ℕ) → previous_of old c ≡ Some q → o ≡ None) →
     Show new (length old) (put (Some c) None (parent_of old)) (put (Some c) None (put (next_of old c) (previous_of old c) (previous_of old))) (put (Some c) None (put (previous_of old c) (next_of old c) (next_of old))) (put o (next_of old c) (first_of old)) →
     AreChained new
-chained-part old new a c o first later s = elim (known (parent_of old c)) [
+chained-part old new a c o first later s = elim (option_cases (parent_of old c)) [
   | inl none ↦ chained-same old new a (subst (λ n. n < 2 ^ 32) (sym s.long) a.few) (part-alone old a c o new none (first (a.single c none).1 ∙ none) s) (λ x p e. let w = a.within x p e in let n = s.long in omega (arith, w, n))
   | inr some ↦ chained-part-some old new a c some.0 some.1 o (record { first = λ n. first n ∙ some.1; later = later }) s
 ]

@@ -5,6 +5,7 @@ use Rattle.std.proofs.lemmas.Option.{same_Some}
 use Rattle.std.proofs.lemmas.List.{ext_get_or, get_or-set_same, get_or-set_other, get_or_past, get_or-map, length-set, length-map}
 use Rattle.herd_pedigree.specs.declared.store.progeny.ChainNode.{ChainNode}
 use Rattle.herd_frozen.specs.places.Places.{parent_at}
+use Rattle.herd_frozen.proofs.lemmas.ListFacts.{option_cases}
 use Rattle.herd_pedigree.specs.store.Calves.{AreChained, alone, node_at, first_of, next_of, parent_of, parents_of, previous_of, put}
 
 -- who has a parent is there
@@ -19,10 +20,6 @@ parent-within parents c p e =
 pub is_place : (o : Option ℕ) (x : ℕ) → (o ≡ Some x) ⊎ (o ≢ Some x)
 is_place None x = inr (λ e. absurd (cc))
 is_place (Some p) x = elim (cases_eq p x) [ inl same ↦ inl (ap Some same) | inr other ↦ inr (λ e. other (same_Some _ _ e)) ]
-
-pub known : (o : Option ℕ) → (o ≡ None) ⊎ ((x : ℕ) × (o ≡ Some x))
-known None = inl refl
-known (Some x) = inr (x, refl)
 
 pub put_is : (place value : Option ℕ) (f : ℕ → Option ℕ) (x : ℕ) → place ≡ Some x → put place value f x ≡ value
 put_is None value f x e = absurd (cc)
@@ -99,6 +96,20 @@ animal-within nodes c p e =
       | inl h ↦ h
       | inr h ↦ let bad : None ≡ Some p = sym (ap (λ (f : ChainNode). f.parent) (get_or_past nodes c alone h)) ∙ e in absurd (cc)
     ]
+
+-- so are the calves that stand beside an animal
+module _ (nodes : List ChainNode) (a : AreChained nodes) (c : ℕ) where
+  pub next-within : (x : ℕ) → next_of nodes c ≡ Some x → x < length nodes
+  next-within x e = elim (option_cases (parent_of nodes c)) [
+    | inl none ↦ let bad : None ≡ Some x = sym (a.single c none).0 ∙ e in absurd (cc)
+    | inr some ↦ animal-within nodes x some.0 ((a.next c x e).1.0 ∙ some.1)
+  ]
+
+  pub previous-within : (x : ℕ) → previous_of nodes c ≡ Some x → x < length nodes
+  previous-within x e = elim (option_cases (parent_of nodes c)) [
+    | inl none ↦ let bad : None ≡ Some x = sym (a.single c none).1 ∙ e in absurd (cc)
+    | inr some ↦ animal-within nodes x some.0 (sym (a.next x c (a.previous x c e)).1.0 ∙ some.1)
+  ]
 
 pub everywhere : {f g : ℕ → Option ℕ} → ((x : ℕ) → f x ≡ g x) → f ≡ g
 everywhere h = λ i x. h x i

@@ -11,9 +11,8 @@ use Rattle.herd_frozen.proofs.freezing.age_order.by_age.Goals as goal
 pub loop-place-preserved : goal.loop-place-preserved
 loop-place-preserved g c =
     let book = g.S.Registered.book c.args.records.now in
-    let entry = c.record_at-entry.result in
     record {
-      keys = key_more book c.loop-place.place entry.0 entry.1 c.loop-place.keys.items c.push_reserved.new.self.items c.loop-place.invariant.keys c.record_at-entry.ensures c.push_reserved.ensures.items;
+      keys = key_more book c.loop-place.place c.kept_at-kept.result c.loop-place.keys.items c.push_reserved.new.self.items c.loop-place.invariant.keys c.kept_at-kept.ensures c.push_reserved.ensures.items;
       count = search rules;
       room = search rules;
     }

@@ -1,11 +1,11 @@
 -- `next_row`: what its calls require, that the depth fits, and its clauses `row`, `sire` and `dam`.
-use Rattle.std.proofs.Common.{arith, refl, ◌≡◌, Some, length, slice_get}
+use Rattle.std.proofs.Common.{arith, ◌≡◌, Some, length, slice_get}
 use Rattle.std.specs.Option.{option_and_then}
 use Rattle.herd_frozen.specs.declared.TheConstants.{DEPTH_LIMIT, MOST_ANIMALS}
 use Rattle.herd_frozen.specs.freezing.Frozen.{depth_at}
 use Rattle.herd_frozen.specs.rules.Depths.{depth_from}
 use Rattle.herd_frozen.proofs.lemmas.rules.DepthsFacts.{depth_from-read}
-use Rattle.herd_frozen.proofs.lemmas.freezing.NextRowFacts.{IsNext, depth_next-le, key-read, made-already, next, place-within, row-next}
+use Rattle.herd_frozen.proofs.lemmas.freezing.NextRowFacts.{IsNext, depth_next-le, key-read, next, place-within, row-next}
 use Rattle.herd_frozen.proofs.freezing.freeze.next_row.Given.{Over}
 use Rattle.herd_frozen.proofs.freezing.freeze.next_row.Goals.{After-depth_of_calf-depth, After-index-keys-len, After-link_at-link}
 use Rattle.herd_frozen.proofs.freezing.freeze.next_row.Goals as goal
@@ -16,11 +16,11 @@ at g c = key-read c.args.keys.now c.args.rows.now c.requires.more c.len.result c
 
 -- what is known of its record
 known : (g : Over) (c : After-link_at-link g) →
-    IsNext (g.S.Registered.book c.args.records.now) c.args.keys.now c.args.ranks.now c.args.rows.now c.index-keys-len.result c.record_at-entry.result.1 c.link_at-link.result
+    IsNext (g.S.Registered.book c.args.records.now) c.args.keys.now c.args.ranks.now c.args.rows.now c.index-keys-len.result c.kept_at-kept.result c.link_at-link.result
 known g c =
     next DEPTH_LIMIT MOST_ANIMALS _ _ _ c.args.rows.now c.requires.ranked c.requires.rows c.index-keys-len.result
     (key-read c.args.keys.now c.args.rows.now c.requires.more c.len.result c.len.ensures c.index-keys-len.result c.index-keys-len.is)
-    c.record_at-entry.result c.link_at-link.result c.record_at-entry.ensures c.link_at-link.ensures
+    c.kept_at-kept.result c.link_at-link.result c.kept_at-kept.ensures c.link_at-link.ensures
 
 -- its depth
 depth : (g : Over) (c : After-depth_of_calf-depth g) →
@@ -28,9 +28,9 @@ depth : (g : Over) (c : After-depth_of_calf-depth g) →
 depth g c =
     rw (c.depth_of_calf-depth.ensures.depth, c.depth_of.ensures, c.depth_of-2.ensures, c.rank_of-sire.ensures, c.rank_of-dam.ensures) (depth_from-read (depth_at c.args.rows.now) _ _)
 
-pub record_at-entry-requires : goal.record_at-entry-requires
-record_at-entry-requires g c =
-    place-within _ _ _ _ _ c.args.rows.now c.requires.ranked c.requires.rows c.index-keys-len.result (at g (goal.at.record_at-entry-requires g c).After-index-keys-len)
+pub kept_at-kept-requires : goal.kept_at-kept-requires
+kept_at-kept-requires g c =
+    place-within _ _ _ _ _ c.args.rows.now c.requires.ranked c.requires.rows c.index-keys-len.result (at g (goal.at.kept_at-kept-requires g c).After-index-keys-len)
 
 pub link_at-link-requires-clause-within : goal.link_at-link-requires-clause-within
 link_at-link-requires-clause-within g c =
@@ -48,9 +48,9 @@ depth_of-requires g c = rw c.rank_of-sire.ensures (known g (goal.at.depth_of-req
 pub depth_of-requires-2 : goal.depth_of-requires-2
 depth_of-requires-2 g c = rw c.rank_of-dam.ensures (known g (goal.at.depth_of-requires-2 g c).After-link_at-link).dam.earlier
 
-pub overflow_cast-result : goal.overflow_cast-result
-overflow_cast-result g c =
-    let here = goal.at.overflow_cast-result g c in
+pub overflow_cast-parents : goal.overflow_cast-parents
+overflow_cast-parents g c =
+    let here = goal.at.overflow_cast-parents g c in
     let is = depth g here.After-depth_of_calf-depth in
     let le = depth_next-le _ _ _ _ _ c.args.rows.now c.requires.ranked c.requires.rows c.index-keys-len.result (at g here.After-index-keys-len) _ _ (known g here.After-link_at-link) in
     omega (arith, is, le)
@@ -59,15 +59,11 @@ pub returns-clause-row : goal.returns-clause-row
 returns-clause-row g c =
     let here = goal.at.returns-clause-row g c in
     let key = at g here.After-index-keys-len in
-    rw key (row-next _ _ _ _ _ c.args.rows.now c.requires.ranked c.requires.rows c.index-keys-len.result key c.record_at-entry.result.1 c.link_at-link.result
-    (known g here.After-link_at-link) _ refl refl c.rank_of-sire.ensures c.rank_of-dam.ensures (depth g here.After-depth_of_calf-depth))
+    rw key (row-next _ _ _ _ _ c.args.rows.now c.requires.ranked c.requires.rows c.index-keys-len.result key c.kept_at-kept.result c.link_at-link.result
+    (known g here.After-link_at-link) c.requires.more _ c.rank_of-sire.ensures c.rank_of-dam.ensures (depth g here.After-depth_of_calf-depth))
 
 pub returns-clause-sire : goal.returns-clause-sire
-returns-clause-sire g c =
-    let sire = (known g (goal.at.returns-clause-sire g c).After-link_at-link).sire in
-    rw c.rank_of-sire.ensures (made-already _ _ c.args.rows.now c.requires.rows c.requires.more _ _ sire.ranked sire.earlier)
+returns-clause-sire g c = rw c.rank_of-sire.ensures (known g (goal.at.returns-clause-sire g c).After-link_at-link).sire.earlier
 
 pub returns-clause-dam : goal.returns-clause-dam
-returns-clause-dam g c =
-    let dam = (known g (goal.at.returns-clause-dam g c).After-link_at-link).dam in
-    rw c.rank_of-dam.ensures (made-already _ _ c.args.rows.now c.requires.rows c.requires.more _ _ dam.ranked dam.earlier)
+returns-clause-dam g c = rw c.rank_of-dam.ensures (known g (goal.at.returns-clause-dam g c).After-link_at-link).dam.earlier

@@ -1,8 +1,8 @@
 -- `part`: what `set_first`, `set_next` and `set_previous` require and its result.
 use Rattle.std.proofs.Common.{arith, ap, sym, ◌∙◌, List, None}
 use Rattle.herd_pedigree.specs.declared.store.progeny.ChainNode.{ChainNode}
-use Rattle.herd_pedigree.proofs.lemmas.store.ProgenyFacts.{parents-set}
-use Rattle.herd_pedigree.proofs.lemmas.store.PartFacts.{chained-part, led-within, next-within, parted, previous-within}
+use Rattle.herd_pedigree.proofs.lemmas.store.ProgenyFacts.{next-within, parents-set, previous-within}
+use Rattle.herd_pedigree.proofs.lemmas.store.PartFacts.{chained-part, led-within, parted}
 use Rattle.herd_pedigree.proofs.store.progeny.part.Goals as goal
 
 pub set_first-requires : goal.set_first-requires
