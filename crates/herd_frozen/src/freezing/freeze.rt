@@ -66,6 +66,7 @@ fn depth_of<A: Allocator>(rows: &Rows<A>, parent: Option<u32>) -> Option<u8>
 }
 
 // What is kept of the animal whose turn it is, and its parents, once the rows of all the older ones are made.
+#[inline(always)]
 fn next_row<A: Allocator, S: Registered>(
     records: &S,
     keys: &[AgeKey],
