@@ -2,7 +2,7 @@
 //! is longer than 80 columns.
 
 /// The version of the program, the newest of `CHANGELOG.md`.
-pub const VERSION: &str = "0.10.0";
+pub const VERSION: &str = "0.11.0";
 
 /// The end of the help of the program: what all subcommands read, and the statuses.
 pub const PROGRAM: &str = "\
