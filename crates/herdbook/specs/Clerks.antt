@@ -28,18 +28,19 @@ fault_of_opening opening.NoPlace = clerk.NoPlace
 abbrev pub fault_of_filing : FileFault → ClerkFault
 fault_of_filing filing.JournalFull = clerk.NoPlace
 fault_of_filing filing.Memory = clerk.Memory
-fault_of_filing filing.NoReading = clerk.NoPlace
+fault_of_filing filing.NoReading = clerk.NoReading
 
 -- the same for one of freezing
 abbrev pub fault_of_freezing : FreezeFault → ClerkFault
 fault_of_freezing freezing.Memory = clerk.Memory
-fault_of_freezing freezing.NoReading = clerk.NoPlace
+fault_of_freezing freezing.NoReading = clerk.NoReading
 
 -- the fault of a request for one of clerks
 abbrev pub told_of : ClerkFault → RequestFault
 told_of clerk.NoThread = Run NoThread
 told_of clerk.Memory = Run Memory
 told_of clerk.NoPlace = NoPlace
+told_of clerk.NoReading = NoPlace
 
 -- the limits of an office for so many commands: a step for each, and one at least
 abbrev pub office_limits : ℕ → ℕ → Limits
