@@ -117,7 +117,7 @@ fn filed_in<N: OfficeName + Send + Sync, H: Threads + Wait + Sync>(
     parts: OfficeParts<&H>,
     deal: Deal<'_>,
 ) -> Result<Summary, ClerkFault>
-    requires named { AreNamed N.name N.parts N.all N.book N.limits parts }
+    requires named { AreNamed N.OfficeName parts }
     requires desks { parts.desks ≡ deal.desks }
     requires inspectors { 1 ≤ parts.inspectors }
     ensures { IfOk result (IsSummaryOfDeal N.limits deal.entry) }
