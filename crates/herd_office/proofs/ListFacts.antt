@@ -14,7 +14,7 @@ pub get_more : {A : Type 0} (xs ys : List A) (x : A) (k : ℕ) (d : A) → ys �
 get_more xs ys x k d is at = get_snoc xs x k d (subst (λ l. slice_get l k ≡ Some d) is at)
 
 -- where no summand is greater, the sum isn't
-sum_by-each-le : {A : Type 0} (f g : A → ℕ) (xs : List A) → ((k : ℕ) (x : A) → slice_get xs k ≡ Some x → f x ≤ g x) → sum_by f xs ≤ sum_by g xs
+pub sum_by-each-le : {A : Type 0} (f g : A → ℕ) (xs : List A) → ((k : ℕ) (x : A) → slice_get xs k ≡ Some x → f x ≤ g x) → sum_by f xs ≤ sum_by g xs
 sum_by-each-le f g [] le = omega arith
 sum_by-each-le f g (x ∷ xs) le =
     omega (arith, le 0 x refl, sum_by-each-le f g xs (λ k y at. le (suc k) y at), sum_by-cons f x xs, sum_by-cons g x xs)

@@ -33,7 +33,7 @@ impl<N: OfficeName, R: Wait + Drop, A: Allocator + Copy> Office<N, R, A> {
         alloc: A,
         parts: OfficeParts<R>,
     ) -> Result<(Office<N, R, A>, Vec<Desk<N>, A>, Vec<Inspector<N>, A>), OpenFault>
-        requires named { AreNamed N.name N.parts N.all N.book N.limits parts }
+        requires named { AreNamed N.OfficeName parts }
         ensures desks_due { IfOk result (λ r. r.0.staff.desks ≡ parts.desks) }
         ensures inspectors_due { IfOk result (λ r. r.0.staff.inspectors ≡ parts.inspectors) }
         ensures desks { IfOk result (λ r. vec_len r.1 ≡ parts.desks) }

@@ -11,15 +11,13 @@ pub(crate) struct Staff<N: OfficeName> {
     desks: u16,
     inspectors: u16,
     of: PhantomData<N>,
-    pub ghost all: { desks ≡ N.all },
-    pub ghost whole: { N.all ≡ N.parts },
+    pub ghost one_each: { desks ≡ N.parts },
 }
 
 impl<N: OfficeName> Staff<N> {
     /// The staff of an office that is opened with so many.
     pub fn new(desks: u16, inspectors: u16) -> Staff<N>
-        requires all { desks ≡ N.all }
-        requires whole { N.all ≡ N.parts }
+        requires { desks ≡ N.parts }
         ensures desks { result.desks ≡ desks }
         ensures inspectors { result.inspectors ≡ inspectors }
     {

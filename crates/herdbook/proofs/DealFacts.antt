@@ -16,6 +16,7 @@ use Rattle.herd_office.specs.Histories.{of_desk}
 use Rattle.herd_office.specs.Opening.{AreFresh}
 use Rattle.herd_office.specs.declared.desk.Desk.{Desk}
 use Rattle.herd_office.specs.declared.name.OfficeName as office_name
+use Rattle.herd_office.proofs.Stored.{of_desk_append, of_desk_one}
 use Rattle.herdbook.specs.Deal.{HasBegun, HasFiled, commands_at, dealt, dealt_first, every}
 use Rattle.herdbook.specs.Summary.{count_of}
 use Rattle.herdbook.specs.declared.deal.Deal.{Deal}
@@ -56,9 +57,6 @@ every-one (command ∷ more) = ap (λ l. command ∷ l) (every-one more)
 commands_at-append : (number : ℕ) (xs ys : List Step) → commands_at number (xs ++ ys) ≡ commands_at number xs ++ commands_at number ys
 commands_at-append number xs ys = ap (map (λ (s : Step). s.command)) (filter-append (λ (s : Step). s.desk == number) xs ys) ∙ search (common_steps)
 
-of_desk-append : (number : ℕ) (xs ys : List Step) → of_desk number (xs ++ ys) ≡ of_desk number xs + of_desk number ys
-of_desk-append number xs ys = search (arith, common_steps)
-
 none_at : (number : ℕ) (steps : List Step) → of_desk number steps ≡ 0 → commands_at number steps ≡ []
 none_at number steps none =
     ap (map (λ (s : Step). s.command)) (none_of (filter (λ (s : Step). s.desk == number) steps) (length-filter (λ (s : Step). s.desk == number) steps ∙ none))
@@ -69,7 +67,7 @@ pub shown : {N : Type 0} {O : office_name.Ghosts N} (desk : Desk N O) (longer : 
 shown desk longer commands filed begins all =
     let number = desk.number in
     let both : of_desk number desk.history + of_desk number begins.0 ≡ desk.answered =
-    sym (of_desk-append number desk.history begins.0) ∙ ap (of_desk number) begins.1 ∙ all in
+    sym (of_desk_append number desk.history begins.0) ∙ ap (of_desk number) begins.1 ∙ all in
     let just : of_desk number desk.history ≡ desk.answered = omega (arith, both, desk.stored) in
     let none : of_desk number begins.0 ≡ 0 = omega (arith, both, desk.stored) in
     let parts : commands_at number longer ≡ commands_at number desk.history ++ commands_at number begins.0 =
@@ -82,9 +80,6 @@ filed_none desk none empty = record { counted = none; known = λ _. ap (commands
 
 own_step : (number : ℕ) (step : Step) → step.desk ≡ number → commands_at number (step ∷ []) ≡ step.command ∷ []
 own_step number step is = let own : (step.desk == number) ≡ true = grind (arith, nat_tests) in rw own refl
-
-own_count : (number : ℕ) (step : Step) → step.desk ≡ number → of_desk number (step ∷ []) ≡ 1
-own_count number step is = grind (arith, nat_tests)
 
 -- a desk that has answered one call more, whose history ends with its command
 pub filed_more : {N : Type 0} {O : office_name.Ghosts N} (old new : Desk N O) (before : List Command) (command : Command) (reply : Reply)
@@ -99,7 +94,7 @@ filed_more old new before command reply same answered begins more ends filed =
     let within : IsPrefix old.history front = shorter_front old.history front step (begins.0, begins.1 ∙ is) (omega (arith, more, len)) in
     let one_more : length (before ++ command ∷ []) ≡ length before + 1 = search (arith, common_steps) in
     let count : of_desk number new.history ≡ of_desk number front + 1 =
-    ap (of_desk number) is ∙ of_desk-append number front (step ∷ []) ∙ ap (λ n. of_desk number front + n) (own_count number step refl) in
+    ap (of_desk number) is ∙ of_desk_append number front (step ∷ []) ∙ ap (λ n. of_desk number front + n) (of_desk_one number step refl) in
     record {
       counted = omega (arith, answered, filed.counted, one_more);
       known = λ all.

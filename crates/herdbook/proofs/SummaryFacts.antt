@@ -1,5 +1,5 @@
 -- Desks that are handed in, their numbers, and what their counts add up to.
-use Rattle.std.proofs.Common.{◌≡◌, ◌∙◌, ℕ, zero, suc, ◌+◌, ◌<◌, List, [], ◌∷◌, ◌++◌, ap, ap₂, append_assoc, arith, get_or, length, map, set, slice_get, Some, refl, subst, sym}
+use Rattle.std.proofs.Common.{◌≡◌, ◌∙◌, ℕ, zero, suc, ◌+◌, ◌<◌, List, [], ◌∷◌, ◌++◌, ap, ap₂, append_assoc, arith, get_or, le_antisymm, le_trans, length, map, set, slice_get, Some, refl, subst, sym}
 use Rattle.std.specs.List.{range_with_len}
 use Rattle.std.specs.Prelude.{sum_by}
 use Rattle.std.proofs.lemmas.List.{map-append, map-set, set-get_or}
@@ -11,7 +11,7 @@ use Rattle.herd_register.specs.Run.{IsLegal, commands_of, run_book}
 use Rattle.herd_register.specs.Limits.{Limits}
 use Rattle.herd_register.specs.declared.step.Step.{Step}
 use Rattle.herd_office.specs.Beginnings.{BeginsWithAll}
-use Rattle.herd_office.specs.Histories.{of_desk}
+use Rattle.herd_office.specs.Histories.{Apart, of_desk}
 use Rattle.herd_office.specs.declared.desk.Desk.{Desk}
 use Rattle.herd_office.specs.declared.name.OfficeName as office_name
 use Rattle.herdbook.specs.Deal.{HasDone, dealt}
@@ -19,7 +19,9 @@ use Rattle.herdbook.specs.Summary.{CountsOf, IsSummaryOfDeal, count_of}
 use Rattle.herdbook.specs.declared.deal.Deal.{Deal}
 use Rattle.herdbook.specs.declared.summary.DeskCount.{DeskCount}
 use Rattle.herdbook.specs.declared.summary.Summary.{Summary}
-use Rattle.herd_office.proofs.Fronts.{prefix_trans}
+use Rattle.herd_office.proofs.Counting.{apart_range, none_missed}
+use Rattle.herd_office.proofs.Fronts.{prefix_length, prefix_trans}
+use Rattle.herd_office.proofs.Stored.{of_desk_prefix}
 use Rattle.herdbook.proofs.DealFacts.{all-counted, dealt-all, each-dealt}
 
 -- the counts add up as the desks do
@@ -77,6 +79,18 @@ learnt_more {D} history_of desks place desk old new there longer mine before k d
     below_more (λ (j : ℕ). (e : D) → slice_get desks j ≡ Some e → IsPrefix (history_of e) new) place
     (λ j l e is. prefix_trans (history_of e) old new (before j e l is) longer)
     (λ e is. let same : desk ≡ e = cc (there, is) in subst (λ (x : D). IsPrefix (history_of x) new) same mine) k less d at
+
+-- who learnt the histories of all desks, and holds a beginning of the journal to which their counts add up, has seen
+-- every step
+pub seen_whole : {N : Type 0} {O : office_name.Ghosts N} (desks : List (Desk N O)) (count : ℕ) (journal seen : List Step)
+    → map (λ d. d.number) desks ≡ range_with_len 1 count → length journal ≡ sum_by (λ d. d.answered) desks
+    → BeginsWithAll (λ d. d.history) desks seen → IsPrefix seen journal → length seen ≡ length journal
+seen_whole {N} {O} desks count journal seen numbers sum learnt begins =
+    let number : Desk N O → ℕ = λ d. d.number in
+    let apart : Apart (map number desks) = subst Apart (sym numbers) (apart_range 1 count) in
+    le_antisymm (prefix_length seen journal begins)
+    (none_missed number (λ d. d.answered) desks journal seen apart
+    (λ place desk there. le_trans desk.stored (of_desk_prefix desk.number desk.history seen (learnt place desk there))) sum)
 
 -- a register whose journal has what each desk filed, counted desk by desk, is summed up
 pub summed_up : {N : Type 0} {O : office_name.Ghosts N} (all : List (Desk N O)) (limits : Limits) (deal : Deal) (register : Register) (summary : Summary)

@@ -8,11 +8,9 @@ use Rattle.herd_office.specs.declared.faults.OpenFault.{OpenFault}
 use Rattle.herd_office.specs.declared.faults.OpenFault.TheVariants as opening
 use Rattle.herd_office.specs.declared.faults.FreezeFault.{FreezeFault}
 use Rattle.herd_office.specs.declared.faults.FreezeFault.TheVariants as freezing
-use Rattle.herd_report.specs.reading.CommandFile.{CommandFile, IsRead}
+use Rattle.herd_report.specs.reading.CommandFile.{CommandFile, IsReadUpTo}
 use Rattle.herd_report.specs.writing.Text.{AppendsFront}
-use Rattle.herd_report.specs.declared.reading.line_fault.LineFault.{LineFault}
 use Rattle.herd_report.specs.declared.run_fault.RunFault.TheVariants.{Line, NotRegistered, NoThread, Memory, Write}
-use Rattle.herd_register.specs.declared.command.Command.{Command}
 use Rattle.herdbook.specs.Summary.{TellsOf}
 use Rattle.herdbook.specs.declared.clerk_fault.ClerkFault.{ClerkFault}
 use Rattle.herdbook.specs.declared.clerk_fault.ClerkFault.TheVariants as clerk
@@ -28,18 +26,19 @@ fault_of_opening opening.NoPlace = clerk.NoPlace
 abbrev pub fault_of_filing : FileFault → ClerkFault
 fault_of_filing filing.JournalFull = clerk.NoPlace
 fault_of_filing filing.Memory = clerk.Memory
-fault_of_filing filing.NoReading = clerk.NoPlace
+fault_of_filing filing.NoReading = clerk.NoReading
 
 -- the same for one of freezing
 abbrev pub fault_of_freezing : FreezeFault → ClerkFault
 fault_of_freezing freezing.Memory = clerk.Memory
-fault_of_freezing freezing.NoReading = clerk.NoPlace
+fault_of_freezing freezing.NoReading = clerk.NoReading
 
 -- the fault of a request for one of clerks
 abbrev pub told_of : ClerkFault → RequestFault
 told_of clerk.NoThread = Run NoThread
 told_of clerk.Memory = Run Memory
 told_of clerk.NoPlace = NoPlace
+told_of clerk.NoReading = NoPlace
 
 -- the limits of an office for so many commands: a step for each, and one at least
 abbrev pub office_limits : ℕ → ℕ → Limits
@@ -56,15 +55,11 @@ pub record IsTold (limits : Limits) (desks base : ℕ) (file : CommandFile) (Pas
 abbrev pub IsFiledBy : Limits → ℕ → ℕ → CommandFile → Option (List ℕ) → Option (List ℕ) → Type 0
 IsFiledBy limits desks base file old new = IsTold limits desks base file (Appends old new)
 
--- a line fault, or an interruption of the reading, was met after some commands, and nothing was written
-pub record EndsByLine (limits : Limits) (file : CommandFile) (fault : LineFault) (old new : Option (List ℕ)) : Type 0 where
-  pub commands : List Command
-  pub read : IsRead limits.steps file commands (Some fault)
-  pub unwritten : new ≡ old
-
--- how clerks may end early
+-- how clerks may end early; a file is read to a line fault, or to an interruption of the reading, before any command is
+-- filed
 abbrev pub EndsClerks : Limits → ℕ → ℕ → CommandFile → Option (List ℕ) → Option (List ℕ) → RequestFault → Type 0
-EndsClerks limits desks base file old new (Run (Line fault)) = EndsByLine limits file fault old new
+EndsClerks limits desks base file old new (Run (Line fault)) =
+    IsReadUpTo limits.steps file (Some fault) × (new ≡ old)
 EndsClerks limits desks base file old new (Run NotRegistered) = ⊥
 EndsClerks limits desks base file old new (Run NoThread) = (file.fault ≡ None) × (new ≡ old)
 EndsClerks limits desks base file old new (Run Memory) = (file.fault ≡ None) × (new ≡ old)

@@ -92,7 +92,8 @@ line_with line part = with_subcommand line part.top
 
 unfoldable pub runs_line : App
 runs_line =
-    line_with (line_with (line_with (line_with (line_with program file_line) inbreeding_line) certificate_line) mating_line)
+    line_with
+    (line_with (line_with (line_with (line_with program file_line) inbreeding_line) certificate_line) mating_line)
     inverse_line
 
 unfoldable pub command_line : App

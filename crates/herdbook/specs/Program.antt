@@ -31,7 +31,8 @@ IsServed (request.Clerks plan) limits file old new = IsFiledBy limits plan.desks
 
 -- how it may end early
 abbrev pub EndsServing : Request → Limits → CommandFile → Option (List ℕ) → Option (List ℕ) → RequestFault → Type 0
-EndsServing (request.Run asked) limits file old new (Run fault) = Lends asked (λ order. EndsBy limits order file old new fault)
+EndsServing (request.Run asked) limits file old new (Run fault) =
+    Lends asked (λ order. EndsBy limits order file old new fault)
 EndsServing (request.Run asked) limits file old new NoPlace = ⊥
 EndsServing (request.Clerks plan) limits file old new fault = EndsClerks limits plan.desks plan.base file old new fault
 

@@ -1,10 +1,10 @@
 //! Why clerks end early.
-ghost use Rattle.std.specs.Prelude.{◌≡◌};
+ghost use Rattle.std.specs.Prelude.{◌≡◌, ◌≢◌};
 ghost use Rattle.herdbook.specs.Clerks.{fault_of_filing, fault_of_freezing, fault_of_opening, told_of};
 ghost use Rattle.herdbook.specs.declared.clerk_fault.ClerkFault.TheVariants.{Memory};
 
 use crate::request_fault::RequestFault;
-use herd_office::{FreezeFault, OpenFault};
+use herd_office::{CloseFault, FreezeFault, OpenFault};
 use herd_register::FileFault;
 use herd_report::RunFault;
 use std::alloc::{AllocError, AllocFailed};
@@ -16,9 +16,24 @@ pub enum ClerkFault {
     NoThread,
     /// A growth of memory was refused.
     Memory,
-    /// An office lacks a seat for a reader or room for a step, gives no reading, isn't closed, or its inspector hasn't
-    /// seen every step.
+    /// An office lacks a seat for a reader or room for a step.
     NoPlace,
+    /// An office gives no reading, or a history that was handed in at its end isn't a beginning of its journal.
+    NoReading,
+}
+
+impl ClerkFault {
+    /// Why clerks end whose office isn't closed, though no desk and no inspector is missing.
+    pub fn of_closing(cause: CloseFault) -> ClerkFault
+        requires desks { cause ≢ CloseFault.DeskMissing }
+        requires inspectors { cause ≢ CloseFault.InspectorMissing }
+        ensures { result ≡ ClerkFault.NoReading }
+    {
+        match cause {
+            CloseFault::NoReading => ClerkFault::NoReading,
+            CloseFault::DeskMissing | CloseFault::InspectorMissing => unreachable!(),
+        }
+    }
 }
 
 impl From<ClerkFault> for RequestFault {
@@ -28,7 +43,7 @@ impl From<ClerkFault> for RequestFault {
         match fault {
             ClerkFault::NoThread => RequestFault::Run(RunFault::NoThread),
             ClerkFault::Memory => RequestFault::Run(RunFault::Memory),
-            ClerkFault::NoPlace => RequestFault::NoPlace,
+            ClerkFault::NoPlace | ClerkFault::NoReading => RequestFault::NoPlace,
         }
     }
 }
@@ -66,7 +81,8 @@ impl From<FileFault> for ClerkFault {
     fn from(fault: FileFault) -> ClerkFault {
         match fault {
             FileFault::Memory => ClerkFault::Memory,
-            FileFault::JournalFull | FileFault::NoReading => ClerkFault::NoPlace,
+            FileFault::JournalFull => ClerkFault::NoPlace,
+            FileFault::NoReading => ClerkFault::NoReading,
         }
     }
 }
@@ -77,7 +93,7 @@ impl From<FreezeFault> for ClerkFault {
     fn from(fault: FreezeFault) -> ClerkFault {
         match fault {
             FreezeFault::Memory => ClerkFault::Memory,
-            FreezeFault::NoReading => ClerkFault::NoPlace,
+            FreezeFault::NoReading => ClerkFault::NoReading,
         }
     }
 }

@@ -117,8 +117,9 @@ fn filed_in<N: OfficeName + Send + Sync, H: Threads + Wait + Sync>(
     parts: OfficeParts<&H>,
     deal: Deal<'_>,
 ) -> Result<Summary, ClerkFault>
-    requires named { AreNamed N.name N.parts N.all N.book N.limits parts }
+    requires named { AreNamed N.OfficeName parts }
     requires desks { parts.desks ≡ deal.desks }
+    requires inspectors { 1 ≤ parts.inspectors }
     ensures { IfOk result (IsSummaryOfDeal N.limits deal.entry) }
 {
     let (office, desks, inspectors) = Office::<N, &H>::open(alloc, parts)?;
@@ -143,7 +144,8 @@ fn all_filed<N: OfficeName + Send + Sync, H: Threads + Wait + Sync, R: Wait + Dr
     file_in_turn(rt, alloc, office, desks, deal)
 }
 
-// Lets the inspector learn the desks' slips and freeze the book, closes the office, and gives its summary.
+// Lets the first inspector learn the desks' slips and freeze the book, closes the office, and gives its summary. No
+// desk and no inspector is missing.
 fn closed<N: OfficeName, H: Wait, R: Wait + Drop>(
     rt: &H,
     alloc: Global,
@@ -151,18 +153,17 @@ fn closed<N: OfficeName, H: Wait, R: Wait + Drop>(
     desks: Vec<Desk<N>>,
     mut inspectors: Vec<Inspector<N>>,
 ) -> Result<Summary, ClerkFault>
-    requires { numbers_of desks.items ≡ range_with_len 1 N.all }
-    ensures { (deal : Deal) → N.all ≡ deal.desks → All (HasDone deal) desks.items
+    requires numbers { numbers_of desks.items ≡ range_with_len 1 office.staff.desks }
+    requires inspectors { office.staff.inspectors ≤ vec_len inspectors }
+    requires some { 1 ≤ vec_len inspectors }
+    ensures { (deal : Deal) → office.staff.desks ≡ deal.desks → All (HasDone deal) desks.items
         → IfOk result (IsSummaryOfDeal N.limits deal) }
 {
-    let Some(inspector) = inspectors.first_mut() else {
-        return Err(ClerkFault::NoPlace);
-    };
     let counts = counts_of(alloc, desks.as_slice())?;
-    let seen = steps_seen(alloc, desks.as_slice(), inspector)?;
+    let seen = steps_seen(alloc, desks.as_slice(), &mut inspectors[0])?;
     match office.close(rt, desks, inspectors) {
-        Ok(register) => counted(&register, counts, seen),
-        Err(_) => Err(ClerkFault::NoPlace),
+        Ok(register) => Ok(counted(&register, counts, seen)),
+        Err(unclosed) => Err(ClerkFault::of_closing(unclosed.cause)),
     }
 }
 
@@ -197,24 +198,16 @@ fn steps_seen<N: OfficeName>(
     Ok(inspector.steps_seen())
 }
 
-// The summary of a closed office, where its inspector has seen every step.
-fn counted(
-    register: &Register<Global>,
-    desks: Vec<DeskCount>,
-    seen: u64,
-) -> Result<Summary, ClerkFault>
+// The summary of a closed office, whose inspector has seen every step.
+fn counted(register: &Register<Global>, desks: Vec<DeskCount>, seen: u64) -> Summary
+    requires { seen ≡ length register.now.journal }
     ensures legal { IsLegal register.now.limits register.now.journal }
-    ensures counts { IfOk result (CountsOf register.now desks.items) }
+    ensures counts { CountsOf register.now desks.items result }
 {
-    let steps = register.journal().len();
-    let animals = register.pedigree().len();
-    if seen != steps as u64 {
-        return Err(ClerkFault::NoPlace);
-    }
-    Ok(Summary {
+    Summary {
         desks,
-        steps,
-        animals,
+        steps: register.journal().len(),
+        animals: register.pedigree().len(),
         seen,
-    })
+    }
 }

@@ -9,8 +9,8 @@ use herd_report::{LineFault, ReportFault, RunFault};
 pub enum RequestFault {
     /// As a run may end.
     Run(RunFault),
-    /// The clerks' office lacked a seat for a reader or room for a step, gave no reading, wasn't closed, or its
-    /// inspector hadn't seen every step. Nothing was written.
+    /// The clerks' office lacked a seat for a reader or room for a step, gave no reading, or wasn't closed. Nothing was
+    /// written.
     NoPlace,
 }
 

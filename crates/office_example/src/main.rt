@@ -74,7 +74,7 @@ fn keep_office<N: OfficeName + Send + Sync, R: Threads + Wait + Print + Sync>(
     parts: OfficeParts<&R>,
 ) -> Result<()>
     // A caller has to show that N is the name of these parts.
-    requires { AreNamed N.name N.parts N.all N.book N.limits parts }
+    requires { AreNamed N.OfficeName parts }
 {
     // Each desk and each inspector is a value of its own, which moves to the thread that works with it.
     let (office, mut desks, mut inspectors) = Office::<N, &R>::open(alloc, parts)?;

@@ -32,7 +32,7 @@ pub fn file_beside<N: OfficeName + Send + Sync, R: Threads + Wait + Clock + Sync
     births: u32,
     freezing: bool,
 ) -> Result<(Told, Times)>
-    requires { AreNamed N.name N.parts N.all N.book N.limits parts }
+    requires { AreNamed N.OfficeName parts }
     ensures { IfOk result (λ r. r.0.steps ≡ before + births) }
 {
     let (office, mut desks, mut inspectors) = Office::<N, &R>::open(alloc, parts)?;

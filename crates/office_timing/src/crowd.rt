@@ -28,7 +28,7 @@ pub fn file_crowded<N: OfficeName + Send + Sync, R: Threads + Wait + Sync>(
     births: u32,
     freezing: bool,
 ) -> Result<Told>
-    requires { AreNamed N.name N.parts N.all N.book N.limits parts }
+    requires { AreNamed N.OfficeName parts }
     ensures { IfOk result (λ told. told.steps ≡ births) }
 {
     let founders = Founders::new()?;

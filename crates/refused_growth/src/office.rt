@@ -31,7 +31,7 @@ fn tell_opened<N: OfficeName, R: Wait + Print>(
     alloc: Global,
     parts: OfficeParts<&R>,
 ) -> io::Result<bool>
-    requires { AreNamed N.name N.parts N.all N.book N.limits parts }
+    requires { AreNamed N.OfficeName parts }
 {
     let (office, mut desks, mut inspectors) = match Office::<N, &R>::open(alloc, parts) {
         Ok(opened) => opened,

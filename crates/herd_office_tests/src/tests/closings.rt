@@ -23,7 +23,7 @@ fn close_thrice<N: OfficeName, R: Wait + Abort>(
     alloc: Global,
     parts: OfficeParts<&R>,
 ) -> Result<(), Fail>
-    requires { AreNamed N.name N.parts N.all N.book N.limits parts }
+    requires { AreNamed N.OfficeName parts }
 {
     let (office, desks, mut inspectors) = Office::<N, &R>::open(alloc, parts)?;
     let inspector = inspectors.pop().expect(rt, "an inspector");

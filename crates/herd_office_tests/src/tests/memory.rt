@@ -54,7 +54,7 @@ fn used<N: OfficeName, R: Wait + Abort, A: Allocator + Copy>(
     parts: OfficeParts<&R>,
     crowd: &mut Crowd<'_>,
 ) -> Result<Option<(u32, u32)>, Fail>
-    requires { AreNamed N.name N.parts N.all N.book N.limits parts }
+    requires { AreNamed N.OfficeName parts }
 {
     match Office::<N, &R, A>::open(alloc, parts) {
         Ok((office, desks, inspectors)) => {

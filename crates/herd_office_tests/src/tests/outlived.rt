@@ -23,7 +23,7 @@ fn outlive<N: OfficeName, R: Wait + Abort>(
     alloc: Global,
     parts: OfficeParts<&R>,
 ) -> Result<(), Fail>
-    requires { AreNamed N.name N.parts N.all N.book N.limits parts }
+    requires { AreNamed N.OfficeName parts }
 {
     let (mut inspector, second) = file_two::<N, _>(rt, alloc, parts)?;
     expect_no_reading(rt, alloc, &mut inspector, 1);
@@ -38,7 +38,7 @@ fn file_two<N: OfficeName, R: Wait + Abort>(
     alloc: Global,
     parts: OfficeParts<&R>,
 ) -> Result<(Inspector<N>, Slip<N>), Fail>
-    requires { AreNamed N.name N.parts N.all N.book N.limits parts }
+    requires { AreNamed N.OfficeName parts }
 {
     let (office, mut desks, mut inspectors) = Office::<N, &R>::open(alloc, parts)?;
     let mut desk = desks.pop().expect(rt, "a desk");

@@ -103,7 +103,7 @@ impl Race<'_> {
         parts: OfficeParts<&R>,
         last_first: bool,
     ) -> Result<Raced, Fail>
-        requires { AreNamed N.name N.parts N.all N.book N.limits parts }
+        requires { AreNamed N.OfficeName parts }
     {
         let (office, mut desks, inspectors) = Office::<N, &R>::open(alloc, parts)?;
         let first = desks.first_mut().expect(rt, "a desk");

@@ -37,7 +37,7 @@ fn inspect<N: OfficeName + Send + Sync, R: Threads + Wait + Abort + Sync>(
     alloc: Global,
     parts: OfficeParts<&R>,
 ) -> Result<(), Fail>
-    requires { AreNamed N.name N.parts N.all N.book N.limits parts }
+    requires { AreNamed N.OfficeName parts }
 {
     let (office, mut desks, mut inspectors) = Office::<N, &R>::open(alloc, parts)?;
     let desk = desks.pop().expect(rt, "a desk");
@@ -145,7 +145,7 @@ fn beside<N: OfficeName + Send + Sync, R: Threads + Wait + Abort + Sync>(
     alloc: Global,
     parts: OfficeParts<&R>,
 ) -> Result<(), Fail>
-    requires { AreNamed N.name N.parts N.all N.book N.limits parts }
+    requires { AreNamed N.OfficeName parts }
 {
     let (office, mut desks, mut inspectors) = Office::<N, &R>::open(alloc, parts)?;
     let right = desks.pop().expect(rt, "two desks");

@@ -23,7 +23,7 @@ returns-in_err-list_commands-clause-err g c =
     let list = c.list_commands.new.list.items in
     rw (exit.1, exit.2)
     (IfSome_then (g.R.Read.remaining c.args.reader) (read_within _ c.args.limits _ list (Some c.in_err-list_commands.field-0.0) c.limits.view_is c.in_err-list_commands.ensures.file)
-    (λ bytes read. record { commands = list; read = read; unwritten = refl }))
+    (λ bytes read. ((list, read), refl)))
 
 pub returns-in_err-list_commands-clause-fault : goal.returns-in_err-list_commands-clause-fault
 returns-in_err-list_commands-clause-fault g c =

@@ -1,7 +1,7 @@
 use Rattle.herd_office_tests.proofs.tests.closings.all_is_handed_back.Given as goal
 
 abbrev pub ghosts-close_thrice-N-OfficeName : goal.ghosts-close_thrice-N-OfficeName
-ghosts-close_thrice-N-OfficeName g a = record { all = a.parts.desks; book = a.parts.book; limits = a.parts.limits }
+ghosts-close_thrice-N-OfficeName g a = record { book = a.parts.book; limits = a.parts.limits }
 
 abbrev pub ghosts-close_thrice-N-Ledger : goal.ghosts-close_thrice-N-Ledger
 ghosts-close_thrice-N-Ledger g a = record { name = a.parts.ledger; parts = a.parts.desks }

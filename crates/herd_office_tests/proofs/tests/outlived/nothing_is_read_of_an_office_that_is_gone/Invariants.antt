@@ -1,7 +1,7 @@
 use Rattle.herd_office_tests.proofs.tests.outlived.nothing_is_read_of_an_office_that_is_gone.Given as goal
 
 abbrev pub ghosts-outlive-N-OfficeName : goal.ghosts-outlive-N-OfficeName
-ghosts-outlive-N-OfficeName g a = record { all = a.parts.desks; book = a.parts.book; limits = a.parts.limits }
+ghosts-outlive-N-OfficeName g a = record { book = a.parts.book; limits = a.parts.limits }
 
 abbrev pub ghosts-outlive-N-Ledger : goal.ghosts-outlive-N-Ledger
 ghosts-outlive-N-Ledger g a = record { name = a.parts.ledger; parts = a.parts.desks }
