@@ -23,6 +23,7 @@ use Rattle.herd_pedigree.specs.declared.store.correction.Correction.{Correction}
 use Rattle.herd_pedigree.specs.store.Correction.{AreDepthsBefore, corrected}
 use Rattle.herd_pedigree.specs.store.Exchange.{IsSound, exchanged}
 use Rattle.herd_frozen.proofs.lemmas.rules.PathFacts.{Path, path-from_test, test-from_path, path-at_most, path-there, below_from, depths-fall, depths-path, depths-shallow}
+use Rattle.herd_frozen.proofs.lemmas.places.NumberFacts.{place-within}
 use Rattle.herd_frozen.proofs.lemmas.rules.BookFacts.{entry_from_key, lookup_at, length-keys}
 use Rattle.herd_frozen.proofs.lemmas.ListFacts.{there}
 use Rattle.herd_frozen.proofs.lemmas.rules.FaultFacts.{fault-split}
@@ -41,6 +42,9 @@ use Rattle.herd_pedigree.proofs.lemmas.store.SetFacts.{keys-set, set-changed, Ar
 -- a named parent's place is within the book
 pub named-within : (numbers : List (List ℕ)) (o : Option ℕ) (n : Option (List ℕ)) (p : ℕ) → IsIndexIn numbers o n → o ≡ Some p → p < length numbers
 named-within numbers o n p is e = let f = number_from_place numbers o n p is e in slice_get_within numbers p f.0 f.2
+
+pub named-in : (book : Book) (o : Option ℕ) (n : Option (List ℕ)) → IsIndexIn (keys_of book) o n → IfSome o (λ p. p < length book)
+named-in book o n is = subst (λ m. IfSome o (λ p. p < m)) (length-keys book) (place-within (keys_of book) o n is)
 
 -- and within the places of that parent of each animal
 pub named-parent : (book : Book) (parent_of : Animal → Option (List ℕ)) (parents : List (Option ℕ)) → AreParents book parent_of parents → (o : Option ℕ) (n : Option (List ℕ)) → IsIndexIn (keys_of book) o n → (p : ℕ) → o ≡ Some p → p < length parents

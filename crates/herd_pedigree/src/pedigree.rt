@@ -1,11 +1,12 @@
-ghost use Rattle.std.specs.Prelude.{◌≡◌, ◌≢◌, ◌==◌, ◌<◌, ◌≤◌, [], ◌++◌, ◌∷◌, ℕ, List, length, Option, None, Some, IfNone, IfOk, IfSome, IsTrue, OnOk, OnErr, IsSome, is_some, vec_capacity, vec_len};
+ghost use Rattle.std.specs.Prelude.{◌≡◌, ◌≢◌, ◌==◌, ◌<◌, ◌≤◌, [], ◌++◌, ◌∷◌, ℕ, List, length, Option, None, Some, IfNone, IfOk, IfSome, IsTrue, OnOk, OnErr, IsSome, is_some, not, vec_capacity, vec_len};
 ghost use Rattle.std.specs.Map.{keys_of};
 ghost use Rattle.herd_frozen.specs.rules.Book.{IsDepthOf, changed, has_calved_after, is_there, record_of, with_left, with_owner, with_parents};
 ghost use Rattle.herd_frozen.specs.freezing.Frozen.{IsFrozenFrom};
 ghost use Rattle.herd_frozen.specs.rules.Lawful.{IsLawful};
 ghost use Rattle.herd_frozen.specs.rules.ParentFault.{fault_by_records, parent_fault};
-ghost use Rattle.herd_frozen.specs.places.Places.{IsIndexIn};
+ghost use Rattle.herd_frozen.specs.places.Places.{AreParents, IsIndexIn};
 ghost use Rattle.herd_pedigree.specs.Pedigree.{IfShownWith, IsBirth, IsCorrection, IsExit, IsFaultWith, IsFound, IsNewborn, IsPresentOn, TellsTooDeep, changed_to, registration, unsound};
+ghost use Rattle.herd_pedigree.specs.store.Kept.{pushed_if};
 ghost use Rattle.herd_pedigree.specs.store.Records.{IsStoredAt, animal_of, set_value_at};
 ghost use Rattle.herd_frozen.specs.declared.TheConstants.{DEPTH_LIMIT, MOST_ANIMALS};
 
@@ -18,7 +19,7 @@ use crate::store::progeny::Progeny;
 use crate::store::records::{Records, StoredRecord};
 use crate::store::undo::Undo;
 use herd_animal::{AnimalNumber, Day, Herd};
-use herd_frozen::{Animal, DEPTH_LIMIT, Frozen, ParentFault, frozen_from};
+use herd_frozen::{Animal, DEPTH_LIMIT, Frozen, Link, ParentFault, frozen_from};
 use std::alloc::{AllocError, Allocator};
 use std::marker::Model;
 
@@ -186,7 +187,7 @@ impl<A: Allocator + Copy> Pedigree<A> {
             &animal.dam,
             animal.embryo,
         ) {
-            Ok(parents) => self.add_unless_too_deep(number, animal, parents.sire, parents.dam),
+            Ok(parents) => self.add_unless_too_deep(number, animal, parents),
             Err(fault) => Ok(self.unsound(&number, fault)),
         }
     }
@@ -207,15 +208,14 @@ impl<A: Allocator + Copy> Pedigree<A> {
         &mut self,
         number: AnimalNumber,
         animal: Animal,
-        sire: Option<u32>,
-        dam: Option<u32>,
+        parents: Link,
     ) -> Result<Registration, AllocError>
         requires room { length self.old.book < MOST_ANIMALS }
         requires since { animal.since ≡ animal.birth }
         requires left { animal.left ≡ None }
         requires sound { fault_by_records self.old.book animal.birth animal.sire animal.dam animal.embryo ≡ None }
-        requires sire { IsIndexIn (keys_of self.old.book) sire animal.sire }
-        requires dam { IsIndexIn (keys_of self.old.book) dam animal.dam }
+        requires sire { IsIndexIn (keys_of self.old.book) parents.sire animal.sire }
+        requires dam { IsIndexIn (keys_of self.old.book) parents.dam animal.dam }
         ensures outcome { IfOk result (λ outcome. outcome ≡ registration DEPTH_LIMIT self.old.book number animal) }
         ensures there { IsTrue (is_there self.old.book number) → result ≡ Ok Registration.AlreadyThere }
         ensures added { result ≡ Ok Registration.Added
@@ -223,22 +223,22 @@ impl<A: Allocator + Copy> Pedigree<A> {
         ensures refused { IfOk result (λ outcome. outcome ≢ Registration.Added → self.new ≡ self.old) }
         ensures err { OnErr result (self.new ≡ self.old) }
     {
-        let depth = depth_with(&self.depths, sire, dam);
+        let depth = depth_with(&self.depths, parents.sire, parents.dam);
         if depth > u16::from(DEPTH_LIMIT) {
             return Ok(self.unsound(&number, ParentFault::TooDeep));
         }
-        if let Err(refused) = make_room(&mut self.depths, &mut self.sires, &mut self.dams) {
-            return match self.records.place_of(&number) {
-                Some(_) => Ok(Registration::AlreadyThere),
-                None => Err(refused),
-            };
-        }
-        if !self.records.push_if_new(number, animal, sire, dam)? {
+        let new = push_all_if_new(
+            &mut self.records,
+            &mut self.sires,
+            &mut self.dams,
+            &mut self.depths,
+            (number, animal),
+            parents,
+            depth as u8,
+        )?;
+        if !new {
             return Ok(Registration::AlreadyThere);
         }
-        self.depths.push_reserved(depth as u8);
-        self.sires.push(sire);
-        self.dams.push(dam);
         self.undo = Undo::Birth;
         Ok(Registration::Added)
     }
@@ -300,12 +300,35 @@ impl<A: Allocator + Copy> Pedigree<A> {
         ensures refused { IfOk result (λ fault. IsSome fault → self.new ≡ self.old) }
         ensures err { OnErr result (self.new ≡ self.old) }
     {
+        let was = self.records.stored_at(found.place as usize);
+        match sound_parents(&self.records, was.birth, &sire, &dam, was.embryo) {
+            Ok(parents) => self.set_parents_unless_too_deep(found, was, sire, dam, parents),
+            Err(fault) => Ok(Some(fault)),
+        }
+    }
+
+    // Sets the parents of an animal, of which this is kept, to these, whose places these are, unless some path would
+    // be too long.
+    fn set_parents_unless_too_deep(
+        &mut self,
+        found: &Found,
+        was: StoredRecord,
+        sire: Option<AnimalNumber>,
+        dam: Option<AnimalNumber>,
+        parents: Link,
+    ) -> Result<Option<ParentFault>, AllocError>
+        requires found { IsFound self.old.book found.now }
+        requires stored { IsStoredAt self.old.book found.now.place was }
+        requires sound { fault_by_records self.old.book was.birth sire dam was.embryo ≡ None }
+        requires sire { IsIndexIn (keys_of self.old.book) parents.sire sire }
+        requires dam { IsIndexIn (keys_of self.old.book) parents.dam dam }
+        ensures fault { IfOk result (IsFaultWith DEPTH_LIMIT self.old.book found.now.number sire dam) }
+        ensures set { result ≡ Ok None
+            → self.new ≡ changed_to self.old (changed self.old.book found.now.number (with_parents sire dam)) }
+        ensures refused { IfOk result (λ fault. IsSome fault → self.new ≡ self.old) }
+        ensures err { OnErr result (self.new ≡ self.old) }
+    {
         let place = found.place;
-        let was = self.records.stored_at(place as usize);
-        let parents = match sound_parents(&self.records, was.birth, &sire, &dam, was.embryo) {
-            Ok(parents) => parents,
-            Err(fault) => return Ok(Some(fault)),
-        };
         let correction = Correction {
             sires: &self.sires,
             dams: &self.dams,
@@ -518,6 +541,46 @@ impl<A: Allocator> Pedigree<A> {
     {
         frozen_from(alloc, &self.records)
     }
+}
+
+// Adds an animal to the records, and its parents and its depth to what stands beside them, unless its number is there,
+// and returns whether it was new. The only error is a growth of memory that is refused; a number that is there needs
+// none.
+fn push_all_if_new<A: Allocator>(
+    records: &mut Records<A>,
+    sires: &mut Progeny<A>,
+    dams: &mut Progeny<A>,
+    depths: &mut Vec<u8, A>,
+    entry: (AnimalNumber, Animal),
+    parents: Link,
+    depth: u8,
+) -> Result<bool, AllocError>
+    requires few { length records.old.book < MOST_ANIMALS }
+    requires sires { AreParents records.old.book (λ animal. animal.sire) sires.old.parents }
+    requires dams { AreParents records.old.book (λ animal. animal.dam) dams.old.parents }
+    requires sire { IsIndexIn (keys_of records.old.book) parents.sire entry.1.sire }
+    requires dam { IsIndexIn (keys_of records.old.book) parents.dam entry.1.dam }
+    ensures new { IfOk result (λ new. new ≡ not (is_there records.old.book entry.0)) }
+    ensures absent { OnErr result (record_of records.old.book entry.0 ≡ None) }
+    ensures records { records.new.book ≡ pushed_if result records.old.book entry }
+    ensures sires { sires.new.parents ≡ pushed_if result sires.old.parents parents.sire }
+    ensures dams { dams.new.parents ≡ pushed_if result dams.old.parents parents.dam }
+    ensures depths { depths.new.items ≡ pushed_if result depths.old.items depth }
+{
+    let (number, animal) = entry;
+    if let Err(refused) = make_room(depths, sires, dams) {
+        return match records.place_of(&number) {
+            Some(_) => Ok(false),
+            None => Err(refused),
+        };
+    }
+    let new = records.push_if_new(number, animal, parents.sire, parents.dam)?;
+    if new {
+        depths.push_reserved(depth);
+        sires.push(parents.sire);
+        dams.push(parents.dam);
+    }
+    Ok(new)
 }
 
 // Makes room for one more animal beside its record.

@@ -1,5 +1,5 @@
 -- What a pedigree keeps beside its book.
-use Rattle.std.specs.Prelude.{◌≡◌, ℕ, List, length, slice_index, Option}
+use Rattle.std.specs.Prelude.{◌≡◌, ℕ, Bool, true, false, List, [], ◌++◌, ◌∷◌, length, slice_index, Option, Result, Ok, Err}
 use Rattle.herd_frozen.specs.rules.Book.{Book}
 use Rattle.herd_frozen.specs.rules.Lawful.{IsLawful}
 use Rattle.herd_frozen.specs.places.Places.{AreParents, parentage_at}
@@ -12,3 +12,9 @@ pub record IsKept (l most : ℕ) (book : Book) (sires dams : List (Option ℕ)) 
   pub dams_are : AreParents book (λ animal. animal.dam) dams
   pub long : length depths ≡ length book
   pub depths_are : AreDepths l (parentage_at sires dams) (slice_index depths)
+
+-- a list with one element more at its end, where that was told to be new, and else as it was
+abbrev pub pushed_if : {X E : Type 0} → Result Bool E → List X → X → List X
+pushed_if (Ok true) xs x = xs ++ x ∷ []
+pushed_if (Ok false) xs x = xs
+pushed_if (Err refused) xs x = xs

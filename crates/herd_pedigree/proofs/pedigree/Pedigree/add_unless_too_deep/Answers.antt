@@ -1,5 +1,5 @@
 -- An animal whose parents' records show no fault: its number and its depth are left to ask.
-use Rattle.std.proofs.Common.{rules, sym, ap, ◌∙◌, subst, ◌≡◌, ◌<◌, ℕ, List, [], ◌∷◌, ◌++◌, Ok, Option, Some, length, slice_index}
+use Rattle.std.proofs.Common.{true, sym, ap, ◌∙◌, subst, ◌≡◌, ◌<◌, ℕ, List, [], ◌∷◌, ◌++◌, Option, Some, length, slice_index}
 use Rattle.std.specs.Map.{keys_of}
 use Rattle.herd_frozen.specs.declared.rules.parent_fault.ParentFault.TheVariants.{TooDeep}
 use Rattle.herd_frozen.specs.rules.Book.{Book}
@@ -8,23 +8,23 @@ use Rattle.herd_pedigree.specs.declared.registration.Registration.TheVariants.{A
 use Rattle.herd_pedigree.specs.Pedigree.{IsBirth, registration, unsound}
 use Rattle.herd_frozen.specs.places.Places.{IsIndexIn}
 use Rattle.herd_frozen.specs.declared.TheConstants.{DEPTH_LIMIT, MOST_ANIMALS}
-use Rattle.herd_pedigree.proofs.CheckFacts.{named-parent, newborn-deep, newborn-none}
+use Rattle.herd_pedigree.proofs.CheckFacts.{newborn-deep, newborn-none}
 use Rattle.herd_pedigree.proofs.KeptFacts.{IsHeld-push}
 use Rattle.herd_pedigree.proofs.RegistrationFacts.{absent-new, registration-added, registration-told}
 use Rattle.herd_pedigree.proofs.pedigree.Pedigree.add_unless_too_deep.Given.{Over}
-use Rattle.herd_pedigree.proofs.pedigree.Pedigree.add_unless_too_deep.Goals.{After-depth_with-depth, After-push_reserved}
+use Rattle.herd_pedigree.proofs.pedigree.Pedigree.add_unless_too_deep.Goals.{After-depth_with-depth, In_ok-new}
 use Rattle.herd_pedigree.proofs.pedigree.Pedigree.add_unless_too_deep.Goals as goal
 
 -- the places of the parents, in the book that is inside
-sire : (g : Over) (c : After-depth_with-depth g) → IsIndexIn (keys_of c.self.inside.records.book) c.args.sire c.args.animal.sire
-sire g c = subst (λ p. IsIndexIn (keys_of p.book) c.args.sire c.args.animal.sire) (sym c.self.view_is) c.requires.sire
+sire : (g : Over) (c : After-depth_with-depth g) → IsIndexIn (keys_of c.self.inside.records.book) c.args.parents.sire c.args.animal.sire
+sire g c = subst (λ p. IsIndexIn (keys_of p.book) c.args.parents.sire c.args.animal.sire) (sym c.self.view_is) c.requires.sire
 
-dam : (g : Over) (c : After-depth_with-depth g) → IsIndexIn (keys_of c.self.inside.records.book) c.args.dam c.args.animal.dam
-dam g c = subst (λ p. IsIndexIn (keys_of p.book) c.args.dam c.args.animal.dam) (sym c.self.view_is) c.requires.dam
+dam : (g : Over) (c : After-depth_with-depth g) → IsIndexIn (keys_of c.self.inside.records.book) c.args.parents.dam c.args.animal.dam
+dam g c = subst (λ p. IsIndexIn (keys_of p.book) c.args.parents.dam c.args.animal.dam) (sym c.self.view_is) c.requires.dam
 
 -- the depth that was computed
-depth : (g : Over) (c : After-depth_with-depth g) → c.depth_with-depth.result ≡ depth_from (slice_index c.self.inside.depths.items) c.args.sire c.args.dam
-depth g c = c.depth_with-depth.ensures.depth ∙ ap (λ ds. depth_from (slice_index ds) c.args.sire c.args.dam) c.deref.ensures.value
+depth : (g : Over) (c : After-depth_with-depth g) → c.depth_with-depth.result ≡ depth_from (slice_index c.self.inside.depths.items) c.args.parents.sire c.args.parents.dam
+depth g c = c.depth_with-depth.ensures.depth ∙ ap (λ ds. depth_from (slice_index ds) c.args.parents.sire c.args.parents.dam) c.deref.ensures.value
 
 pub returns-then-depth-from-clause-outcome : goal.returns-then-depth-from-clause-outcome
 returns-then-depth-from-clause-outcome g c =
@@ -36,19 +36,13 @@ returns-then-depth-from-clause-outcome g c =
     (registration-told DEPTH_LIMIT i.records.book number a (Some TooDeep)
     (λ absent.
     newborn-deep DEPTH_LIMIT MOST_ANIMALS i.records.book c.args.self.now.book (ap (λ p. p.book) c.self.view_is) i.sires.parents i.dams.parents i.depths.items c.self.invariant.kept number absent
-    a c.requires.sound c.args.sire c.args.dam c.requires.sire c.requires.dam c.from.result c.depth_with-depth.result c.from.ensures (depth g (goal.at.returns-then-depth-from-clause-outcome g c).After-depth_with-depth) c.if-depth-from.true)))
-
-pub push-requires-clause-within : goal.push-requires-clause-within
-push-requires-clause-within g c = rw c.make_room.ensures.sires (named-parent _ _ _ c.self.invariant.kept.sires_are _ _ (sire g (goal.at.push-requires-clause-within g c).After-depth_with-depth))
-
-pub push-requires-2-clause-within : goal.push-requires-2-clause-within
-push-requires-2-clause-within g c = rw c.make_room.ensures.dams (named-parent _ _ _ c.self.invariant.kept.dams_are _ _ (dam g (goal.at.push-requires-2-clause-within g c).After-depth_with-depth))
+    a c.requires.sound c.args.parents.sire c.args.parents.dam c.requires.sire c.requires.dam c.from.result c.depth_with-depth.result c.from.ensures (depth g (goal.at.returns-then-depth-from-clause-outcome g c).After-depth_with-depth) c.if-depth-from.true)))
 
 -- the animal that was added was born
-birth : (g : Over) (c : After-push_reserved g) → c.depth_with-depth.result ≡ depth_from (slice_index c.self.inside.depths.items) c.args.sire c.args.dam → IsBirth DEPTH_LIMIT MOST_ANIMALS c.self.inside.records.book c.args.number c.args.animal
-birth g c depth =
+birth : (g : Over) (c : In_ok-new g) → c.in_ok-new.new ≡ true → c.depth_with-depth.result ≡ depth_from (slice_index c.self.inside.depths.items) c.args.parents.sire c.args.parents.dam → IsBirth DEPTH_LIMIT MOST_ANIMALS c.self.inside.records.book c.args.number c.args.animal
+birth g c new depth =
     let i = c.self.inside in
-    let absent = absent-new i.records.book c.args.number _ c.in_ok-push_if_new.ensures.new c.if-not-branch.false in
+    let absent = absent-new i.records.book c.args.number _ c.in_ok-new.ensures.new new in
     record {
       newborn = record {
         absent = absent;
@@ -57,7 +51,7 @@ birth g c depth =
         left = c.requires.left;
       };
       parents = sym (newborn-none DEPTH_LIMIT MOST_ANIMALS i.records.book c.args.self.now.book (ap (λ p. p.book) c.self.view_is) i.sires.parents i.dams.parents i.depths.items c.self.invariant.kept c.args.number absent
-          c.args.animal c.requires.sound c.args.sire c.args.dam c.requires.sire c.requires.dam c.from.result c.depth_with-depth.result c.from.ensures depth c.if-depth-from.false);
+          c.args.animal c.requires.sound c.args.parents.sire c.args.parents.dam c.requires.sire c.requires.dam c.from.result c.depth_with-depth.result c.from.ensures depth c.if-depth-from.false);
     }
 
 pub invariant_of-self-2 : goal.invariant_of-self-2
@@ -69,17 +63,17 @@ invariant_of-self-2 g c =
     let depths : List ℕ = i.depths.items in
     let here = goal.at.invariant_of-self-2 g c in
     let depth = depth g here.After-depth_with-depth in
-    let birth = birth g here.After-push_reserved depth in
-    let entries : c.push_if_new.new.self.book ≡ book ++ (c.args.number, c.args.animal) ∷ [] = c.in_ok-push_if_new.ensures.added (ap Ok c.if-not-branch.false) in
-    let sires_are : c.push.new.self.parents ≡ sires ++ c.args.sire ∷ [] = c.push.ensures ∙ ap (λ ps. ps ++ c.args.sire ∷ []) c.make_room.ensures.sires in
-    let dams_are : c.push-2.new.self.parents ≡ dams ++ c.args.dam ∷ [] = c.push-2.ensures ∙ ap (λ ps. ps ++ c.args.dam ∷ []) c.make_room.ensures.dams in
-    let depths_are : c.push_reserved.new.self.items ≡ depths ++ depth_from (slice_index depths) c.args.sire c.args.dam ∷ [] = search (rules, depth) in
+    let birth = birth g here.In_ok-new c.if-not-new.false depth in
+    let entries : c.push_all_if_new.new.records.book ≡ book ++ (c.args.number, c.args.animal) ∷ [] = rw c.if-not-new.false at c.in_ok-new.ensures.records in
+    let sires_are : c.push_all_if_new.new.sires.parents ≡ sires ++ c.args.parents.sire ∷ [] = rw c.if-not-new.false at c.in_ok-new.ensures.sires in
+    let dams_are : c.push_all_if_new.new.dams.parents ≡ dams ++ c.args.parents.dam ∷ [] = rw c.if-not-new.false at c.in_ok-new.ensures.dams in
+    let depths_are : c.push_all_if_new.new.depths.items ≡ depths ++ depth_from (slice_index depths) c.args.parents.sire c.args.parents.dam ∷ [] = rw (c.if-not-new.false, depth) at c.in_ok-new.ensures.depths in
     rw (entries, sires_are, dams_are, depths_are)
-    (IsHeld-push DEPTH_LIMIT MOST_ANIMALS book sires dams depths c.self.invariant.kept c.args.number c.args.animal birth.newborn.absent c.args.sire c.args.dam (sire g here.After-depth_with-depth) (dam g here.After-depth_with-depth) birth i.old_depths.items)
+    (IsHeld-push DEPTH_LIMIT MOST_ANIMALS book sires dams depths c.self.invariant.kept c.args.number c.args.animal birth.newborn.absent c.args.parents.sire c.args.parents.dam (sire g here.After-depth_with-depth) (dam g here.After-depth_with-depth) birth i.old_depths.items)
 
 pub returns-clause-outcome : goal.returns-clause-outcome
 returns-clause-outcome g c =
     let here = goal.at.returns-clause-outcome g c in
-    let birth = birth g here.After-push_reserved (depth g here.After-depth_with-depth) in
+    let birth = birth g here.In_ok-new c.if-not-new.false (depth g here.After-depth_with-depth) in
     subst (λ p. Added ≡ registration DEPTH_LIMIT p.book c.args.number c.args.animal) c.self.view_is
     (registration-added DEPTH_LIMIT c.self.inside.records.book c.args.number c.args.animal birth.newborn.absent (sym birth.parents))

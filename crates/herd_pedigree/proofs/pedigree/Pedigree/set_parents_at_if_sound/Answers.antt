@@ -1,25 +1,10 @@
--- `Pedigree::set_parents_at_if_sound`: what `carry_if_shallow` and `write` require, the invariant, and its clauses `fault`, `set` and `by_records`.
-use Rattle.std.proofs.Common.{refl, sym, ap, ◌∙◌, subst, ◌≡◌, ◌<◌, ℕ, List, [], Option, Some, None, IfSome, All, length, slice_index, slice_get, slice_set}
+-- `Pedigree::set_parents_at_if_sound`: its clauses `fault` and `by_records`.
+use Rattle.std.proofs.Common.{refl, ap, Some, None}
 use Rattle.std.specs.Map.{keys_of}
-use Rattle.std.specs.Vec.{with_items}
-use Rattle.std.proofs.lemmas.List.{with_items_is}
-use Rattle.herd_frozen.specs.declared.rules.animal.Animal.{Animal}
-use Rattle.herd_pedigree.specs.declared.store.records.StoredRecord.{StoredRecord}
-use Rattle.herd_pedigree.specs.declared.store.undo.Undo.TheVariants.{Record}
-use Rattle.herd_frozen.specs.rules.Book.{Book, changed, with_parents}
-use Rattle.herd_pedigree.specs.Pedigree.{IsCorrection, IsFound, changed_to}
-use Rattle.herd_frozen.specs.declared.rules.parent_fault.ParentFault.TheVariants.{TooDeep}
-use Rattle.herd_pedigree.specs.store.Carry.{IsSettled}
-use Rattle.herd_pedigree.specs.store.Exchange.{exchanged}
-use Rattle.herd_pedigree.specs.store.Records.{IsStoredAt, animal_of, set_value_at}
-use Rattle.herd_pedigree.specs.store.Undo.{IsHeld, TakesBack}
-use Rattle.herd_frozen.specs.declared.TheConstants.{DEPTH_LIMIT, MOST_ANIMALS}
-use Rattle.herd_frozen.proofs.lemmas.rules.BookFacts.{lookup_at}
-use Rattle.herd_pedigree.proofs.lemmas.store.RecordsFacts.{animal_of-parents, stored-entry, stored-parents}
-use Rattle.herd_pedigree.proofs.lemmas.store.SetFacts.{record-view}
-use Rattle.herd_pedigree.proofs.CheckFacts.{correction-depths, correction-sound, fault-deep, fault-first, fault-none}
-use Rattle.herd_pedigree.proofs.FoundFacts.{its-number, shown-found, told-found}
-use Rattle.herd_pedigree.proofs.HeldFacts.{IsHeld-corrected}
+use Rattle.herd_pedigree.specs.store.Records.{animal_of}
+use Rattle.herd_frozen.specs.declared.TheConstants.{DEPTH_LIMIT}
+use Rattle.herd_pedigree.proofs.CheckFacts.{fault-first}
+use Rattle.herd_pedigree.proofs.FoundFacts.{shown-found, told-found}
 use Rattle.herd_pedigree.proofs.pedigree.Pedigree.set_parents_at_if_sound.Goals as goal
 
 pub returns-in-Err-clause-fault : goal.returns-in-Err-clause-fault
@@ -27,117 +12,10 @@ returns-in-Err-clause-fault g c =
     told-found c.self.inside.records.book c.args.self.now.book (ap (λ p. p.book) c.self.view_is) c.self.invariant.kept.lawful.once c.args.found.now c.requires (animal_of (keys_of c.self.inside.records.book) c.stored_at-was.result) c.stored_at-was.ensures.animal DEPTH_LIMIT c.args.sire c.args.dam (Some c.in-Err.fault)
     (fault-first DEPTH_LIMIT c.self.inside.records.book c.args.found.now.number c.stored_at-was.result.birth c.args.sire c.args.dam c.stored_at-was.result.embryo c.in-Err.fault c.in-Err.ensures.fault)
 
-pub invariant_of-correction : goal.invariant_of-correction
-invariant_of-correction g c =
-    let i = c.self.inside in
-    let its : IsFound i.records.book c.args.found.now = subst (λ p. IsFound p.book c.args.found.now) (sym c.self.view_is) c.requires in
-    record { sound = correction-sound DEPTH_LIMIT MOST_ANIMALS i.records.book i.sires.parents i.dams.parents i.depths.items c.self.invariant.kept c.args.found.now.place c.in-Ok.parents.sire c.in-Ok.parents.dam its.within c.in-Ok.ensures.sire_within c.in-Ok.ensures.dam_within }
-
-pub carry_if_shallow-requires : goal.carry_if_shallow-requires
-carry_if_shallow-requires g c =
-    correction-depths DEPTH_LIMIT MOST_ANIMALS c.self.inside.records.book c.self.inside.depths.items _ c.self.invariant.kept _ c.deref_mut.ensures.value
-
-pub invariant_of-self-in_default : goal.invariant_of-self-in_default
-invariant_of-self-in_default g c =
-    let inside = c.self.inside in
-    let long : length c.carry_if_shallow.new.depths ≡ inside.depths.len = c.carry_if_shallow.auto.depths ∙ c.deref_mut.ensures.len in
-    let back : (with_items inside.depths c.carry_if_shallow.new.depths).items ≡ inside.depths.items = with_items_is inside.depths c.carry_if_shallow.new.depths long ∙ (rw c.in_default.is at c.in_ok-log.ensures.same) ∙ c.deref_mut.ensures.value in
-    rw back c.self.invariant
-
-pub returns-in_default-clause-fault : goal.returns-in_default-clause-fault
-returns-in_default-clause-fault g c =
-    let i = c.self.inside in
-    let found = c.args.found.now in
-    let was : StoredRecord = c.stored_at-was.result in
-    let parents = c.in-Ok.parents in
-    let number_at = its-number i.records.book c.args.self.now.book (ap (λ p. p.book) c.self.view_is) c.self.invariant.kept.lawful.once found c.requires in
-    told-found i.records.book c.args.self.now.book (ap (λ p. p.book) c.self.view_is) c.self.invariant.kept.lawful.once found c.requires (animal_of (keys_of i.records.book) was) c.stored_at-was.ensures.animal DEPTH_LIMIT c.args.sire c.args.dam (Some TooDeep)
-    (fault-deep DEPTH_LIMIT MOST_ANIMALS i.records.book i.sires.parents i.dams.parents i.depths.items c.self.invariant.kept found.number found.place number_at parents.sire parents.dam c.args.sire c.args.dam c.in-Ok.ensures.sire c.in-Ok.ensures.dam was.birth was.embryo c.in-Ok.ensures.sound
-    (rw c.in_default.is at c.in_ok-log.ensures.deep))
-
-pub write-requires-clause-sire : goal.write-requires-clause-sire
-write-requires-clause-sire g c = subst (λ (e : StoredRecord). IfSome e.sire (λ p. p < length c.self.inside.records.book)) (sym c.with_parents.ensures) c.in-Ok.ensures.sire_within
-
-pub write-requires-clause-dam : goal.write-requires-clause-dam
-write-requires-clause-dam g c = subst (λ (e : StoredRecord). IfSome e.dam (λ p. p < length c.self.inside.records.book)) (sym c.with_parents.ensures) c.in-Ok.ensures.dam_within
-
--- Depths were carried on to the end, so that the new parents have no fault: the correction is one that the book may take.
-pub invariant_of-self-2 : goal.invariant_of-self-2
-invariant_of-self-2 g c =
-    let i = c.self.inside in
-    let place : ℕ = c.args.found.now.place in
-    let parents = c.in-Ok.parents in
-    let number_at = its-number c.self.inside.records.book c.args.self.now.book (ap (λ p. p.book) c.self.view_is) c.self.invariant.kept.lawful.once c.args.found.now c.requires in
-    let book : Book = i.records.book in
-    let sires : List (Option ℕ) = i.sires.parents in
-    let dams : List (Option ℕ) = i.dams.parents in
-    let kept = c.self.invariant.kept in
-    let was : StoredRecord = c.stored_at-was.result in
-    let stored : IsStoredAt book place was = c.stored_at-was.ensures in
-    let entry : slice_get book place ≡ Some (c.args.found.now.number, animal_of (keys_of book) was) = stored-entry book place c.args.found.now.number was number_at stored in
-    let becomes : Animal = with_parents c.args.sire c.args.dam (animal_of (keys_of book) was) in
-    let written : c.write.new.self.book ≡ set_value_at book place becomes =
-    c.write.ensures ∙ ap (λ v. set_value_at book place v) (ap (λ e. animal_of (keys_of book) e) c.with_parents.ensures ∙ animal_of-parents (keys_of book) was parents.sire parents.dam c.args.sire c.args.dam c.in-Ok.ensures.sire c.in-Ok.ensures.dam) in
-    let asked : IsCorrection DEPTH_LIMIT book c.args.found.now.number c.args.sire c.args.dam = record {
-      animal = animal_of (keys_of book) was;
-      there = lookup_at book kept.lawful.once place c.args.found.now.number (animal_of (keys_of book) was) entry;
-      parents = sym (fault-none DEPTH_LIMIT MOST_ANIMALS book sires dams i.depths.items kept c.args.found.now.number place number_at parents.sire parents.dam c.args.sire c.args.dam c.in-Ok.ensures.sire c.in-Ok.ensures.dam was.birth was.embryo c.in-Ok.ensures.sound
-          (rw c.in-Some.is at c.in_ok-log.ensures.shallow));
-    } in
-    let log : List (ℕ × ℕ) = c.in-Some.log.items in
-    let after : List ℕ = c.carry_if_shallow.new.depths in
-    let long : length after ≡ length i.depths.items = c.carry_if_shallow.auto.depths ∙ ap (λ hs. length hs) c.deref_mut.ensures.value in
-    let settled : IsSettled DEPTH_LIMIT (exchanged sires dams place parents.sire parents.dam) (slice_index after) [] = rw c.in-Some.is at c.in_ok-log.ensures.settled in
-    let taken : TakesBack log after c.deref_mut.result.now = rw c.in-Some.is at c.in_ok-log.ensures.logged in
-    let held : IsHeld DEPTH_LIMIT MOST_ANIMALS (set_value_at book place becomes) (slice_set sires place parents.sire) (slice_set dams place parents.dam) after log (Record place was) =
-    IsHeld-corrected DEPTH_LIMIT MOST_ANIMALS book sires dams i.depths.items kept c.args.found.now.number place number_at was entry parents.sire parents.dam c.args.sire c.args.dam c.in-Ok.ensures.sire c.in-Ok.ensures.dam asked after long settled log
-    (subst (λ n. All (λ (write : ℕ × ℕ). write.0 < n) log) long taken.within) (taken.undone ∙ c.deref_mut.ensures.value)
-    (stored-parents book sires dams kept.lawful.once kept.sires_are kept.dams_are place c.args.found.now.number was entry stored) in
-    let back : (with_items i.depths after).items ≡ after = with_items_is i.depths after (c.carry_if_shallow.auto.depths ∙ c.deref_mut.ensures.len) in
-    let Q : Book → List (Option ℕ) → List (Option ℕ) → List ℕ → Type 0 = λ b ss ds hs. IsHeld DEPTH_LIMIT MOST_ANIMALS b ss ds hs log (Record place was) in
-    subst (λ b. Q b c.set.new.self.parents c.set-2.new.self.parents (with_items i.depths after).items) (sym written)
-    (subst (λ ss. Q (set_value_at book place becomes) ss c.set-2.new.self.parents (with_items i.depths after).items) (sym c.set.ensures)
-    (subst (λ ds. Q (set_value_at book place becomes) (slice_set sires place parents.sire) ds (with_items i.depths after).items) (sym c.set-2.ensures)
-    (subst (λ hs. Q (set_value_at book place becomes) (slice_set sires place parents.sire) (slice_set dams place parents.dam) hs) (sym back) held)))
-
-pub returns-clause-fault : goal.returns-clause-fault
-returns-clause-fault g c =
-    let i = c.self.inside in
-    let found = c.args.found.now in
-    let was : StoredRecord = c.stored_at-was.result in
-    let parents = c.in-Ok.parents in
-    let number_at = its-number i.records.book c.args.self.now.book (ap (λ p. p.book) c.self.view_is) c.self.invariant.kept.lawful.once found c.requires in
-    told-found i.records.book c.args.self.now.book (ap (λ p. p.book) c.self.view_is) c.self.invariant.kept.lawful.once found c.requires (animal_of (keys_of i.records.book) was) c.stored_at-was.ensures.animal DEPTH_LIMIT c.args.sire c.args.dam None
-    (fault-none DEPTH_LIMIT MOST_ANIMALS i.records.book i.sires.parents i.dams.parents i.depths.items c.self.invariant.kept found.number found.place number_at parents.sire parents.dam c.args.sire c.args.dam c.in-Ok.ensures.sire c.in-Ok.ensures.dam was.birth was.embryo c.in-Ok.ensures.sound
-    (rw c.in-Some.is at c.in_ok-log.ensures.shallow))
-
-pub returns-clause-set : goal.returns-clause-set
-returns-clause-set g c =
-    let book : Book = c.self.inside.records.book in
-    let number : List ℕ = c.args.found.now.number in
-    let place : ℕ = c.args.found.now.place in
-    let was : StoredRecord = c.stored_at-was.result in
-    let change : Animal → Animal = with_parents c.args.sire c.args.dam in
-    let number_at = its-number c.self.inside.records.book c.args.self.now.book (ap (λ p. p.book) c.self.view_is) c.self.invariant.kept.lawful.once c.args.found.now c.requires in
-    let written : c.write.new.self.book ≡ set_value_at book place (change (animal_of (keys_of book) was)) =
-    c.write.ensures
-    ∙ ap (λ v. set_value_at book place v) (ap (λ e. animal_of (keys_of book) e) c.with_parents.ensures ∙ animal_of-parents (keys_of book) was c.in-Ok.parents.sire c.in-Ok.parents.dam c.args.sire c.args.dam c.in-Ok.ensures.sire c.in-Ok.ensures.dam) in
-    λ _.
-    subst (λ b. record { book = b; before = Some (set_value_at b place (animal_of (keys_of b) was)) } ≡ changed_to c.args.self.now (changed c.args.self.now.book number change)) (sym written)
-    (record-view c.args.self.now book c.self.invariant.kept.lawful.once place number was change (stored-entry book place number was number_at c.stored_at-was.ensures) (ap (λ p. p.book) c.self.view_is))
-
 pub returns-in-Err-clause-by_records : goal.returns-in-Err-clause-by_records
 returns-in-Err-clause-by_records g c =
     shown-found c.self.inside.records.book c.args.self.now.book (ap (λ p. p.book) c.self.view_is) c.self.invariant.kept.lawful.once c.args.found.now c.requires (animal_of (keys_of c.self.inside.records.book) c.stored_at-was.result) c.stored_at-was.ensures.animal c.args.sire c.args.dam (Some c.in-Err.fault) c.in-Err.ensures.fault _ refl
 
-pub returns-in_default-clause-by_records : goal.returns-in_default-clause-by_records
-returns-in_default-clause-by_records g c =
-    shown-found c.self.inside.records.book c.args.self.now.book (ap (λ p. p.book) c.self.view_is) c.self.invariant.kept.lawful.once c.args.found.now c.requires (animal_of (keys_of c.self.inside.records.book) c.stored_at-was.result) c.stored_at-was.ensures.animal c.args.sire c.args.dam None c.in-Ok.ensures.sound _ tt
-
-pub returns-in_err-log-clause-by_records : goal.returns-in_err-log-clause-by_records
-returns-in_err-log-clause-by_records g c =
-    shown-found c.self.inside.records.book c.args.self.now.book (ap (λ p. p.book) c.self.view_is) c.self.invariant.kept.lawful.once c.args.found.now c.requires (animal_of (keys_of c.self.inside.records.book) c.stored_at-was.result) c.stored_at-was.ensures.animal c.args.sire c.args.dam None c.in-Ok.ensures.sound _ tt
-
-pub returns-clause-by_records : goal.returns-clause-by_records
-returns-clause-by_records g c =
+pub returns-in-Ok-clause-by_records : goal.returns-in-Ok-clause-by_records
+returns-in-Ok-clause-by_records g c =
     shown-found c.self.inside.records.book c.args.self.now.book (ap (λ p. p.book) c.self.view_is) c.self.invariant.kept.lawful.once c.args.found.now c.requires (animal_of (keys_of c.self.inside.records.book) c.stored_at-was.result) c.stored_at-was.ensures.animal c.args.sire c.args.dam None c.in-Ok.ensures.sound _ tt
