@@ -22,6 +22,8 @@ use Rattle.herd_pedigree.proofs.lemmas.store.SetFacts.{record-view}
 use Rattle.herd_pedigree.proofs.CheckFacts.{correction-depths, correction-sound, fault-deep, fault-none, named-in, named-parent}
 use Rattle.herd_pedigree.proofs.FoundFacts.{its-number, told-found}
 use Rattle.herd_pedigree.proofs.HeldFacts.{IsHeld-corrected}
+use Rattle.herd_pedigree.proofs.pedigree.Pedigree.set_parents_unless_too_deep.Given.{Over}
+use Rattle.herd_pedigree.proofs.pedigree.Pedigree.set_parents_unless_too_deep.Goals.{After-carry_if_shallow}
 use Rattle.herd_pedigree.proofs.pedigree.Pedigree.set_parents_unless_too_deep.Goals as goal
 
 pub invariant_of-correction : goal.invariant_of-correction
@@ -37,12 +39,17 @@ pub carry_if_shallow-requires : goal.carry_if_shallow-requires
 carry_if_shallow-requires g c =
     correction-depths DEPTH_LIMIT MOST_ANIMALS c.self.inside.records.book c.self.inside.depths.items _ c.self.invariant.kept _ c.deref_mut.ensures.value
 
+-- depths that were carried on and given back are those that the pedigree keeps
+given_back : (g : Over) (c : After-carry_if_shallow g) → c.carry_if_shallow.new.depths ≡ c.deref_mut.result.now → (with_items c.self.inside.depths c.carry_if_shallow.new.depths).items ≡ c.self.inside.depths.items
+given_back g c same =
+    with_items_is c.self.inside.depths c.carry_if_shallow.new.depths (c.carry_if_shallow.auto.depths ∙ c.deref_mut.ensures.len) ∙ same ∙ c.deref_mut.ensures.value
+
+pub invariant_of-self : goal.invariant_of-self
+invariant_of-self g c = rw (given_back g (goal.at.invariant_of-self g c).After-carry_if_shallow c.in_err-log.ensures.err) c.self.invariant
+
 pub invariant_of-self-in_default : goal.invariant_of-self-in_default
 invariant_of-self-in_default g c =
-    let inside = c.self.inside in
-    let long : length c.carry_if_shallow.new.depths ≡ inside.depths.len = c.carry_if_shallow.auto.depths ∙ c.deref_mut.ensures.len in
-    let back : (with_items inside.depths c.carry_if_shallow.new.depths).items ≡ inside.depths.items = with_items_is inside.depths c.carry_if_shallow.new.depths long ∙ (rw c.in_default.is at c.in_ok-log.ensures.same) ∙ c.deref_mut.ensures.value in
-    rw back c.self.invariant
+    rw (given_back g (goal.at.invariant_of-self-in_default g c).After-carry_if_shallow (rw c.in_default.is at c.in_ok-log.ensures.same)) c.self.invariant
 
 pub returns-in_default-clause-fault : goal.returns-in_default-clause-fault
 returns-in_default-clause-fault g c =
