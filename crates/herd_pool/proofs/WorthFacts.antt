@@ -8,8 +8,9 @@ use Rattle.std.proofs.lemmas.List.Sums.{count_by-le-length, sum_by-le, sum_by_pu
 use Rattle.herd_frozen.specs.declared.TheConstants.{DEPTH_LIMIT, MOST_ANIMALS}
 use Rattle.herd_frozen.specs.declared.freezing.frozen.Row.{Row}
 use Rattle.herd_frozen.specs.freezing.Frozen.{IsFrozen, level_of}
+use Rattle.herd_frozen.proofs.lemmas.ListFacts.{range-more}
 use Rattle.herd_kinship.specs.CalfLinks.{calf_count}
-use Rattle.herd_kinship.proofs.lemmas.numbers.Sums.{count-more, range-more}
+use Rattle.herd_kinship.proofs.lemmas.numbers.Sums.{count-more}
 use Rattle.herd_kinship.proofs.lemmas.sires.CalvesBelow.{calf_count-few}
 use Rattle.herd_kinship.proofs.lemmas.books.FrozenFacts.{length-book_of}
 use Rattle.herd_pool.specs.Levels.{block_of}

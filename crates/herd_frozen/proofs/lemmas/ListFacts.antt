@@ -1,7 +1,9 @@
--- What a list and an option hold.
-use Rattle.std.proofs.Common.{ℕ, zero, suc, ◌<◌, ◌≡◌, ◌⊎◌, ⊎_elim, inl, inr, arith, refl, ap, subst, true, false, is_some, List, [], ◌∷◌, ◌++◌, Option, Some, None, length, slice_get}
-use Rattle.std.specs.List.{AllByRecursion}
+-- What a list and an option hold, and one number more.
+use Rattle.std.proofs.Common.{ℕ, zero, suc, ◌+◌, ◌<◌, ◌≡◌, ◌∙◌, sym, ◌⊎◌, ⊎_elim, inl, inr, arith, refl, ap, subst, true, false, is_some, List, [], ◌∷◌, ◌++◌, Option, Some, None, length, slice_get}
+use Rattle.std.specs.List.{AllByRecursion, range_with_len}
 use Rattle.std.specs.Map.{keys_of, values_of}
+use Rattle.std.proofs.lemmas.List.{map-id}
+use Rattle.std.proofs.lemmas.List.FromFn.{map-range_with_len_more}
 use Rattle.std.proofs.lemmas.Option.{same_Some}
 
 -- an option holds nothing or something
@@ -66,3 +68,9 @@ pub entry_from_value : {K X : Type 0} (es : List (K × X)) (i : ℕ) (a : X) →
 entry_from_value [] i a v = absurd (cc)
 entry_from_value (e ∷ es) zero a v = let t = same_Some _ _ v in (e.0, ap Some (λ j. (e.0, t j)))
 entry_from_value (e ∷ es) (suc i) a v = entry_from_value es i a v
+
+-- the numbers below n + 1 are those below n, and n
+pub range-more : (n : ℕ) → range_with_len 0 (n + 1) ≡ range_with_len 0 n ++ n ∷ []
+range-more n =
+    sym (map-id (range_with_len 0 (n + 1)))
+    ∙ (map-range_with_len_more (λ (x : ℕ). x) 0 n n (omega arith) ∙ ap (λ xs. xs ++ n ∷ []) (map-id (range_with_len 0 n)))

@@ -18,11 +18,11 @@ kept_of entry = record {
   left = entry.1.left;
 }
 
--- what is kept of its parents
+-- what is kept of a row's parents
 abbrev pub packed_parents : Parents → PackedParents
 packed_parents parents = record { sire = parents.sire; dam = parents.dam; depth = parents.depth }
 
--- the parents of which this is kept
+-- and the parents of which this is kept
 abbrev pub parents_kept : PackedParents → Parents
 parents_kept packed = record { sire = packed.sire; dam = packed.dam; depth = packed.depth }
 

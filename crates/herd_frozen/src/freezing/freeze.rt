@@ -32,7 +32,7 @@ pub fn freeze_list<A: Allocator + Clone>(
     frozen_from(alloc, &listed)
 }
 
-/// The book of records in order of registration, frozen.
+/// The book of animals in the order of registration, frozen. The only error is a growth of memory that is refused.
 pub fn frozen_from<A: Allocator + Clone, S: Registered>(
     alloc: A,
     records: &S,
@@ -65,7 +65,9 @@ fn depth_of<A: Allocator>(rows: &Rows<A>, parent: Option<u32>) -> Option<u8>
     Some(rows.depth(rank))
 }
 
-// What is kept of the animal whose turn it is, and its parents, once the rows of all the older ones are made.
+// The row of the animal whose turn it is, once those of all the older ones are made: what is kept of it, and its
+// parents.
+// Inlined: a row is written where it is kept.
 #[inline(always)]
 fn next_row<A: Allocator, S: Registered>(
     records: &S,

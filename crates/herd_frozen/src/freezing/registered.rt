@@ -1,4 +1,5 @@
-//! Records that are read in the order of registration, with the places of their parents.
+//! What freezing reads of a book: of each animal, in the order of registration, what a row keeps of it and the places
+//! of its parents.
 ghost use Rattle.std.specs.Prelude.{◌≡◌, ◌<◌, Some, length, map, slice_get};
 ghost use Rattle.herd_frozen.specs.freezing.Rows.{kept_of};
 ghost use Rattle.herd_frozen.specs.rules.Book.{Book};
@@ -7,14 +8,14 @@ ghost use Rattle.herd_frozen.specs.places.Links.{IsLinkAt};
 use crate::freezing::rows::RowRecord;
 use crate::places::links::Link;
 
-/// The records of a book. A place counts from 0 in the order of registration.
+/// The animals of a book. A place counts from 0 in the order of registration.
 pub trait Registered {
     ghost book: { Self → Book };
 
     /// The places of the parents can be told.
     ghost knows_parents: { Self → Type 0 };
 
-    /// How many records there are.
+    /// How many animals there are.
     fn count(&self) -> usize
         ensures { result ≡ length (book self.now) };
 

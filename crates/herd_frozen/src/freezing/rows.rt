@@ -1,5 +1,5 @@
 //! The rows of a frozen book, which keep the ranks of the parents for their numbers.
-ghost use Rattle.std.specs.Prelude.{◌≡◌, ◌<◌, [], ◌++◌, ◌∷◌, length, map, slice_get, Some, IfOk, IfSome, OnOk};
+ghost use Rattle.std.specs.Prelude.{◌≡◌, ◌<◌, [], ◌++◌, ◌∷◌, length, map, slice_get, Some, IfOk, IfSome, OnErr, OnOk};
 ghost use Rattle.herd_frozen.specs.freezing.Frozen.{depth_at, numbers_of, parents_of};
 ghost use Rattle.herd_frozen.specs.places.PackedIndex.{nowhere};
 ghost use Rattle.herd_frozen.specs.places.Places.{number_at};
@@ -57,7 +57,7 @@ impl<A: Allocator> Model for Rows<A> {
 }
 
 impl RowRecord {
-    /// What a row keeps of an animal of a number.
+    /// What a row keeps of an animal and its number.
     #[inline(always)]
     pub(crate) fn of(number: &AnimalNumber, animal: &Animal) -> RowRecord
         ensures { result ≡ kept_of (number.now, animal.now) }
@@ -177,14 +177,15 @@ impl<A: Allocator> Rows<A> {
         Some(kept.number)
     }
 
-    /// Adds the row of what is kept of an animal, with parents that stand among the rows before it. Their numbers are
-    /// those of these rows.
+    /// Adds the row of what is kept of an animal, with parents that stand among the rows before it. The numbers of the
+    /// parents are read from these rows.
     #[inline(always)]
     pub(crate) fn push(&mut self, kept: RowRecord, parents: Parents) -> Result<(), AllocError>
         requires few { length self.old < nowhere }
         requires sire { IfSome parents.sire (λ rank. rank < length self.old) }
         requires dam { IfSome parents.dam (λ rank. rank < length self.old) }
-        ensures { OnOk result (self.new ≡ self.old ++ row_kept (numbers_of self.old) kept parents ∷ []) }
+        ensures ok { OnOk result (self.new ≡ self.old ++ row_kept (numbers_of self.old) kept parents ∷ []) }
+        ensures err { OnErr result (self.new ≡ self.old) }
     {
         self.records.reserve(1)?;
         self.parents.reserve(1)?;

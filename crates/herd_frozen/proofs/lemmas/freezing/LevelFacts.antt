@@ -2,11 +2,12 @@
 use Rattle.std.proofs.Common.{ℕ, zero, suc, ◌+◌, ◌<◌, ◌≤◌, ◌≡◌, ◌≢◌, ⊎_elim, ◌==◌, arith, refl, sym, ap, ◌∙◌, subst, Bool, true, false, cond, List, [], ◌∷◌, ◌++◌, length, get_or, set, map, take, replicate, All}
 use Rattle.std.specs.List.{filter, range_with_len}
 use Rattle.std.proofs.lemmas.Bool.{cases_eq, eq-eqb, ne_eqb}
-use Rattle.std.proofs.lemmas.List.{append-nil, length-map, length-set, length-take-le, get_or-set_same, get_or-set_other, get_or_append_left, get_or_push, length_push, map-append, map-id, map-set, take_more, same_lists, get_or-map}
+use Rattle.std.proofs.lemmas.List.{append-nil, length-map, length-set, length-take-le, get_or-set_same, get_or-set_other, get_or_append_left, get_or_push, length_push, map-append, map-set, take_more, same_lists, get_or-map}
 use Rattle.std.proofs.lemmas.List.Elements.{All-head, All-tail, filter-append}
-use Rattle.std.proofs.lemmas.List.FromFn.{get_or-range_with_len, length-range_with_len, map-range_with_len_more, length-map-range_with_len, get_or-map-range_with_len}
+use Rattle.std.proofs.lemmas.List.FromFn.{get_or-range_with_len, length-range_with_len, length-map-range_with_len, get_or-map-range_with_len}
 use Rattle.herd_frozen.specs.declared.freezing.frozen.Row.{Row}
 use Rattle.herd_frozen.specs.freezing.Frozen.{depth_at, level_of, levels_of}
+use Rattle.herd_frozen.proofs.lemmas.ListFacts.{range-more}
 
 -- a list of empty lists
 nils : (f : ℕ → List ℕ) → ((d : ℕ) → f d ≡ []) → (a n : ℕ) → map f (range_with_len a n) ≡ replicate n []
@@ -16,11 +17,6 @@ nils f none a (suc n) = rw (none a) (ap (λ ls. [] ∷ ls) (nils f none (a + 1) 
 pub levels_of-none : (l n : ℕ) → n ≡ l + 1 → replicate n [] ≡ levels_of l []
 unfolding levels_of level_of
 levels_of-none l n e = ap (λ m. replicate m []) e ∙ sym (nils (λ d. level_of d []) (λ d. refl) 0 (l + 1))
-
-range_more : (n : ℕ) → range_with_len 0 (n + 1) ≡ range_with_len 0 n ++ n ∷ []
-range_more n =
-    let zero_more : 0 + n ≡ n = omega arith in
-    sym (map-id (range_with_len 0 (n + 1))) ∙ map-range_with_len_more (λ k. k) 0 n n zero_more ∙ ap (λ ks. ks ++ n ∷ []) (map-id (range_with_len 0 n))
 
 -- tests that agree on each element keep the same ones
 filter_same : (p q : ℕ → Bool) (xs : List ℕ) → All (λ x. p x ≡ q x) xs → filter p xs ≡ filter q xs
@@ -45,7 +41,7 @@ ranks_with-push depth depths x =
     rw at (ap (λ y. y == depth) (get_or_append_left depths (x ∷ []) 0 k within))) in
     let last : q n ≡ (x == depth) = ap (λ y. y == depth) (get_or_push depths x 0 n refl) in
     ap (λ m. filter q (range_with_len 0 m)) (length_push depths x)
-    ∙ ap (λ ks. filter q ks) (range_more n)
+    ∙ ap (λ ks. filter q ks) (range-more n)
     ∙ filter-append q (range_with_len 0 n) (n ∷ [])
     ∙ ap (λ ks. ks ++ filter q (n ∷ [])) (filter_same q p (range_with_len 0 n) all)
     ∙ ap (λ b. ranks_with depth depths ++ cond b (n ∷ []) []) last

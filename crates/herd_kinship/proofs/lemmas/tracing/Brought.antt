@@ -14,7 +14,7 @@ use Rattle.herd_kinship.proofs.lemmas.ancestry.Depth.{Below, Below-shallow, know
 use Rattle.herd_kinship.proofs.lemmas.ancestry.Shares.{share-none, share-itself, share-halved, share-later}
 use Rattle.herd_kinship.proofs.lemmas.ancestry.Exact.{share-even}
 use Rattle.herd_kinship.proofs.lemmas.numbers.Products.{cancel}
-use Rattle.herd_kinship.proofs.lemmas.numbers.Sums.{range-more}
+use Rattle.herd_frozen.proofs.lemmas.ListFacts.{range-more}
 use Rattle.herd_kinship.proofs.lemmas.books.Ranks.{AreRanked, ranks-are_lawful, rank-in}
 
 pub brought-more : (shares : ℕ → ℕ) (b : ℕ) (has : ℕ → ℕ) → brought shares (b + 1) has ≡ brought shares b has + shares b * has b

@@ -33,4 +33,4 @@ loop-preserved g c =
     let rows = c.loop.rows in
     let row : Row = row_kept (numbers_of rows) c.next_row-kept.result.0 c.next_row-kept.result.1 in
     let made = rows-more (g.S.Registered.book c.args.records.now) c.args.keys.now rows row c.loop.invariant.1 c.next_row-kept.ensures.row in
-    rw c.in_ok-push.ensures (length_push rows row ∙ ap (λ n. n + 1) c.loop.invariant.0, made)
+    rw c.in_ok-push.ensures.ok (length_push rows row ∙ ap (λ n. n + 1) c.loop.invariant.0, made)

@@ -20,8 +20,8 @@ invariant_of-self-2 g c =
     let parents : c.push_reserved-2.new.self.items ≡ ps ++ packed_parents c.args.parents ∷ [] = search rules in
     rw (records, parents) (kept-push rs ps c.self.invariant _ c.self.view_is c.args.kept c.args.parents c.requires.sire c.requires.dam)
 
-pub returns : goal.returns
-returns g c =
+pub returns-clause-ok : goal.returns-clause-ok
+returns-clause-ok g c =
     let rs = c.self.inside.records.items in
     let ps = c.self.inside.parents.items in
     let records : c.push_reserved.new.self.items ≡ rs ++ c.args.kept ∷ [] = search rules in
