@@ -17,8 +17,8 @@
 //! - The numbers of the blocks go into one **queue**, from which each thread takes the next. Its rule is that each
 //!   block is taken once (`queue`; `specs/Blocks`, proof in `proofs/Passes`).
 //! - A **worker** computes the blocks that it takes, and brings them back with its pass to the queue and the scratch
-//!   that the next worker takes over (`worker`, `crew`; `specs/Workers`). The thread that starts the others is a worker
-//!   too (`starter`), so one worker starts none.
+//!   that the next worker takes over (`worker`, `crew`; `specs/Workers`, `specs/Sharing`). The thread that starts the
+//!   others is a worker too (`starter`), so one worker starts none.
 //! - Once all are back, the blocks are written into one list (`merge`; `proofs/Writes`), and the next level begins
 //!   (`pool`).
 //!

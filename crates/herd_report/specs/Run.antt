@@ -150,7 +150,7 @@ abbrev pub AnswersIfKnown : Limits → Order → Option (List ℕ) → Option (L
 AnswersIfKnown limits order known old new =
     IfSome known (λ bytes. IsAnswered limits order (commands bytes limits.steps) old new)
 
--- where they are, how a run over them may end early
+-- where the bytes of the command file are known, how a run over them may end early
 abbrev pub EndsIfKnown : Limits → Order → Option (List ℕ) → Option (List ℕ) → Option (List ℕ) → RunFault → Type 0
 EndsIfKnown limits order known old new fault =
     IfSome known (λ bytes. EndsBy limits order (commands bytes limits.steps) old new fault)

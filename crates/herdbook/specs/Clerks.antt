@@ -40,6 +40,13 @@ told_of clerk.Memory = Run Memory
 told_of clerk.NoPlace = NoPlace
 told_of clerk.NoReading = NoPlace
 
+-- the faults that clerks can end by once the commands are filed
+abbrev pub CanEndClosing : ClerkFault → Type 0
+CanEndClosing clerk.NoThread = ⊥
+CanEndClosing clerk.Memory = ⊤
+CanEndClosing clerk.NoPlace = ⊥
+CanEndClosing clerk.NoReading = ⊤
+
 -- the limits of an office for so many commands: a step for each, and one at least
 abbrev pub office_limits : ℕ → ℕ → Limits
 office_limits animals commands = record { animals = animals; steps = max commands 1 }
@@ -55,8 +62,7 @@ pub record IsTold (limits : Limits) (desks base : ℕ) (file : CommandFile) (Pas
 abbrev pub IsFiledBy : Limits → ℕ → ℕ → CommandFile → Option (List ℕ) → Option (List ℕ) → Type 0
 IsFiledBy limits desks base file old new = IsTold limits desks base file (Appends old new)
 
--- how clerks may end early; a file is read to a line fault, or to an interruption of the reading, before any command is
--- filed
+-- how clerks may end early; where a line fault, or an interruption of the reading, was met, nothing was written
 abbrev pub EndsClerks : Limits → ℕ → ℕ → CommandFile → Option (List ℕ) → Option (List ℕ) → RequestFault → Type 0
 EndsClerks limits desks base file old new (Run (Line fault)) =
     IsReadUpTo limits.steps file (Some fault) × (new ≡ old)

@@ -7,7 +7,7 @@ ghost use Rattle.herd_report.specs.reading.CommandFile.{CommandFile, IsRead, com
 ghost use Rattle.herd_office.specs.Beginnings.{BeginsWithAll};
 ghost use Rattle.herd_office.specs.Opening.{AreFresh};
 ghost use Rattle.herd_office.specs.Parts.{AreNamed};
-ghost use Rattle.herdbook.specs.Clerks.{CanEndClerks, EndsClerks, IsFiledBy, office_limits};
+ghost use Rattle.herdbook.specs.Clerks.{CanEndClerks, CanEndClosing, EndsClerks, IsFiledBy, office_limits};
 ghost use Rattle.herdbook.specs.Deal.{HasDone, numbers_of};
 ghost use Rattle.herdbook.specs.Summary.{CountsOf, EndsTelling, IsSummaryOf, IsSummaryOfDeal, count_of, summary_text};
 ghost use Rattle.herdbook.specs.declared.deal.Deal.{Deal};
@@ -156,8 +156,9 @@ fn closed<N: OfficeName, H: Wait, R: Wait + Drop>(
     requires numbers { numbers_of desks.items ≡ range_with_len 1 office.staff.desks }
     requires inspectors { office.staff.inspectors ≤ vec_len inspectors }
     requires some { 1 ≤ vec_len inspectors }
-    ensures { (deal : Deal) → office.staff.desks ≡ deal.desks → All (HasDone deal) desks.items
+    ensures ok { (deal : Deal) → office.staff.desks ≡ deal.desks → All (HasDone deal) desks.items
         → IfOk result (IsSummaryOfDeal N.limits deal) }
+    ensures fault { IfErr result CanEndClosing }
 {
     let counts = counts_of(alloc, desks.as_slice())?;
     let seen = steps_seen(alloc, desks.as_slice(), &mut inspectors[0])?;
@@ -190,6 +191,7 @@ fn steps_seen<N: OfficeName>(
 ) -> Result<u64, ClerkFault>
     ensures seen { IfOk result (λ seen. seen ≡ length inspector.new.history) }
     ensures learnt { IfOk result (λ _. BeginsWithAll (λ d. d.history) desks.now inspector.new.history) }
+    ensures fault { IfErr result CanEndClosing }
 {
     for desk in desks {
         inspector.learn(&desk.slip());

@@ -41,8 +41,8 @@ counted-requires g c =
     c.in_ok-seen.ensures.seen
     ∙ seen_whole desks c.args.office.staff.desks c.in-Ok.register.journal came.history c.requires.numbers closed.sum learnt (closed.inspectors_begin 0 came there)
 
-pub returns-in-Ok : goal.returns-in-Ok
-returns-in-Ok g c = λ deal dealt filed.
+pub returns-in-Ok-clause-ok : goal.returns-in-Ok-clause-ok
+returns-in-Ok-clause-ok g c = λ deal dealt filed.
     let register = c.in-Ok.register in
     let desks = c.args.desks.items in
     let counted : c.in_ok-counts.counts.items ≡ map (λ (d : Desk _ _). count_of d.number d.answered) desks = rw (← c.as_slice.ensures.value) c.in_ok-counts.ensures in

@@ -15,4 +15,4 @@ closed-requires-clause-numbers g c =
     ∙ ap (range_with_len 1) (sym opened.desks.ok.0 ∙ opened.ensures.desks ∙ sym opened.ensures.desks_due)
 
 pub returns : goal.returns
-returns g c = c.closed.ensures c.args.deal (c.in_ok-office.ensures.desks_due ∙ c.requires.desks) c.in_ok-filed.ensures.filed
+returns g c = c.closed.ensures.ok c.args.deal (c.in_ok-office.ensures.desks_due ∙ c.requires.desks) c.in_ok-filed.ensures.filed
