@@ -546,6 +546,8 @@ impl<A: Allocator> Pedigree<A> {
 // Adds an animal to the records, and its parents and its depth to what stands beside them, unless its number is there,
 // and returns whether it was new. The only error is a growth of memory that is refused; a number that is there needs
 // none.
+// Inlined: a record isn't copied on its way.
+#[inline(always)]
 fn push_all_if_new<A: Allocator>(
     records: &mut Records<A>,
     sires: &mut Progeny<A>,
