@@ -1,3 +1,4 @@
+pub mod Contained
 pub mod ListFacts
 pub mod freezing
 pub mod places

@@ -2,7 +2,7 @@
 //!
 //! A book is a list of records by their numbers, in the order of registration. `Frozen` is one in age order, whose rows
 //! have the ranks of the parents, for who reads the whole of it. `freeze_list` makes it of a list of records, and
-//! `frozen_from` of whatever tells in the order of registration what a row keeps of an animal, and the places of its
+//! `frozen_from` of whatever tells in the order of registration what a row keeps of each animal, and the places of its
 //! parents (`Registered`), as `herd_pedigree`'s book.
 //!
 //!     let frozen = freeze_list(alloc, &records)?;

@@ -1,17 +1,13 @@
 -- What stands in a list that has one element more, and sums over a list.
-use Rattle.std.proofs.Common.{◌≡◌, ℕ, zero, suc, ◌≤◌, List, [], ◌∷◌, ◌++◌, length, map, refl, ap, subst, arith, Some, slice_get, ◌⊎◌, ⊎_elim, inl, inr}
+use Rattle.std.proofs.Common.{◌≡◌, ℕ, zero, suc, ◌≤◌, List, [], ◌∷◌, ◌++◌, length, map, refl, sym, ap, subst, arith, Some, slice_get, ◌⊎◌, ⊎_elim, inl, inr}
 use Rattle.std.specs.List.{sum_by}
 use Rattle.std.proofs.lemmas.List.Sums.{sum_by-cons}
-
-get_snoc : {A : Type 0} (xs : List A) (x : A) (k : ℕ) (d : A) → slice_get (xs ++ x ∷ []) k ≡ Some d → (slice_get xs k ≡ Some d) ⊎ ((k ≡ length xs) × (d ≡ x))
-get_snoc [] x zero d e = inr (refl, cc (e))
-get_snoc [] x (suc k) d e = absurd (cc (e))
-get_snoc (y ∷ xs) x zero d e = inl e
-get_snoc (y ∷ xs) x (suc k) d e = ⊎_elim (λ a. inl a) (λ (b : (k ≡ length xs) × (d ≡ x)). inr (ap suc b.0, b.1)) (get_snoc xs x k d e)
+use Rattle.herd_frozen.proofs.lemmas.ListFacts.{push_cases}
 
 -- an element of a list that has one more is one of the list's, or the new one at the end
 pub get_more : {A : Type 0} (xs ys : List A) (x : A) (k : ℕ) (d : A) → ys ≡ xs ++ x ∷ [] → slice_get ys k ≡ Some d → (slice_get xs k ≡ Some d) ⊎ ((k ≡ length xs) × (d ≡ x))
-get_more xs ys x k d is at = get_snoc xs x k d (subst (λ l. slice_get l k ≡ Some d) is at)
+get_more xs ys x k d is at =
+    ⊎_elim (λ a. inl a) (λ (b : (k ≡ length xs) × (x ≡ d)). inr (b.0, sym b.1)) (push_cases xs x d k (subst (λ l. slice_get l k ≡ Some d) is at))
 
 -- where no summand is greater, the sum isn't
 pub sum_by-each-le : {A : Type 0} (f g : A → ℕ) (xs : List A) → ((k : ℕ) (x : A) → slice_get xs k ≡ Some x → f x ≤ g x) → sum_by f xs ≤ sum_by g xs

@@ -28,11 +28,10 @@ use Rattle.herd_frozen.proofs.lemmas.rules.BookFacts.{entry_from_key, lookup_at,
 use Rattle.herd_frozen.proofs.lemmas.ListFacts.{there}
 use Rattle.herd_frozen.proofs.lemmas.rules.FaultFacts.{fault-split}
 use Rattle.herd_pedigree.proofs.lemmas.store.PlaceFacts.{path_by_place, path_by_number, place_from_there, number_from_there, number_from_place}
-use Rattle.herd_pedigree.proofs.lemmas.store.DepthFacts.{IsLeafSet, depths-leaf, from-most}
+use Rattle.herd_pedigree.proofs.lemmas.store.DepthFacts.{IsLeafSet, depths-leaf, from-most, within_some}
 use Rattle.herd_pedigree.proofs.lemmas.store.ProgenyFacts.{parent-within}
 use Rattle.herd_pedigree.proofs.lemmas.store.CarryFacts.{settled-but}
-use Rattle.herd_pedigree.proofs.lemmas.store.CorrectionFacts.{parent_in}
-use Rattle.herd_pedigree.proofs.lemmas.store.ListFacts.{any_found}
+use Rattle.herd_frozen.proofs.lemmas.Contained.{any_found}
 use Rattle.herd_pedigree.proofs.KeptFacts.{too_deep-birth}
 use Rattle.herd_frozen.proofs.lemmas.rules.WrittenFacts.{written-changed, too_deep-written}
 use Rattle.herd_pedigree.proofs.lemmas.store.SetFacts.{keys-set, set-changed, AreParents-set}
@@ -43,6 +42,7 @@ use Rattle.herd_pedigree.proofs.lemmas.store.SetFacts.{keys-set, set-changed, Ar
 pub named-within : (numbers : List (List ℕ)) (o : Option ℕ) (n : Option (List ℕ)) (p : ℕ) → IsIndexIn numbers o n → o ≡ Some p → p < length numbers
 named-within numbers o n p is e = let f = number_from_place numbers o n p is e in slice_get_within numbers p f.0 f.2
 
+-- the same over a book, also of one that is unknown
 pub named-in : (book : Book) (o : Option ℕ) (n : Option (List ℕ)) → IsIndexIn (keys_of book) o n → IfSome o (λ p. p < length book)
 named-in book o n is = subst (λ m. IfSome o (λ p. p < m)) (length-keys book) (place-within (keys_of book) o n is)
 
@@ -220,7 +220,7 @@ closed-within : (l most : ℕ) (book : Book) (sires dams : List (Option ℕ)) (d
     IfSome sire (λ p. p < length book) → IfSome dam (λ p. p < length book) → (p x : ℕ) → IsParent (exchanged sires dams a sire dam) p x → p < length sires
 closed-within l most book sires dams depths k a sire dam here sire_in dam_in =
     let m = sym k.sires_are.long in
-    closed-exchange l most book sires dams depths k a sire dam here (λ p e. subst (λ n. p < n) m (parent_in sire (length book) p sire_in e)) (λ p e. subst (λ n. p < n) m (parent_in dam (length book) p dam_in e))
+    closed-exchange l most book sires dams depths k a sire dam here (λ p e. subst (λ n. p < n) m (within_some sire p (length book) sire_in e)) (λ p e. subst (λ n. p < n) m (within_some dam p (length book) dam_in e))
 
 -- so that a correction of an animal of the book by parents of the book is sound
 pub correction-sound : (l most : ℕ) (book : Book) (sires dams : List (Option ℕ)) (depths : List ℕ) → IsKept l most book sires dams depths → (place : ℕ) (sire dam : Option ℕ) →

@@ -302,29 +302,29 @@ impl<A: Allocator + Copy> Pedigree<A> {
     {
         let was = self.records.stored_at(found.place as usize);
         match sound_parents(&self.records, was.birth, &sire, &dam, was.embryo) {
-            Ok(parents) => self.set_parents_unless_too_deep(found, was, sire, dam, parents),
+            Ok(parents) => self.set_parents_unless_too_deep(found, was, &sire, &dam, parents),
             Err(fault) => Ok(Some(fault)),
         }
     }
 
-    // Sets the parents of an animal, of which this is kept, to these, whose places these are, unless some path would
-    // be too long.
+    // Sets the parents of an animal that was found, unless some path would be too long. `was` is what is kept of it,
+    // and `parents` has the places of the two.
     fn set_parents_unless_too_deep(
         &mut self,
         found: &Found,
         was: StoredRecord,
-        sire: Option<AnimalNumber>,
-        dam: Option<AnimalNumber>,
+        sire: &Option<AnimalNumber>,
+        dam: &Option<AnimalNumber>,
         parents: Link,
     ) -> Result<Option<ParentFault>, AllocError>
         requires found { IsFound self.old.book found.now }
         requires stored { IsStoredAt self.old.book found.now.place was }
-        requires sound { fault_by_records self.old.book was.birth sire dam was.embryo ≡ None }
-        requires sire { IsIndexIn (keys_of self.old.book) parents.sire sire }
-        requires dam { IsIndexIn (keys_of self.old.book) parents.dam dam }
-        ensures fault { IfOk result (IsFaultWith DEPTH_LIMIT self.old.book found.now.number sire dam) }
+        requires sound { fault_by_records self.old.book was.birth sire.now dam.now was.embryo ≡ None }
+        requires sire { IsIndexIn (keys_of self.old.book) parents.sire sire.now }
+        requires dam { IsIndexIn (keys_of self.old.book) parents.dam dam.now }
+        ensures fault { IfOk result (IsFaultWith DEPTH_LIMIT self.old.book found.now.number sire.now dam.now) }
         ensures set { result ≡ Ok None
-            → self.new ≡ changed_to self.old (changed self.old.book found.now.number (with_parents sire dam)) }
+            → self.new ≡ changed_to self.old (changed self.old.book found.now.number (with_parents sire.now dam.now)) }
         ensures refused { IfOk result (λ fault. IsSome fault → self.new ≡ self.old) }
         ensures err { OnErr result (self.new ≡ self.old) }
     {
@@ -544,8 +544,8 @@ impl<A: Allocator> Pedigree<A> {
 }
 
 // Adds an animal to the records, and its parents and its depth to what stands beside them, unless its number is there,
-// and returns whether it was new. The only error is a growth of memory that is refused; a number that is there needs
-// none.
+// and returns whether it was new. The only error is a growth of memory that is refused; then all is as it was, and the
+// number isn't there.
 // Inlined: a record isn't copied on its way.
 #[inline(always)]
 fn push_all_if_new<A: Allocator>(

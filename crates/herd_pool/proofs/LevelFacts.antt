@@ -12,7 +12,7 @@ use Rattle.std.proofs.lemmas.List.Sums.{count_by-le-length, length-filter}
 use Rattle.herd_frozen.specs.declared.freezing.frozen.Row.{Row}
 use Rattle.herd_frozen.specs.freezing.Frozen.{depth_at, level_of}
 use Rattle.herd_pool.specs.Levels.{block_of}
-use Rattle.herd_pool.proofs.Lists.{Contains-filter}
+use Rattle.herd_frozen.proofs.lemmas.Contained.{filter-keeps}
 
 -- a rank of the book, of this depth
 pub record IsRankOf (rows : List Row) (depth rank : ℕ) : Type 0 where
@@ -39,7 +39,7 @@ level_of-has rows rank below =
     let long = length-range_with_len 0 (length rows) in
     let at : get_or all rank 0 ≡ rank = omega (arith, get_or-range_with_len 0 (length rows) rank 0 below) in
     let there : Contains all rank = subst (Contains all) at (Contains-get_or all rank 0 (omega arith)) in
-    Contains-filter (λ p. depth_at rows p == depth_at rows rank) all rank there (eq-eqb _ _ refl)
+    filter-keeps (λ p. depth_at rows p == depth_at rows rank) all rank there (eq-eqb _ _ refl)
 
 pub length-level_of : (depth : ℕ) (rows : List Row) → length (level_of depth rows) ≤ length rows
 unfolding level_of

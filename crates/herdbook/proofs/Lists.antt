@@ -1,6 +1,7 @@
--- Lists: none, fronts, elements at a place, and sums over ranges.
-use Rattle.std.proofs.Common.{◌≡◌, ◌∙◌, ℕ, zero, suc, ◌+◌, ◌≤◌, List, [], ◌∷◌, ◌++◌, All, ap, arith, length, slice_get, Some, refl, subst}
+-- Lists: none, fronts, elements at a place, elements that have a number, and sums over ranges.
+use Rattle.std.proofs.Common.{◌≡◌, ◌∙◌, ℕ, zero, suc, ◌+◌, ◌≤◌, List, [], ◌∷◌, ◌++◌, All, ap, ap₂, arith, get_or, length, map, set, sym, slice_get, Some, refl, subst}
 use Rattle.std.specs.List.{range_with_len, sum_by}
+use Rattle.std.proofs.lemmas.List.{map-set, set-get_or}
 use Rattle.std.proofs.lemmas.List.Sums.{sum_by-cons}
 use Rattle.std.proofs.lemmas.Option.{get_or_from_slice_get, slice_get_within}
 use mathlib.Core.List.{IsPrefix}
@@ -21,8 +22,27 @@ shorter_front {A} (x ∷ front) (y ∷ list) last begins le =
     (more.0, ap (λ l. x ∷ l) more.1 ∙ ap (λ (z : A). z ∷ list) same)
 
 -- what holds of all holds of the one at a place
-pub all_at : {A : Type 0} (P : A → Type 0) (xs : List A) → All P xs → (place : ℕ) (x : A) → slice_get xs place ≡ Some x → P x
-all_at P xs all place x is = subst P (get_or_from_slice_get xs place x x is) (all place x (slice_get_within xs place x is))
+pub holds_at : {A : Type 0} (P : A → Type 0) (xs : List A) → All P xs → (place : ℕ) (x : A) → slice_get xs place ≡ Some x → P x
+holds_at P xs all place x is = subst P (get_or_from_slice_get xs place x x is) (all place x (slice_get_within xs place x is))
+
+-- ---- elements that have a number
+
+-- elements that are numbered one after the other have the numbers of a range
+pub numbers-range : {A : Type 0} (number : A → ℕ) (from : ℕ) (xs : List A)
+    → ((place : ℕ) (x : A) → slice_get xs place ≡ Some x → number x ≡ place + from)
+    → map number xs ≡ range_with_len from (length xs)
+numbers-range number from [] known = refl
+numbers-range number from (x ∷ more) known =
+    let first : number x ≡ from = omega (arith, known 0 x refl) in
+    ap₂ (λ (n : ℕ) (ns : List ℕ). n ∷ ns) first
+    (numbers-range number (from + 1) more (λ place y there. omega (arith, known (suc place) y there)))
+
+-- another element with the same number at a place leaves the numbers as they were
+pub numbers-set : {A : Type 0} (number : A → ℕ) (xs : List A) (place : ℕ) (old new : A)
+    → number new ≡ number (get_or xs place old) → map number (set xs place new) ≡ map number xs
+numbers-set number xs place old new same =
+    map-set number xs place new ∙ ap (set (map number xs) place) same
+    ∙ sym (map-set number xs place (get_or xs place old)) ∙ ap (map number) (set-get_or xs place old)
 
 -- ---- sums over ranges
 

@@ -40,17 +40,7 @@ each-count number answered journal (desk ∷ more) known zero count is =
 each-count number answered journal (desk ∷ more) known (suc place) count is =
     each-count number answered journal more (λ k d there. known (suc k) d there) place count is
 
--- desks that are numbered one after the other have the numbers of a range
-pub numbers-range : {D : Type 0} (number : D → ℕ) (from : ℕ) (desks : List D)
-    → ((place : ℕ) (desk : D) → slice_get desks place ≡ Some desk → number desk ≡ place + from)
-    → map number desks ≡ range_with_len from (length desks)
-numbers-range number from [] known = refl
-numbers-range number from (desk ∷ more) known =
-    let first : number desk ≡ from = omega (arith, known 0 desk refl) in
-    ap₂ (λ (n : ℕ) (ns : List ℕ). n ∷ ns) first
-    (numbers-range number (from + 1) more (λ place d there. omega (arith, known (suc place) d there)))
-
--- and their counts have the same
+-- desks' counts have the desks' numbers
 pub numbers-counts : {D : Type 0} (number answered : D → ℕ) (desks : List D)
     → map (λ (c : DeskCount). c.number) (map (λ d. count_of (number d) (answered d)) desks) ≡ map number desks
 numbers-counts number answered desks = map-map (λ (c : DeskCount). c.number) (λ d. count_of (number d) (answered d)) desks
@@ -62,13 +52,6 @@ handed_over f g done done′ left left′ came next all joined taken same was =
     ap (λ l. map f l ++ map g left′) joined ∙ ap (λ l. l ++ map g left′) (map-append f done (came ∷ []))
     ∙ append_assoc (map f done) (f came ∷ []) (map g left′) ∙ ap (λ n. map f done ++ n ∷ map g left′) same
     ∙ ap (λ l. map f done ++ map g l) (sym taken) ∙ was
-
--- another element with the same number at a place leaves the numbers as they were
-pub numbers-set : {C : Type 0} (number : C → ℕ) (clerks : List C) (place : ℕ) (old new : C)
-    → number new ≡ number (get_or clerks place old) → map number (set clerks place new) ≡ map number clerks
-numbers-set number clerks place old new same =
-    map-set number clerks place new ∙ ap (set (map number clerks) place) same
-    ∙ sym (map-set number clerks place (get_or clerks place old)) ∙ ap (map number) (set-get_or clerks place old)
 
 -- who knew the histories of the desks before a place, and learns that of the desk at the place
 pub learnt_more : {D : Type 0} (history_of : D → List Step) (desks : List D) (place : ℕ) (desk : D) (old new : List Step)

@@ -40,7 +40,7 @@ told_of clerk.Memory = Run Memory
 told_of clerk.NoPlace = NoPlace
 told_of clerk.NoReading = NoPlace
 
--- the faults that clerks can end by once the commands are filed
+-- the faults that clerks can end by once the commands are filed, before the summary is written
 abbrev pub CanEndClosing : ClerkFault → Type 0
 CanEndClosing clerk.NoThread = ⊥
 CanEndClosing clerk.Memory = ⊤
@@ -62,7 +62,7 @@ pub record IsTold (limits : Limits) (desks base : ℕ) (file : CommandFile) (Pas
 abbrev pub IsFiledBy : Limits → ℕ → ℕ → CommandFile → Option (List ℕ) → Option (List ℕ) → Type 0
 IsFiledBy limits desks base file old new = IsTold limits desks base file (Appends old new)
 
--- how clerks may end early; where a line fault, or an interruption of the reading, was met, nothing was written
+-- how clerks may end early: but for `Write` nothing was written, and but for `Line` the file has no fault
 abbrev pub EndsClerks : Limits → ℕ → ℕ → CommandFile → Option (List ℕ) → Option (List ℕ) → RequestFault → Type 0
 EndsClerks limits desks base file old new (Run (Line fault)) =
     IsReadUpTo limits.steps file (Some fault) × (new ≡ old)

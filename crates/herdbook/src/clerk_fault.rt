@@ -18,8 +18,8 @@ pub enum ClerkFault {
     Memory,
     /// An office lacks a seat for a reader or room for a step.
     NoPlace,
-    /// An office gives no reading, a history that was handed in at its end isn't a beginning of its journal, or two desks
-    /// have one number.
+    /// An office gives no reading, or isn't closed: a history that was handed in isn't a beginning of its journal, or
+    /// two desks have one number.
     NoReading,
 }
 

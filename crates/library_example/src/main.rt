@@ -125,12 +125,9 @@ fn inbreeding_at(
     ensures value { result.1
         ≡ halved false (coefficient (ancestry_of frozen.now) DEPTH_LIMIT result.0) (2 ^ (2 * DEPTH_LIMIT)) }
 {
-    // `row` gives what is known of an animal, `numerator` its coefficient in units of 2^-120, and `fraction` the
-    // fraction in lowest terms.
-    (
-        frozen.row(rank).number,
-        fraction(coefficients.numerator(rank)),
-    )
+    // `number` gives an animal's number, `numerator` its coefficient in units of 2^-120, and `fraction` the fraction in
+    // lowest terms.
+    (frozen.number(rank), fraction(coefficients.numerator(rank)))
 }
 
 fn print_coefficients(

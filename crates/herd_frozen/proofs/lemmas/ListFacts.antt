@@ -1,10 +1,10 @@
--- What a list and an option hold, and one number more.
-use Rattle.std.proofs.Common.{ℕ, zero, suc, ◌+◌, ◌<◌, ◌≡◌, ◌∙◌, sym, ◌⊎◌, ⊎_elim, inl, inr, arith, refl, ap, subst, true, false, is_some, List, [], ◌∷◌, ◌++◌, Option, Some, None, length, slice_get}
+-- What a list and an option hold, and the numbers below n + 1.
+use Rattle.std.proofs.Common.{ℕ, zero, suc, ◌+◌, ◌<◌, ◌≡◌, ◌∙◌, sym, ◌⊎◌, ⊎_elim, inl, inr, arith, refl, ap, subst, true, false, is_some, List, [], ◌∷◌, ◌++◌, Option, Some, None, length, slice_get, get_or, map, replicate, zero-add}
 use Rattle.std.specs.List.{AllByRecursion, range_with_len}
 use Rattle.std.specs.Map.{keys_of, values_of}
 use Rattle.std.proofs.lemmas.List.{map-id}
-use Rattle.std.proofs.lemmas.List.FromFn.{map-range_with_len_more}
-use Rattle.std.proofs.lemmas.Option.{same_Some}
+use Rattle.std.proofs.lemmas.List.FromFn.{get_or-range_with_len, length-range_with_len, map-range_with_len_more}
+use Rattle.std.proofs.lemmas.Option.{same_Some, slice_get-get_or}
 
 -- an option holds nothing or something
 pub option_cases : {X : Type 0} (o : Option X) → (o ≡ None) ⊎ ((x : X) × (o ≡ Some x))
@@ -74,3 +74,18 @@ pub range-more : (n : ℕ) → range_with_len 0 (n + 1) ≡ range_with_len 0 n +
 range-more n =
     sym (map-id (range_with_len 0 (n + 1)))
     ∙ (map-range_with_len_more (λ (x : ℕ). x) 0 n n (omega arith) ∙ ap (λ xs. xs ++ n ∷ []) (map-id (range_with_len 0 n)))
+
+-- a list of empty lists
+pub nils : {X : Type 0} (f : ℕ → List X) → ((d : ℕ) → f d ≡ []) → (a n : ℕ) → map f (range_with_len a n) ≡ replicate n []
+nils f none a zero = refl
+nils f none a (suc n) = rw (none a) (ap (λ ls. [] ∷ ls) (nils f none (a + 1) n))
+
+-- the element that a loop over the list reads stands at the rank
+pub slice_get-item : {X : Type 0} (xs : List X) (rank : ℕ) (x : X) → rank < length xs → x ≡ get_or xs rank x → slice_get xs rank ≡ Some x
+slice_get-item xs rank x within there = slice_get-get_or xs rank x within ∙ ap Some (sym there)
+
+-- a number stands at its own rank among the first n
+pub slice_get-range : (n rank : ℕ) → rank < n → slice_get (range_with_len 0 n) rank ≡ Some rank
+slice_get-range n rank within =
+    slice_get-get_or (range_with_len 0 n) rank 0 (rw (length-range_with_len 0 n) within)
+    ∙ ap Some (get_or-range_with_len 0 n rank 0 within ∙ zero-add rank)

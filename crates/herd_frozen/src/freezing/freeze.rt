@@ -32,7 +32,7 @@ pub fn freeze_list<A: Allocator + Clone>(
     frozen_from(alloc, &listed)
 }
 
-/// The book of animals in the order of registration, frozen. The only error is a growth of memory that is refused.
+/// The book of what is registered, in age order. The only error is a growth of memory that is refused.
 pub fn frozen_from<A: Allocator + Clone, S: Registered>(
     alloc: A,
     records: &S,
@@ -67,7 +67,7 @@ fn depth_of<A: Allocator>(rows: &Rows<A>, parent: Option<u32>) -> Option<u8>
 
 // The row of the animal whose turn it is, once those of all the older ones are made: what is kept of it, and its
 // parents.
-// Inlined: a row is written where it is kept.
+// Inlined: what is kept of an animal isn't copied on its way.
 #[inline(always)]
 fn next_row<A: Allocator, S: Registered>(
     records: &S,
@@ -99,7 +99,7 @@ fn next_row<A: Allocator, S: Registered>(
     (kept, parents)
 }
 
-// The rows of the records, in age order.
+// The rows of the animals, in age order.
 fn rows_of<A: Allocator + Clone, S: Registered>(
     alloc: A,
     records: &S,

@@ -57,7 +57,7 @@ impl<A: Allocator> Model for Rows<A> {
 }
 
 impl RowRecord {
-    /// What a row keeps of an animal and its number.
+    /// What a row keeps of an animal that has this number.
     #[inline(always)]
     pub(crate) fn of(number: &AnimalNumber, animal: &Animal) -> RowRecord
         ensures { result ≡ kept_of (number.now, animal.now) }
@@ -178,7 +178,7 @@ impl<A: Allocator> Rows<A> {
     }
 
     /// Adds the row of what is kept of an animal, with parents that stand among the rows before it. The numbers of the
-    /// parents are read from these rows.
+    /// parents are read from these rows. The only error is a growth of memory that is refused; then all is as it was.
     #[inline(always)]
     pub(crate) fn push(&mut self, kept: RowRecord, parents: Parents) -> Result<(), AllocError>
         requires few { length self.old < nowhere }

@@ -7,6 +7,7 @@ use Rattle.std.proofs.lemmas.List.{get_or-append-add, get_or_append_left, length
 use Rattle.std.proofs.lemmas.List.Elements.{All-contains, All-cons, All-nil, All-weaker, Contains-append_cases, Contains-append_left, Contains-append_right}
 use Rattle.std.proofs.lemmas.List.Sums.{sum_by-cons}
 use Rattle.std.proofs.lemmas.Option.{get_or_from_slice_get, slice_get-get_or}
+use Rattle.herd_frozen.proofs.lemmas.Contained.{contains_cases}
 
 all_mapped : {X Y : Type 0} (f : X → Y) (xs : List X) → All (λ v. Contains (map f xs) (f v)) xs
 all_mapped f [] = All-nil (λ v. Contains [] (f v))
@@ -33,14 +34,6 @@ count-none : {X : Type 0} (e : X → X → Bool) (x : X) (xs : List X) → AllBy
 count-none e x [] a = refl
 count-none e x (y ∷ ys) a = rw (sum_by-cons (λ z. cond (e x z) 1 0) y ys, a.0, count-none e x ys a.1) refl
 
--- what is in a list of one and others is the one or among the others
-pub in_cons : {X : Type 0} (x y : X) (ys : List X) → Contains (y ∷ ys) x → (y ≡ x) ⊎ Contains ys x
-in_cons x y ys c =
-    ⊎_elim
-    (λ one. inl (All-contains (λ z. y ≡ z) (y ∷ []) x (All-cons (λ z. y ≡ z) y [] refl (All-nil (λ z. y ≡ z))) one))
-    (λ rest. inr rest)
-    (Contains-append_cases (y ∷ []) ys x c)
-
 -- in a list with no two alike, one is like x
 pub count-one : {X : Type 0} (e : X → X → Bool) → ((x y : X) → e x y ≡ true → x ≡ y) → ((x : X) → e x x ≡ true) →
     (x : X) (xs : List X) → IsDistinct e xs → Contains xs x → count_by (e x) xs ≡ 1
@@ -57,7 +50,7 @@ count-one {X} e exact itself x (y ∷ ys) d c =
     (λ (same : y ≡ x). let u : e x y ≡ true = subst (λ v. e x v ≡ true) (sym same) (itself x) in absurd (cc))
     (λ (rest : Contains ys x).
     rw (sum_by-cons (λ z. cond (e x z) 1 0) y ys, t, count-one e exact itself x ys d.1 rest) refl)
-    (in_cons x y ys c))
+    (contains_cases y x ys c))
     (cases_Bool (e x y))
 
 -- a list that is written over as a whole, by way of a slice

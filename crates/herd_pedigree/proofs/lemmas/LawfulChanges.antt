@@ -1,5 +1,5 @@
 -- A change keeps the book lawful: a birth, other parents, another owner, an exit.
-use Rattle.std.proofs.Common.{ℕ, ℤ, zero, suc, ◌+◌, ◌≤◌, ◌≡◌, ◌≤ℤ◌, ◌<ℤ◌, ◌⊎◌, ⊎_elim, inl, inr, arith, refl, sym, ap, ◌∙◌, subst, Bool, true, false, not, ◌&&◌, int_lt, if◌then◌else◌, IsTrue, IsFalse, List, [], ◌∷◌, ◌++◌, Option, Some, length, slice_get}
+use Rattle.std.proofs.Common.{ℕ, ℤ, ◌+◌, ◌≤◌, ◌≡◌, ◌≤ℤ◌, ◌<ℤ◌, ◌⊎◌, ⊎_elim, inl, inr, arith, refl, sym, ap, ◌∙◌, subst, Bool, true, false, not, ◌&&◌, int_lt, if◌then◌else◌, IsTrue, IsFalse, List, [], ◌∷◌, ◌++◌, Option, Some, length}
 use Rattle.std.specs.Str.{bytes_eq}
 use Rattle.std.specs.List.{IsDistinct, list_any}
 use Rattle.std.specs.Map.{keys_of}
@@ -15,6 +15,7 @@ use Rattle.herd_frozen.specs.rules.Book.{Book, changed, is_calf_after, is_shallo
 use Rattle.herd_frozen.specs.rules.ParentFault.{has_left_before, is_too_deep, parentage_with}
 use Rattle.herd_frozen.specs.rules.Lawful.{IsDamOf, IsLawful, IsLawfulRecord, IsSireOf}
 use Rattle.herd_pedigree.specs.Pedigree.{IsBirth, IsCorrection, IsExit, IsPresentOn}
+use Rattle.herd_frozen.proofs.lemmas.Contained.{any_not}
 use Rattle.herd_frozen.proofs.lemmas.rules.BookFacts.{bytes_itself, distinct-push, keys-changed, keys-push, length-changed, place_of, same_bytes}
 use Rattle.herd_frozen.proofs.lemmas.rules.FaultFacts.{dam-may_be, no_fault, not_either, sire-may_be}
 use Rattle.herd_frozen.proofs.lemmas.rules.WrittenFacts.{at_number, elsewhere, has_path-written, IsWritten, too_deep-written, written-changed, written-push}
@@ -207,11 +208,6 @@ lawful-exit l most book number day lawful exit =
     let place = place_of book x calf e in
     not_after calf (any_not (λ entry. is_calf_after number day entry.1) book place.0 (x, calf) exit.last place.1) is fresh)
   where
-    any_not : {X : Type 0} (test : X → Bool) (xs : List X) (c : ℕ) (x : X) → list_any test xs ≡ false → slice_get xs c ≡ Some x → test x ≡ false
-    any_not test [] c x h at = absurd (cc)
-    any_not test (y ∷ ys) zero x h at = let e : y ≡ x = same_Some _ _ at in ap test (sym e) ∙ (or_parts (test y) (list_any test ys) h).0
-    any_not test (y ∷ ys) (suc c) x h at = any_not test ys c x (or_parts (test y) (list_any test ys) h).1 at
-
     not_after : (calf : Animal) → is_calf_after number day calf ≡ false → calf.dam ≡ Some number → calf.embryo ≡ false → int_lt day calf.birth ≡ false
     not_after calf h is fresh =
         let named : option_map_or (bytes_eq number) calf.dam false ≡ true = ap (λ o. option_map_or (bytes_eq number) o false) is ∙ bytes_itself number in

@@ -1,4 +1,4 @@
--- What a pedigree keeps beside its book.
+-- What a pedigree keeps beside its book, and what a push onto it leaves.
 use Rattle.std.specs.Prelude.{◌≡◌, ℕ, Bool, true, false, List, [], ◌++◌, ◌∷◌, length, slice_index, Option, Result, Ok, Err}
 use Rattle.herd_frozen.specs.rules.Book.{Book}
 use Rattle.herd_frozen.specs.rules.Lawful.{IsLawful}
@@ -13,7 +13,8 @@ pub record IsKept (l most : ℕ) (book : Book) (sires dams : List (Option ℕ)) 
   pub long : length depths ≡ length book
   pub depths_are : AreDepths l (parentage_at sires dams) (slice_index depths)
 
--- a list with one element more at its end, where that was told to be new, and else as it was
+-- a list after a push that may be refused: with the element at its end where the answer is that it is new, and else as
+-- it was
 abbrev pub pushed_if : {X E : Type 0} → Result Bool E → List X → X → List X
 pushed_if (Ok true) xs x = xs ++ x ∷ []
 pushed_if (Ok false) xs x = xs

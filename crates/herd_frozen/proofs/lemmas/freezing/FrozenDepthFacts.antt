@@ -15,8 +15,8 @@ or_true : (s t : Bool) → (s ≡ true) ⊎ (t ≡ true) → (s || t) ≡ true
 or_true true t h = refl
 or_true false t h = ⊎_elim (λ (e : false ≡ true). absurd (cc)) (λ e. e) h
 
-max_cases : (a b d : ℕ) → suc d ≡ max a b → (a ≡ suc d) ⊎ (b ≡ suc d)
-max_cases a b d e = grind arith
+deeper_parent : (a b d : ℕ) → suc d ≡ max a b → (a ≡ suc d) ⊎ (b ≡ suc d)
+deeper_parent a b d e = grind arith
 
 module _ {A : Type 0} (parentage : Parentage A) where
   abbrev by_sire : ℕ → A → Bool
@@ -95,7 +95,7 @@ module _ {A : Type 0} (parentage : Parentage A) where
         (⊎_elim
         (λ (s : a ≡ suc d). inl (through-reached d (parentage.sire x) (subst (λ n. IsAbove parentage (parentage.sire x) n) s sire)))
         (λ (t : b ≡ suc d). inr (through-reached d (parentage.dam x) (subst (λ n. IsAbove parentage (parentage.dam x) n) t dam)))
-        (max_cases a b d e))
+        (deeper_parent a b d e))
 
     bounded_by : (m : ℕ) → IsTrue (has_path parentage m x) → m ≤ max a b
     bounded_by zero path = omega arith

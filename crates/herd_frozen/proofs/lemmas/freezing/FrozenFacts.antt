@@ -1,8 +1,8 @@
 -- What a frozen book tells of a number and of a depth.
-use Rattle.std.proofs.Common.{ℕ, ◌+◌, ◌<◌, ◌≤◌, ◌≡◌, ⊎_elim, arith, refl, sym, ap, ◌∙◌, subst, Bool, false, List, [], ◌∷◌, Option, Some, None, length, slice_get, get_or, map, All, ◌==◌}
+use Rattle.std.proofs.Common.{ℕ, ◌+◌, ◌<◌, ◌≤◌, ◌≡◌, ⊎_elim, arith, refl, sym, ap, ◌∙◌, subst, false, List, [], ◌∷◌, Option, Some, None, length, slice_get, get_or, map, All, ◌==◌}
 use Rattle.std.specs.Prelude.{IfNone}
 use Rattle.std.specs.Map.{keys_of}
-use Rattle.std.specs.List.{filter, range_with_len}
+use Rattle.std.specs.List.{range_with_len}
 use Rattle.std.proofs.lemmas.Option.{slice_get_within, get_or_from_slice_get}
 use Rattle.std.proofs.lemmas.Bool.{cases_lt, false_from_ne_true, ne_eqb}
 use Rattle.std.proofs.lemmas.List.{length-map, get_or-map, get_or_past}
@@ -11,6 +11,7 @@ use Rattle.std.proofs.lemmas.List.FromFn.{length-map-range_with_len, get_or-map-
 use Rattle.herd_frozen.specs.declared.freezing.frozen.Row.{Row}
 use Rattle.herd_frozen.specs.rules.Book.{is_there, record_of}
 use Rattle.herd_frozen.specs.freezing.Frozen.{IsFrozen, book_of, numbers_of, depth_at, level_of, levels_of}
+use Rattle.herd_frozen.proofs.lemmas.Contained.{filter_none}
 use Rattle.herd_frozen.proofs.lemmas.rules.BookFacts.{key_from_entry, place_of}
 use Rattle.herd_frozen.proofs.lemmas.ListFacts.{is_some_with, there}
 use Rattle.herd_frozen.proofs.lemmas.freezing.FrozenDepthFacts.{IsDepthOf-le}
@@ -52,11 +53,6 @@ shallow-at l rows rank within shallow =
       depth = get_or-map (λ r. r.depth) rows rank row.0 0 within ∙ ap (λ (r : Row). r.depth) read;
       shallow = subst (λ (r : Row). r.depth ≤ l) read (All-get_or (λ (r : Row). r.depth ≤ l) rows rank row.0 within shallow);
     }
-
--- a list in which no element passes a test
-filter_none : (p : ℕ → Bool) (xs : List ℕ) → ((x : ℕ) → p x ≡ false) → filter p xs ≡ []
-filter_none p [] none = refl
-filter_none p (x ∷ xs) none = rw (none x) (filter_none p xs none)
 
 module _ (l most : ℕ) (rows : List Row) (frozen : IsFrozen l most rows) where
   depth_at-le : (rank : ℕ) → depth_at rows rank ≤ l

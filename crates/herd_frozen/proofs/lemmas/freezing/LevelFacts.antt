@@ -1,28 +1,18 @@
 -- Levels are filled rank by rank.
-use Rattle.std.proofs.Common.{ℕ, zero, suc, ◌+◌, ◌<◌, ◌≤◌, ◌≡◌, ◌≢◌, ⊎_elim, ◌==◌, arith, refl, sym, ap, ◌∙◌, subst, Bool, true, false, cond, List, [], ◌∷◌, ◌++◌, length, get_or, set, map, take, replicate, All}
+use Rattle.std.proofs.Common.{ℕ, ◌+◌, ◌<◌, ◌≤◌, ◌≡◌, ◌≢◌, ⊎_elim, ◌==◌, arith, refl, sym, ap, ◌∙◌, subst, Bool, true, false, cond, List, [], ◌∷◌, ◌++◌, length, get_or, set, map, take, replicate, All}
 use Rattle.std.specs.List.{filter, range_with_len}
 use Rattle.std.proofs.lemmas.Bool.{cases_eq, eq-eqb, ne_eqb}
 use Rattle.std.proofs.lemmas.List.{append-nil, length-map, length-set, length-take-le, get_or-set_same, get_or-set_other, get_or_append_left, get_or_push, length_push, map-append, map-set, take_more, same_lists, get_or-map}
-use Rattle.std.proofs.lemmas.List.Elements.{All-head, All-tail, filter-append}
+use Rattle.std.proofs.lemmas.List.Elements.{filter-append}
 use Rattle.std.proofs.lemmas.List.FromFn.{get_or-range_with_len, length-range_with_len, length-map-range_with_len, get_or-map-range_with_len}
 use Rattle.herd_frozen.specs.declared.freezing.frozen.Row.{Row}
 use Rattle.herd_frozen.specs.freezing.Frozen.{depth_at, level_of, levels_of}
-use Rattle.herd_frozen.proofs.lemmas.ListFacts.{range-more}
-
--- a list of empty lists
-nils : (f : ℕ → List ℕ) → ((d : ℕ) → f d ≡ []) → (a n : ℕ) → map f (range_with_len a n) ≡ replicate n []
-nils f none a zero = refl
-nils f none a (suc n) = rw (none a) (ap (λ ls. [] ∷ ls) (nils f none (a + 1) n))
+use Rattle.herd_frozen.proofs.lemmas.Contained.{filter_same}
+use Rattle.herd_frozen.proofs.lemmas.ListFacts.{nils, range-more}
 
 pub levels_of-none : (l n : ℕ) → n ≡ l + 1 → replicate n [] ≡ levels_of l []
 unfolding levels_of level_of
 levels_of-none l n e = ap (λ m. replicate m []) e ∙ sym (nils (λ d. level_of d []) (λ d. refl) 0 (l + 1))
-
--- tests that agree on each element keep the same ones
-filter_same : (p q : ℕ → Bool) (xs : List ℕ) → All (λ x. p x ≡ q x) xs → filter p xs ≡ filter q xs
-filter_same p q [] same = refl
-filter_same p q (x ∷ xs) same =
-    rw (All-head (λ y. p y ≡ q y) x xs same, filter_same p q xs (All-tail (λ y. p y ≡ q y) x xs same)) refl
 
 -- the ranks at which a depth stands
 abbrev ranks_with : ℕ → List ℕ → List ℕ

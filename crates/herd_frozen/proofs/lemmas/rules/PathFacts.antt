@@ -1,7 +1,7 @@
 -- Paths as facts, and the depths that bound and reach them.
 use Rattle.std.proofs.Common.{ℕ, zero, suc, ◌+◌, ◌<◌, ◌≤◌, ◌≡◌, ◌⊎◌, ⊎_elim, inl, inr, arith, refl, ◌∙◌, Bool, true, false, ◌||◌, IsTrue, Option, Some, None, max}
 use Rattle.std.specs.Option.{option_map_or}
-use Rattle.std.proofs.lemmas.Bool.{and_parts, and_from, or_cases, or_left}
+use Rattle.std.proofs.lemmas.Bool.{and_parts, and_from, or_cases, or_left, or_right}
 use Rattle.herd_frozen.specs.rules.Paths.{Parentage, has_path, IsDepth}
 use Rattle.herd_frozen.specs.rules.Depths.{IsParent, AreDepths, depth_above, depth_from}
 
@@ -11,16 +11,12 @@ Path parentage zero x = IsTrue (parentage.is_there x)
 Path {A} parentage (suc n) x = IsTrue (parentage.is_there x) × ((p : A) × IsParent parentage p x × Path parentage n p)
 
 -- a test passes at a known parent, and that is one
-some_passes : {A : Type 0} (test : A → Bool) (o : Option A) → option_map_or test o false ≡ true → (p : A) × (o ≡ Some p) × (test p ≡ true)
+pub some_passes : {A : Type 0} (test : A → Bool) (o : Option A) → option_map_or test o false ≡ true → (p : A) × (o ≡ Some p) × (test p ≡ true)
 some_passes test None h = absurd (cc)
 some_passes test (Some p) h = (p, refl, h)
 
-passes_some : {A : Type 0} (test : A → Bool) (o : Option A) (p : A) → o ≡ Some p → test p ≡ true → option_map_or test o false ≡ true
+pub passes_some : {A : Type 0} (test : A → Bool) (o : Option A) (p : A) → o ≡ Some p → test p ≡ true → option_map_or test o false ≡ true
 passes_some test o p e h = rw e h
-
-or_right : (x y : Bool) → y ≡ true → (x || y) ≡ true
-or_right true y h = refl
-or_right false y h = h
 
 module _ {A : Type 0} (parentage : Parentage A) where
   pub path-from_test : (n : ℕ) (x : A) → has_path parentage n x ≡ true → Path parentage n x

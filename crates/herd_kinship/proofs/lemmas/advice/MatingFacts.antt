@@ -8,6 +8,7 @@ use Rattle.herd_frozen.specs.rules.Book.{Book, is_there, parentage_of, record_of
 use Rattle.herd_frozen.specs.rules.ParentFault.{first_that_holds}
 use Rattle.herd_frozen.specs.freezing.Frozen.{IsFrozen, book_of, depth_at, numbers_of}
 use Rattle.herd_frozen.specs.rules.Paths.{has_path}
+use Rattle.herd_frozen.proofs.lemmas.ListFacts.{there}
 use Rattle.herd_kinship.specs.Columns.{AreRelationships}
 use Rattle.herd_kinship.specs.FrozenAncestry.{ancestry_of, number_of_row}
 use Rattle.herd_kinship.specs.Mating.{IsCandidate, candidates_fault, is_deepest, mating_fault}
@@ -15,7 +16,7 @@ use Rattle.herd_kinship.specs.declared.mating_advice.Candidate.{Candidate}
 use Rattle.herd_kinship.specs.declared.mating_advice.MatingFault.TheVariants.{SireMissing, DamMissing, SireNotMale, DamNotFemale, TooDeep}
 use Rattle.herd_kinship.specs.Ranks.{ranked}
 use Rattle.herd_kinship.specs.Table.{entry}
-use Rattle.herd_kinship.proofs.lemmas.books.FrozenFacts.{frozen-lawful, frozen-member, length-numbers_of, number_of_row-is, ranked-lawful, record_at-row, row_at}
+use Rattle.herd_kinship.proofs.lemmas.books.FrozenFacts.{frozen-lawful, frozen-member, length-numbers_of, number_of_row-is, ranked-lawful, record_at-row}
 use Rattle.herd_kinship.proofs.lemmas.books.FrozenDepths.{depth_at-row, depth-at_most, ranked-below_depth}
 use Rattle.herd_kinship.proofs.lemmas.laws.Decompose.{entry-swap}
 use Rattle.herd_kinship.proofs.lemmas.ancestry.Depth.{known_some, unit}
@@ -49,14 +50,14 @@ module _ (l : ℕ) (rows : List Row) (f : IsFrozen l MOST_ANIMALS rows) (n : Lis
 
   rank-there : is_there (book_of rows) n ≡ true
   rank-there =
-      let r = row_at rows i rank-within in
+      let r = there rows i rank-within in
       let same : r.0.number ≡ n = sym (number_of_row-is rows i r.0 r.1) ∙ rank-number in
       let found : record_of (book_of rows) n ≡ Some r.0.animal = subst (λ v. record_of (book_of rows) v ≡ Some r.0.animal) same (record_at-row l MOST_ANIMALS rows f i r.0 r.1) in
       rw found refl
 
   depth-of : IsDepthOf (book_of rows) n (depth_at rows i)
   depth-of =
-      let r = row_at rows i rank-within in
+      let r = there rows i rank-within in
       let same : r.0.number ≡ n = sym (number_of_row-is rows i r.0 r.1) ∙ rank-number in
       rw (depth_at-row rows i r.0 r.1) (subst (λ v. IsDepthOf (book_of rows) v r.0.depth) same (f.each i r.0 r.1).depth)
 

@@ -10,14 +10,10 @@ use Rattle.std.proofs.lemmas.Map.Views.{IsSome-lookup_from_Contains}
 use Rattle.herd_frozen.specs.rules.Book.{Book, record_of, is_there, sire_of, dam_of, parentage_of, IsDepthOf}
 use Rattle.herd_frozen.specs.rules.Lawful.{IsLawful as IsLawfulBook}
 use Rattle.herd_frozen.specs.rules.Paths.{has_path}
+use Rattle.herd_frozen.proofs.lemmas.rules.PathFacts.{passes_some, some_passes}
 use Rattle.herd_kinship.specs.FrozenAncestry.{book_ancestry}
 use Rattle.herd_kinship.proofs.lemmas.ancestry.LawfulAncestry.{Path, IsDepth, IsShallow}
 use Rattle.herd_kinship.proofs.lemmas.books.BookFacts.{number_there, option_there}
-
--- a parent that passes a test
-passing : (test : List ℕ → Bool) (o : Option (List ℕ)) → option_map_or test o false ≡ true → (p : List ℕ) × (o ≡ Some p) × (test p ≡ true)
-passing test None e = absurd (cc)
-passing test (Some p) e = (p, refl, e)
 
 path_from_has_path : (book : Book) (n : ℕ) (x : List ℕ) → has_path (parentage_of book) n x ≡ true → Path (book_ancestry book) n x
 unfolding has_path Path
@@ -28,12 +24,9 @@ path_from_has_path book (suc n) x e =
     let a = option_there (record_of book x) parts.0 in
     let member = number_there book x a.0 a.1 in
     ⊎_elim
-    (λ s. let q = passing (has_path (parentage_of book) n) (sire_of book x) s in (member, (q.0, inl q.1, path_from_has_path book n q.0 q.2)))
-    (λ d. let q = passing (has_path (parentage_of book) n) (dam_of book x) d in (member, (q.0, inr q.1, path_from_has_path book n q.0 q.2)))
+    (λ s. let q = some_passes (has_path (parentage_of book) n) (sire_of book x) s in (member, (q.0, inl q.1, path_from_has_path book n q.0 q.2)))
+    (λ d. let q = some_passes (has_path (parentage_of book) n) (dam_of book x) d in (member, (q.0, inr q.1, path_from_has_path book n q.0 q.2)))
     (or_cases _ _ parts.1)
-
-passes : (test : List ℕ → Bool) (o : Option (List ℕ)) (p : List ℕ) → o ≡ Some p → test p ≡ true → option_map_or test o false ≡ true
-passes test o p e t = rw e t
 
 has_path_from_path : (book : Book) (n : ℕ) (x : List ℕ) → Path (book_ancestry book) n x → has_path (parentage_of book) n x ≡ true
 unfolding has_path Path
@@ -44,8 +37,8 @@ has_path_from_path book (suc n) x path =
     let rest = has_path_from_path book n p path.1.2 in
     and_from (is_there book x) _ there
     (⊎_elim
-    (λ e. or_left _ _ (passes (has_path (parentage_of book) n) (sire_of book x) p e rest))
-    (λ e. or_right _ _ (passes (has_path (parentage_of book) n) (dam_of book x) p e rest))
+    (λ e. or_left _ _ (passes_some (has_path (parentage_of book) n) (sire_of book x) p e rest))
+    (λ e. or_right _ _ (passes_some (has_path (parentage_of book) n) (dam_of book x) p e rest))
     path.1.1)
 
 -- depths are the book's

@@ -5,13 +5,14 @@ use Rattle.std.proofs.lemmas.Option.{slice_get-map, get_or_from_slice_get}
 use Rattle.herd_frozen.specs.declared.freezing.frozen.Row.{Row}
 use Rattle.herd_frozen.specs.rules.Book.{IsDepthOf}
 use Rattle.herd_frozen.specs.freezing.Frozen.{IsFrozen, book_of, depth_at}
+use Rattle.herd_frozen.proofs.lemmas.ListFacts.{there}
 use Rattle.herd_kinship.specs.Ancestry.{Ancestry, IsParentIn, PathTo}
 use Rattle.herd_kinship.specs.FrozenAncestry.{ancestry_of, number_of_row}
 use Rattle.herd_kinship.specs.Ranks.{ranked}
 use Rattle.herd_kinship.proofs.lemmas.ancestry.LawfulAncestry.{IsDepth, Path}
 use Rattle.herd_kinship.proofs.lemmas.books.BookPaths.{depth_from_book}
 use Rattle.herd_kinship.proofs.lemmas.ancestry.Depth.{Below, Below-shallow, Below-depth, known_some}
-use Rattle.herd_kinship.proofs.lemmas.books.FrozenFacts.{IsParentRank, dam_at, frozen-renamed, number_of_row-is, ranked-lawful, ranked-shallow, row_at, sire_at}
+use Rattle.herd_kinship.proofs.lemmas.books.FrozenFacts.{IsParentRank, dam_at, frozen-renamed, number_of_row-is, ranked-lawful, ranked-shallow, sire_at}
 use Rattle.herd_kinship.proofs.lemmas.books.Ranks.{rank-in, rank-below}
 use Rattle.herd_kinship.proofs.lemmas.ancestry.Renamed.{path-renamed}
 
@@ -51,7 +52,7 @@ path-ranked l most rows f (suc n) i li path =
 
 pub ranked-depth : (l most : ℕ) (rows : List Row) → IsFrozen l most rows → (i : ℕ) → i < length rows → IsDepth (ranked rows) i (depth_at rows i)
 ranked-depth l most rows f i li =
-    let a = row_at rows i li in
+    let a = there rows i li in
     let of_book : IsDepthOf (book_of rows) (number_of_row rows i) (depth_at rows i) =
     rw (number_of_row-is rows i a.0 a.1, depth_at-row rows i a.0 a.1) (f.each i a.0 a.1).depth in
     let d = depth_from_book (book_of rows) (number_of_row rows i) (depth_at rows i) of_book in (

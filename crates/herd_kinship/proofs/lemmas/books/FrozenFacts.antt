@@ -21,6 +21,7 @@ use Rattle.herd_frozen.specs.declared.rules.animal.Animal.{Animal}
 use Rattle.herd_frozen.specs.declared.freezing.frozen.Row.{Row}
 use Rattle.herd_frozen.specs.rules.Book.{record_of}
 use Rattle.herd_frozen.specs.freezing.Frozen.{IsFrozen, IsFrozenRow, IsRankOf, age_cmp, book_of, numbers_of}
+use Rattle.herd_frozen.proofs.lemmas.ListFacts.{there}
 use Rattle.herd_kinship.specs.Ancestry.{IsParentIn}
 use Rattle.herd_kinship.specs.FrozenAncestry.{ancestry_of, number_of_row}
 use Rattle.herd_kinship.specs.Ranks.{sire_rank, dam_rank, ranked}
@@ -30,11 +31,6 @@ use Rattle.herd_kinship.proofs.lemmas.books.BookPaths.{book-shallow}
 use Rattle.herd_kinship.proofs.lemmas.books.Ranks.{AreRanked, ranks-are_lawful, rank-below}
 use Rattle.herd_kinship.proofs.lemmas.ancestry.Renamed.{shallow-renamed}
 use Rattle.herd_kinship.proofs.lemmas.ancestry.Shares.{apart, apart_back}
-
--- the row at a rank within
-pub row_at : (rows : List Row) (i : ℕ) → i < length rows → (row : Row) × (slice_get rows i ≡ Some row)
-row_at [] i l = absurd (omega arith)
-row_at (row ∷ rows) i l = let xs : List Row = row ∷ rows in (get_or xs i row, slice_get-get_or xs i row l)
 
 pub numbers_are_keys : (rows : List Row) → numbers_of rows ≡ keys_of (book_of rows)
 numbers_are_keys [] = refl
@@ -93,8 +89,8 @@ frozen-ordered : (l most : ℕ) (rows : List Row) → IsFrozen l most rows → (
     IsTrue ((ancestry_of rows).before (number_of_row rows i) (number_of_row rows j))
 frozen-ordered l most rows f i j low lj =
     let book = book_of rows in
-    let a = row_at rows i (omega arith) in
-    let b = row_at rows j lj in
+    let a = there rows i (omega arith) in
+    let b = there rows j lj in
     let x : List ℕ × Animal = (a.0.number, a.0.animal) in
     let y : List ℕ × Animal = (b.0.number, b.0.animal) in
     let at_i : get_or book i x ≡ x = get_or_from_slice_get book i x x (slice_get-map (λ (r : Row). (r.number, r.animal)) rows i ∙ rw a.1 refl) in
@@ -138,7 +134,7 @@ parent_at : (l most : ℕ) (rows : List Row) → IsFrozen l most rows → (rank 
     ((row : Row) → IsFrozenRow rows row → IsRankOf rows (rank row) (parent row.animal)) → (i : ℕ) → i < length rows →
     IsParentRank rows (option_and_then parent (record_of (book_of rows) (number_of_row rows i))) (option_and_then rank (slice_get rows i))
 parent_at l most rows f rank parent given i li =
-    let a = row_at rows i li in
+    let a = there rows i li in
     let is : option_and_then rank (slice_get rows i) ≡ rank a.0 = rw a.1 refl in
     let known : option_and_then parent (record_of (book_of rows) (number_of_row rows i)) ≡ parent a.0.animal =
     rw (number_of_row-is rows i a.0 a.1, record_at-row l most rows f i a.0 a.1) refl in

@@ -11,7 +11,7 @@ use Rattle.herd_frozen.specs.declared.rules.animal.Animal.{Animal}
 use Rattle.herd_frozen.specs.rules.Book.{Book, record_of, has_calved_after, is_calf_after}
 use Rattle.herd_frozen.specs.rules.Lawful.{IsLawful}
 use Rattle.herd_frozen.specs.places.Places.{parent_at, IsIndexIn, AreParents}
-use Rattle.herd_pedigree.proofs.lemmas.store.ListFacts.{any_found}
+use Rattle.herd_frozen.proofs.lemmas.Contained.{any_found}
 use Rattle.herd_frozen.proofs.lemmas.rules.BookFacts.{same_bytes, bytes_itself, lookup_at, stands_once, value_at}
 
 -- the calf counts: it is from no stored embryo, and born after the day

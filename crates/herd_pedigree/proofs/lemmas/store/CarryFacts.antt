@@ -8,7 +8,7 @@ use Rattle.herd_frozen.specs.rules.Depths.{IsParent, AreDepths, depth_above, dep
 use Rattle.herd_pedigree.specs.store.Carry.{IsSettled, HavePaths, AddsCalves}
 use Rattle.herd_frozen.specs.places.Places.{parentage_at}
 use Rattle.herd_frozen.proofs.lemmas.rules.PathFacts.{Path, path-from_test, test-from_path, path-there, depths-shallow}
-use Rattle.herd_pedigree.proofs.lemmas.store.ListFacts.{contains_cases, contains_none}
+use Rattle.herd_frozen.proofs.lemmas.Contained.{contains_cases, contains_none}
 
 -- the animal is the parent, or a write there leaves what the parent gives
 named_or_same : (depths : List ℕ) (place d : ℕ) (o : Option ℕ) → (o ≡ Some place) ⊎ (depth_above (slice_index (slice_set depths place d)) o ≡ depth_above (slice_index depths) o)

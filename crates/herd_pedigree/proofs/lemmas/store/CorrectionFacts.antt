@@ -11,7 +11,7 @@ use Rattle.herd_pedigree.specs.store.Carry.{AddsCalves, IsSettled}
 use Rattle.herd_pedigree.specs.store.Correction.{corrected}
 use Rattle.herd_pedigree.specs.store.Exchange.{exchanged}
 use Rattle.herd_pedigree.proofs.lemmas.store.CarryFacts.{settled-deep, settled-shallow}
-use Rattle.herd_pedigree.proofs.lemmas.store.ListFacts.{contains_here, contains_cases, contains_none, filter-keeps, filter-only}
+use Rattle.herd_frozen.proofs.lemmas.Contained.{contains_here, contains_cases, contains_none, filter-keeps, filter-only}
 use Rattle.herd_pedigree.proofs.lemmas.store.ProgenyFacts.{parent-within}
 
 -- once all depths are settled, one above the limit tells a path that is too long, and where none is, no path is
@@ -112,10 +112,6 @@ module _ (sires dams : List (Option ℕ)) (a : ℕ) (sire dam : Option ℕ) (her
             (contains_cases a c [] r))
             (Contains-append_cases others (a ∷ []) c h);
       }
-
-pub parent_in : (o : Option ℕ) (n p : ℕ) → IfSome o (λ p. p < n) → o ≡ Some p → p < n
-parent_in None n p h e = absurd (cc)
-parent_in (Some q) n p h e = let k : q ≡ p = cc in subst (λ v. v < n) k h
 
 -- two clauses on an `Ok`
 pub IfOk-both : {T E : Type 0} (r : Result T E) (P Q R : T → Type 0) → ((x : T) → P x → Q x → R x) → IfOk r P → IfOk r Q → IfOk r R

@@ -75,14 +75,15 @@ module _ {A : Type 0} (l top : ℕ) (old new : Parentage A) (g h : A → ℕ) (a
 parent-push : (parents : List (Option ℕ)) (o : Option ℕ) (c : ℕ) → c < length parents → parent_at (parents ++ o ∷ []) c ≡ parent_at parents c
 parent-push parents o c h = get_or_append_left parents (o ∷ []) None c h
 
+-- a parent that is known is within
+pub within_some : (o : Option ℕ) (p n : ℕ) → IfSome o (λ p. p < n) → o ≡ Some p → p < n
+within_some None p n h e = absurd (cc)
+within_some (Some q) p n h e = let k : q ≡ p = cc in subst (λ v. v < n) k h
+
 -- a place more at the end
 module _ (l : ℕ) (sires dams : List (Option ℕ)) (depths : List ℕ) (d : AreDepths l (parentage_at sires dams) (slice_index depths))
     (long : length depths ≡ length sires) (same : length dams ≡ length sires)
     (sire dam : Option ℕ) (sire_within : IfSome sire (λ p. p < length sires)) (dam_within : IfSome dam (λ p. p < length sires)) where
-  within_some : (o : Option ℕ) (p n : ℕ) → IfSome o (λ p. p < n) → o ≡ Some p → p < n
-  within_some None p n h e = absurd (cc)
-  within_some (Some q) p n h e = let k : q ≡ p = cc in subst (λ v. v < n) k h
-
   end_sire : parent_at (sires ++ sire ∷ []) (length sires) ≡ sire
   end_sire = get_or_push sires sire None (length sires) refl
 

@@ -15,7 +15,7 @@ use Rattle.herd_frozen.specs.rules.Book.{Book, changed, with_parents}
 use Rattle.herd_pedigree.specs.store.Records.{AreClosed, IsStoredAt, NamesItsOwn, StandAmong, stored_book, book_with, animal_of, set_value_at, stored_of, stored_with_parents}
 use Rattle.herd_pedigree.specs.store.Undo.{without_last}
 use Rattle.herd_frozen.proofs.lemmas.rules.BookFacts.{keys-push, length-keys, stands_once}
-use Rattle.herd_frozen.proofs.lemmas.ListFacts.{entry_from_both, is_some_with, push_cases, push_keeps, there}
+use Rattle.herd_frozen.proofs.lemmas.ListFacts.{entry_from_value, entry_from_both, is_some_with, push_cases, push_keeps, there}
 use Rattle.herd_frozen.proofs.lemmas.places.NumberFacts.{further, number_at-place, number_at-push, place-within}
 use Rattle.herd_pedigree.proofs.lemmas.store.SetFacts.{keys-set, length-set-at, set-changed, set_value-cases}
 use Rattle.herd_pedigree.proofs.lemmas.store.ListFacts.{nil_unless, without_last-push}
@@ -139,18 +139,13 @@ pub place-named : (numbers : List (List ℕ)) (o : Option ℕ) → IfSome o (λ 
 place-named numbers None h = tt
 place-named numbers (Some p) h = let n = there numbers p h in subst (λ o. IsIndexIn numbers (Some p) o) (sym n.1) n.1
 
-entry_with : (es : List (List ℕ × StoredRecord)) (i : ℕ) (e : StoredRecord) → slice_get (values_of es) i ≡ Some e → (x : List ℕ) × (slice_get es i ≡ Some (x, e))
-entry_with [] i e at = absurd (cc)
-entry_with (first ∷ es) zero e at = (first.0, ap (λ v. Some (first.0, v)) (same_Some _ _ at))
-entry_with (first ∷ es) (suc i) e at = entry_with es i e at
-
 pub length-stored_book : (es : List (List ℕ × StoredRecord)) → length (stored_book es) ≡ length es
 length-stored_book es = sym (length-keys (stored_book es)) ∙ ap (λ ks. length ks) (keys-stored_book es) ∙ length-keys es
 
 -- an entry is what the book keeps at its place
 pub stored-kept : (es : List (List ℕ × StoredRecord)) (i : ℕ) (e : StoredRecord) → slice_get (values_of es) i ≡ Some e → AreClosed es → IsStoredAt (stored_book es) i e
 stored-kept es i e at closed =
-    let its = entry_with es i e at in
+    let its = entry_from_value es i e at in
     let parents = closed i (its.0, e) its.1 in
     record {
       animal = value-book_with (keys_of es) es i e at ∙ ap (λ ks. Some (animal_of ks e)) (sym (keys-stored_book es));
@@ -203,7 +198,7 @@ animal_of-parents numbers was sire dam s d sire_is dam_is =
 pub link-kept : (es : List (List ℕ × StoredRecord)) (i : ℕ) (e : StoredRecord) → slice_get (values_of es) i ≡ Some e → AreClosed es → IsLinkAt (stored_book es) i (record { sire = e.sire; dam = e.dam })
 link-kept es i e at closed =
     let numbers : List (List ℕ) = keys_of es in
-    let its = entry_with es i e at in
+    let its = entry_from_value es i e at in
     let parents = closed i (its.0, e) its.1 in
     let here : slice_get (stored_book es) i ≡ Some (its.0, animal_of numbers e) = entry-book_with numbers es i ∙ ap (λ o. option_map (λ (k : List ℕ × StoredRecord). (k.0, animal_of numbers k.1)) o) its.1 in
     let told : (o : Option ℕ) → IfSome o (λ p. p < length es) → IsIndexIn (keys_of (stored_book es)) o (number_at numbers o) = λ o h.

@@ -10,10 +10,11 @@ use Rattle.herd_frozen.specs.declared.freezing.frozen.Row.{Row}
 use Rattle.herd_frozen.specs.declared.TheConstants.{DEPTH_LIMIT, MOST_ANIMALS}
 use Rattle.herd_frozen.specs.rules.Book.{Book, is_there, record_of}
 use Rattle.herd_frozen.specs.freezing.Frozen.{IsFrozen, book_of, numbers_of}
+use Rattle.herd_frozen.proofs.lemmas.ListFacts.{there}
 use Rattle.herd_kinship.specs.FrozenAncestry.{ancestry_of, number_of_row}
 use Rattle.herd_kinship.specs.Table.{coefficient}
 use Rattle.herd_kinship.proofs.lemmas.books.BookFacts.{record_there}
-use Rattle.herd_kinship.proofs.lemmas.books.FrozenFacts.{length-numbers_of, number_of_row-is, numbers_are_keys, record_at-row, row_at}
+use Rattle.herd_kinship.proofs.lemmas.books.FrozenFacts.{length-numbers_of, number_of_row-is, numbers_are_keys, record_at-row}
 use Rattle.herd_report.specs.writing.Certificate.{ancestors_text, animal_text, certificate_of, labelled_line}
 
 -- the lines on the animal of the row there, and then those of its ancestors, are the certificate
@@ -51,7 +52,7 @@ pub row_at_rank : (rows : List Row) (rank : ℕ) (number : List ℕ) → slice_g
     → (row : Row) × (slice_get rows rank ≡ Some row) × (number ≡ row.number)
 row_at_rank rows rank number there =
     let within : rank < length rows = rw (← length-numbers_of rows) (slice_get_within (numbers_of rows) rank number there) in
-    let row = row_at rows rank within in
+    let row = there rows rank within in
     (row.0, row.1, sym (number_at_rank rows rank number there) ∙ number_of_row-is rows rank row.0 row.1)
 
 some_text : (book : Book) (numerator : ℕ) (number : List ℕ) (found : Option Animal) → is_some found ≡ true

@@ -6,16 +6,6 @@ use Rattle.std.proofs.lemmas.List.FromFn.{get_or-range_with_len, length-range_wi
 use Rattle.std.proofs.lemmas.Option.{slice_get_within, slice_get-get_or, get_or_from_slice_get}
 use Rattle.herd_report.proofs.lemmas.writing.TextFacts.{Holds, holds_piece, some_before}
 
--- the element that a loop over the list reads stands at the rank
-pub slice_get-item : {X : Type 0} (xs : List X) (rank : ℕ) (x : X) → rank < length xs → x ≡ get_or xs rank x → slice_get xs rank ≡ Some x
-slice_get-item xs rank x within there = slice_get-get_or xs rank x within ∙ ap Some (sym there)
-
--- a number stands at its own rank among the first n
-pub slice_get-range : (n rank : ℕ) → rank < n → slice_get (range_with_len 0 n) rank ≡ Some rank
-slice_get-range n rank within =
-    slice_get-get_or (range_with_len 0 n) rank 0 (rw (length-range_with_len 0 n) within)
-    ∙ ap Some (get_or-range_with_len 0 n rank 0 within ∙ zero-add rank)
-
 -- the piece of the element at a rank, and those after it
 pub flat_map-drop : {X A : Type 0} (f : X → List A) (xs : List X) (rank : ℕ) (x : X) → slice_get xs rank ≡ Some x
     → flat_map f (drop rank xs) ≡ f x ++ flat_map f (drop (rank + 1) xs)

@@ -4,7 +4,7 @@ use Rattle.std.proofs.lemmas.Option.{slice_get-get_or}
 use Rattle.herd_office.specs.declared.desk.Desk.{Desk}
 use Rattle.herdbook.specs.Deal.{HasFiled, every, numbers_of}
 use Rattle.herdbook.proofs.DealFacts.{all_begun, every-one, filed_none}
-use Rattle.herdbook.proofs.SummaryFacts.{numbers-set}
+use Rattle.herdbook.proofs.Lists.{numbers-set}
 use Rattle.herdbook.proofs.desks.all_filed.Goals as goal
 
 pub file_in_turn-requires-clause-first : goal.file_in_turn-requires-clause-first

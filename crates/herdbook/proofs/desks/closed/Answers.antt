@@ -9,7 +9,7 @@ use Rattle.herd_office.specs.declared.desk.Desk.{Desk}
 use Rattle.herdbook.specs.Deal.{HasDone, numbers_of}
 use Rattle.herdbook.specs.Summary.{CountsOf, count_of}
 use Rattle.herdbook.specs.declared.summary.DeskCount.{DeskCount}
-use Rattle.herdbook.proofs.Lists.{all_at}
+use Rattle.herdbook.proofs.Lists.{holds_at}
 use Rattle.herdbook.proofs.SummaryFacts.{seen_whole, summed_up}
 use Rattle.herdbook.proofs.desks.closed.Goals as goal
 
@@ -48,6 +48,6 @@ returns-in-Ok-clause-ok g c = λ deal dealt filed.
     let counted : c.in_ok-counts.counts.items ≡ map (λ (d : Desk _ _). count_of d.number d.answered) desks = rw (← c.as_slice.ensures.value) c.in_ok-counts.ensures in
     let numbers : numbers_of desks ≡ range_with_len 1 deal.desks = c.requires.numbers ∙ ap (range_with_len 1) dealt in
     let summary = c.counted.result in
-    summed_up desks g.N.OfficeName.limits deal register summary numbers (all_at (HasDone deal) desks filed) c.in-Ok.ensures.closed.limits_are
+    summed_up desks g.N.OfficeName.limits deal register summary numbers (holds_at (HasDone deal) desks filed) c.in-Ok.ensures.closed.limits_are
     c.counted.ensures.legal c.in-Ok.ensures.closed.sum c.in-Ok.ensures.closed.each c.in-Ok.ensures.closed.desks_begin
     (subst (λ (l : List DeskCount). CountsOf register l summary) counted c.counted.ensures.counts)

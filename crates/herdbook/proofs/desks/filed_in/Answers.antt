@@ -1,7 +1,7 @@
 -- As many desks are opened as the commands are dealt to. They are numbered from 1 on, and all are handed in.
 use Rattle.std.proofs.Common.{◌∙◌, ap, sym}
 use Rattle.std.specs.List.{range_with_len}
-use Rattle.herdbook.proofs.SummaryFacts.{numbers-range}
+use Rattle.herdbook.proofs.Lists.{numbers-range}
 use Rattle.herdbook.proofs.desks.filed_in.Goals as goal
 
 pub all_filed-requires-clause-desks : goal.all_filed-requires-clause-desks

@@ -5,7 +5,7 @@ use Rattle.herd_frozen.specs.declared.rules.animal.Animal.{Animal}
 use Rattle.herd_frozen.specs.rules.Book.{Book, has_calved_after}
 use Rattle.herd_pedigree.specs.Pedigree.{IsFound}
 use Rattle.herd_frozen.proofs.lemmas.rules.BookFacts.{value_at}
-use Rattle.herd_pedigree.proofs.lemmas.store.ListFacts.{contains_cases, contains_here, contains_later, contains_none}
+use Rattle.herd_frozen.proofs.lemmas.Contained.{contains_cases, contains_here, contains_later, contains_none}
 use Rattle.herd_pedigree.proofs.lemmas.store.ProgenyFacts.{parent-within}
 use Rattle.herd_pedigree.proofs.lemmas.store.CalvedFacts.{counts, calf_found, calf_missing}
 use Rattle.herd_pedigree.proofs.pedigree.Pedigree.calved_after_at.Goals as goal
