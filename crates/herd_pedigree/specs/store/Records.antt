@@ -1,5 +1,5 @@
 -- The records of a book by place, each with the places of its parents.
-use Rattle.std.specs.Prelude.{◌≡◌, ℕ, zero, suc, ◌<◌, ℤ, List, [], ◌∷◌, map, length, slice_get, IfSome, Option, Some}
+use Rattle.std.specs.Prelude.{◌≡◌, ℕ, zero, suc, ◌<◌, List, [], ◌∷◌, map, length, slice_get, IfSome, Option, Some}
 use Rattle.std.specs.Map.{keys_of, values_of}
 use Rattle.herd_frozen.specs.declared.rules.animal.Animal.{Animal}
 use Rattle.herd_pedigree.specs.declared.store.records.StoredRecord.{StoredRecord}
@@ -39,16 +39,6 @@ stored_of animal sire dam = record {
   since = animal.since;
   left = animal.left;
 }
-
--- the same with parents at other places, another owner or an exit
-abbrev pub stored_with_parents : Option ℕ → Option ℕ → StoredRecord → StoredRecord
-stored_with_parents sire dam stored = record stored { sire = sire; dam = dam }
-
-abbrev pub stored_with_owner : ℕ → ℤ → StoredRecord → StoredRecord
-stored_with_owner herd day stored = record stored { herd = herd; since = day }
-
-abbrev pub stored_with_left : ℤ → StoredRecord → StoredRecord
-stored_with_left day stored = record stored { left = Some day }
 
 -- this is what is kept at a place of the book
 pub record IsStoredAt (book : Book) (place : ℕ) (stored : StoredRecord) : Type 0 where

@@ -1,5 +1,5 @@
 //! The records of a book, which keep the places of the parents for their numbers.
-ghost use Rattle.std.specs.Prelude.{◌≡◌, ◌<◌, ◌^◌, [], ◌++◌, ◌∷◌, length, not, position, slice_get, true, false, None, IfOk, IfSome, OnErr, is_some};
+ghost use Rattle.std.specs.Prelude.{◌≡◌, ◌<◌, ◌^◌, [], ◌++◌, ◌∷◌, length, not, position, slice_get, true, false, None, Some, IfOk, IfSome, OnErr, is_some};
 ghost use Rattle.std.specs.List.{IsDistinct};
 ghost use Rattle.std.specs.Map.{keys_of, values_of};
 ghost use Rattle.std.specs.Str.{bytes_eq};
@@ -7,7 +7,7 @@ ghost use Rattle.indexmap.specs.IndexMap.{get};
 ghost use Rattle.herd_frozen.specs.rules.Book.{is_there, record_of};
 ghost use Rattle.herd_frozen.specs.places.PackedIndex.{nowhere};
 ghost use Rattle.herd_frozen.specs.places.Places.{IsIndexIn, number_at};
-ghost use Rattle.herd_pedigree.specs.store.Records.{IsStoredAt, NamesItsOwn, animal_of, set_value_at, stored_of, stored_with_left, stored_with_owner, stored_with_parents};
+ghost use Rattle.herd_pedigree.specs.store.Records.{IsStoredAt, NamesItsOwn, animal_of, set_value_at, stored_of};
 ghost use Rattle.herd_pedigree.specs.store.Undo.{without_last};
 
 use herd_animal::{AnimalNumber, Day, Herd};
@@ -80,7 +80,7 @@ impl StoredRecord {
     pub(crate) fn with_parents(&self, sire: Option<u32>, dam: Option<u32>) -> StoredRecord
         requires sire { IfSome sire (λ place. place < nowhere) }
         requires dam { IfSome dam (λ place. place < nowhere) }
-        ensures { result ≡ stored_with_parents sire dam self.now }
+        ensures { result ≡ record self.now { sire = sire; dam = dam } }
     {
         let dam = PackedIndex::of(dam);
         let sire = PackedIndex::of(sire);
@@ -89,7 +89,7 @@ impl StoredRecord {
 
     /// The same, owned by the herd from the day on.
     pub(crate) fn with_owner(&self, herd: Herd, day: Day) -> StoredRecord
-        ensures { result ≡ stored_with_owner herd day self.now }
+        ensures { result ≡ record self.now { herd = herd; since = day } }
     {
         StoredRecord {
             herd,
@@ -100,7 +100,7 @@ impl StoredRecord {
 
     /// The same, gone on the day.
     pub(crate) fn with_left(&self, day: Day) -> StoredRecord
-        ensures { result ≡ stored_with_left day self.now }
+        ensures { result ≡ record self.now { left = Some day } }
     {
         StoredRecord {
             left: Some(day),

@@ -12,7 +12,7 @@ use Rattle.herd_pedigree.specs.declared.store.records.StoredRecord.{StoredRecord
 use Rattle.herd_frozen.specs.places.Links.{IsLinkAt}
 use Rattle.herd_frozen.specs.places.Places.{AreParents, IsIndexIn, number_at, parent_at}
 use Rattle.herd_frozen.specs.rules.Book.{Book, changed, with_parents}
-use Rattle.herd_pedigree.specs.store.Records.{AreClosed, IsStoredAt, NamesItsOwn, StandAmong, stored_book, book_with, animal_of, set_value_at, stored_of, stored_with_parents}
+use Rattle.herd_pedigree.specs.store.Records.{AreClosed, IsStoredAt, NamesItsOwn, StandAmong, stored_book, book_with, animal_of, set_value_at, stored_of}
 use Rattle.herd_pedigree.specs.store.Undo.{without_last}
 use Rattle.herd_frozen.proofs.lemmas.rules.BookFacts.{keys-push, length-keys, stands_once}
 use Rattle.herd_frozen.proofs.lemmas.ListFacts.{entry_from_value, entry_from_both, is_some_with, push_cases, push_keeps, there}
@@ -190,7 +190,7 @@ stored-parents book sires dams once sires_are dams_are i x was at stored = (
 
 -- what is kept with the places of other parents is the animal with these
 pub animal_of-parents : (numbers : List (List ℕ)) (was : StoredRecord) (sire dam : Option ℕ) (s d : Option (List ℕ)) → IsIndexIn numbers sire s → IsIndexIn numbers dam d →
-    animal_of numbers (stored_with_parents sire dam was) ≡ with_parents s d (animal_of numbers was)
+    animal_of numbers (record was { sire = sire; dam = dam }) ≡ with_parents s d (animal_of numbers was)
 animal_of-parents numbers was sire dam s d sire_is dam_is =
     λ i. record (animal_of numbers was) { sire = number_at-place numbers sire s sire_is i; dam = number_at-place numbers dam d dam_is i }
 
