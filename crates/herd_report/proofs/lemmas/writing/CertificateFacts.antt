@@ -50,10 +50,10 @@ number_at_rank rows rank number there = get_or_from_slice_get (numbers_of rows) 
 -- and there is such a row
 pub row_at_rank : (rows : List Row) (rank : ℕ) (number : List ℕ) → slice_get (numbers_of rows) rank ≡ Some number
     → (row : Row) × (slice_get rows rank ≡ Some row) × (number ≡ row.number)
-row_at_rank rows rank number there =
-    let within : rank < length rows = rw (← length-numbers_of rows) (slice_get_within (numbers_of rows) rank number there) in
+row_at_rank rows rank number stands =
+    let within : rank < length rows = rw (← length-numbers_of rows) (slice_get_within (numbers_of rows) rank number stands) in
     let row = there rows rank within in
-    (row.0, row.1, sym (number_at_rank rows rank number there) ∙ number_of_row-is rows rank row.0 row.1)
+    (row.0, row.1, sym (number_at_rank rows rank number stands) ∙ number_of_row-is rows rank row.0 row.1)
 
 some_text : (book : Book) (numerator : ℕ) (number : List ℕ) (found : Option Animal) → is_some found ≡ true
     → 0 < length (option_map_or (λ (animal : Animal). animal_text number animal numerator ++ ancestors_text book number) found [])
