@@ -1,8 +1,8 @@
 -- Desks that are handed in, their numbers, and what their counts add up to.
-use Rattle.std.proofs.Common.{◌≡◌, ◌∙◌, ℕ, zero, suc, ◌+◌, ◌<◌, List, [], ◌∷◌, ◌++◌, ap, ap₂, append_assoc, arith, get_or, le_antisymm, le_trans, length, map, set, slice_get, Some, refl, subst, sym}
+use Rattle.std.proofs.Common.{◌≡◌, ◌∙◌, ℕ, zero, suc, ◌+◌, ◌<◌, List, [], ◌∷◌, ◌++◌, ap, append_assoc, le_antisymm, le_trans, length, map, slice_get, Some, refl, subst, sym}
 use Rattle.std.specs.List.{range_with_len}
 use Rattle.std.specs.Prelude.{sum_by}
-use Rattle.std.proofs.lemmas.List.{map-append, map-set, set-get_or}
+use Rattle.std.proofs.lemmas.List.{map-append}
 use Rattle.std.proofs.lemmas.List.Folds.{fold-map}
 use borrow.Author.Count.{below_more}
 use mathlib.Core.List.{IsPrefix, map-map}

@@ -1,10 +1,10 @@
 -- Lists: what is mapped, one of two lists that are joined, where an element stands and how often, and what is written
 -- over.
-use Rattle.std.proofs.Common.{ℕ, ◌+◌, ◌≡◌, ◌⊎◌, ◌++◌, inl, inr, ⊎_elim, All, Bool, true, false, cond, List, [], ◌∷◌, length, get_or, map, take, drop, Some, lit<, refl, sym, ◌∙◌, ap, Contains, subst, arith}
+use Rattle.std.proofs.Common.{ℕ, ◌+◌, ◌≡◌, ◌++◌, ⊎_elim, All, Bool, true, false, cond, List, [], ◌∷◌, length, get_or, map, take, drop, Some, lit<, refl, sym, ◌∙◌, ap, Contains, subst, arith}
 use Rattle.std.specs.List.{Any, IsDistinct, AllByRecursion, count_by}
 use Rattle.std.proofs.lemmas.Bool.{cases_Bool}
 use Rattle.std.proofs.lemmas.List.{get_or-append-add, get_or_append_left, length-append, take-append-le, take_all}
-use Rattle.std.proofs.lemmas.List.Elements.{All-contains, All-cons, All-nil, All-weaker, Contains-append_cases, Contains-append_left, Contains-append_right}
+use Rattle.std.proofs.lemmas.List.Elements.{All-contains, All-cons, All-nil, All-weaker, Contains-append_left, Contains-append_right}
 use Rattle.std.proofs.lemmas.List.Sums.{sum_by-cons}
 use Rattle.std.proofs.lemmas.Option.{get_or_from_slice_get, slice_get-get_or}
 use Rattle.herd_frozen.proofs.lemmas.Contained.{contains_cases}
