@@ -1,5 +1,6 @@
-//! What the tests begin with: animals named short, births, the books of small families and of many generations, and
-//! heaps that are too small. Only tests stand on it, and the programs that are to be timed or refused memory.
+//! What the tests begin with: animals named short, births, the books of small families and of many generations, heaps
+//! that are too small, and where threads wait for one another. Only tests stand on it, and the programs that are to be
+//! timed or refused memory.
 #![tactic(auto)]
 
 mod birth;
@@ -7,6 +8,7 @@ mod books;
 mod families;
 mod heaps;
 mod herd;
+mod meeting;
 mod name;
 mod rows;
 
@@ -18,5 +20,6 @@ pub use books::{
 pub use families::{descendants_of_full_sibs, full_sibs};
 pub use heaps::{Crowd, MOST_BLOCKS, heap_of, small_heap, spare_of};
 pub use herd::herd_of;
+pub use meeting::Meeting;
 pub use name::Name;
 pub use rows::row_at;

@@ -8,4 +8,3 @@ mod outlived;
 mod races;
 mod racing;
 mod readings;
-mod start;

@@ -6,8 +6,8 @@ mod gates;
 ghost use Rattle.std.specs.Prelude.{◌≤◌};
 
 use drawn::{SHAPES, drawn};
-use gates::{AtAnimals, AtBlocks, Counts, Meeting, OneRefused, OtherHeld, ThirdFirst};
-use herd_fixtures::{founders, generations};
+use gates::{AtAnimals, AtBlocks, Counts, OneRefused, OtherHeld, ThirdFirst};
+use herd_fixtures::{Meeting, founders, generations};
 use herd_frozen::Frozen;
 use herd_kinship::{Coefficients, ONE, coefficients_plain};
 use herd_pool::*;

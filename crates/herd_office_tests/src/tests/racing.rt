@@ -4,7 +4,7 @@ ghost use Rattle.herd_office.specs.Parts.{AreNamed};
 ghost use Rattle.herd_office.specs.declared.limits.TheConstants.{MOST_DESKS};
 
 use super::filing::closed;
-use super::start::Start;
+use herd_fixtures::Meeting;
 use herd_office::*;
 use herd_register::{Command, FileFault, Limits, MOST_STEPS, Register};
 use std::alloc::Global;
@@ -17,6 +17,9 @@ use std::thread::{JoinHandle, Scope, Threads};
 
 // A race is run so often at most, since the rarer of two orders may come in few of a hundred runs.
 const MOST_RACES: u32 = 10_000;
+
+// After so many turns a thread files all the same, since no thread is promised to run.
+const MOST_TURNS: u32 = 100_000;
 
 /// What desks file.
 #[derive(Clone, Copy)]
@@ -125,10 +128,10 @@ impl Race<'_> {
         office: &Office<N, &R>,
         desks: Vec<Desk<N>>,
     ) -> (Vec<Desk<N>>, u32) {
-        let start = Start::of(desks.len());
-        let (race, start) = (*self, &start);
+        let meeting = Meeting::of(desks.len() as u64, MOST_TURNS);
+        let (race, meeting) = (*self, &meeting);
         thread::scope(thread::scope_env(), rt, |scope| {
-            let threads = race.start_all(rt, alloc, scope, office, desks, start);
+            let threads = race.start_all(rt, alloc, scope, office, desks, meeting);
             join_all(rt, alloc, threads)
         })
     }
@@ -142,11 +145,11 @@ impl<'a> Race<'a> {
         scope: &'a Scope<'a, E>,
         office: &'a Office<N, &'r R>,
         desks: Vec<Desk<N>>,
-        start: &'a Start,
+        meeting: &'a Meeting,
     ) -> Vec<JoinHandle<Returned<N>>> {
         let mut threads = Vec::new(alloc);
         for desk in desks {
-            let thread = self.start(rt, scope, office, desk, start);
+            let thread = self.start(rt, scope, office, desk, meeting);
             threads.push(thread).expect(rt, "room");
         }
         threads
@@ -159,10 +162,10 @@ impl<'a> Race<'a> {
         scope: &'a Scope<'a, E>,
         office: &'a Office<N, &'r R>,
         desk: Desk<N>,
-        start: &'a Start,
+        meeting: &'a Meeting,
     ) -> JoinHandle<Returned<N>> {
         let turn = self.turn(desk.number());
-        let started = scope.spawn(move || file_turn(rt, office, desk, turn, start));
+        let started = scope.spawn(move || file_turn(rt, office, desk, turn, meeting));
         started.ok().expect(rt, "a thread")
     }
 
@@ -196,9 +199,10 @@ fn file_turn<N: OfficeName, R: Wait + Abort>(
     office: &Office<N, &R>,
     mut desk: Desk<N>,
     turn: &[Command],
-    start: &Start,
+    meeting: &Meeting,
 ) -> Returned<N> {
-    start.wait();
+    meeting.arrive();
+    meeting.wait();
     let full = file_each(rt, office, &mut desk, turn);
     (desk, full)
 }

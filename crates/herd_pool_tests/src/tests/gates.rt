@@ -1,48 +1,9 @@
 //! Gates that hold a thread until another has come, gates that count, and gates that refuse memory.
+use herd_fixtures::Meeting;
 use herd_frozen::Frozen;
 use herd_pool::Gate;
 use std::alloc::{AllocError, Allocator, Global};
-use std::sync::atomic::{AtomicBool, AtomicU64, Ordering};
-use std::thread;
-
-/// Waits until so many have come, for at most so many turns.
-#[derive(Drop)]
-pub struct Meeting {
-    expected: u64,
-    turns: u32,
-    arrived: AtomicU64,
-    late: AtomicBool,
-}
-
-impl Meeting {
-    pub(crate) fn of(expected: u64, turns: u32) -> Meeting {
-        Meeting {
-            expected,
-            turns,
-            arrived: AtomicU64::new(0),
-            late: AtomicBool::new(false),
-        }
-    }
-
-    /// So many have come, and nobody has waited for all turns before.
-    pub(crate) fn is_met(&self) -> bool {
-        self.arrived.load(Ordering::SeqCst) >= self.expected && !self.late.load(Ordering::SeqCst)
-    }
-
-    fn arrive(&self) {
-        self.arrived.fetch_add(1, Ordering::SeqCst);
-    }
-
-    fn wait(&self) {
-        for _ in 0..self.turns {
-            if self.arrived.load(Ordering::SeqCst) >= self.expected {
-                return;
-            }
-            thread::yield_now();
-        }
-        self.late.store(true, Ordering::SeqCst);
-    }
-}
+use std::sync::atomic::{AtomicU64, Ordering};
 
 /// A meeting where blocks begin.
 #[derive(Drop)]
