@@ -1,4 +1,4 @@
-ghost use Rattle.std.specs.Prelude.{◌≡◌, ◌≢◌, ◌==◌, ◌<◌, ◌≤◌, [], ◌++◌, ◌∷◌, ℕ, List, length, Option, None, Some, IfNone, IfOk, IfSome, IsTrue, OnOk, OnErr, IsSome, is_some, not, vec_capacity, vec_len};
+ghost use Rattle.std.specs.Prelude.{◌≡◌, ◌≢◌, ◌==◌, ◌<◌, [], ◌++◌, ◌∷◌, length, Option, None, Some, IfNone, IfOk, IfSome, IsTrue, OnOk, OnErr, IsSome, is_some, not, vec_capacity, vec_len};
 ghost use Rattle.std.specs.Map.{keys_of};
 ghost use Rattle.herd_frozen.specs.rules.Book.{IsDepthOf, changed, has_calved_after, is_there, record_of, with_left, with_owner, with_parents};
 ghost use Rattle.herd_frozen.specs.freezing.Frozen.{IsFrozenFrom};

@@ -1,5 +1,5 @@
 //! What a command asks of the pedigree, and what it changes in it.
-ghost use Rattle.std.specs.Prelude.{◌≡◌, ◌≤◌, IfNone, IfOk, IsSome, OnOk, OnErr};
+ghost use Rattle.std.specs.Prelude.{◌≡◌, IfNone, IfOk, IsSome, OnOk, OnErr};
 ghost use Rattle.herd_frozen.specs.rules.Book.{changed, with_left, with_owner, with_parents};
 ghost use Rattle.herd_frozen.specs.rules.ParentFault.{first_that_holds};
 ghost use Rattle.herd_pedigree.specs.Pedigree.{IsFound, changed_to};

@@ -1,6 +1,6 @@
 //! What the words of the command line ask for.
 
-ghost use Rattle.std.specs.Prelude.{◌≡◌, ℕ, IfOk, IfErr, length, map, slice_get, string_bytes};
+ghost use Rattle.std.specs.Prelude.{◌≡◌, ℕ, IfOk, IfErr, length, map, string_bytes};
 ghost use Rattle.pedigree_timing.specs.Task.{AsksFor, HasNumber, animals_after, book_after};
 ghost use Rattle.pedigree_timing.specs.declared.task.Task.{Task};
 

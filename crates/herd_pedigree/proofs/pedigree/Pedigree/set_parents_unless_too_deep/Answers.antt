@@ -7,9 +7,10 @@ use Rattle.herd_frozen.specs.declared.rules.animal.Animal.{Animal}
 use Rattle.herd_pedigree.specs.declared.store.records.StoredRecord.{StoredRecord}
 use Rattle.herd_pedigree.specs.declared.store.undo.Undo.TheVariants.{Record}
 use Rattle.herd_frozen.specs.rules.Book.{Book, changed, with_parents}
-use Rattle.herd_frozen.specs.rules.ParentFault.{fault_by_records}
+use Rattle.herd_frozen.specs.rules.ParentFault.{fault_by_records, parent_fault}
 use Rattle.herd_frozen.specs.places.Places.{IsIndexIn}
-use Rattle.herd_pedigree.specs.Pedigree.{IsCorrection, changed_to}
+use Rattle.herd_pedigree.specs.Pedigree.{IsCorrection, IsFaultWith, changed_to}
+use Rattle.herd_frozen.specs.declared.rules.parent_fault.ParentFault.{ParentFault}
 use Rattle.herd_frozen.specs.declared.rules.parent_fault.ParentFault.TheVariants.{TooDeep}
 use Rattle.herd_pedigree.specs.store.Carry.{IsSettled}
 use Rattle.herd_pedigree.specs.store.Exchange.{exchanged}
@@ -54,6 +55,17 @@ sire g c = subst (λ p. IsIndexIn (keys_of p.book) c.args.parents.sire c.args.si
 dam : (g : Over) (c : After-carry_if_shallow g) → IsIndexIn (keys_of c.self.inside.records.book) c.args.parents.dam c.args.dam.now
 dam g c = subst (λ p. IsIndexIn (keys_of p.book) c.args.parents.dam c.args.dam.now) (sym c.self.view_is) c.requires.dam
 
+number_at : (g : Over) (c : After-carry_if_shallow g) → slice_get (keys_of c.self.inside.records.book) c.args.found.now.place ≡ Some c.args.found.now.number
+number_at g c = its-number c.self.inside.records.book c.args.self.now.book (ap (λ p. p.book) c.self.view_is) c.self.invariant.kept.lawful.once c.args.found.now c.requires.found
+
+-- the first fault of the new parents by the book that is inside is that by the book that is shown
+told : (g : Over) (c : After-carry_if_shallow g) (fault : Option ParentFault) →
+    fault ≡ parent_fault DEPTH_LIMIT c.self.inside.records.book c.args.found.now.number c.args.was.birth c.args.sire.now c.args.dam.now c.args.was.embryo →
+    IsFaultWith DEPTH_LIMIT c.args.self.now.book c.args.found.now.number c.args.sire.now c.args.dam.now fault
+told g c fault first =
+    told-found c.self.inside.records.book c.args.self.now.book (ap (λ p. p.book) c.self.view_is) c.self.invariant.kept.lawful.once c.args.found.now c.requires.found
+    (animal_of (keys_of c.self.inside.records.book) c.args.was) (stored g c).animal DEPTH_LIMIT c.args.sire.now c.args.dam.now fault first
+
 pub carry_if_shallow-requires : goal.carry_if_shallow-requires
 carry_if_shallow-requires g c =
     correction-depths DEPTH_LIMIT MOST_ANIMALS c.self.inside.records.book c.self.inside.depths.items _ c.self.invariant.kept _ c.deref_mut.ensures.value
@@ -73,18 +85,8 @@ invariant_of-self-in_default g c =
 pub returns-in_default-clause-fault : goal.returns-in_default-clause-fault
 returns-in_default-clause-fault g c =
     let here = (goal.at.returns-in_default-clause-fault g c).After-carry_if_shallow in
-    let stored = stored g here in
-    let sound = sound g here in
-    let sire = sire g here in
-    let dam = dam g here in
-    let i = c.self.inside in
-    let found = c.args.found.now in
-    let was : StoredRecord = c.args.was in
-    let parents = c.args.parents in
-    let number_at = its-number i.records.book c.args.self.now.book (ap (λ p. p.book) c.self.view_is) c.self.invariant.kept.lawful.once found c.requires.found in
-    told-found i.records.book c.args.self.now.book (ap (λ p. p.book) c.self.view_is) c.self.invariant.kept.lawful.once found c.requires.found (animal_of (keys_of i.records.book) was) stored.animal DEPTH_LIMIT c.args.sire.now c.args.dam.now (Some TooDeep)
-    (fault-deep DEPTH_LIMIT MOST_ANIMALS i.records.book i.sires.parents i.dams.parents i.depths.items c.self.invariant.kept found.number found.place number_at parents.sire parents.dam c.args.sire.now c.args.dam.now sire dam was.birth was.embryo sound
-    (rw c.in_default.is at c.in_ok-log.ensures.deep))
+    told g here (Some TooDeep)
+    (fault-deep DEPTH_LIMIT MOST_ANIMALS _ _ _ _ c.self.invariant.kept _ _ (number_at g here) _ _ _ _ (sire g here) (dam g here) _ _ (sound g here) (rw c.in_default.is at c.in_ok-log.ensures.deep))
 
 pub write-requires-clause-sire : goal.write-requires-clause-sire
 write-requires-clause-sire g c =
@@ -109,7 +111,7 @@ invariant_of-self-2 g c =
     let i = c.self.inside in
     let place : ℕ = c.args.found.now.place in
     let parents = c.args.parents in
-    let number_at = its-number c.self.inside.records.book c.args.self.now.book (ap (λ p. p.book) c.self.view_is) c.self.invariant.kept.lawful.once c.args.found.now c.requires.found in
+    let number_at = number_at g here in
     let book : Book = i.records.book in
     let sires : List (Option ℕ) = i.sires.parents in
     let dams : List (Option ℕ) = i.dams.parents in
@@ -144,18 +146,8 @@ invariant_of-self-2 g c =
 pub returns-clause-fault : goal.returns-clause-fault
 returns-clause-fault g c =
     let here = (goal.at.returns-clause-fault g c).After-carry_if_shallow in
-    let stored = stored g here in
-    let sound = sound g here in
-    let sire = sire g here in
-    let dam = dam g here in
-    let i = c.self.inside in
-    let found = c.args.found.now in
-    let was : StoredRecord = c.args.was in
-    let parents = c.args.parents in
-    let number_at = its-number i.records.book c.args.self.now.book (ap (λ p. p.book) c.self.view_is) c.self.invariant.kept.lawful.once found c.requires.found in
-    told-found i.records.book c.args.self.now.book (ap (λ p. p.book) c.self.view_is) c.self.invariant.kept.lawful.once found c.requires.found (animal_of (keys_of i.records.book) was) stored.animal DEPTH_LIMIT c.args.sire.now c.args.dam.now None
-    (fault-none DEPTH_LIMIT MOST_ANIMALS i.records.book i.sires.parents i.dams.parents i.depths.items c.self.invariant.kept found.number found.place number_at parents.sire parents.dam c.args.sire.now c.args.dam.now sire dam was.birth was.embryo sound
-    (rw c.in-Some.is at c.in_ok-log.ensures.shallow))
+    told g here None
+    (fault-none DEPTH_LIMIT MOST_ANIMALS _ _ _ _ c.self.invariant.kept _ _ (number_at g here) _ _ _ _ (sire g here) (dam g here) _ _ (sound g here) (rw c.in-Some.is at c.in_ok-log.ensures.shallow))
 
 pub returns-clause-set : goal.returns-clause-set
 returns-clause-set g c =
@@ -168,7 +160,7 @@ returns-clause-set g c =
     let place : ℕ = c.args.found.now.place in
     let was : StoredRecord = c.args.was in
     let change : Animal → Animal = with_parents c.args.sire.now c.args.dam.now in
-    let number_at = its-number c.self.inside.records.book c.args.self.now.book (ap (λ p. p.book) c.self.view_is) c.self.invariant.kept.lawful.once c.args.found.now c.requires.found in
+    let number_at = number_at g here in
     let written : c.write.new.self.book ≡ set_value_at book place (change (animal_of (keys_of book) was)) =
     c.write.ensures
     ∙ ap (λ v. set_value_at book place v) (ap (λ e. animal_of (keys_of book) e) c.with_parents.ensures ∙ animal_of-parents (keys_of book) was c.args.parents.sire c.args.parents.dam c.args.sire.now c.args.dam.now sire dam) in
