@@ -20,13 +20,13 @@ pub ends-unwritten : (limits : Limits) (desks base : ℕ) (file : CommandFile) (
     → file.fault ≡ None → EndsClerks limits desks base file old old (told_of fault)
 ends-unwritten limits desks base file old clerk.NoThread faultless = (faultless, refl)
 ends-unwritten limits desks base file old clerk.Memory faultless = (faultless, refl)
-ends-unwritten limits desks base file old clerk.NoPlace faultless = (faultless, refl)
+ends-unwritten limits desks base file old clerk.NoRoom faultless = (faultless, refl)
 ends-unwritten limits desks base file old clerk.NoReading faultless = (faultless, refl)
 
 pub can-end-unwritten : (fault : ClerkFault) → CanEndClerks (told_of fault)
 can-end-unwritten clerk.NoThread = tt
 can-end-unwritten clerk.Memory = tt
-can-end-unwritten clerk.NoPlace = tt
+can-end-unwritten clerk.NoRoom = tt
 can-end-unwritten clerk.NoReading = tt
 
 -- the text of a summary of the file's commands passes a test

@@ -20,11 +20,11 @@ use Rattle.herdbook.specs.declared.request_fault.RequestFault.TheVariants.{Run, 
 -- the fault of clerks for one of opening an office
 abbrev pub fault_of_opening : OpenFault → ClerkFault
 fault_of_opening opening.Memory = clerk.Memory
-fault_of_opening opening.NoPlace = clerk.NoPlace
+fault_of_opening opening.NoPlace = clerk.NoRoom
 
 -- the same for one of filing
 abbrev pub fault_of_filing : FileFault → ClerkFault
-fault_of_filing filing.JournalFull = clerk.NoPlace
+fault_of_filing filing.JournalFull = clerk.NoRoom
 fault_of_filing filing.Memory = clerk.Memory
 fault_of_filing filing.NoReading = clerk.NoReading
 
@@ -37,14 +37,14 @@ fault_of_freezing freezing.NoReading = clerk.NoReading
 abbrev pub told_of : ClerkFault → RequestFault
 told_of clerk.NoThread = Run NoThread
 told_of clerk.Memory = Run Memory
-told_of clerk.NoPlace = NoPlace
+told_of clerk.NoRoom = NoPlace
 told_of clerk.NoReading = NoPlace
 
 -- the faults that clerks can end by once the commands are filed, before the summary is written
 abbrev pub CanEndClosing : ClerkFault → Type 0
 CanEndClosing clerk.NoThread = ⊥
 CanEndClosing clerk.Memory = ⊤
-CanEndClosing clerk.NoPlace = ⊥
+CanEndClosing clerk.NoRoom = ⊥
 CanEndClosing clerk.NoReading = ⊤
 
 -- the limits of an office for so many commands: a step for each, and one at least

@@ -17,7 +17,7 @@ pub enum ClerkFault {
     /// A growth of memory was refused.
     Memory,
     /// An office lacks a seat for a reader or room for a step.
-    NoPlace,
+    NoRoom,
     /// An office gives no reading, or isn't closed: a history that was handed in isn't a beginning of its journal, or
     /// two desks have one number.
     NoReading,
@@ -44,7 +44,7 @@ impl From<ClerkFault> for RequestFault {
         match fault {
             ClerkFault::NoThread => RequestFault::Run(RunFault::NoThread),
             ClerkFault::Memory => RequestFault::Run(RunFault::Memory),
-            ClerkFault::NoPlace | ClerkFault::NoReading => RequestFault::NoPlace,
+            ClerkFault::NoRoom | ClerkFault::NoReading => RequestFault::NoPlace,
         }
     }
 }
@@ -71,7 +71,7 @@ impl From<OpenFault> for ClerkFault {
     fn from(fault: OpenFault) -> ClerkFault {
         match fault {
             OpenFault::Memory => ClerkFault::Memory,
-            OpenFault::NoPlace => ClerkFault::NoPlace,
+            OpenFault::NoPlace => ClerkFault::NoRoom,
         }
     }
 }
@@ -82,7 +82,7 @@ impl From<FileFault> for ClerkFault {
     fn from(fault: FileFault) -> ClerkFault {
         match fault {
             FileFault::Memory => ClerkFault::Memory,
-            FileFault::JournalFull => ClerkFault::NoPlace,
+            FileFault::JournalFull => ClerkFault::NoRoom,
             FileFault::NoReading => ClerkFault::NoReading,
         }
     }
