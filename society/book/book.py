@@ -1,0 +1,200 @@
+"""The folder of a book: the command file, the ids and owners that its numbers stand for, and the report."""
+from __future__ import annotations
+
+import csv
+import difflib
+import pathlib
+import shlex
+from dataclasses import astuple, dataclass, fields
+
+from society.book.commands import Command, Record, read_commands, replay, text_of
+from society.book.files import table, write_all
+from society.herdbook import REFUSALS, Herdbook
+from society.mistake import CALLED, Mistake
+from society.taking.report import Entry
+
+COMMANDS, IDS, OWNERS, REPORT = "commands.csv", "ids.csv", "owners.csv", "report.csv"
+# what the sheet writes of parents otherwise than the book has them, and the options that a later taking uses again
+PARENTS, OPTIONS = "parents.csv", "options.csv"
+NO_OWNER = 99_999_999
+# how the field `exit` of an animal begins that has left on a day that isn't known: then the book has no exit
+NO_DAY = "day unknown"
+PARENT_TITLES, OPTION_TITLES = ["id", "role", "written"], ["option", "word"]
+# what is inferred from nothing, for a pedigree that has neither days nor sexes
+INVENTED = "invented"
+
+
+@dataclass(slots=True)
+class Known:
+    """What an animal's number stands for, and what was inferred of it: a line of `ids.csv`. `row` is `yes` where the
+    animal has a row in the last sheet, `gone` where it had one before, `no` for a parent that never had one, and
+    `dropped` where it isn't in the book any more."""
+
+    number: str
+    id: str
+    name: str = ""
+    row: str = "yes"
+    birth: str = ""
+    exit: str = ""
+    sex: str = ""
+
+    def had_row(self) -> bool:
+        return self.row in ("yes", "gone")
+
+    def left_unknown_day(self) -> bool:
+        """Has it left on a day that the sheet doesn't say?"""
+        return self.exit.startswith(NO_DAY)
+
+    def birth_mark(self) -> str:
+        return mark(self.birth)
+
+    def exit_mark(self) -> str:
+        return mark(self.exit)
+
+    def sex_mark(self) -> str:
+        return mark(self.sex)
+
+
+def mark(inferred_from: str) -> str:
+    """What stands behind a day or a sex that the sheet doesn't give."""
+    return {"": "", INVENTED: " (invented)"}.get(inferred_from, " (inferred)")
+
+
+class Book:
+    """A book as its folder has it."""
+
+    def __init__(self, folder: pathlib.Path) -> None:
+        self.folder = folder
+        self.commands: list[Command] = []
+        self.records: dict[str, Record] = {}
+        self.known: dict[str, Known] = {}
+        self.dropped: dict[str, Known] = {}
+        self.owners: dict[str, int] = {}
+        self.names_of_herds: dict[int, str] = {}
+        # by an animal's id and `sire` or `dam`: the text of a parent that was left out, or is written by its name
+        self.written: dict[tuple[str, str], str] = {}
+        self.options: list[tuple[str, str]] = []
+        # what is told behind an answer
+        self.notes: list[str] = []
+
+    @property
+    def path(self) -> pathlib.Path:
+        return self.folder / COMMANDS
+
+    def load(self, program: Herdbook) -> None:
+        """Reads the folder, where there is a book in it."""
+        if not self.path.exists():
+            return
+        self.commands = read_commands(self.path)
+        refused = program.file(self.commands)
+        if refused:
+            place, refusal = next(iter(refused.items()))
+            raise Mistake(
+                f"{self.path}: command {place + 1} is refused: {REFUSALS[refusal]} (refusal {refusal}). "
+                "Somebody has changed this file: restore it, or take the sheet into another folder"
+            )
+        self.records = replay(self.commands)
+        for row in self.read_table(IDS, [field.name for field in fields(Known)]):
+            known = Known(*row)
+            if known.number in self.records:
+                self.known[known.id] = known
+            elif known.row == "dropped":
+                self.dropped[known.id] = known
+        named = {known.number for known in self.known.values()}
+        self.known |= {number: Known(number, number) for number in self.records if number not in named}
+        owners = self.read_table(OWNERS, ["herd", "owner"])
+        if not all(herd.isdecimal() for herd, _ in owners):
+            raise changed(self.folder / OWNERS)
+        self.owners = {owner: int(herd) for herd, owner in owners}
+        self.written = {(id, role): text for id, role, text in self.read_table(PARENTS, PARENT_TITLES, needed=False)}
+        self.options = [(option, word) for option, word in self.read_table(OPTIONS, OPTION_TITLES, needed=False)]
+
+    def read_table(self, name: str, titles: list[str], needed: bool = True) -> list[list[str]]:
+        path = self.folder / name
+        if not needed and not path.exists():
+            return []
+        try:
+            with open(path, newline="", encoding="utf-8-sig") as file:
+                found, *rows = csv.reader(file)
+        except (OSError, ValueError):
+            found = []
+        if found != titles or any(len(row) != len(titles) for row in rows):
+            raise changed(path)
+        return rows
+
+    def save(self, entries: list[Entry], semicolons: bool) -> None:
+        """Writes all files beside the old ones first, and then puts each in its place, the command file last."""
+        all_known = sorted((*self.known.values(), *self.dropped.values()), key=lambda known: known.number[7:])
+        ids = [astuple(known) for known in all_known]
+        owners = [(herd, owner) for owner, herd in self.owners.items()]
+        report = [(entry.line or "", entry.id, entry.what, entry.why) for entry in entries]
+        texts = {
+            IDS: table([field.name for field in fields(Known)], ids),
+            OWNERS: table(["herd", "owner"], owners),
+            PARENTS: table(PARENT_TITLES, [(*of, text) for of, text in self.written.items()]),
+            OPTIONS: table(OPTION_TITLES, self.options),
+            REPORT: table(["line", "id", "what", "why"], report, semicolons),
+            COMMANDS: text_of(self.commands),
+        }
+        write_all(self.folder, texts)
+
+    def owner_of(self, herd: int) -> str:
+        """The owner's name; a herd that has none stands for itself."""
+        if herd == NO_OWNER:
+            return ""
+        if len(self.names_of_herds) != len(self.owners):
+            self.names_of_herds = {number: owner for owner, number in self.owners.items()}
+        return self.names_of_herds.get(herd, str(herd))
+
+    def has_left(self, known: Known) -> bool:
+        return self.records[known.number].left is not None or known.left_unknown_day()
+
+    def without_row(self) -> list[Known]:
+        """The added parents, and those that are gone."""
+        return [known for known in self.known.values() if known.row != "yes"]
+
+    def by_number(self) -> dict[str, Known]:
+        return {known.number: known for known in self.known.values()}
+
+    def find(self, word: str) -> Known:
+        """The animal of an id, a number or a name; a mistake where there is none, or several of a name."""
+        word = " ".join(word.split())
+        if word in self.known:
+            others = sorted(
+                one.id for one in self.known.values() if one.name.casefold() == word.casefold() and one.id != word
+            )
+            if others:
+                self.notes.append(
+                    f"'{word}' is taken for the animal with this id; others have this name: {', '.join(others[:9])}"
+                )
+            return self.known[word]
+        named = [known for known in self.known.values() if word in (known.number, known.name)]
+        if not named:
+            folded = word.casefold()
+            named = [known for known in self.known.values() if folded in (known.id.casefold(), known.name.casefold())]
+        if len(named) == 1:
+            return named[0]
+        if named:
+            ids = ", ".join(sorted(one.id for one in named)[:9])
+            raise Mistake(f"{len(named)} animals have the name '{word}': name one by its id: {ids}")
+        names = [*self.known, *(known.name for known in self.known.values() if known.name)]
+        if any(name.startswith(f"{word} ") for name in names):
+            raise Mistake(f"the book has no animal '{word}': put an id or a name with blanks between quotation marks")
+        close = difflib.get_close_matches(word, names, 3, 0.75) if len(names) < 20_000 else []
+        hint = f": is {' or '.join(close)} meant?" if close else f": {self.folder / IDS} has the ids"
+        raise Mistake(f"the book has no animal '{word}'{hint}")
+
+
+def open_book(folder: pathlib.Path, program: Herdbook) -> Book:
+    """The book of a folder, which has to be there."""
+    book = Book(folder)
+    if not book.path.exists():
+        how = f"{CALLED} take SHEET --book {shlex.quote(str(folder))}"
+        there = "" if folder.is_absolute() else ", or go to the folder where you took one, by cd FOLDER"
+        raise Mistake(f"there is no book in the folder {folder}: take a sheet first, as {how}{there}")
+    book.load(program)
+    return book
+
+
+def changed(path: pathlib.Path) -> Mistake:
+    return Mistake(f"{path} is missing or was changed: restore it, or take the sheet into another folder")

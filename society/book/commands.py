@@ -1,0 +1,104 @@
+"""The command file: its records, and what the book has of each animal after them."""
+from __future__ import annotations
+
+import csv
+import datetime
+import pathlib
+from dataclasses import dataclass, field
+from typing import Iterable, NamedTuple
+
+from society.mistake import Mistake, counted
+
+COLUMNS = ["kind", "animal", "day", "sire", "dam", "from", "to", "embryo"]
+
+
+class Command(NamedTuple):
+    """A record. Its parents are numbers, and empty where they are unknown."""
+
+    kind: str
+    animal: str
+    day: str = ""
+    sire: str = ""
+    dam: str = ""
+    giver: str = ""
+    taker: str = ""
+    embryo: str = ""
+
+
+def birth(number: str, day: datetime.date, sire: str, dam: str, herd: int, embryo: bool) -> Command:
+    return Command("birth", number, day.isoformat(), sire or "0", dam or "0", "", str(herd), "1" if embryo else "")
+
+
+def parents(number: str, sire: str, dam: str) -> Command:
+    return Command("parents", number, "", sire or "0", dam or "0")
+
+
+def transfer(number: str, day: datetime.date, giver: int, taker: int) -> Command:
+    return Command("transfer", number, day.isoformat(), giver=str(giver), taker=str(taker))
+
+
+def leave(number: str, day: datetime.date) -> Command:
+    return Command("exit", number, day.isoformat())
+
+
+@dataclass(slots=True)
+class Record:
+    """What the book has of an animal."""
+
+    number: str
+    born: datetime.date
+    sire: str
+    dam: str
+    embryo: bool
+    first_herd: int
+    herd: int
+    since: datetime.date
+    left: datetime.date | None = None
+    transfers: list[Command] = field(default_factory=list)
+
+
+def known(parent: str) -> str:
+    return "" if parent == "0" else parent
+
+
+def replay(commands: Iterable[Command]) -> dict[str, Record]:
+    """The records after commands of which none is refused."""
+    records: dict[str, Record] = {}
+    for command in commands:
+        if command.kind == "birth":
+            day = datetime.date.fromisoformat(command.day)
+            herd = int(command.taker)
+            sire, dam = known(command.sire), known(command.dam)
+            records[command.animal] = Record(command.animal, day, sire, dam, command.embryo == "1", herd, herd, day)
+            continue
+        record = records[command.animal]
+        if command.kind == "parents":
+            record.sire, record.dam = known(command.sire), known(command.dam)
+        elif command.kind == "transfer":
+            record.herd, record.since = int(command.taker), datetime.date.fromisoformat(command.day)
+            record.transfers.append(command)
+        else:
+            record.left = datetime.date.fromisoformat(command.day)
+    return records
+
+
+def text_of(commands: Iterable[Command]) -> bytes:
+    """The command file."""
+    return "".join(",".join(fields) + "\n" for fields in (COLUMNS, *commands)).encode()
+
+
+def read_commands(path: pathlib.Path) -> list[Command]:
+    with open(path, newline="", encoding="utf-8-sig", errors="replace") as file:
+        reader = csv.reader(file)
+        titles: list[str] = next(reader, [])
+        if titles not in (COLUMNS, COLUMNS[:-1]):
+            raise Mistake(f"{path}: line 1 isn't the header of a command file: take the sheet into another folder")
+        commands = []
+        for fields in reader:
+            if not fields:
+                continue
+            if len(fields) != len(titles):
+                cells = f"{path}: line {reader.line_num} has {counted(len(fields), 'cell')}, not {len(titles)}"
+                raise Mistake(f"{cells}: mend it, or restore the file")
+            commands.append(Command(*fields))
+    return commands

@@ -1,0 +1,114 @@
+"""Runs `herdbook`, from which every refusal and coefficient comes."""
+from __future__ import annotations
+
+import os
+import pathlib
+import shlex
+import subprocess
+import sys
+from typing import IO, Iterator
+
+from society.book.commands import Command, text_of
+from society.mistake import Mistake, counted
+
+TOP = pathlib.Path(__file__).resolve().parent.parent
+# how it is said where the built program is
+SAY = "say where it is, as export HERDBOOK=/home/me/herdbook"
+
+REFUSALS = {
+    1: "the number is in the book already",
+    2: "the book is full: it holds at most 60,000 animals",
+    3: "its sire isn't in the book",
+    4: "its dam isn't in the book",
+    5: "its sire isn't male",
+    6: "its dam isn't female",
+    7: "its sire isn't at least a day older",
+    8: "its dam isn't at least a day older",
+    9: "its dam left on a day before the birth",
+    10: "a path of parents would be longer than 60 steps",
+    11: "it isn't in the book",
+    12: "it has left already",
+    13: "the giver isn't its owner",
+    14: "the day is before its birth, or before its owner got it",
+    15: "giver and taker are the same owner",
+    16: "it has offspring born after the day",
+}
+MATING_FAULTS = {
+    1: "the sire isn't in the book",
+    2: "the dam isn't in the book",
+    3: "the sire isn't male",
+    4: "the dam isn't female",
+    5: "offspring would have a path of parents longer than 60 steps",
+}
+
+
+class Herdbook:
+    """The program: that of the variable HERDBOOK, else the script `herdbook` beside this folder."""
+
+    def __init__(self) -> None:
+        named = os.environ.get("HERDBOOK")
+        self.path = pathlib.Path(named).absolute() if named else TOP / "herdbook"
+        if not self.path.exists():
+            raise Mistake(f"{self.path}, the program of the herd book, isn't there: {SAY}")
+        if self.path.is_dir():
+            raise Mistake(f"{self.path} is a folder, not the program of the herd book: {SAY}")
+        if not named and (TOP / "crates").exists() and not (TOP / "crates/herdbook/out/herdbook").exists():
+            print(
+                "society: the program herdbook is built first, which takes 15 to 30 minutes",
+                file=sys.stderr,
+                flush=True,
+            )
+            self.version(tell=True)
+
+    def version(self, tell: bool = False) -> str:
+        done = self.start(["--version"], subprocess.DEVNULL, None if tell else subprocess.PIPE)
+        text = done.communicate()[0]
+        if done.returncode and tell:
+            raise Mistake(
+                "the program herdbook isn't built, for the reason told above: mend that, or if you have it built, "
+                f"{SAY}"
+            )
+        if done.returncode:
+            raise Mistake(f"{self.path} --version ended with status {done.returncode}: is it the program herdbook?")
+        return text.decode(errors="replace").strip()
+
+    def start(self, words: list[str], given: int | IO[bytes], errors: int | None) -> subprocess.Popen[bytes]:
+        try:
+            return subprocess.Popen([str(self.path), *words], stdin=given, stdout=subprocess.PIPE, stderr=errors)
+        except OSError as error:
+            allow = f"allow it, as chmod u+x {shlex.quote(str(self.path))}"
+            hint = allow if isinstance(error, PermissionError) else SAY
+            raise Mistake(f"{self.path} can't be run ({error.strerror or error}): {hint}") from None
+
+    def run(self, words: list[str], book: bytes) -> str:
+        """What it writes of a command file."""
+        running = self.start(words, subprocess.PIPE, subprocess.PIPE)
+        out, err = running.communicate(book)
+        self.ended(running.returncode, err, words)
+        return out.decode()
+
+    def lines(self, words: list[str], path: pathlib.Path) -> Iterator[str]:
+        """Line by line what it writes of a command file, for long lists."""
+        with open(path, "rb") as book:
+            running = self.start(words, book, subprocess.PIPE)
+            for line in running.stdout or ():
+                yield line.decode().rstrip("\n")
+            err = running.stderr.read() if running.stderr else b""
+            self.ended(running.wait(), err, words)
+
+    def ended(self, status: int, err: bytes, words: list[str]) -> None:
+        if status:
+            told = err.decode(errors="replace").strip().removeprefix("herdbook: ") or f"it ended with status {status}"
+            hint = ". Somebody has changed the command file: restore it" if told.startswith("record ") else ""
+            raise Mistake(f"the program `herdbook {words[0]}` can't do it: {told}{hint}")
+
+    def file(self, commands: list[Command]) -> dict[int, int]:
+        """The refusals of commands: for each refused one its place, from 0 on, and the refusal's number."""
+        replies = self.run(["file"], text_of(commands)).splitlines()
+        if len(replies) != len(commands):
+            raise Mistake(
+                f"the program answered {len(replies)} of {counted(len(commands), 'command')}: is {self.path} the right "
+                "one?"
+            )
+        refused = (line.split(",") for line in replies if line.endswith(",accepted") is False)
+        return {int(serial) - 1: int(refusal) for serial, _, refusal in refused}

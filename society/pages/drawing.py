@@ -1,0 +1,55 @@
+"""What pages and pictures share: escaping, colours, and the facts that they show of an animal."""
+from __future__ import annotations
+
+import html
+
+from society.book.book import Book, Known
+from society.pages.languages import Language
+
+FONT = "'Helvetica Neue', Arial, 'Liberation Sans', 'DejaVu Sans', sans-serif"
+INK, GREY, LINE, PAPER = "#1d2733", "#66717e", "#98a2ad", "#ffffff"
+SIRE, DAM = "#e8f0f8", "#fbeef0"
+INBRED, INBRED_INK = "#fff3cf", "#b4560c"
+
+
+def escape(text: object) -> str:
+    """The text for a page: characters that no page may have are left out."""
+    kept = "".join(
+        one for one in str(text) if one >= " " and not 0xD800 <= ord(one) < 0xE000 and one not in "\ufffe\uffff"
+    )
+    return html.escape(kept, quote=True)
+
+
+def text_at(
+    x: float, y: float, what: str, colour: str, size: float, anchor: str = "start", weight: str = "normal"
+) -> str:
+    """A line of text in a picture, nothing where there is no text."""
+    if not what:
+        return ""
+    look = f'fill="{colour}" font-size="{size:.3g}" font-weight="{weight}" text-anchor="{anchor}"'
+    return f'<text x="{x:.1f}" y="{y:.1f}" {look}>{escape(what)}</text>'
+
+
+def svg(width: int, height: int, parts: list[str]) -> str:
+    """A picture, which fits on a page where it is printed."""
+    return (
+        f'<svg xmlns="http://www.w3.org/2000/svg" viewBox="0 0 {width} {height}" width="{width}" height="{height}" '
+        f'font-family="{escape(FONT)}">\n'
+        f"<style>@page {{ size: A4 {'landscape' if width > height else 'portrait'}; margin: 10mm; }} "
+        "@media print { svg { width: 100%; height: 100%; } }</style>\n"
+        f'<rect width="{width}" height="{height}" fill="{PAPER}"/>\n' + "\n".join(parts) + "\n</svg>\n"
+    )
+
+
+def shortened(text: str, most: int) -> str:
+    return text if len(text) <= most else text[: most - 1] + "…"
+
+
+def year_of(book: Book, known: Known, language: Language) -> str:
+    """The birth year, with a mark where the day was inferred."""
+    return language.marked(str(book.records[known.number].born.year), known.birth_mark())
+
+
+def file_name(kind: str, id: str, suffix: str) -> str:
+    """A file name for an animal's page."""
+    return f"{kind}-{''.join(one if one.isalnum() or one in '._-' else '-' for one in id)}{suffix}"

@@ -1,0 +1,157 @@
+"""Animals that have no row: those that the book has besides, parents that are written by their names, and founders."""
+from __future__ import annotations
+
+import collections
+import shlex
+
+from society.reading.rows import ROLES, Animal
+from society.book.book import Book
+from society.reading.days import ANY_DAY, Span
+from society.taking.report import ADDED, GONE, INFERRED, Report
+
+# of so many links a parent without a row that is a sire and a dam is told
+MANY = 3
+
+
+def animals_of_book(book: Book, animals: dict[str, Animal]) -> dict[str, Animal]:
+    """The animals of the book that have no row, each as the book has it."""
+    ids = {known.number: id for id, known in book.known.items()}
+    gone = {}
+    for id, known in book.known.items():
+        if id in animals:
+            continue
+        record = book.records[known.number]
+        animal = Animal(id, 0, known.name, "" if known.sex else known.number[6])
+        animal.birth = ANY_DAY if known.birth else Span(record.born, record.born)
+        animal.sire, animal.dam = ids.get(record.sire, ""), ids.get(record.dam, "")
+        animal.owner, animal.embryo = book.owner_of(record.herd), record.embryo
+        animal.left, animal.left_inferred = record.left, known.exit
+        gone[id] = animal
+    return gone
+
+
+def add_gone(animals: dict[str, Animal], gone: dict[str, Animal], book: Book, drop: bool, report: Report) -> None:
+    """Adds those of the book, or drops them but for the ancestors of an animal that has a row."""
+    kept = ancestors(animals, gone) if drop else gone.keys()
+    parents = {parent for animal in (*animals.values(), *gone.values()) for _, parent in animal.parents()}
+    for id, animal in gone.items():
+        if id in kept:
+            animals[id] = animal
+        had_row = book.known[id].had_row()
+        why = "it has no row any more" if had_row else "no animal has it as a parent any more"
+        if id not in kept:
+            report.tell(GONE, 0, id, f"{why}: it is dropped from the book")
+        elif had_row or id not in parents:
+            report.tell(GONE, 0, id, f"{why}, and stays in the book as it is")
+
+
+def ancestors(animals: dict[str, Animal], gone: dict[str, Animal]) -> set[str]:
+    """Which of those without a row are ancestors of animals that have one."""
+    found: set[str] = set()
+    new = list(animals.values())
+    for animal in new:
+        for _, parent in animal.parents():
+            if parent in gone and parent not in found:
+                found.add(parent)
+                new.append(gone[parent])
+    return found
+
+# ids with less letters and digits are often alike
+SHORT = 5
+
+
+class Names:
+    """Finds parents by their names, and tells which animals may be meant by a text that is no id."""
+
+    def __init__(self, animals: dict[str, Animal], report: Report) -> None:
+        self.animals, self.report = animals, report
+        self.named: collections.defaultdict[str, list[Animal]] = collections.defaultdict(list)
+        self.alike = {folded(animal.name): id for id, animal in animals.items() if animal.name}
+        self.alike |= {folded(id): id for id in animals}
+        for animal in animals.values():
+            if animal.name:
+                self.named[animal.name.casefold()].append(animal)
+
+    def find_parents(self, rows: dict[str, Animal], book: Book) -> None:
+        """A parent that is no row's id, but the name of one animal alone, is taken for that one where it can be it.
+        What is the parent in the book stays it, whatever other animals have its name."""
+        with_row = rows.keys() | {id for id, known in book.known.items() if known.had_row()}
+        ids = {known.number: id for id, known in book.known.items()}
+        links = [(calf, role, text) for calf in rows.values() for role, text in calf.parents() if text not in with_row]
+        links = [(calf, role, text) for calf, role, text in links if text.casefold() in self.named]
+        others = {(role, text.casefold()) for calf, role, text in links if not self.possible(calf, role, text)}
+        for calf, role, text in links:
+            known = book.known.get(calf.id)
+            in_book = ids.get(getattr(book.records[known.number], role)) if known else None
+            possible = self.possible(calf, role, text)
+            meant = [one for one in possible if one.id == in_book]
+            # where it can't be the parent of one calf there is another animal of this name, which may be that of all
+            if not meant and (role, text.casefold()) not in others and len(self.others(calf, text)) == 1:
+                meant = possible
+            if meant:
+                setattr(calf, role, meant[0].id)
+                why = f"its {role} '{text}' is {meant[0].id} by its name: if another is meant, write the id of that one"
+                self.report.tell(INFERRED, calf.line, calf.id, why)
+
+    def possible(self, calf: Animal, role: str, name: str) -> list[Animal]:
+        return [one for one in self.others(calf, name) if can_be(one, role, calf)]
+
+    def others(self, calf: Animal, name: str) -> list[Animal]:
+        """The animals of a name, but for the calf itself."""
+        return [one for one in self.named.get(name.casefold(), ()) if one is not calf]
+
+    def add_parents(self) -> None:
+        """A founder for each parent without a row."""
+        calves = collections.Counter(parent for animal in self.animals.values() for _, parent in animal.parents())
+        self.advise_unknown()
+        for animal in list(self.animals.values()):
+            for role, parent in animal.parents():
+                if parent not in self.animals:
+                    more = f" and of {calves[parent] - 1} more" if calves[parent] > 1 else ""
+                    why = (
+                        f"the {role} of {animal.id}{more} has no row: added without parents{self.hint(animal, parent)}"
+                    )
+                    self.report.tell(ADDED, animal.line, parent, why)
+                    self.animals[parent] = Animal(parent)
+                one = self.animals[parent]
+                one.named_in = one.named_in or (0 if one.line else animal.line)
+
+    def advise_unknown(self) -> None:
+        """A parent without a row that is a sire and a dam of many may be a word for an unknown one."""
+        links = collections.Counter(
+            (parent, role) for animal in self.animals.values() for role, parent in animal.parents()
+        )
+        for (parent, role), dams in links.items():
+            sires = links.get((parent, "sire"), 0)
+            has_row = parent in self.animals and self.animals[parent].line
+            if role == "dam" and sires and sires + dams >= MANY and not has_row and "," not in parent:
+                many = f"{parent} has no row, and is the sire of {sires} and the dam of {dams}"
+                self.report.advice.append(
+                    f"{many}: if it means an unknown parent, take this again with "
+                    f"--unknown={shlex.quote(parent)} --drop-gone"
+                )
+
+    def hint(self, calf: Animal, text: str) -> str:
+        """Which id may be meant by a text that is none."""
+        ids = [one.id for one in self.others(calf, text)]
+        if len(ids) > 1:
+            return f" ({len(ids)} animals have this name, {', '.join(ids[:5])}: write the id of the one that is meant)"
+        alike = ids[0] if ids else self.alike.get(folded(text.removesuffix(".0")) or text) or self.swapped(folded(text))
+        return f" (is {alike} meant?)" if alike and alike != calf.id else ""
+
+    def swapped(self, text: str) -> str:
+        """The animal that is meant where two letters or digits beside each other are swapped, but in short ids."""
+        if len(text) < SHORT:
+            return ""
+        turned = (text[:at] + text[at + 1] + text[at] + text[at + 2 :] for at in range(len(text) - 1))
+        return next((self.alike[one] for one in turned if one != text and one in self.alike), "")
+
+
+def can_be(parent: Animal, role: str, calf: Animal) -> bool:
+    """Do its sex and its birth leave open that it is a calf's parent?"""
+    return parent.sex in ("", ROLES[role]) and parent.birth.first < calf.birth.last
+
+
+def folded(id: str) -> str:
+    """An id without blanks, signs and the size of letters, by which two that are meant alike are found."""
+    return "".join(one for one in id.casefold() if one.isalnum())

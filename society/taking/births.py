@@ -1,0 +1,174 @@
+"""Days for animals without one: cycles are cut first, then each gets a day between its parents' and its calves'."""
+from __future__ import annotations
+
+import datetime
+
+from society.reading.rows import Animal
+from society.book.book import INVENTED
+from society.reading.days import ANY_DAY, FIRST_DAY, Span
+from society.taking.report import INFERRED, PARENT, Report
+
+# days between a parent's birth and a calf's, where only one of the two is known
+GENERATION = 730
+
+
+def in_order(part: dict[str, Animal]) -> list[str]:
+    """The ids of a part of the animals, parents before their offspring; those in or below a cycle of it are absent."""
+    calves = calves_of(part)
+    waiting = {id: sum(parent in part for _, parent in animal.parents()) for id, animal in part.items()}
+    order = [id for id, count in waiting.items() if count == 0]
+    for id in order:
+        for calf in calves.get(id, ()):
+            waiting[calf] -= 1
+            if waiting[calf] == 0:
+                order.append(calf)
+    return order
+
+
+def calves_of(animals: dict[str, Animal]) -> dict[str, list[str]]:
+    """The calves of each parent; twice where it is both parents."""
+    calves: dict[str, list[str]] = {}
+    for id, animal in animals.items():
+        for _, parent in animal.parents():
+            calves.setdefault(parent, []).append(id)
+    return calves
+
+
+def cut_cycles(animals: dict[str, Animal], report: Report) -> None:
+    """Leaves out one parent of each animal that would be its own ancestor: of a cycle the link whose days can't be, or
+    else that of the latest row."""
+    left = animals.keys() - in_order(animals)
+    while left:
+        cycle = find_cycle(animals, left)
+        calf, role, parent = faulty_link(animals, cycle)
+        path = " > ".join([calf, *ancestors_round(cycle, calf)])
+        setattr(animals[calf], role, "")
+        why = f"{calf} would be its own ancestor ({path})"
+        report.leave_out(PARENT, animals[calf].line, calf, f"its {role} {parent}", why)
+        left -= set(in_order({id: animals[id] for id in left}))
+
+
+Link = tuple[str, str, str]
+
+
+def find_cycle(animals: dict[str, Animal], left: set[str]) -> list[Link]:
+    """A cycle of links (calf, role, parent). Each of those left, which no order reached, has a parent among them."""
+    links: list[Link] = []
+    at: dict[str, int] = {}
+    id = min(left, key=lambda one: (animals[one].line, one))
+    while id not in at:
+        at[id] = len(links)
+        role, parent = next((role, parent) for role, parent in animals[id].parents() if parent in left)
+        links.append((id, role, parent))
+        id = parent
+    return links[at[id] :]
+
+
+def faulty_link(animals: dict[str, Animal], cycle: list[Link]) -> Link:
+    def is_younger(link: Link) -> bool:
+        calf, parent = animals[link[0]], animals[link[2]]
+        return parent.birth.first >= calf.birth.last
+
+    candidates = [link for link in cycle if is_younger(link)] or cycle
+    return max(candidates, key=lambda link: animals[link[0]].line)
+
+
+def ancestors_round(cycle: list[Link], calf: str) -> list[str]:
+    """The parents along a cycle, from a calf back to it."""
+    begin = next(at for at, link in enumerate(cycle) if link[0] == calf)
+    return [parent for _, _, parent in cycle[begin:] + cycle[:begin]]
+
+
+class Days:
+    """Infers the days that the sheet doesn't give. Days are counted here, as `date.toordinal` counts them."""
+
+    def __init__(self, animals: dict[str, Animal], kept: dict[str, tuple[int, str]]) -> None:
+        self.animals = animals
+        # the day that was inferred for an animal of the book, and from what
+        self.kept = kept
+        self.order = in_order(animals)
+        self.calves = calves_of(animals)
+        self.low: dict[str, int] = {}
+        self.high: dict[str, int] = {}
+        # a likely day, and from what
+        self.likely: dict[str, tuple[int, str]] = {}
+
+    def infer(self, report: Report) -> None:
+        """Sets `born` of all animals, which have no cycle, and tells each day that was inferred."""
+        for id in self.order:
+            self.set_low(id)
+        for id in reversed(self.order):
+            self.set_high(id)
+        for id in self.order:
+            animal = self.animals[id]
+            if animal.has_day():
+                animal.born = animal.birth.first
+            else:
+                animal.born, animal.birth_inferred = self.day_for(animal)
+                named = f" (line {animal.named_in} names it)" if animal.named_in else ""
+                report.tell(INFERRED, animal.line, id, f"birth day {animal.born}, {self.reason_of(animal)}{named}")
+
+    def stays(self, animal: Animal, day: int) -> bool:
+        """Is it the day that was inferred for the book, where the cell has neither month nor year?"""
+        return animal.birth == ANY_DAY and animal.id in self.kept and self.kept[animal.id][0] == day
+
+    def reason_of(self, animal: Animal) -> str:
+        """The reason in a sentence: that of a day that stays may not hold any more."""
+        why = animal.birth_inferred
+        if not self.stays(animal, animal.born.toordinal()):
+            return why
+        return f"as in the book, where it was {why if why == INVENTED else f'inferred: {why}'}"
+
+    def set_low(self, id: str) -> None:
+        animal = self.animals[id]
+        first = animal.birth.first.toordinal()
+        after = [self.low[parent] + 1 for _, parent in animal.parents()]
+        self.low[id] = first if animal.has_day() else max([first, *after])
+
+    def set_high(self, id: str) -> None:
+        """The last day that calves, its own exit and its dam's leave open, and a likely one."""
+        animal, calves = self.animals[id], self.calves.get(id, ())
+        if animal.has_day():
+            self.high[id] = animal.birth.first.toordinal()
+            self.likely[id] = self.high[id], ""
+            return
+        last = animal.birth.last.toordinal()
+        dam = self.animals.get(animal.dam) if not animal.embryo else None
+        exits = [animal.left, dam.left if dam else None]
+        before = [self.high[calf] - 1 for calf in calves] + [left.toordinal() for left in exits if left]
+        self.high[id] = min([last, *before])
+        by_calves = [self.likely[calf][0] - GENERATION for calf in calves if calf in self.likely]
+        dated = [parent for _, parent in animal.parents() if self.animals[parent].birth != ANY_DAY]
+        if animal.birth != ANY_DAY:
+            self.likely[id] = middle(animal.birth), f"from {animal.birth.words()}"
+        elif by_calves:
+            self.likely[id] = min(by_calves), "from its offspring"
+        elif dated:
+            youngest = max(middle(self.animals[parent].birth) for parent in dated)
+            self.likely[id] = youngest + GENERATION, "from its parents"
+
+    def day_for(self, animal: Animal) -> tuple[datetime.date, str]:
+        parents = [self.animals[parent].born.toordinal() for _, parent in animal.parents()]
+        low = max([self.low[animal.id], *(day + 1 for day in parents)])
+        kept, from_what = self.kept.get(animal.id, (0, ""))
+        if animal.id in self.likely:
+            day, why = self.likely[animal.id]
+        elif parents:
+            day, why = max(parents) + GENERATION, "from its parents"
+        else:
+            day = FIRST_DAY.toordinal()
+            why = "the earliest that a book can have, since no parent and no offspring has one"
+        if animal.birth.first.toordinal() <= kept <= animal.birth.last.toordinal():
+            day = kept
+            why = why if parents or animal.id in self.likely else "the nearest to the book's that an exit leaves open"
+        day = min(max(day, low), self.high[animal.id])
+        # where parents and calves leave no day open, that of the cell holds, and the program refuses a parent
+        day = min(max(day, animal.birth.first.toordinal()), animal.birth.last.toordinal())
+        # a day that stays has the reason that it had, whatever is known today
+        if self.stays(animal, day):
+            why = from_what
+        return datetime.date.fromordinal(day), why
+
+
+def middle(span: Span) -> int:
+    return (span.first.toordinal() + span.last.toordinal() + 1) // 2

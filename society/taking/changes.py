@@ -1,0 +1,134 @@
+"""The commands by which a book becomes what a sheet says: those that it lacks are appended, or it is written anew."""
+from __future__ import annotations
+
+import datetime
+
+from society.reading.rows import Animal
+from society.book.book import INVENTED, NO_DAY, NO_OWNER, Known
+from society.book.commands import Command, Record, birth, leave, transfer
+from society.herdbook import REFUSALS, Herdbook
+from society.mistake import Mistake
+from society.taking.report import CHANGED, NEW
+from society.taking.herd import Taking
+
+
+class Filing:
+    """The commands of a taking. `today` is the day on which owners change."""
+
+    def __init__(self, taking: Taking, today: datetime.date) -> None:
+        self.taking, self.book, self.today = taking, taking.book, today
+
+    def filed(self, program: Herdbook) -> tuple[list[Command], bool]:
+        """The book's commands, none of which is refused, and whether they were written anew; else a mistake with each
+        refusal in words."""
+        appended = self.appended()
+        if appended is not None and not program.file(appended):
+            return appended, False
+        commands = self.anew()
+        refused = program.file(commands)
+        if not refused:
+            return commands, True
+        by_number = {animal.number: animal for animal in self.taking.animals.values()}
+        sentences = []
+        for place, refusal in refused.items():
+            kind, number, day = commands[place][:3]
+            on = f" on {day}" if day else ""
+            sentences.append(
+                f"{by_number[number].where()}{kind}{on} is refused: {REFUSALS[refusal]} (refusal {refusal})"
+            )
+        raise Mistake(
+            *sentences, f"nothing is taken (refused: {len(refused)}): mend these rows, and take the sheet again"
+        )
+
+    def appended(self) -> list[Command] | None:
+        """The book's commands and those that it lacks, or none where what stands in it has to be corrected."""
+        if self.book.known.keys() - self.taking.animals.keys():
+            return None
+        births, corrections, transfers, exits = [], [], [], []
+        for animal in self.taking.by_birth():
+            record = self.taking.record(animal.id)
+            if record is None:
+                births.append(self.birth_of(animal, self.herd_of(animal.owner)))
+                exits += [leave(animal.number, animal.left)] if animal.left else []
+                continue
+            if is_corrected(animal, record):
+                return None
+            wanted = self.taking.parents_of(animal)
+            if (wanted.sire, wanted.dam) != (record.sire or "0", record.dam or "0"):
+                corrections.append(wanted)
+            transfers += self.transfer_of(animal, record)
+            if animal.left and not record.left:
+                exits.append(leave(animal.number, animal.left))
+        return self.book.commands + births + corrections + transfers + exits
+
+    def anew(self) -> list[Command]:
+        """The whole book: each birth with the parents of today, then the transfers, and then the exits."""
+        births, transfers, exits = [], [], []
+        for animal in self.taking.by_birth():
+            record = self.taking.record(animal.id)
+            births.append(self.birth_of(animal, record.first_herd if record else self.herd_of(animal.owner)))
+            if record:
+                transfers += [one._replace(animal=animal.number) for one in record.transfers]
+                transfers += self.transfer_of(animal, record)
+            exits += [leave(animal.number, animal.left)] if animal.left else []
+        return births + transfers + exits
+
+    def herd_of(self, owner: str) -> int:
+        """The owner's herd; a new owner gets the next number."""
+        if not owner:
+            return NO_OWNER
+        owners = self.book.owners
+        return owners.setdefault(owner, len(owners) + 1)
+
+    def birth_of(self, animal: Animal, herd: int) -> Command:
+        sire, dam = (self.taking.number_of(parent) for parent in (animal.sire, animal.dam))
+        return birth(animal.number, animal.born, sire, dam, herd, animal.embryo)
+
+    def transfer_of(self, animal: Animal, record: Record) -> list[Command]:
+        """The transfer to another owner, on the day of the taking, or on that of the animal's exit where it left
+        before."""
+        herd = self.herd_of(animal.owner)
+        if not animal.owner or herd == record.herd:
+            return []
+        day = max(min(self.today, animal.left or self.today), record.since)
+        return [transfer(animal.number, day, record.herd, herd)]
+
+    # -- what is told
+
+    def tell_changes(self) -> None:
+        report = self.taking.report
+        for animal in self.taking.animals.values():
+            record, known = self.taking.record(animal.id), self.book.known.get(animal.id)
+            if record and known:
+                for why in self.changes(animal, record, known):
+                    report.tell(CHANGED, animal.line, animal.id, why)
+            elif self.book.known and animal.line:
+                report.tell(NEW, animal.line, animal.id, f"a new animal, with the number {animal.number}")
+
+    def changes(self, animal: Animal, record: Record, known: Known) -> list[str]:
+        pairs = [
+            ("name", known.name, animal.name),
+            ("birth day", str(record.born), str(animal.born)),
+            ("number", record.number, animal.number),
+            ("sire", self.taking.id_of(record.sire), animal.sire),
+            ("dam", self.taking.id_of(record.dam), animal.dam),
+            ("owner", self.book.owner_of(record.herd), animal.owner),
+            ("exit", exit_words(record.left, known.exit), exit_words(animal.left, animal.left_inferred)),
+            ("stored embryo", "yes" if record.embryo else "", "yes" if animal.embryo else ""),
+        ]
+        if known.birth == animal.birth_inferred == INVENTED:
+            # invented days are invented anew each time
+            del pairs[1]
+        return [
+            f"{what}: {after or 'none'}, before {before or 'none'}" for what, before, after in pairs if before != after
+        ]
+
+
+def exit_words(left: datetime.date | None, inferred: str) -> str:
+    return str(left) if left else NO_DAY if inferred.startswith(NO_DAY) else ""
+
+
+def is_corrected(animal: Animal, record: Record) -> bool:
+    """Is there a change that no command makes?"""
+    left = record.left is not None and record.left != animal.left
+    return left or (record.born, record.number, record.embryo) != (animal.born, animal.number, animal.embryo)

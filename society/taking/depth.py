@@ -1,0 +1,75 @@
+"""Paths of parents that are longer than a book takes: how long, and which parents to set to unknown."""
+from __future__ import annotations
+
+from society.reading.rows import Animal
+from society.taking.births import calves_of, in_order
+from society.mistake import Mistake
+from society.taking.report import MOST_SHOWN
+
+MOST_STEPS = 60
+# so many animals are named of those whose parents are to be set to unknown
+MOST_NAMED = 200
+
+
+class Paths:
+    """The longest paths of animals without a cycle: up through parents, and down through calves."""
+
+    def __init__(self, animals: dict[str, Animal]) -> None:
+        self.animals = animals
+        self.up: dict[str, int] = {}
+        self.down: dict[str, int] = {}
+        order, calves = in_order(animals), calves_of(animals)
+        for id in order:
+            self.up[id] = max((self.up[parent] + 1 for _, parent in animals[id].parents()), default=0)
+        for id in reversed(order):
+            self.down[id] = max((self.down[calf] + 1 for calf in calves.get(id, ())), default=0)
+
+    def longest(self) -> list[str]:
+        """The animals of a longest path, the youngest first."""
+        path = [max(self.up, key=lambda id: self.up[id])]
+        while parents := self.animals[path[-1]].parents():
+            path.append(max((parent for _, parent in parents), key=lambda id: self.up[id]))
+        return path
+
+    def to_cut(self) -> list[str]:
+        """The animals without whose parents no path is too long. Along a path `down` grows from parent to parent, so
+        one that is too long comes to a parent in a higher band of `MOST_STEPS + 1` values; and within a band none
+        is."""
+        band = MOST_STEPS + 1
+        return [
+            id
+            for id, animal in self.animals.items()
+            for _, parent in animal.parents()
+            if self.down[parent] // band > self.down[id] // band and self.up[parent] + 1 + self.down[id] > MOST_STEPS
+        ]
+
+
+def too_deep(animals: dict[str, Animal], refused: list[Animal]) -> Mistake:
+    """What is told where the program refuses parents for their depth."""
+    paths = Paths(animals)
+    path = paths.longest()
+    steps = len(path) - 1
+    cut = list(dict.fromkeys(paths.to_cut()))
+    youngest, oldest = (named(animals, [id]) for id in (path[0], path[-1]))
+    more = steps - MOST_STEPS
+    top = path[-more:][::-1]
+    return Mistake(
+        (
+            f"{refused[0].where()}a path of parents would be longer than {MOST_STEPS} steps, which is the limit "
+            "(refusal 10)"
+        ),
+        (
+            f"the longest path has {steps} steps, {more} more than {MOST_STEPS}, from {youngest} up to {oldest}; "
+            f"its oldest {f'{more} animals are' if more > 1 else 'animal is'} {named(animals, top, MOST_SHOWN)}"
+        ),
+        (
+            f"set the parents of {'these animals' if len(cut) > 1 else 'this animal'} to unknown, and no path is too "
+            f"long: {named(animals, cut, MOST_NAMED)}. To leave out rows of founders doesn't help: they are added "
+            "again as parents"
+        ),
+    )
+
+
+def named(animals: dict[str, Animal], ids: list[str], most: int = 1) -> str:
+    lines = [f"{id} (line {animals[id].line})" if animals[id].line else id for id in ids[:most]]
+    return ", ".join(lines) + (f" and {len(ids) - most} more" if len(ids) > most else "")

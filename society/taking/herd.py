@@ -1,0 +1,185 @@
+"""The animals that are to stand in a book: what the sheet says of them, and what the book has besides."""
+from __future__ import annotations
+
+from dataclasses import replace
+
+from society.taking.absent import Names, add_gone, animals_of_book
+from society.reading.rows import ROLES, Animal
+from society.taking.births import Days, cut_cycles
+from society.book.book import Book, Known
+from society.book.commands import Command, Record, parents
+from society.reading.days import ANY_DAY, Span
+from society.mistake import Mistake
+from society.taking.report import INFERRED, ROW, Report
+
+MOST_ANIMALS = 60_000
+
+
+class Taking:
+    """The animals that are to stand in the book, by id, and the book as it is."""
+
+    def __init__(
+        self, book: Book, animals: dict[str, Animal], given: set[str], report: Report, is_pedigree: bool = False
+    ) -> None:
+        self.book, self.animals, self.given, self.report = book, animals, given, report
+        self.is_pedigree = is_pedigree
+        self.names = book.by_number()
+        # whether a parent is a sire or a dam, by its first offspring
+        self.roles: dict[str, str] = {}
+        # the parents as the sheet writes them, by an animal's id and `sire` or `dam`
+        self.texts: dict[tuple[str, str], str] = {}
+
+    def record(self, id: str) -> Record | None:
+        known = self.book.known.get(id)
+        return self.book.records[known.number] if known else None
+
+    # -- the animals
+
+    def complete(self, drop_gone: bool) -> None:
+        """Adds the animals of the book that have no row, and the parents that have none."""
+        for animal in self.animals.values():
+            self.keep(animal)
+        for animal in self.animals.values():
+            self.texts |= {(animal.id, role): parent for role, parent in animal.parents() if role in self.given}
+        gone = animals_of_book(self.book, self.animals)
+        Names(self.animals | gone, self.report).find_parents(self.animals, self.book)
+        add_gone(self.animals, gone, self.book, drop_gone, self.report)
+        self.leave_out_unread_sexes()
+        Names(self.animals, self.report).add_parents()
+        if len(self.animals) > MOST_ANIMALS:
+            many = f"the sheet and the book have {len(self.animals):,} animals together"
+            raise Mistake(
+                f"{many}, and a book holds at most {MOST_ANIMALS:,}: leave out the oldest, and take the rest with "
+                "--drop-gone"
+            )
+
+    def keep(self, animal: Animal) -> None:
+        """What the sheet has no column for, or no text that can be read, stays as it is in the book."""
+        known, record = self.book.known.get(animal.id), self.record(animal.id)
+        if known is None or record is None:
+            return
+        if "name" not in self.given:
+            animal.name = known.name
+        if "sire" not in self.given:
+            animal.sire = self.id_of(record.sire)
+        if "dam" not in self.given:
+            animal.dam = self.id_of(record.dam)
+        if "exit" not in self.given or ("exit" in animal.unread and record.left):
+            animal.left, animal.left_inferred = record.left, known.exit
+            self.tell_kept(animal, "exit", f"exit on {record.left}")
+        if "embryo" not in self.given or "embryo" in animal.unread:
+            animal.embryo = record.embryo
+        owner = self.book.owner_of(record.herd)
+        if owner and not animal.owner:
+            animal.owner = owner
+            self.tell_kept(animal, "owner", owner)
+        if animal.birth == ANY_DAY and not known.birth:
+            animal.birth = Span(record.born, record.born)
+            self.tell_kept(animal, "birth", f"birth day {record.born}")
+        if not animal.sex and not known.sex:
+            animal.sex = record.number[6]
+            self.tell_kept(animal, "sex", {"M": "male", "F": "female"}[animal.sex])
+
+    def tell_kept(self, animal: Animal, field: str, what: str) -> None:
+        if field in self.given:
+            word = f"{field} {what}" if field == "owner" else what
+            # a word such as `sold` gives no day, nor does a text that can't be read
+            none = "gives no day" if field == "exit" else "can't be read"
+            why = none if field in animal.unread else "gives none"
+            self.report.tell(INFERRED, animal.line, animal.id, f"{word}, as in the book, since its cell {why}")
+
+    def id_of(self, number: str) -> str:
+        return self.names[number].id if number else ""
+
+    def leave_out_unread_sexes(self) -> None:
+        """The row of an animal whose sex can't be read is left out, where neither the book nor any offspring says
+        it."""
+        for animal in self.animals.values():
+            for role, parent in animal.parents():
+                self.roles.setdefault(parent, role)
+        for id, animal in list(self.animals.items()):
+            if "sex" in animal.unread and not self.roles.get(id) and not self.book.known.get(id):
+                why = "its sex can't be read, and no animal has it as a parent"
+                self.report.leave_out(ROW, animal.line, id, "the row", why)
+                del self.animals[id]
+
+    def find_sexes(self) -> None:
+        """An animal without a sex has that of the first parent that it is, or else that of the book; else it is taken
+        for a female."""
+        for id, animal in self.animals.items():
+            if animal.sex:
+                continue
+            role, known = self.roles.get(id), self.book.known.get(id)
+            if role:
+                animal.sex, animal.sex_inferred = ROLES[role], f"since it is a {role}"
+            elif known:
+                animal.sex, animal.sex_inferred = known.number[6], "as in the book"
+            else:
+                animal.sex, animal.sex_inferred = "F", "since nothing else is known"
+            if animal.line:
+                word = {"M": "male", "F": "female"}[animal.sex]
+                more = ", and its cell can't be read" if "sex" in animal.unread else ""
+                self.report.tell(INFERRED, animal.line, id, f"sex {word}, {animal.sex_inferred}{more}")
+
+    def find_days(self) -> None:
+        cut_cycles(self.animals, self.report)
+        inferred = [(id, known) for id, known in self.book.known.items() if known.birth]
+        kept = {id: (self.book.records[known.number].born.toordinal(), known.birth) for id, known in inferred}
+        Days(self.animals, kept).infer(self.report)
+
+    def give_numbers(self, breed: str, country: str) -> None:
+        """An animal that is or was in the book keeps its twelve digits; new ones go on from the greatest, by birth day
+        and id. No number of a dropped animal is given to another."""
+        last = 0
+        for id, known in (self.book.dropped | self.book.known).items():
+            animal = self.animals.get(id)
+            if animal:
+                animal.number = known.number[:6] + animal.sex + known.number[7:]
+            if known.number[7:].isdigit():
+                last = max(last, int(known.number[7:]))
+            breed, country = breed or known.number[:3], country or known.number[3:6]
+        new = [animal for animal in self.animals.values() if not animal.number]
+        for digits, animal in enumerate(sorted(new, key=lambda one: (one.born, one.id)), last + 1):
+            animal.number = f"{breed or 'HOL'}{country or 'GBR'}{animal.sex}{digits:012}"
+
+    def dropped_animals(self) -> dict[str, Known]:
+        before = self.book.dropped | self.book.known
+        return {id: replace(known, row="dropped") for id, known in before.items() if id not in self.animals}
+
+    def written_parents(self) -> dict[tuple[str, str], str]:
+        """The texts of parents that were left out, or are written by their names; those of the book where the sheet
+        doesn't give the parent."""
+        found = {}
+        for (id, role), text in self.book.written.items():
+            animal, record = self.animals.get(id), self.record(id)
+            if animal and record and not (animal.line and role in self.given):
+                if getattr(animal, role) == self.id_of(getattr(record, role)):
+                    found[id, role] = text
+        for (id, role), text in self.texts.items():
+            animal = self.animals.get(id)
+            # a pedigree's parents may be swapped
+            is_swapped = animal and self.is_pedigree and text in (animal.sire, animal.dam)
+            if animal and getattr(animal, role) != text and not is_swapped:
+                found[id, role] = text
+        return found
+
+    def known_animals(self) -> dict[str, Known]:
+        """What `ids.csv` has of each animal afterwards."""
+        kept = {}
+        for id, animal in self.animals.items():
+            before = self.book.known.get(id)
+            row = "yes" if animal.line else "gone" if before and before.had_row() else "no"
+            inferred = animal.birth_inferred, animal.left_inferred, animal.sex_inferred
+            kept[id] = Known(animal.number, id, animal.name, row, *inferred)
+        return kept
+
+    # -- what commands name
+
+    def parents_of(self, animal: Animal) -> Command:
+        return parents(animal.number, self.number_of(animal.sire), self.number_of(animal.dam))
+
+    def number_of(self, id: str) -> str:
+        return self.animals[id].number if id else ""
+
+    def by_birth(self) -> list[Animal]:
+        return sorted(self.animals.values(), key=lambda animal: (animal.born, animal.number))

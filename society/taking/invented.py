@@ -1,0 +1,146 @@
+"""Sexes and birth days for a geneticist's pedigree, `id sire dam`: invented so that nothing is refused for them."""
+from __future__ import annotations
+
+import datetime
+import heapq
+
+from society.reading.rows import ROLES, Animal
+from society.taking.births import calves_of, cut_cycles
+from society.book.book import INVENTED
+from society.reading.days import FIRST_DAY
+from society.taking.report import CHANGED, PARENT, Report
+
+# so many couples that no sexes fit are named
+MOST_COUPLES = 9
+
+
+def invent_sexes(animals: dict[str, Animal], report: Report) -> None:
+    """A sire is a male and a dam a female. Where an animal is both, sexes are sought that make a male and a female of
+    each couple, and the parents of some are swapped, which changes no coefficient. Cycles are cut before: what is told
+    of them are the parents of the file."""
+    for animal in animals.values():
+        if animal.sire and animal.sire == animal.dam:
+            why = f"{animal.sire} is its sire too, and no calf has one parent twice"
+            report.leave_out(PARENT, animal.line, animal.id, f"its dam {animal.dam}", why)
+            animal.dam = ""
+    cut_cycles(animals, report)
+    sexes = Sexes(animals)
+    for animal in animals.values():
+        animal.sex_inferred = INVENTED
+    for animal in animals.values():
+        sexes.place_parents(animal, report)
+
+
+class Sexes:
+    """The sexes of all animals, couple by couple: the mates of a male are females, and theirs are males."""
+
+    def __init__(self, animals: dict[str, Animal]) -> None:
+        self.animals = animals
+        # the first calf of each parent in each role, and the mates of each with their first calf
+        self.calf: dict[str, dict[str, Animal]] = {"sire": {}, "dam": {}}
+        self.mates: dict[str, dict[str, Animal]] = {}
+        for animal in animals.values():
+            for role, parent in animal.parents():
+                self.calf[role].setdefault(parent, animal)
+            if animal.sire and animal.dam:
+                self.mates.setdefault(animal.sire, {}).setdefault(animal.dam, animal)
+                self.mates.setdefault(animal.dam, {}).setdefault(animal.sire, animal)
+        # for each animal the mate by which its sex was found
+        self.found_by: dict[str, str] = {}
+        for id, animal in animals.items():
+            if not animal.sex:
+                self.colour(id)
+        both = self.calf["sire"].keys() & self.calf["dam"].keys()
+        # for each animal one that is both, the nearest by mates, and how far it is
+        self.both: dict[str, tuple[int, str]] = {id: (0, id) for id in animals if id in both}
+        self.spread_both()
+
+    def colour(self, first: str) -> None:
+        """Gives an animal the sex of its role, and all that are joined to it by couples theirs."""
+        self.animals[first].sex = "M" if first in self.calf["sire"] else "F"
+        reached = [first]
+        for one in reached:
+            for mate in self.mates.get(one, ()):
+                if not self.animals[mate].sex:
+                    self.animals[mate].sex = "F" if self.animals[one].sex == "M" else "M"
+                    self.found_by[mate] = one
+                    reached.append(mate)
+
+    def spread_both(self) -> None:
+        reached = list(self.both)
+        for one in reached:
+            steps, both = self.both[one]
+            for mate in self.mates.get(one, ()):
+                if mate not in self.both:
+                    self.both[mate] = steps + 1, both
+                    reached.append(mate)
+
+    def place_parents(self, animal: Animal, report: Report) -> None:
+        """Puts the male parent in the sire's place and the female one in the dam's."""
+        sexes = [self.animals[parent].sex for _, parent in animal.parents()]
+        if len(sexes) == 2 and sexes[0] == sexes[1]:
+            couples = f"no choice of sexes fits all of the couples {self.couples_round(animal)}"
+            report.leave_out(PARENT, animal.line, animal.id, f"its dam {animal.dam}", couples)
+            animal.dam = ""
+        if any(ROLES[role] != self.animals[parent].sex for role, parent in animal.parents()):
+            why = self.why_swapped(animal)
+            animal.sire, animal.dam = animal.dam, animal.sire
+            couple = f"the sire {animal.sire or 'unknown'} and the dam {animal.dam or 'unknown'}"
+            report.tell(CHANGED, animal.line, animal.id, f"taken with {couple}, {why}")
+
+    def why_swapped(self, animal: Animal) -> str:
+        """Which animal is a sire in one line and a dam in another: a parent of this one, or one that couples join to
+        it."""
+        found = [(*self.both[parent], role, parent) for role, parent in animal.parents()]
+        steps, both, role, parent = min(found, key=lambda one: one[0])
+        calves = {one: self.calf[one][both] for one in self.calf}
+        if not steps:
+            calves[role] = animal
+        joined = f", which couples join to {parent}," if steps else ""
+        return f"since {both}{joined} is a sire {place(calves['sire'])} and a dam {place(calves['dam'])}"
+
+    def couples_round(self, animal: Animal) -> str:
+        """The couples that lead from the sire by mates to the dam, and with this animal's back: an odd number of
+        them."""
+        up, down = self.way(animal.sire), self.way(animal.dam)
+        while len(up) > 1 and len(down) > 1 and up[-2] == down[-2]:
+            del up[-1], down[-1]
+        way = up + down[-2::-1]
+        couples = [(one, mate, self.mates[one][mate]) for one, mate in zip(way, way[1:])]
+        couples.append((animal.dam, animal.sire, animal))
+        words = [f"{one} and {mate} ({place(calf).removeprefix('in ')})" for one, mate, calf in couples]
+        more = len(words) - MOST_COUPLES
+        return ", ".join(words) if more <= 0 else f"{', '.join(words[-MOST_COUPLES:])} and {more} more"
+
+    def way(self, id: str) -> list[str]:
+        """From an animal by mates to the first of those that are joined to it."""
+        way = [id]
+        while way[-1] in self.found_by:
+            way.append(self.found_by[way[-1]])
+        return way
+
+
+def place(calf: Animal) -> str:
+    """Where a calf names its parents."""
+    return f"in line {calf.line}" if calf.line else "in the book"
+
+
+def invent_days(animals: dict[str, Animal]) -> None:
+    """A day for each animal, one after the other, in the order of the lines wherever parents allow it."""
+    calves = calves_of(animals)
+    key = {id: (animal.line, 1) for id, animal in animals.items()}
+    for parent, its in calves.items():
+        if not animals[parent].line:
+            key[parent] = (min(animals[calf].line for calf in its), 0)
+    waiting = {id: len(animal.parents()) for id, animal in animals.items()}
+    ready = [(key[id], id) for id, count in waiting.items() if count == 0]
+    heapq.heapify(ready)
+    day = FIRST_DAY
+    while ready:
+        _, id = heapq.heappop(ready)
+        animals[id].born, animals[id].birth_inferred = day, INVENTED
+        day += datetime.timedelta(days=1)
+        for calf in calves.get(id, ()):
+            waiting[calf] -= 1
+            if waiting[calf] == 0:
+                heapq.heappush(ready, (key[calf], calf))
