@@ -1,0 +1,69 @@
+"""The word by which a sheet or a pedigree is taken."""
+from __future__ import annotations
+
+import argparse
+import datetime
+import pathlib
+
+from society.command_line.arguments import day, three_letters
+from society.command_line.parser import Words
+from society.mistake import Mistake
+from society.taking.take import Wishes, take_pedigree, take_sheet
+
+
+def add_words(words: Words) -> None:
+    take = words.add(
+        "take",
+        do_take,
+        "take a spreadsheet into the book",
+        "The columns are known by their usual names in English, German and French.",
+    )
+    take.add_argument(
+        "sheet", nargs="?", type=pathlib.Path, metavar="SHEET",
+        help="the spreadsheet: CSV, or .xlsx where openpyxl is installed",
+    )  # fmt: skip
+    take.add_argument(
+        "--pedigree", type=pathlib.Path, metavar="TRIPLES",
+        help="a text file with `id sire dam` in each line, or with these among its titles, in place of a sheet",
+    )  # fmt: skip
+    take.add_argument(
+        "--columns", action="append", default=[], metavar="FIELD=TITLE,..",
+        help="titles for id, name, sex, birth, sire, dam, owner, exit, embryo",
+    )  # fmt: skip
+    take.add_argument(
+        "--unknown", action="append", default=[], metavar="WORD,..",
+        help="more words for an unknown parent",
+    )  # fmt: skip
+    take.add_argument(
+        "--sexes", action="append", default=[], metavar="WORD=m,..",
+        help="more words for the sexes, as Aue=f,Bk=m",
+    )  # fmt: skip
+    take.add_argument("--breed", type=three_letters, metavar="ABC", help="the numbers' breed [HOL, or as in the book]")
+    take.add_argument(
+        "--country", type=three_letters, metavar="ABC",
+        help="the numbers' country [GBR, or as in the book]",
+    )  # fmt: skip
+    take.add_argument("--day", type=day, default=datetime.date.today(), help="the day on which owners changed [today]")
+    take.add_argument("--strict", action="store_true", help="take nothing where anything would be left out")
+    take.add_argument(
+        "--semicolons", action="store_true", help="write report.csv with semicolons, as some spreadsheets want it"
+    )
+    take.add_argument(
+        "--drop-gone", action="store_true",
+        help="drop animals of the book that have no row any more and aren't ancestors of any that has one",
+    )  # fmt: skip
+
+
+def do_take(asked: argparse.Namespace) -> None:
+    if (asked.sheet is None) == (asked.pedigree is None):
+        raise Mistake("take reads one file: name a sheet, or a pedigree with --pedigree")
+    if asked.pedigree and (asked.columns or asked.sexes):
+        raise Mistake("--columns and --sexes are for a sheet: a pedigree has an id, a sire and a dam in each line")
+    wishes = Wishes(
+        asked.book, asked.columns, asked.unknown, asked.sexes, asked.breed or "", asked.country or "", asked.day,
+        asked.strict, asked.drop_gone, asked.semicolons,
+    )  # fmt: skip
+    if asked.sheet:
+        take_sheet(asked.sheet, wishes)
+    else:
+        take_pedigree(asked.pedigree, wishes)
