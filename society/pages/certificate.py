@@ -3,11 +3,11 @@ from __future__ import annotations
 
 from dataclasses import dataclass
 
-from society.book.book import NO_OWNER, Book, Known
-from society.pages.languages import Language
 from society.answers.listing import Coefficient
-from society.pages.drawing import DAM, FONT, GREY, INBRED, INBRED_INK, INK, LINE, PAPER, SIRE, escape
+from society.book.book import NO_OWNER, Book, Known
 from society.herdbook import Herdbook
+from society.pages.drawing import DAM, FONT, GREY, INBRED, INBRED_INK, INK, LINE, PAPER, SIRE, escape
+from society.pages.languages import Language
 
 # the fourteen ancestors, line by line of the drawn pedigree: each stands in the line where it begins
 LINES = [

@@ -4,9 +4,8 @@ from __future__ import annotations
 import collections
 from dataclasses import dataclass, field
 
-from society.book.book import Book, Known
-from society.pages.languages import Language
 from society.answers.listing import Coefficient
+from society.book.book import Book, Known
 from society.pages.drawing import (
     DAM,
     GREY,
@@ -21,6 +20,7 @@ from society.pages.drawing import (
     text_at,
     year_of,
 )
+from society.pages.languages import Language
 
 BOX_WIDTH, BOX_HEIGHT, COLUMN, ROW, MARGIN = 200, 62, 236, 72, 24
 HEAD, FOOT = 64, 62

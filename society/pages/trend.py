@@ -6,11 +6,11 @@ import math
 from fractions import Fraction
 from typing import Callable, NamedTuple
 
-from society.book.book import Book, Known
-from society.pages.languages import Language
 from society.answers.listing import Coefficient
-from society.pages.drawing import GREY, INBRED_INK, INK, PAPER, escape, svg, text_at
+from society.book.book import Book, Known
 from society.mistake import Mistake
+from society.pages.drawing import GREY, INBRED_INK, INK, PAPER, escape, svg, text_at
+from society.pages.languages import Language
 
 WIDTH, HEIGHT = 1000, 520
 LEFT, RIGHT, TOP, BOTTOM = 70, 70, 84, 92

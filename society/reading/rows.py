@@ -7,12 +7,12 @@ import re
 from dataclasses import dataclass, field
 
 from society.book.book import NO_DAY
+from society.mistake import Mistake
 from society.reading.columns import KNOWN_NO, KNOWN_SEXES, KNOWN_STAYS, KNOWN_YES, plain, sex_word
 from society.reading.days import ANY_DAY, MonthFirst, Span, Unreadable, is_span, read_span, span_within
-from society.mistake import Mistake
-from society.taking.report import CELL, INFERRED, ROW, Report
 from society.reading.sheet import Sheet, squeezed
 from society.reading.unread import Unread, exit_word
+from society.taking.report import CELL, INFERRED, ROW, Report
 
 ROLES = {"sire": "M", "dam": "F"}
 # how a spreadsheet shows a long number that it has cut

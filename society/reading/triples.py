@@ -6,11 +6,11 @@ import pathlib
 import re
 from typing import NamedTuple
 
-from society.reading.rows import Animal
-from society.reading.columns import KNOWN_TITLES, plain
 from society.mistake import Mistake, counted
-from society.taking.report import LINE, Report
+from society.reading.columns import KNOWN_TITLES, plain
+from society.reading.rows import Animal
 from society.reading.sheet import decoded
+from society.taking.report import LINE, Report
 
 FIELDS = ("id", "sire", "dam")
 # where blanks stand between cells, an id with blanks has quotation marks

@@ -3,8 +3,8 @@ from __future__ import annotations
 
 import collections
 
-from society.reading.columns import KNOWN_EXITS, plain
 from society.mistake import Mistake, counted
+from society.reading.columns import KNOWN_EXITS, plain
 
 # what to do where cells of a column can't be read
 ADVICE = {

@@ -3,20 +3,20 @@ from __future__ import annotations
 
 import datetime
 
-from society.reading.rows import Animal
 from society.book.book import INVENTED, NO_DAY, NO_OWNER, Known
 from society.book.commands import Command, Record, birth, leave, transfer
 from society.herdbook import REFUSALS, Herdbook
 from society.mistake import Mistake
+from society.reading.rows import Animal
+from society.taking.next_book import NextBook
 from society.taking.report import CHANGED, NEW
-from society.taking.herd import Taking
 
 
 class Filing:
     """The commands of a taking. `today` is the day on which owners change."""
 
-    def __init__(self, taking: Taking, today: datetime.date) -> None:
-        self.taking, self.book, self.today = taking, taking.book, today
+    def __init__(self, next_book: NextBook, today: datetime.date) -> None:
+        self.next_book, self.book, self.today = next_book, next_book.book, today
 
     def filed(self, program: Herdbook) -> tuple[list[Command], bool]:
         """The book's commands, none of which is refused, and whether they were written anew; else a mistake with each
@@ -28,7 +28,7 @@ class Filing:
         refused = program.file(commands)
         if not refused:
             return commands, True
-        by_number = {animal.number: animal for animal in self.taking.animals.values()}
+        by_number = {animal.number: animal for animal in self.next_book.animals.values()}
         sentences = []
         for place, refusal in refused.items():
             kind, number, day = commands[place][:3]
@@ -42,18 +42,18 @@ class Filing:
 
     def appended(self) -> list[Command] | None:
         """The book's commands and those that it lacks, or none where what stands in it has to be corrected."""
-        if self.book.known.keys() - self.taking.animals.keys():
+        if self.book.known.keys() - self.next_book.animals.keys():
             return None
         births, corrections, transfers, exits = [], [], [], []
-        for animal in self.taking.by_birth():
-            record = self.taking.record(animal.id)
+        for animal in self.next_book.by_birth():
+            record = self.next_book.record(animal.id)
             if record is None:
                 births.append(self.birth_of(animal, self.herd_of(animal.owner)))
                 exits += [leave(animal.number, animal.left)] if animal.left else []
                 continue
             if is_corrected(animal, record):
                 return None
-            wanted = self.taking.parents_of(animal)
+            wanted = self.next_book.parents_of(animal)
             if (wanted.sire, wanted.dam) != (record.sire or "0", record.dam or "0"):
                 corrections.append(wanted)
             transfers += self.transfer_of(animal, record)
@@ -64,8 +64,8 @@ class Filing:
     def anew(self) -> list[Command]:
         """The whole book: each birth with the parents of today, then the transfers, and then the exits."""
         births, transfers, exits = [], [], []
-        for animal in self.taking.by_birth():
-            record = self.taking.record(animal.id)
+        for animal in self.next_book.by_birth():
+            record = self.next_book.record(animal.id)
             births.append(self.birth_of(animal, record.first_herd if record else self.herd_of(animal.owner)))
             if record:
                 transfers += [one._replace(animal=animal.number) for one in record.transfers]
@@ -81,7 +81,7 @@ class Filing:
         return owners.setdefault(owner, len(owners) + 1)
 
     def birth_of(self, animal: Animal, herd: int) -> Command:
-        sire, dam = (self.taking.number_of(parent) for parent in (animal.sire, animal.dam))
+        sire, dam = (self.next_book.number_of(parent) for parent in (animal.sire, animal.dam))
         return birth(animal.number, animal.born, sire, dam, herd, animal.embryo)
 
     def transfer_of(self, animal: Animal, record: Record) -> list[Command]:
@@ -96,9 +96,9 @@ class Filing:
     # -- what is told
 
     def tell_changes(self) -> None:
-        report = self.taking.report
-        for animal in self.taking.animals.values():
-            record, known = self.taking.record(animal.id), self.book.known.get(animal.id)
+        report = self.next_book.report
+        for animal in self.next_book.animals.values():
+            record, known = self.next_book.record(animal.id), self.book.known.get(animal.id)
             if record and known:
                 for why in self.changes(animal, record, known):
                     report.tell(CHANGED, animal.line, animal.id, why)
@@ -110,8 +110,8 @@ class Filing:
             ("name", known.name, animal.name),
             ("birth day", str(record.born), str(animal.born)),
             ("number", record.number, animal.number),
-            ("sire", self.taking.id_of(record.sire), animal.sire),
-            ("dam", self.taking.id_of(record.dam), animal.dam),
+            ("sire", self.next_book.id_of(record.sire), animal.sire),
+            ("dam", self.next_book.id_of(record.dam), animal.dam),
             ("owner", self.book.owner_of(record.herd), animal.owner),
             ("exit", exit_words(record.left, known.exit), exit_words(animal.left, animal.left_inferred)),
             ("stored embryo", "yes" if record.embryo else "", "yes" if animal.embryo else ""),

@@ -1,13 +1,13 @@
 """Parents that the program refuses: each is left out, alone, and told."""
 from __future__ import annotations
 
-from society.reading.rows import Animal
 from society.book.commands import birth, leave
-from society.taking.depth import too_deep
 from society.herdbook import REFUSALS, Herdbook
 from society.mistake import Mistake
+from society.reading.rows import Animal
+from society.taking.long_paths import too_deep
+from society.taking.next_book import NextBook
 from society.taking.report import PARENT
-from society.taking.herd import Taking
 
 # the refusals of parents, by the link that each is about
 SIRE_FAULTS, DAM_FAULTS, TOO_DEEP = (5, 7), (6, 8, 9), 10
@@ -20,15 +20,15 @@ WHY = {
 }
 
 
-def leave_out_faulty_parents(taking: Taking, program: Herdbook) -> None:
+def leave_out_faulty_parents(next_book: NextBook, program: Herdbook) -> None:
     """Files all animals without parents, and then asks for the parents of each, the oldest first, until none is
     refused."""
-    by_age = taking.by_birth()
+    by_age = next_book.by_birth()
     first = [birth(animal.number, animal.born, "", "", 1, animal.embryo) for animal in by_age]
     first += [leave(animal.number, animal.left) for animal in by_age if animal.left]
     while True:
         calves = [animal for animal in by_age if animal.sire or animal.dam]
-        refused = program.file(first + [taking.parents_of(animal) for animal in calves])
+        refused = program.file(first + [next_book.parents_of(animal) for animal in calves])
         # an exit may be refused too: that is told when the book itself is filed
         faults = [(calves[place - len(first)], refusal) for place, refusal in refused.items() if place >= len(first)]
         if not faults:
@@ -36,17 +36,17 @@ def leave_out_faulty_parents(taking: Taking, program: Herdbook) -> None:
         # paths come last: without a parent that is refused they may be shorter
         deep = [animal for animal, refusal in faults if refusal == TOO_DEEP]
         if len(deep) == len(faults):
-            raise too_deep(taking.animals, deep)
+            raise too_deep(next_book.animals, deep)
         for animal, refusal in faults:
             if refusal != TOO_DEEP:
-                leave_out_parent(taking, animal, refusal)
+                leave_out_parent(next_book, animal, refusal)
 
 
-def leave_out_parent(taking: Taking, animal: Animal, refusal: int) -> None:
+def leave_out_parent(next_book: NextBook, animal: Animal, refusal: int) -> None:
     if refusal not in WHY:
         raise Mistake(f"{animal.where()}{REFUSALS[refusal]} (refusal {refusal})")
     role = "sire" if refusal in SIRE_FAULTS else "dam"
-    parent = taking.animals[getattr(animal, role)]
+    parent = next_book.animals[getattr(animal, role)]
     facts = [f"line {parent.line}"] if parent.line else []
     if refusal in (7, 8):
         facts.append(f"born {parent.born_marked()}")
@@ -60,5 +60,5 @@ def leave_out_parent(taking: Taking, animal: Animal, refusal: int) -> None:
         why += f"; {animal.id} was born {animal.born_marked()}"
     if refusal == 9:
         why += "; offspring from a stored embryo needs 1 in the column embryo"
-    taking.report.leave_out(PARENT, animal.line, animal.id, f"its {role} {of_parent}", why)
+    next_book.report.leave_out(PARENT, animal.line, animal.id, f"its {role} {of_parent}", why)
     setattr(animal, role, "")

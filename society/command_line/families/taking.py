@@ -8,7 +8,9 @@ import pathlib
 from society.command_line.arguments import day, three_letters
 from society.command_line.parser import Words
 from society.mistake import Mistake
-from society.taking.take import Wishes, take_pedigree, take_sheet
+from society.taking.from_pedigree import take_pedigree
+from society.taking.from_sheet import take_sheet
+from society.taking.wishes import Wishes
 
 
 def add_words(words: Words) -> None:

@@ -1,9 +1,9 @@
 """Paths of parents that are longer than a book takes: how long, and which parents to set to unknown."""
 from __future__ import annotations
 
-from society.reading.rows import Animal
-from society.taking.births import calves_of, in_order
 from society.mistake import Mistake
+from society.reading.rows import Animal
+from society.taking.order import calves_of, in_order
 from society.taking.report import MOST_SHOWN
 
 MOST_STEPS = 60

@@ -1,22 +1,24 @@
-"""The animals that are to stand in a book: what the sheet says of them, and what the book has besides."""
+"""The book that is to be: what the sheet says of its animals, and what the book has besides."""
 from __future__ import annotations
 
 from dataclasses import replace
 
-from society.taking.absent import Names, add_gone, animals_of_book
-from society.reading.rows import ROLES, Animal
-from society.taking.births import Days, cut_cycles
 from society.book.book import Book, Known
 from society.book.commands import Command, Record, parents
-from society.reading.days import ANY_DAY, Span
 from society.mistake import Mistake
+from society.reading.days import ANY_DAY, Span
+from society.reading.rows import ROLES, Animal
+from society.taking.birth_days import Days
+from society.taking.cycles import cut_cycles
+from society.taking.parent_names import Names
 from society.taking.report import INFERRED, ROW, Report
+from society.taking.without_row import add_gone, animals_of_book
 
 MOST_ANIMALS = 60_000
 
 
-class Taking:
-    """The animals that are to stand in the book, by id, and the book as it is."""
+class NextBook:
+    """The animals that are to stand in the book, by id, beside the book as it is."""
 
     def __init__(
         self, book: Book, animals: dict[str, Animal], given: set[str], report: Report, is_pedigree: bool = False

@@ -1,82 +1,16 @@
-"""Days for animals without one: cycles are cut first, then each gets a day between its parents' and its calves'."""
+"""Days for animals without one, each between its parents' and its calves'."""
 from __future__ import annotations
 
 import datetime
 
-from society.reading.rows import Animal
 from society.book.book import INVENTED
 from society.reading.days import ANY_DAY, FIRST_DAY, Span
-from society.taking.report import INFERRED, PARENT, Report
+from society.reading.rows import Animal
+from society.taking.order import calves_of, in_order
+from society.taking.report import INFERRED, Report
 
 # days between a parent's birth and a calf's, where only one of the two is known
 GENERATION = 730
-
-
-def in_order(part: dict[str, Animal]) -> list[str]:
-    """The ids of a part of the animals, parents before their offspring; those in or below a cycle of it are absent."""
-    calves = calves_of(part)
-    waiting = {id: sum(parent in part for _, parent in animal.parents()) for id, animal in part.items()}
-    order = [id for id, count in waiting.items() if count == 0]
-    for id in order:
-        for calf in calves.get(id, ()):
-            waiting[calf] -= 1
-            if waiting[calf] == 0:
-                order.append(calf)
-    return order
-
-
-def calves_of(animals: dict[str, Animal]) -> dict[str, list[str]]:
-    """The calves of each parent; twice where it is both parents."""
-    calves: dict[str, list[str]] = {}
-    for id, animal in animals.items():
-        for _, parent in animal.parents():
-            calves.setdefault(parent, []).append(id)
-    return calves
-
-
-def cut_cycles(animals: dict[str, Animal], report: Report) -> None:
-    """Leaves out one parent of each animal that would be its own ancestor: of a cycle the link whose days can't be, or
-    else that of the latest row."""
-    left = animals.keys() - in_order(animals)
-    while left:
-        cycle = find_cycle(animals, left)
-        calf, role, parent = faulty_link(animals, cycle)
-        path = " > ".join([calf, *ancestors_round(cycle, calf)])
-        setattr(animals[calf], role, "")
-        why = f"{calf} would be its own ancestor ({path})"
-        report.leave_out(PARENT, animals[calf].line, calf, f"its {role} {parent}", why)
-        left -= set(in_order({id: animals[id] for id in left}))
-
-
-Link = tuple[str, str, str]
-
-
-def find_cycle(animals: dict[str, Animal], left: set[str]) -> list[Link]:
-    """A cycle of links (calf, role, parent). Each of those left, which no order reached, has a parent among them."""
-    links: list[Link] = []
-    at: dict[str, int] = {}
-    id = min(left, key=lambda one: (animals[one].line, one))
-    while id not in at:
-        at[id] = len(links)
-        role, parent = next((role, parent) for role, parent in animals[id].parents() if parent in left)
-        links.append((id, role, parent))
-        id = parent
-    return links[at[id] :]
-
-
-def faulty_link(animals: dict[str, Animal], cycle: list[Link]) -> Link:
-    def is_younger(link: Link) -> bool:
-        calf, parent = animals[link[0]], animals[link[2]]
-        return parent.birth.first >= calf.birth.last
-
-    candidates = [link for link in cycle if is_younger(link)] or cycle
-    return max(candidates, key=lambda link: animals[link[0]].line)
-
-
-def ancestors_round(cycle: list[Link], calf: str) -> list[str]:
-    """The parents along a cycle, from a calf back to it."""
-    begin = next(at for at, link in enumerate(cycle) if link[0] == calf)
-    return [parent for _, _, parent in cycle[begin:] + cycle[:begin]]
 
 
 class Days:

@@ -1,13 +1,9 @@
-"""Sexes and birth days for a geneticist's pedigree, `id sire dam`: invented so that nothing is refused for them."""
+"""Sexes for a geneticist's pedigree, `id sire dam`: invented so that nothing is refused for them."""
 from __future__ import annotations
 
-import datetime
-import heapq
-
-from society.reading.rows import ROLES, Animal
-from society.taking.births import calves_of, cut_cycles
 from society.book.book import INVENTED
-from society.reading.days import FIRST_DAY
+from society.reading.rows import ROLES, Animal
+from society.taking.cycles import cut_cycles
 from society.taking.report import CHANGED, PARENT, Report
 
 # so many couples that no sexes fit are named
@@ -123,24 +119,3 @@ class Sexes:
 def place(calf: Animal) -> str:
     """Where a calf names its parents."""
     return f"in line {calf.line}" if calf.line else "in the book"
-
-
-def invent_days(animals: dict[str, Animal]) -> None:
-    """A day for each animal, one after the other, in the order of the lines wherever parents allow it."""
-    calves = calves_of(animals)
-    key = {id: (animal.line, 1) for id, animal in animals.items()}
-    for parent, its in calves.items():
-        if not animals[parent].line:
-            key[parent] = (min(animals[calf].line for calf in its), 0)
-    waiting = {id: len(animal.parents()) for id, animal in animals.items()}
-    ready = [(key[id], id) for id, count in waiting.items() if count == 0]
-    heapq.heapify(ready)
-    day = FIRST_DAY
-    while ready:
-        _, id = heapq.heappop(ready)
-        animals[id].born, animals[id].birth_inferred = day, INVENTED
-        day += datetime.timedelta(days=1)
-        for calf in calves.get(id, ()):
-            waiting[calf] -= 1
-            if waiting[calf] == 0:
-                heapq.heappush(ready, (key[calf], calf))

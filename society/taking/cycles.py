@@ -1,0 +1,51 @@
+"""Animals that would be their own ancestors: of each cycle one parent is left out."""
+from __future__ import annotations
+
+from society.reading.rows import Animal
+from society.taking.order import in_order
+from society.taking.report import PARENT, Report
+
+
+def cut_cycles(animals: dict[str, Animal], report: Report) -> None:
+    """Leaves out one parent of each animal that would be its own ancestor: of a cycle the link whose days can't be, or
+    else that of the latest row."""
+    left = animals.keys() - in_order(animals)
+    while left:
+        cycle = find_cycle(animals, left)
+        calf, role, parent = faulty_link(animals, cycle)
+        path = " > ".join([calf, *ancestors_round(cycle, calf)])
+        setattr(animals[calf], role, "")
+        why = f"{calf} would be its own ancestor ({path})"
+        report.leave_out(PARENT, animals[calf].line, calf, f"its {role} {parent}", why)
+        left -= set(in_order({id: animals[id] for id in left}))
+
+
+Link = tuple[str, str, str]
+
+
+def find_cycle(animals: dict[str, Animal], left: set[str]) -> list[Link]:
+    """A cycle of links (calf, role, parent). Each of those left, which no order reached, has a parent among them."""
+    links: list[Link] = []
+    at: dict[str, int] = {}
+    id = min(left, key=lambda one: (animals[one].line, one))
+    while id not in at:
+        at[id] = len(links)
+        role, parent = next((role, parent) for role, parent in animals[id].parents() if parent in left)
+        links.append((id, role, parent))
+        id = parent
+    return links[at[id] :]
+
+
+def faulty_link(animals: dict[str, Animal], cycle: list[Link]) -> Link:
+    def is_younger(link: Link) -> bool:
+        calf, parent = animals[link[0]], animals[link[2]]
+        return parent.birth.first >= calf.birth.last
+
+    candidates = [link for link in cycle if is_younger(link)] or cycle
+    return max(candidates, key=lambda link: animals[link[0]].line)
+
+
+def ancestors_round(cycle: list[Link], calf: str) -> list[str]:
+    """The parents along a cycle, from a calf back to it."""
+    begin = next(at for at, link in enumerate(cycle) if link[0] == calf)
+    return [parent for _, _, parent in cycle[begin:] + cycle[:begin]]

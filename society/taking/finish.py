@@ -1,0 +1,50 @@
+"""The end of a taking: the book is filed, saved where nothing is refused, and told."""
+from __future__ import annotations
+
+from society.book.book import REPORT
+from society.herdbook import Herdbook
+from society.mistake import Mistake, counted
+from society.taking.changes import Filing
+from society.taking.faulty_parents import leave_out_faulty_parents
+from society.taking.next_book import NextBook
+from society.taking.report import ADDED, CHANGED, GONE, INFERRED, LEFT_OUT
+from society.taking.shown_report import show
+from society.taking.wishes import Wishes
+
+
+def finish(next_book: NextBook, program: Herdbook, wishes: Wishes, about: list[str], invented: int) -> None:
+    """Files the book, and writes it only where nothing is refused. What is told comes last, first of all what it is
+    about."""
+    book, report = next_book.book, next_book.report
+    next_book.give_numbers(wishes.breed, wishes.country)
+    leave_out_faulty_parents(next_book, program)
+    left_out = [entry for entry in report.in_order() if entry.what == LEFT_OUT]
+    if wishes.strict and left_out:
+        told = [entry.sentence() for entry in left_out] + report.advice
+        raise Mistake(*told, f"{report.left_out()}: with --strict nothing is taken")
+    before = len(book.records)
+    filing = Filing(next_book, wishes.day)
+    commands, is_anew = filing.filed(program)
+    filing.tell_changes()
+    new = sum(1 for animal in next_book.animals.values() if animal.line and animal.id not in book.known)
+    book.written = next_book.written_parents()
+    book.commands, book.known, book.dropped = commands, next_book.known_animals(), next_book.dropped_animals()
+    book.save(report.in_order(), wishes.semicolons)
+    print("\n".join(about))
+    show(report, book.folder / REPORT)
+    if before and is_anew:
+        print(f"{book.path} is written anew, since something in it was corrected or dropped")
+    counts = report.counts()
+    if counts[GONE] and not wishes.drop_gone:
+        print(
+            "those that are gone stay: with --drop-gone they are dropped, but for the ancestors of animals that have "
+            "a row"
+        )
+    print("".join(f"{sentence}\n" for sentence in report.advice), end="")
+    inferred = [f"{invented} invented"] * bool(invented)
+    inferred += [f"{counts[INFERRED]} inferred"] * bool(counts[INFERRED] or not invented)
+    each = f": {book.folder / REPORT} has each" if report.entries else ""
+    print(
+        f"{book.folder}: {counted(len(next_book.animals), 'animal')}, {new} new, {counts[CHANGED]} changed, "
+        f"{', '.join(inferred)}, {report.left_out()}, {counts[ADDED]} added, {counts[GONE]} gone{each}"
+    )

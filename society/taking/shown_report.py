@@ -1,0 +1,24 @@
+"""What is printed of a report."""
+from __future__ import annotations
+
+import collections
+import pathlib
+
+from society.taking.report import MOST_SHOWN, NEW, ORDER, Report
+
+
+def show(report: Report, path: pathlib.Path) -> None:
+    """The first entries of each kind, and of what is left out the first rows, cells and parents; but no new animals,
+    which are as the sheet has them."""
+    for what in ORDER:
+        shown: collections.Counter[str] = collections.Counter()
+        for entry in report.in_order():
+            if entry.what != what or what == NEW:
+                continue
+            shown[entry.part] += 1
+            if shown[entry.part] <= MOST_SHOWN:
+                print(entry.sentence())
+        for part, count in shown.items():
+            if count > MOST_SHOWN:
+                parts = f" ({part}s)" if part else ""
+                print(f"and {count - MOST_SHOWN} more {what}{parts}: {path} has all {count}")

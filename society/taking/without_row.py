@@ -1,0 +1,51 @@
+"""Animals of the book that have no row in the sheet: they stay, or are dropped."""
+from __future__ import annotations
+
+from society.book.book import Book
+from society.reading.days import ANY_DAY, Span
+from society.reading.rows import Animal
+from society.taking.report import GONE, Report
+
+
+def animals_of_book(book: Book, animals: dict[str, Animal]) -> dict[str, Animal]:
+    """The animals of the book that have no row, each as the book has it."""
+    ids = {known.number: id for id, known in book.known.items()}
+    gone = {}
+    for id, known in book.known.items():
+        if id in animals:
+            continue
+        record = book.records[known.number]
+        animal = Animal(id, 0, known.name, "" if known.sex else known.number[6])
+        animal.birth = ANY_DAY if known.birth else Span(record.born, record.born)
+        animal.sire, animal.dam = ids.get(record.sire, ""), ids.get(record.dam, "")
+        animal.owner, animal.embryo = book.owner_of(record.herd), record.embryo
+        animal.left, animal.left_inferred = record.left, known.exit
+        gone[id] = animal
+    return gone
+
+
+def add_gone(animals: dict[str, Animal], gone: dict[str, Animal], book: Book, drop: bool, report: Report) -> None:
+    """Adds those of the book, or drops them but for the ancestors of an animal that has a row."""
+    kept = ancestors(animals, gone) if drop else gone.keys()
+    parents = {parent for animal in (*animals.values(), *gone.values()) for _, parent in animal.parents()}
+    for id, animal in gone.items():
+        if id in kept:
+            animals[id] = animal
+        had_row = book.known[id].had_row()
+        why = "it has no row any more" if had_row else "no animal has it as a parent any more"
+        if id not in kept:
+            report.tell(GONE, 0, id, f"{why}: it is dropped from the book")
+        elif had_row or id not in parents:
+            report.tell(GONE, 0, id, f"{why}, and stays in the book as it is")
+
+
+def ancestors(animals: dict[str, Animal], gone: dict[str, Animal]) -> set[str]:
+    """Which of those without a row are ancestors of animals that have one."""
+    found: set[str] = set()
+    new = list(animals.values())
+    for animal in new:
+        for _, parent in animal.parents():
+            if parent in gone and parent not in found:
+                found.add(parent)
+                new.append(gone[parent])
+    return found
