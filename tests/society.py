@@ -16,7 +16,7 @@ import sys
 import tempfile
 import xml.etree.ElementTree as xml
 
-from front_desk.desk import PROGRAM
+from front_desk.counted_desk import PROGRAM
 from front_desk.drawn import PageChecks
 from front_desk.first import FirstChecks
 from front_desk.forms import FormChecks

@@ -1,26 +1,31 @@
-"""Runs of the front desk in a folder of its own, and what is counted."""
+"""Runs of the front desk in a folder of its own. Each tells by an assertion what every run has to keep."""
 from __future__ import annotations
 
 import csv
+import dataclasses
 import io
 import os
 import pathlib
 import shlex
+import shutil
 import subprocess
 import sys
 import textwrap
 import xml.etree.ElementTree as xml
 
 TOP = pathlib.Path(__file__).resolve().parent.parent.parent
-PROGRAM = os.environ.get("HERDBOOK") or str(TOP / "crates/herdbook/out/herdbook")
 # how the front desk is called
 CALLED = shlex.quote(str(TOP / "society/society"))
 SECONDS = 120
 
 
+@dataclasses.dataclass(frozen=True, repr=False)
 class Done:
-    def __init__(self, status: int, out: str, err: str) -> None:
-        self.status, self.out, self.err = status, out, err
+    """What a run ended with."""
+
+    status: int
+    out: str
+    err: str
 
     def __repr__(self) -> str:
         return f"status {self.status}, output {self.out[-500:]!r}, error {self.err[-500:]!r}"
@@ -29,27 +34,39 @@ class Done:
     def last(self) -> str:
         return self.out.splitlines()[-1] if self.out else ""
 
+    def tells(self, *sentences: str) -> None:
+        """Each of these is a line of the output."""
+        for sentence in sentences:
+            assert sentence in self.out.splitlines(), f"{sentence!r} isn't told: {self.out}"
+
 
 class Desk:
-    """A folder of its own, in which the front desk runs."""
+    """A folder of its own, in which the front desk runs with a program."""
 
-    def __init__(self, checks: Checks, name: str) -> None:
-        self.checks, self.room = checks, checks.room / name
-        self.room.mkdir()
+    def __init__(self, room: pathlib.Path, program: str) -> None:
+        self.room, self.program = room, program
+        self.room.mkdir(exist_ok=True)
 
-    def run(self, *words: str, program: str = PROGRAM) -> Done:
-        env = {"PATH": os.environ["PATH"], "HERDBOOK": program, "LANG": "C", "PYTHONPATH": str(self.room)}
+    def copy_to(self, room: pathlib.Path) -> Desk:
+        """A desk with the same files."""
+        shutil.copytree(self.room, room, dirs_exist_ok=True)
+        return Desk(room, self.program)
+
+    def run(self, *words: str, program: str | None = None) -> Done:
+        """Whatever the words are, no fault of the front desk itself comes of it."""
+        known = {
+            "PATH": os.environ["PATH"], "HERDBOOK": program or self.program, "LANG": "C", "PYTHONPATH": str(self.room)
+        }  # fmt: skip
         command = [sys.executable, str(TOP / "society/society"), *words]
-        done = subprocess.run(command, cwd=self.room, env=env, capture_output=True, timeout=SECONDS)
+        done = subprocess.run(command, cwd=self.room, env=known, capture_output=True, timeout=SECONDS)
         found = Done(done.returncode, done.stdout.decode(), done.stderr.decode())
-        self.checks.count(
-            "Traceback" not in found.err and "fault of the front desk" not in found.err, f"{words}: {found}"
-        )
+        is_well = "Traceback" not in found.err and "fault of the front desk" not in found.err
+        assert is_well, f"{words}: {found}"
         return found
 
     def good(self, *words: str) -> Done:
         done = self.run(*words)
-        self.checks.count(done.status == 0, f"{words}: {done}")
+        assert done.status == 0, f"{words}: {done}"
         return done
 
     def write(self, name: str, text: str | bytes) -> str:
@@ -63,16 +80,21 @@ class Desk:
         """The words are a mistake: it is told in a sentence, and no file is changed."""
         before = self.files()
         done = self.run(*words)
-        self.checks.count(done.status == 1 and told in done.err and not done.out, f"{words}: {done}; wanted {told!r}")
-        self.checks.count(self.files() == before, f"{words}: a file was changed")
+        is_told = done.status == 1 and told in done.err and not done.out
+        assert is_told, f"{words}: {done}; wanted {told!r}"
+        is_kept = self.files() == before
+        assert is_kept, f"{words}: a file was changed"
         return done
 
     def files(self) -> dict[str, bytes]:
         paths = [path for path in sorted(self.room.rglob("*")) if path.is_file() and "__pycache__" not in path.parts]
         return {str(path.relative_to(self.room)): path.read_bytes() for path in paths}
 
+    def text(self, name: str) -> str:
+        return (self.room / name).read_text(encoding="utf-8")
+
     def commands(self) -> list[str]:
-        return (self.room / "book/commands.csv").read_text().splitlines()[1:]
+        return self.text("book/commands.csv").splitlines()[1:]
 
     def numbers(self) -> dict[str, str]:
         return {row["id"]: row["number"] for row in self.table("book/ids.csv") if row["row"] != "dropped"}
@@ -99,22 +121,4 @@ class Desk:
         return list(csv.DictReader(io.StringIO(self.good(*words).out)))
 
     def page(self, name: str) -> xml.Element:
-        return xml.fromstring((self.room / name).read_text(encoding="utf-8").replace("<!DOCTYPE html>", ""))
-
-
-class Checks:
-    """Counts what passed and what failed, in a folder of its own."""
-
-    def __init__(self, room: str) -> None:
-        self.room = pathlib.Path(room)
-        self.room.mkdir(exist_ok=True)
-        self.passed = self.failed = 0
-
-    def count(self, right: object, what: str) -> None:
-        self.passed, self.failed = self.passed + bool(right), self.failed + (not right)
-        if not right:
-            print(f"FAILED {what}", flush=True)
-
-    def told(self, done: Done, *sentences: str) -> None:
-        for sentence in sentences:
-            self.count(sentence in done.out.splitlines(), f"{sentence!r} isn't told once: {done.out}")
+        return xml.fromstring(self.text(name).replace("<!DOCTYPE html>", ""))

@@ -4,7 +4,7 @@ from __future__ import annotations
 import fractions
 import re
 
-from front_desk.desk import CALLED, Checks, Desk
+from front_desk.counted_desk import CALLED, Checks, Desk
 from front_desk.sheet import Secretary, sheet_text
 
 

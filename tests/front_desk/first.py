@@ -5,7 +5,7 @@ import fractions
 import re
 
 import reference
-from front_desk.desk import Checks, Desk
+from front_desk.counted_desk import Checks, Desk
 from front_desk.sheet import TITLES, Secretary, german, sheet_text
 
 

@@ -4,7 +4,7 @@ from __future__ import annotations
 import datetime
 import importlib.util
 
-from front_desk.desk import Checks, Desk
+from front_desk.counted_desk import Checks, Desk
 
 
 class FormChecks(Checks):

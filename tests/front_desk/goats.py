@@ -2,7 +2,7 @@
 say of these."""
 from __future__ import annotations
 
-from front_desk.desk import Checks, Desk
+from front_desk.counted_desk import Checks, Desk
 
 GOATS = """\
     Ohrmarke;Name;Geschlecht;Geburtsdatum;Vater;Mutter;Besitzer;Abgang

@@ -1,7 +1,7 @@
 """What is inferred where a sheet doesn't give it."""
 from __future__ import annotations
 
-from front_desk.desk import Checks, Desk
+from front_desk.counted_desk import Checks, Desk
 
 
 class InferringChecks(Checks):

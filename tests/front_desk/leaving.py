@@ -2,7 +2,7 @@
 from __future__ import annotations
 
 import reference
-from front_desk.desk import Checks, Desk
+from front_desk.counted_desk import Checks, Desk
 
 
 class LeavingChecks(Checks):

@@ -5,7 +5,7 @@ import os
 import subprocess
 import sys
 
-from front_desk.desk import CALLED, PROGRAM, SECONDS, TOP, Checks, Desk
+from front_desk.counted_desk import CALLED, PROGRAM, SECONDS, TOP, Checks, Desk
 
 
 class MistakeChecks(Checks):

@@ -5,7 +5,7 @@ import importlib.util
 import pathlib
 
 import reference
-from front_desk.desk import Checks, Desk
+from front_desk.counted_desk import Checks, Desk
 from front_desk.sheet import Secretary, sheet_text
 
 

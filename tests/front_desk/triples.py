@@ -5,7 +5,7 @@ import itertools
 import random
 import re
 
-from front_desk.desk import TOP, Checks, Desk, Done
+from front_desk.counted_desk import TOP, Checks, Desk, Done
 
 LOST = re.compile(r"line (\d+): (\S+): its (sire|dam) (\S+) is left out: ")
 TAKEN = re.compile(

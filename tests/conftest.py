@@ -1,0 +1,48 @@
+"""What all tests begin with: the program, and how checks are counted.
+
+Each assertion that holds while a test runs is a check that passed, and so is each that a group counts by itself. A test
+that fails or is skipped has at least one check that failed. What pytest writes ends with the sum, before its own line.
+"""
+from __future__ import annotations
+
+import itertools
+import os
+import pathlib
+
+import pytest
+
+from counting import counts_of, sum_of
+
+pytest.register_assert_rewrite("front_desk.desk")
+
+TOP = pathlib.Path(__file__).resolve().parent.parent
+
+
+@pytest.fixture(scope="session")
+def program() -> str:
+    """The program of the variable HERDBOOK, else the built one."""
+    named = os.environ.get("HERDBOOK")
+    path = pathlib.Path(named).absolute() if named else TOP / "crates/herdbook/out/herdbook"
+    if not path.is_file():
+        what_to_do = "say where it is, as export HERDBOOK=/home/me/herdbook" if named else "call ./herdbook --version"
+        pytest.fail(f"{path}, the program of the herd book, isn't there: {what_to_do}", pytrace=False)
+    return str(path)
+
+
+def pytest_assertion_pass(item: pytest.Item) -> None:
+    counts_of(item).passed += 1
+
+
+@pytest.hookimpl(tryfirst=True)
+def pytest_runtest_makereport(item: pytest.Item, call: pytest.CallInfo[None]) -> pytest.TestReport:
+    report = pytest.TestReport.from_item_and_call(item, call)
+    if report.when == "setup":
+        counts_of(item).begin()
+    if report.when == "call":
+        counts_of(item).tell(report)
+    return report
+
+
+def pytest_terminal_summary(terminalreporter: pytest.TerminalReporter) -> None:
+    passed, failed = sum_of(itertools.chain.from_iterable(terminalreporter.stats.values()))
+    terminalreporter.write_line(f"checks: {passed} passed, {failed} failed")

@@ -1,0 +1,72 @@
+"""Folders with the front desk in them, and books that are taken already."""
+from __future__ import annotations
+
+import itertools
+import pathlib
+from typing import Callable
+
+import pytest
+
+from front_desk.desk import TOP, Desk
+from front_desk.sheet import Secretary, sheet_text
+
+
+@pytest.fixture
+def new_desk(program: str, tmp_path: pathlib.Path) -> Callable[[], Desk]:
+    """Makes desks in folders of their own, each empty."""
+    rooms = (tmp_path / f"desk {count}" for count in itertools.count(1))
+    return lambda: Desk(next(rooms), program)
+
+
+@pytest.fixture
+def desk(new_desk: Callable[[], Desk]) -> Desk:
+    """A desk in an empty folder."""
+    return new_desk()
+
+
+@pytest.fixture
+def secretary() -> Secretary:
+    """The secretary with her sheet of 200 animals, which a test may change."""
+    return Secretary()
+
+
+@pytest.fixture(scope="session")
+def taken_secretary(program: str, tmp_path_factory: pytest.TempPathFactory) -> Desk:
+    """The desk that took the secretary's sheet before any test, to be copied."""
+    kept = Desk(tmp_path_factory.mktemp("secretary"), program)
+    kept.take(sheet_text(Secretary().rows))
+    return kept
+
+
+@pytest.fixture(scope="session")
+def taken_mrode(program: str, tmp_path_factory: pytest.TempPathFactory) -> Desk:
+    """The desk that took Mrode's pedigree, `examples/mrode.txt`, before any test, to be copied."""
+    kept = Desk(tmp_path_factory.mktemp("mrode"), program)
+    kept.good("take", "--pedigree", str(TOP / "examples/mrode.txt"))
+    return kept
+
+
+@pytest.fixture(scope="session")
+def taken_society(program: str, tmp_path_factory: pytest.TempPathFactory) -> Desk:
+    """The desk that took the society's sheet, `examples/society.csv`, before any test, to be copied."""
+    kept = Desk(tmp_path_factory.mktemp("society"), program)
+    kept.good("take", str(TOP / "examples/society.csv"))
+    return kept
+
+
+@pytest.fixture
+def secretary_desk(taken_secretary: Desk, tmp_path: pathlib.Path) -> Desk:
+    """A desk with the book of the secretary's sheet: 201 animals with the one that was added."""
+    return taken_secretary.copy_to(tmp_path / "the secretary's desk")
+
+
+@pytest.fixture
+def mrode_desk(taken_mrode: Desk, tmp_path: pathlib.Path) -> Desk:
+    """A desk with the book of Mrode's pedigree: 6 animals."""
+    return taken_mrode.copy_to(tmp_path / "the geneticist's desk")
+
+
+@pytest.fixture
+def society_desk(taken_society: Desk, tmp_path: pathlib.Path) -> Desk:
+    """A desk with the book of the society's sheet: 502 animals with those that were added."""
+    return taken_society.copy_to(tmp_path / "the society's desk")
