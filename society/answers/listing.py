@@ -6,7 +6,8 @@ import io
 from fractions import Fraction
 from typing import Iterable, NamedTuple
 
-from society.book.book import Book, Known
+from society.book.book import Book
+from society.book.known import Known
 from society.herdbook import MATING_FAULTS, Herdbook
 from society.mistake import Mistake
 
@@ -52,7 +53,7 @@ def rows_of(book: Book, listed: Iterable[tuple[str, Coefficient]]) -> list[list[
     rows = []
     for number, coefficient in listed:
         known = names[number]
-        day = f"{book.records[number].born}{known.birth_mark()}"
+        day = f"{book.records[number].born}{known.birth.mark()}"
         rows.append(
             [known.id, known.name, number, day, coefficient.fraction, coefficient.decimal(), coefficient.percent]
         )
@@ -87,9 +88,9 @@ def advise(book: Book, program: Herdbook, dam: Known, sires: list[Known], also_l
     """Advice on given sires, or else on all living males that have a row, or on those that left too."""
     left, without_row = 0, []
     if not sires:
-        males = [known for known in book.known.values() if known.number[6] == "M"]
-        without_row = sorted(known.id for known in males if known.row != "yes")
-        males = [known for known in males if known.row == "yes"]
+        males = [known for known in book.known.values() if known.is_male]
+        without_row = sorted(known.id for known in males if not known.standing.is_listed())
+        males = [known for known in males if known.standing.is_listed()]
         sires = [known for known in males if also_left or not book.has_left(known)]
         left = len(males) - len(sires)
         if not sires:

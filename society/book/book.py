@@ -5,10 +5,13 @@ import csv
 import difflib
 import pathlib
 import shlex
-from dataclasses import astuple, dataclass, fields
+from dataclasses import replace
 
 from society.book.commands import Command, Record, read_commands, replay, text_of
 from society.book.files import table, write_all
+from society.book.kinds import Standing
+from society.book.known import Known
+from society.book.old_words import STANDING_OF, STANDINGS, read_birth, read_exit, read_sex
 from society.herdbook import REFUSALS, Herdbook
 from society.mistake import CALLED, Mistake
 from society.taking.report import Entry
@@ -17,47 +20,8 @@ COMMANDS, IDS, OWNERS, REPORT = "commands.csv", "ids.csv", "owners.csv", "report
 # what the sheet writes of parents otherwise than the book has them, and the options that a later taking uses again
 PARENTS, OPTIONS = "parents.csv", "options.csv"
 NO_OWNER = 99_999_999
-# how the field `exit` of an animal begins that has left on a day that isn't known: then the book has no exit
-NO_DAY = "day unknown"
 PARENT_TITLES, OPTION_TITLES = ["id", "role", "written"], ["option", "word"]
-# what is inferred from nothing, for a pedigree that has neither days nor sexes
-INVENTED = "invented"
-
-
-@dataclass(slots=True)
-class Known:
-    """What an animal's number stands for, and what was inferred of it: a line of `ids.csv`. `row` is `yes` where the
-    animal has a row in the last sheet, `gone` where it had one before, `no` for a parent that never had one, and
-    `dropped` where it isn't in the book any more."""
-
-    number: str
-    id: str
-    name: str = ""
-    row: str = "yes"
-    birth: str = ""
-    exit: str = ""
-    sex: str = ""
-
-    def had_row(self) -> bool:
-        return self.row in ("yes", "gone")
-
-    def left_unknown_day(self) -> bool:
-        """Has it left on a day that the sheet doesn't say?"""
-        return self.exit.startswith(NO_DAY)
-
-    def birth_mark(self) -> str:
-        return mark(self.birth)
-
-    def exit_mark(self) -> str:
-        return mark(self.exit)
-
-    def sex_mark(self) -> str:
-        return mark(self.sex)
-
-
-def mark(inferred_from: str) -> str:
-    """What stands behind a day or a sex that the sheet doesn't give."""
-    return {"": "", INVENTED: " (invented)"}.get(inferred_from, " (inferred)")
+ID_TITLES = ["number", "id", "name", "row", "birth", "exit", "sex"]
 
 
 class Book:
@@ -71,8 +35,6 @@ class Book:
         self.dropped: dict[str, Known] = {}
         self.owners: dict[str, int] = {}
         self.names_of_herds: dict[int, str] = {}
-        # by an animal's id and `sire` or `dam`: the text of a parent that was left out, or is written by its name
-        self.written: dict[tuple[str, str], str] = {}
         self.options: list[tuple[str, str]] = []
         # what is told behind an answer
         self.notes: list[str] = []
@@ -94,11 +56,11 @@ class Book:
                 "Somebody has changed this file: restore it, or take the sheet into another folder"
             )
         self.records = replay(self.commands)
-        for row in self.read_table(IDS, [field.name for field in fields(Known)]):
-            known = Known(*row)
+        for row in self.read_table(IDS, ID_TITLES):
+            known = self.known_of(row)
             if known.number in self.records:
                 self.known[known.id] = known
-            elif known.row == "dropped":
+            elif known.standing is Standing.DROPPED:
                 self.dropped[known.id] = known
         named = {known.number for known in self.known.values()}
         self.known |= {number: Known(number, number) for number in self.records if number not in named}
@@ -106,8 +68,19 @@ class Book:
         if not all(herd.isdecimal() for herd, _ in owners):
             raise changed(self.folder / OWNERS)
         self.owners = {owner: int(herd) for herd, owner in owners}
-        self.written = {(id, role): text for id, role, text in self.read_table(PARENTS, PARENT_TITLES, needed=False)}
+        for id, role, text in self.read_table(PARENTS, PARENT_TITLES, needed=False):
+            if id in self.known:
+                known = self.known[id]
+                is_sire = role == "sire"
+                self.known[id] = replace(known, written_sire=text) if is_sire else replace(known, written_dam=text)
         self.options = [(option, word) for option, word in self.read_table(OPTIONS, OPTION_TITLES, needed=False)]
+
+    def known_of(self, row: list[str]) -> Known:
+        number, id, name, standing, *words = row
+        birth, exit, sex = read_birth(words[0]), read_exit(words[1]), read_sex(words[2])
+        if standing not in STANDING_OF or birth is None or exit is None or sex is None:
+            raise changed(self.folder / IDS)
+        return Known(number, id, name, STANDING_OF[standing], birth, exit, sex)
 
     def read_table(self, name: str, titles: list[str], needed: bool = True) -> list[list[str]]:
         path = self.folder / name
@@ -125,13 +98,18 @@ class Book:
     def save(self, entries: list[Entry], semicolons: bool) -> None:
         """Writes all files beside the old ones first, and then puts each in its place, the command file last."""
         all_known = sorted((*self.known.values(), *self.dropped.values()), key=lambda known: known.number[7:])
-        ids = [astuple(known) for known in all_known]
+        ids = [
+            (known.number, known.id, known.name, STANDINGS[known.standing], known.birth.words(), known.exit.words(),
+             known.sex.words())
+            for known in all_known
+        ]  # fmt: skip
+        written = [(known.id, role, known.written(role)) for known in all_known for role in ("sire", "dam")]
         owners = [(herd, owner) for owner, herd in self.owners.items()]
         report = [(entry.line or "", entry.id, entry.what, entry.why) for entry in entries]
         texts = {
-            IDS: table([field.name for field in fields(Known)], ids),
+            IDS: table(ID_TITLES, ids),
             OWNERS: table(["herd", "owner"], owners),
-            PARENTS: table(PARENT_TITLES, [(*of, text) for of, text in self.written.items()]),
+            PARENTS: table(PARENT_TITLES, [row for row in written if row[2]]),
             OPTIONS: table(OPTION_TITLES, self.options),
             REPORT: table(["line", "id", "what", "why"], report, semicolons),
             COMMANDS: text_of(self.commands),
@@ -147,11 +125,11 @@ class Book:
         return self.names_of_herds.get(herd, str(herd))
 
     def has_left(self, known: Known) -> bool:
-        return self.records[known.number].left is not None or known.left_unknown_day()
+        return self.records[known.number].left is not None or known.exit.day_is_unknown
 
     def without_row(self) -> list[Known]:
         """The added parents, and those that are gone."""
-        return [known for known in self.known.values() if known.row != "yes"]
+        return [known for known in self.known.values() if not known.standing.is_listed()]
 
     def by_number(self) -> dict[str, Known]:
         return {known.number: known for known in self.known.values()}

@@ -4,7 +4,8 @@ from __future__ import annotations
 from dataclasses import dataclass
 
 from society.answers.listing import Coefficient
-from society.book.book import NO_OWNER, Book, Known
+from society.book.book import NO_OWNER, Book
+from society.book.known import Known
 from society.herdbook import Herdbook
 from society.pages.drawing import DAM, FONT, GREY, INBRED, INBRED_INK, INK, LINE, PAPER, SIRE, escape
 from society.pages.languages import Language
@@ -97,10 +98,10 @@ class Shown:
     def written(self, number: str, role: str) -> str:
         """What the sheet writes for a parent, where that isn't the parent's id or the parent is left out."""
         known = self.names.get(number)
-        return self.book.written.get((known.id, role), "") if known else ""
+        return known.written(role) if known else ""
 
     def born(self, known: Known) -> str:
-        return self.day(self.book.records[known.number].born, known.birth_mark())
+        return self.day(self.book.records[known.number].born, known.birth.mark())
 
 
 def certificate_page(
@@ -150,7 +151,7 @@ def notes_of(known: Known, told: dict[str, str], shown: Shown) -> list[str]:
     """What stands at the end: each mark that the page has is explained."""
     drawn = [letters for line in LINES for letters in line]
     ancestors = [shown.names[told[letters]] for letters in drawn if told[letters] != "0"]
-    marks = {known.exit_mark(), known.sex_mark(), *(one.birth_mark() for one in [known, *ancestors])}
+    marks = {known.exit.mark(), known.sex.mark(), *(one.birth.mark() for one in [known, *ancestors])}
     written = [letters for letters in drawn if shown.written(calf_of(letters, told), role_of(letters))]
     if any(told[letters] != "0" for letters in written):
         marks.add(INFERRED)
@@ -172,14 +173,14 @@ def role_of(letters: str) -> str:
 def facts_of(known: Known, told: dict[str, str], shown: Shown) -> str:
     """The animal's record. The owner has no name where the sheet gave none."""
     texts = shown.texts
-    left = texts["unknown day"] if known.left_unknown_day() else texts["not left"]
+    left = texts["unknown day"] if known.exit.day_is_unknown else texts["not left"]
     if told["left"] != "-":
-        left = shown.day(told["left"], known.exit_mark())
+        left = shown.day(told["left"], known.exit.mark())
     since = shown.day(told["since"]) if owner_day_known(shown.book, known) else texts["no owner"]
     pairs = [
         ("number", told["animal"]),
-        ("sex", shown.language.marked(texts[told["sex"]], known.sex_mark())),
-        ("born", shown.day(told["born"], known.birth_mark())),
+        ("sex", shown.language.marked(texts[told["sex"]], known.sex.mark())),
+        ("born", shown.day(told["born"], known.birth.mark())),
         ("left", left),
         ("owner", shown.book.owner_of(int(told["herd"])) or texts["no owner"]),
         ("since", since),

@@ -3,7 +3,8 @@ from __future__ import annotations
 
 import html
 
-from society.book.book import Book, Known
+from society.book.book import Book
+from society.book.known import Known
 from society.pages.languages import Language
 
 FONT = "'Helvetica Neue', Arial, 'Liberation Sans', 'DejaVu Sans', sans-serif"
@@ -47,7 +48,7 @@ def shortened(text: str, most: int) -> str:
 
 def year_of(book: Book, known: Known, language: Language) -> str:
     """The birth year, with a mark where the day was inferred."""
-    return language.marked(str(book.records[known.number].born.year), known.birth_mark())
+    return language.marked(str(book.records[known.number].born.year), known.birth.mark())
 
 
 def file_name(kind: str, id: str, suffix: str) -> str:

@@ -5,7 +5,8 @@ import collections
 from dataclasses import dataclass, field
 
 from society.answers.listing import Coefficient
-from society.book.book import Book, Known
+from society.book.book import Book
+from society.book.known import Known
 from society.pages.drawing import (
     DAM,
     GREY,
@@ -114,7 +115,7 @@ def box(book: Book, node: Node, known: Known, coefficient: Coefficient, times: i
     round_by = 3 if known.number[6] == "M" else 16
     texts = language.texts
     facts = [year_of(book, known, language)] + ([texts["drawn times"].format(times)] if times > 1 else [])
-    day = language.marked(language.day(book.records[known.number].born), known.birth_mark())
+    day = language.marked(language.day(book.records[known.number].born), known.birth.mark())
     tip = (
         f"{known.id} {known.name}".strip()
         + f", {known.number}, {texts['born on'].format(day)}, F {coefficient.fraction}"

@@ -7,7 +7,7 @@ from fractions import Fraction
 from typing import Callable, NamedTuple
 
 from society.answers.listing import Coefficient
-from society.book.book import Book, Known
+from society.book.book import Book
 from society.mistake import Mistake
 from society.pages.drawing import GREY, INBRED_INK, INK, PAPER, escape, svg, text_at
 from society.pages.languages import Language
@@ -23,18 +23,13 @@ class Year(NamedTuple):
     mean: Fraction
 
 
-def has_year(known: Known) -> bool:
-    """Is the birth year known, though the day may not be?"""
-    return not known.birth or " the year " in known.birth or " the month " in known.birth
-
-
 def years_of(book: Book, coefficients: dict[str, Coefficient]) -> tuple[list[Year], int]:
     """The years that have animals, and how many animals have no known year."""
     names = book.by_number()
     values: dict[int, list[Fraction]] = collections.defaultdict(list)
     without = 0
     for number, coefficient in coefficients.items():
-        if has_year(names[number]):
+        if names[number].birth.has_year():
             values[book.records[number].born.year].append(coefficient.value)
         else:
             without += 1

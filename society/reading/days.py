@@ -6,6 +6,8 @@ import datetime
 import re
 from typing import NamedTuple
 
+from society.book.inferred import Period
+
 FIRST_YEAR, LAST_YEAR = 1900, 2199
 FIRST_DAY, LAST_DAY = datetime.date(FIRST_YEAR, 1, 1), datetime.date(LAST_YEAR, 12, 31)
 
@@ -45,11 +47,10 @@ class Span(NamedTuple):
     def is_day(self) -> bool:
         return self.first == self.last
 
-    def words(self) -> str:
+    def period(self) -> Period:
         """The month or the year."""
         is_month = (self.first.year, self.first.month) == (self.last.year, self.last.month)
-        span = f"the month {self.first:%Y-%m}" if is_month else f"the year {self.first.year}"
-        return f"{span}, since there is no day {self.wrong}" if self.wrong else span
+        return Period(f"{self.first:%Y-%m}" if is_month else str(self.first.year), self.wrong)
 
 
 ANY_DAY = Span(FIRST_DAY, LAST_DAY)

@@ -6,7 +6,7 @@ import datetime
 import re
 from dataclasses import dataclass, field
 
-from society.book.book import NO_DAY
+from society.book.inferred import GIVEN_BIRTH, GIVEN_EXIT, BirthBasis, ExitBasis, ExitSource, SexSource
 from society.mistake import Mistake
 from society.reading.columns import KNOWN_NO, KNOWN_SEXES, KNOWN_STAYS, KNOWN_YES, plain, sex_word
 from society.reading.days import ANY_DAY, MonthFirst, Span, Unreadable, is_span, read_span, span_within
@@ -39,9 +39,9 @@ class Animal:
     # what is found for it later: its birth day, its number, and what was inferred and from what
     born: datetime.date = ANY_DAY.first
     number: str = ""
-    birth_inferred: str = ""
-    left_inferred: str = ""
-    sex_inferred: str = ""
+    birth_basis: BirthBasis = GIVEN_BIRTH
+    exit_basis: ExitBasis = GIVEN_EXIT
+    sex_source: SexSource = SexSource.GIVEN
     # for a parent without a row the line that names it
     named_in: int = 0
     # the fields whose cells can't be read
@@ -65,7 +65,7 @@ class Animal:
         return self.birth.is_day
 
     def born_marked(self) -> str:
-        return f"{self.born}{' (inferred)' if self.birth_inferred else ''}"
+        return f"{self.born}{' (inferred)' if self.birth_basis.is_inferred else ''}"
 
     def where(self) -> str:
         """How a sentence about it begins."""
@@ -187,15 +187,15 @@ class Rows:
             left = None
         if left:
             animal.left = left.last
-            animal.left_inferred = "" if left.is_day else left.words()
+            animal.exit_basis = GIVEN_EXIT if left.is_day else ExitBasis(ExitSource.PERIOD, left.period())
             within = "" if is_span(text) else f", from '{text}'"
-            if animal.left_inferred:
-                why = f"exit on {animal.left}, the last day of {animal.left_inferred}{within}"
+            if animal.exit_basis.is_inferred:
+                why = f"exit on {animal.left}, the last day of {animal.exit_basis.words()}{within}"
                 self.report.tell(INFERRED, animal.line, animal.id, why)
             elif within:
                 self.report.tell(INFERRED, animal.line, animal.id, f"exit on {animal.left}{within}")
         elif "exit" in animal.unread:
-            animal.left_inferred = f"{NO_DAY}: '{text}'"
+            animal.exit_basis = ExitBasis(ExitSource.UNKNOWN_DAY, text=text)
 
     def span(self, animal: Animal, field: str, text: str) -> Span | None:
         if text.casefold() in self.unknown:

@@ -3,7 +3,7 @@ from __future__ import annotations
 
 import datetime
 
-from society.book.book import INVENTED
+from society.book.inferred import GIVEN_BIRTH, BirthBasis, BirthSource
 from society.reading.days import ANY_DAY, FIRST_DAY, Span
 from society.reading.rows import Animal
 from society.taking.order import calves_of, in_order
@@ -11,12 +11,13 @@ from society.taking.report import INFERRED, Report
 
 # days between a parent's birth and a calf's, where only one of the two is known
 GENERATION = 730
+FROM_OFFSPRING, FROM_PARENTS = BirthBasis(BirthSource.OFFSPRING), BirthBasis(BirthSource.PARENTS)
 
 
 class Days:
     """Infers the days that the sheet doesn't give. Days are counted here, as `date.toordinal` counts them."""
 
-    def __init__(self, animals: dict[str, Animal], kept: dict[str, tuple[int, str]]) -> None:
+    def __init__(self, animals: dict[str, Animal], kept: dict[str, tuple[int, BirthBasis]]) -> None:
         self.animals = animals
         # the day that was inferred for an animal of the book, and from what
         self.kept = kept
@@ -25,7 +26,7 @@ class Days:
         self.low: dict[str, int] = {}
         self.high: dict[str, int] = {}
         # a likely day, and from what
-        self.likely: dict[str, tuple[int, str]] = {}
+        self.likely: dict[str, tuple[int, BirthBasis]] = {}
 
     def infer(self, report: Report) -> None:
         """Sets `born` of all animals, which have no cycle, and tells each day that was inferred."""
@@ -38,7 +39,7 @@ class Days:
             if animal.has_day():
                 animal.born = animal.birth.first
             else:
-                animal.born, animal.birth_inferred = self.day_for(animal)
+                animal.born, animal.birth_basis = self.day_for(animal)
                 named = f" (line {animal.named_in} names it)" if animal.named_in else ""
                 report.tell(INFERRED, animal.line, id, f"birth day {animal.born}, {self.reason_of(animal)}{named}")
 
@@ -48,10 +49,10 @@ class Days:
 
     def reason_of(self, animal: Animal) -> str:
         """The reason in a sentence: that of a day that stays may not hold any more."""
-        why = animal.birth_inferred
+        basis = animal.birth_basis
         if not self.stays(animal, animal.born.toordinal()):
-            return why
-        return f"as in the book, where it was {why if why == INVENTED else f'inferred: {why}'}"
+            return basis.words()
+        return f"as in the book, where it was {'' if basis.is_invented else 'inferred: '}{basis.words()}"
 
     def set_low(self, id: str) -> None:
         animal = self.animals[id]
@@ -64,7 +65,7 @@ class Days:
         animal, calves = self.animals[id], self.calves.get(id, ())
         if animal.has_day():
             self.high[id] = animal.birth.first.toordinal()
-            self.likely[id] = self.high[id], ""
+            self.likely[id] = self.high[id], GIVEN_BIRTH
             return
         last = animal.birth.last.toordinal()
         dam = self.animals.get(animal.dam) if not animal.embryo else None
@@ -74,34 +75,33 @@ class Days:
         by_calves = [self.likely[calf][0] - GENERATION for calf in calves if calf in self.likely]
         dated = [parent for _, parent in animal.parents() if self.animals[parent].birth != ANY_DAY]
         if animal.birth != ANY_DAY:
-            self.likely[id] = middle(animal.birth), f"from {animal.birth.words()}"
+            self.likely[id] = middle(animal.birth), BirthBasis(BirthSource.PERIOD, animal.birth.period())
         elif by_calves:
-            self.likely[id] = min(by_calves), "from its offspring"
+            self.likely[id] = min(by_calves), FROM_OFFSPRING
         elif dated:
             youngest = max(middle(self.animals[parent].birth) for parent in dated)
-            self.likely[id] = youngest + GENERATION, "from its parents"
+            self.likely[id] = youngest + GENERATION, FROM_PARENTS
 
-    def day_for(self, animal: Animal) -> tuple[datetime.date, str]:
+    def day_for(self, animal: Animal) -> tuple[datetime.date, BirthBasis]:
         parents = [self.animals[parent].born.toordinal() for _, parent in animal.parents()]
         low = max([self.low[animal.id], *(day + 1 for day in parents)])
-        kept, from_what = self.kept.get(animal.id, (0, ""))
+        kept, basis_before = self.kept.get(animal.id, (0, GIVEN_BIRTH))
         if animal.id in self.likely:
-            day, why = self.likely[animal.id]
+            day, basis = self.likely[animal.id]
         elif parents:
-            day, why = max(parents) + GENERATION, "from its parents"
+            day, basis = max(parents) + GENERATION, FROM_PARENTS
         else:
-            day = FIRST_DAY.toordinal()
-            why = "the earliest that a book can have, since no parent and no offspring has one"
+            day, basis = FIRST_DAY.toordinal(), BirthBasis(BirthSource.EARLIEST)
         if animal.birth.first.toordinal() <= kept <= animal.birth.last.toordinal():
             day = kept
-            why = why if parents or animal.id in self.likely else "the nearest to the book's that an exit leaves open"
+            basis = basis if parents or animal.id in self.likely else BirthBasis(BirthSource.NEAREST)
         day = min(max(day, low), self.high[animal.id])
         # where parents and calves leave no day open, that of the cell holds, and the program refuses a parent
         day = min(max(day, animal.birth.first.toordinal()), animal.birth.last.toordinal())
         # a day that stays has the reason that it had, whatever is known today
         if self.stays(animal, day):
-            why = from_what
-        return datetime.date.fromordinal(day), why
+            basis = basis_before
+        return datetime.date.fromordinal(day), basis
 
 
 def middle(span: Span) -> int:

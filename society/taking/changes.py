@@ -3,8 +3,10 @@ from __future__ import annotations
 
 import datetime
 
-from society.book.book import INVENTED, NO_DAY, NO_OWNER, Known
+from society.book.book import NO_OWNER
 from society.book.commands import Command, Record, birth, leave, transfer
+from society.book.inferred import NO_DAY, ExitBasis
+from society.book.known import Known
 from society.herdbook import REFUSALS, Herdbook
 from society.mistake import Mistake
 from society.reading.rows import Animal
@@ -113,10 +115,10 @@ class Filing:
             ("sire", self.next_book.id_of(record.sire), animal.sire),
             ("dam", self.next_book.id_of(record.dam), animal.dam),
             ("owner", self.book.owner_of(record.herd), animal.owner),
-            ("exit", exit_words(record.left, known.exit), exit_words(animal.left, animal.left_inferred)),
+            ("exit", exit_words(record.left, known.exit), exit_words(animal.left, animal.exit_basis)),
             ("stored embryo", "yes" if record.embryo else "", "yes" if animal.embryo else ""),
         ]
-        if known.birth == animal.birth_inferred == INVENTED:
+        if known.birth.is_invented and animal.birth_basis.is_invented:
             # invented days are invented anew each time
             del pairs[1]
         return [
@@ -124,8 +126,8 @@ class Filing:
         ]
 
 
-def exit_words(left: datetime.date | None, inferred: str) -> str:
-    return str(left) if left else NO_DAY if inferred.startswith(NO_DAY) else ""
+def exit_words(left: datetime.date | None, basis: ExitBasis) -> str:
+    return str(left) if left else NO_DAY if basis.day_is_unknown else ""
 
 
 def is_corrected(animal: Animal, record: Record) -> bool:

@@ -51,11 +51,11 @@ def leave_out_parent(next_book: NextBook, animal: Animal, refusal: int) -> None:
     if refusal in (7, 8):
         facts.append(f"born {parent.born_marked()}")
     if refusal == 9:
-        facts.append(f"left {parent.left}{' (inferred)' if parent.left_inferred else ''}")
+        facts.append(f"left {parent.left}{' (inferred)' if parent.exit_basis.is_inferred else ''}")
     of_parent = f"{parent.id} ({', '.join(facts)})" if facts else parent.id
     why = f"{WHY[refusal]} (refusal {refusal})"
-    if refusal in (5, 6) and parent.sex_inferred:
-        why += f"; its sex is inferred: {'male' if parent.sex == 'M' else 'female'}, {parent.sex_inferred}"
+    if refusal in (5, 6) and parent.sex_source.is_inferred:
+        why += f"; its sex is inferred: {'male' if parent.sex == 'M' else 'female'}, {parent.sex_source.words()}"
     if refusal not in (5, 6):
         why += f"; {animal.id} was born {animal.born_marked()}"
     if refusal == 9:

@@ -27,7 +27,6 @@ def finish(next_book: NextBook, program: Herdbook, wishes: Wishes, about: list[s
     commands, is_anew = filing.filed(program)
     filing.tell_changes()
     new = sum(1 for animal in next_book.animals.values() if animal.line and animal.id not in book.known)
-    book.written = next_book.written_parents()
     book.commands, book.known, book.dropped = commands, next_book.known_animals(), next_book.dropped_animals()
     book.save(report.in_order(), wishes.semicolons)
     print("\n".join(about))

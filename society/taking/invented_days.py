@@ -4,10 +4,12 @@ from __future__ import annotations
 import datetime
 import heapq
 
-from society.book.book import INVENTED
+from society.book.inferred import BirthBasis, BirthSource
 from society.reading.days import FIRST_DAY
 from society.reading.rows import Animal
 from society.taking.order import calves_of
+
+INVENTED = BirthBasis(BirthSource.INVENTED)
 
 
 def invent_days(animals: dict[str, Animal]) -> None:
@@ -23,7 +25,7 @@ def invent_days(animals: dict[str, Animal]) -> None:
     day = FIRST_DAY
     while ready:
         _, id = heapq.heappop(ready)
-        animals[id].born, animals[id].birth_inferred = day, INVENTED
+        animals[id].born, animals[id].birth_basis = day, INVENTED
         day += datetime.timedelta(days=1)
         for calf in calves.get(id, ()):
             waiting[calf] -= 1

@@ -1,7 +1,7 @@
 """Sexes for a geneticist's pedigree, `id sire dam`: invented so that nothing is refused for them."""
 from __future__ import annotations
 
-from society.book.book import INVENTED
+from society.book.inferred import SexSource
 from society.reading.rows import ROLES, Animal
 from society.taking.cycles import cut_cycles
 from society.taking.report import CHANGED, PARENT, Report
@@ -22,7 +22,7 @@ def invent_sexes(animals: dict[str, Animal], report: Report) -> None:
     cut_cycles(animals, report)
     sexes = Sexes(animals)
     for animal in animals.values():
-        animal.sex_inferred = INVENTED
+        animal.sex_source = SexSource.INVENTED
     for animal in animals.values():
         sexes.place_parents(animal, report)
 

@@ -3,8 +3,11 @@ from __future__ import annotations
 
 from dataclasses import replace
 
-from society.book.book import Book, Known
+from society.book.book import Book
 from society.book.commands import Command, Record, parents
+from society.book.inferred import SexSource
+from society.book.kinds import Standing
+from society.book.known import Known
 from society.mistake import Mistake
 from society.reading.days import ANY_DAY, Span
 from society.reading.rows import ROLES, Animal
@@ -67,7 +70,7 @@ class NextBook:
         if "dam" not in self.given:
             animal.dam = self.id_of(record.dam)
         if "exit" not in self.given or ("exit" in animal.unread and record.left):
-            animal.left, animal.left_inferred = record.left, known.exit
+            animal.left, animal.exit_basis = record.left, known.exit
             self.tell_kept(animal, "exit", f"exit on {record.left}")
         if "embryo" not in self.given or "embryo" in animal.unread:
             animal.embryo = record.embryo
@@ -75,10 +78,10 @@ class NextBook:
         if owner and not animal.owner:
             animal.owner = owner
             self.tell_kept(animal, "owner", owner)
-        if animal.birth == ANY_DAY and not known.birth:
+        if animal.birth == ANY_DAY and not known.birth.is_inferred:
             animal.birth = Span(record.born, record.born)
             self.tell_kept(animal, "birth", f"birth day {record.born}")
-        if not animal.sex and not known.sex:
+        if not animal.sex and not known.sex.is_inferred:
             animal.sex = record.number[6]
             self.tell_kept(animal, "sex", {"M": "male", "F": "female"}[animal.sex])
 
@@ -113,19 +116,19 @@ class NextBook:
                 continue
             role, known = self.roles.get(id), self.book.known.get(id)
             if role:
-                animal.sex, animal.sex_inferred = ROLES[role], f"since it is a {role}"
+                animal.sex, animal.sex_source = ROLES[role], SexSource(role)
             elif known:
-                animal.sex, animal.sex_inferred = known.number[6], "as in the book"
+                animal.sex, animal.sex_source = known.number[6], SexSource.BOOK
             else:
-                animal.sex, animal.sex_inferred = "F", "since nothing else is known"
+                animal.sex, animal.sex_source = "F", SexSource.NOTHING
             if animal.line:
                 word = {"M": "male", "F": "female"}[animal.sex]
                 more = ", and its cell can't be read" if "sex" in animal.unread else ""
-                self.report.tell(INFERRED, animal.line, id, f"sex {word}, {animal.sex_inferred}{more}")
+                self.report.tell(INFERRED, animal.line, id, f"sex {word}, {animal.sex_source.words()}{more}")
 
     def find_days(self) -> None:
         cut_cycles(self.animals, self.report)
-        inferred = [(id, known) for id, known in self.book.known.items() if known.birth]
+        inferred = [(id, known) for id, known in self.book.known.items() if known.birth.is_inferred]
         kept = {id: (self.book.records[known.number].born.toordinal(), known.birth) for id, known in inferred}
         Days(self.animals, kept).infer(self.report)
 
@@ -146,17 +149,18 @@ class NextBook:
 
     def dropped_animals(self) -> dict[str, Known]:
         before = self.book.dropped | self.book.known
-        return {id: replace(known, row="dropped") for id, known in before.items() if id not in self.animals}
+        return {id: replace(known, standing=Standing.DROPPED) for id, known in before.items() if id not in self.animals}
 
     def written_parents(self) -> dict[tuple[str, str], str]:
         """The texts of parents that were left out, or are written by their names; those of the book where the sheet
         doesn't give the parent."""
         found = {}
-        for (id, role), text in self.book.written.items():
-            animal, record = self.animals.get(id), self.record(id)
-            if animal and record and not (animal.line and role in self.given):
+        before = [(known, role) for known in self.book.known.values() for role in ROLES if known.written(role)]
+        for known, role in before:
+            animal, record = self.animals.get(known.id), self.book.records[known.number]
+            if animal and not (animal.line and role in self.given):
                 if getattr(animal, role) == self.id_of(getattr(record, role)):
-                    found[id, role] = text
+                    found[known.id, role] = known.written(role)
         for (id, role), text in self.texts.items():
             animal = self.animals.get(id)
             # a pedigree's parents may be swapped
@@ -166,13 +170,15 @@ class NextBook:
         return found
 
     def known_animals(self) -> dict[str, Known]:
-        """What `ids.csv` has of each animal afterwards."""
-        kept = {}
+        """What is known of each animal afterwards."""
+        kept, written = {}, self.written_parents()
         for id, animal in self.animals.items():
             before = self.book.known.get(id)
-            row = "yes" if animal.line else "gone" if before and before.had_row() else "no"
-            inferred = animal.birth_inferred, animal.left_inferred, animal.sex_inferred
-            kept[id] = Known(animal.number, id, animal.name, row, *inferred)
+            had_row = before is not None and before.standing.had_row()
+            standing = Standing.ROW if animal.line else Standing.GONE if had_row else Standing.PARENT
+            inferred = animal.birth_basis, animal.exit_basis, animal.sex_source
+            texts = written.get((id, "sire"), ""), written.get((id, "dam"), "")
+            kept[id] = Known(animal.number, id, animal.name, standing, *inferred, *texts)
         return kept
 
     # -- what commands name

@@ -29,7 +29,7 @@ class Names:
     def find_parents(self, rows: dict[str, Animal], book: Book) -> None:
         """A parent that is no row's id, but the name of one animal alone, is taken for that one where it can be it.
         What is the parent in the book stays it, whatever other animals have its name."""
-        with_row = rows.keys() | {id for id, known in book.known.items() if known.had_row()}
+        with_row = rows.keys() | {id for id, known in book.known.items() if known.standing.had_row()}
         ids = {known.number: id for id, known in book.known.items()}
         links = [(calf, role, text) for calf in rows.values() for role, text in calf.parents() if text not in with_row]
         links = [(calf, role, text) for calf, role, text in links if text.casefold() in self.named]

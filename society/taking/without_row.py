@@ -15,11 +15,11 @@ def animals_of_book(book: Book, animals: dict[str, Animal]) -> dict[str, Animal]
         if id in animals:
             continue
         record = book.records[known.number]
-        animal = Animal(id, 0, known.name, "" if known.sex else known.number[6])
-        animal.birth = ANY_DAY if known.birth else Span(record.born, record.born)
+        animal = Animal(id, 0, known.name, "" if known.sex.is_inferred else known.number[6])
+        animal.birth = ANY_DAY if known.birth.is_inferred else Span(record.born, record.born)
         animal.sire, animal.dam = ids.get(record.sire, ""), ids.get(record.dam, "")
         animal.owner, animal.embryo = book.owner_of(record.herd), record.embryo
-        animal.left, animal.left_inferred = record.left, known.exit
+        animal.left, animal.exit_basis = record.left, known.exit
         gone[id] = animal
     return gone
 
@@ -31,7 +31,7 @@ def add_gone(animals: dict[str, Animal], gone: dict[str, Animal], book: Book, dr
     for id, animal in gone.items():
         if id in kept:
             animals[id] = animal
-        had_row = book.known[id].had_row()
+        had_row = book.known[id].standing.had_row()
         why = "it has no row any more" if had_row else "no animal has it as a parent any more"
         if id not in kept:
             report.tell(GONE, 0, id, f"{why}: it is dropped from the book")

@@ -1,0 +1,65 @@
+"""The changes of a book: each has a number, and what is kept of how it came."""
+from __future__ import annotations
+
+import datetime
+from dataclasses import dataclass, field
+
+from society.book.kinds import ChangeKind
+
+
+@dataclass(frozen=True, slots=True)
+class Source:
+    """The file that a change came from: its name, where it was, and its digest (SHA-256)."""
+
+    name: str
+    path: str
+    digest: str
+
+
+@dataclass(frozen=True, slots=True)
+class Told:
+    """What a change told: its kind and part, the line of the sheet (0 for none), the animal's id, and what else it
+    says, word by word."""
+
+    kind: str
+    part: str
+    line: int
+    id: str
+    fields: tuple[tuple[str, str], ...]
+
+
+@dataclass(frozen=True, slots=True)
+class Option:
+    """An option with which a change was made, and its word, empty for one that has none."""
+
+    option: str
+    word: str = ""
+
+
+@dataclass(frozen=True, slots=True)
+class Made:
+    """How a change is made: what goes into its history beside the state."""
+
+    kind: ChangeKind
+    source: Source | None = None
+    options: tuple[Option, ...] = ()
+    counts: tuple[tuple[str, int], ...] = ()
+    told: tuple[Told, ...] = ()
+    # for an undo the change whose state it brings back
+    undone_to: int | None = None
+
+
+@dataclass(frozen=True, slots=True)
+class Change:
+    """A change as the book has it: after it the journal is that of an edition up to a length."""
+
+    number: int
+    kind: ChangeKind
+    time: datetime.datetime
+    login: str
+    edition: int
+    length: int
+    source: Source | None = None
+    options: tuple[Option, ...] = ()
+    counts: dict[str, int] = field(default_factory=dict)
+    undone_to: int | None = None

@@ -1,0 +1,75 @@
+"""The kinds of things that a book knows, each a word of its own: what an animal is in it, and what is kept of it."""
+from __future__ import annotations
+
+import enum
+
+
+class Standing(enum.Enum):
+    """What an animal is in the book."""
+
+    # it has a row in the last sheet
+    ROW = "row"
+    # it had one before
+    GONE = "gone"
+    # it is a parent that never had one
+    PARENT = "parent"
+    # it was filed by hand, and no sheet had it yet
+    FILED = "filed"
+    # it isn't in the book any more; its number is kept
+    DROPPED = "dropped"
+
+    def had_row(self) -> bool:
+        return self in (Standing.ROW, Standing.GONE)
+
+    def is_listed(self) -> bool:
+        """Is it one of the society's own, which lists and advice name?"""
+        return self in (Standing.ROW, Standing.FILED)
+
+
+class Field(enum.Enum):
+    """What a sheet has a column for."""
+
+    ID = "id"
+    NAME = "name"
+    SEX = "sex"
+    BIRTH = "birth"
+    SIRE = "sire"
+    DAM = "dam"
+    OWNER = "owner"
+    EXIT = "exit"
+    EMBRYO = "embryo"
+
+
+class CommandKind(enum.Enum):
+    BIRTH = "birth"
+    PARENTS = "parents"
+    TRANSFER = "transfer"
+    EXIT = "exit"
+
+
+class ChangeKind(enum.Enum):
+    """What made a change."""
+
+    TAKE = "take"
+    PEDIGREE = "pedigree"
+    BIRTH = "birth"
+    PARENTS = "parents"
+    TRANSFER = "transfer"
+    EXIT = "exit"
+    UNDO = "undo"
+    RESTORE = "restore"
+    # a folder of version 0.11 was taken over
+    FOLDER = "folder"
+
+
+class Remembered(enum.Enum):
+    """What a book remembers of how its sheets are read: for each a word, and what it stands for."""
+
+    # a field, and the title of its column, empty where there is none
+    COLUMN = "column"
+    # a word for an unknown parent
+    UNKNOWN = "unknown"
+    # a word for a sex, and the sex
+    SEX = "sex"
+    # what was told and needn't be told again, and the answer to it
+    TOLD = "told"

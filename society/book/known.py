@@ -1,0 +1,36 @@
+"""What the society knows of an animal, beside what the register has of it."""
+from __future__ import annotations
+
+from dataclasses import dataclass
+
+from society.book.inferred import GIVEN_BIRTH, GIVEN_EXIT, BirthBasis, ExitBasis, SexSource
+from society.book.kinds import Field, Standing
+
+# no field was changed by hand
+NO_FIELDS: frozenset[Field] = frozenset()
+
+
+@dataclass(frozen=True, slots=True)
+class Known:
+    """What an animal's number stands for, and what was inferred of it."""
+
+    number: str
+    id: str
+    name: str = ""
+    standing: Standing = Standing.ROW
+    birth: BirthBasis = GIVEN_BIRTH
+    exit: ExitBasis = GIVEN_EXIT
+    sex: SexSource = SexSource.GIVEN
+    # what the sheet writes of a parent that was left out, or that is written by its name
+    written_sire: str = ""
+    written_dam: str = ""
+    # what was filed by hand since the last sheet
+    by_hand: frozenset[Field] = NO_FIELDS
+
+    @property
+    def is_male(self) -> bool:
+        return self.number[6] == "M"
+
+    def written(self, role: str) -> str:
+        """What the sheet writes of its `sire` or `dam`, where that isn't the parent's id."""
+        return self.written_sire if role == "sire" else self.written_dam

@@ -1,0 +1,182 @@
+"""The tables of `book.sqlite`, by version: each script makes of a file of the version before it one of its own."""
+from __future__ import annotations
+
+import enum
+
+from society.book.inferred import BirthSource, ExitSource, SexSource
+from society.book.kinds import ChangeKind, CommandKind, Remembered, Standing
+
+# what tells a herd book from other databases: HERD
+APPLICATION = 0x48455244
+
+
+def words(kinds: type[enum.Enum]) -> str:
+    """The words of an enum, as a check lists them."""
+    return ", ".join(f"'{kind.value}'" for kind in kinds)
+
+
+DAY = "GLOB '[12][0-9][0-9][0-9]-[01][0-9]-[0-3][0-9]'"
+NUMBER = "GLOB '[A-Z][A-Z][A-Z][A-Z][A-Z][A-Z][MF][0-9A-Z]*'"
+
+# Changes and the journal only grow. A row of the state holds from the change `since` on, and where it doesn't hold any
+# more up to before the change `until`: so the state after each change is there.
+FIRST = f"""
+CREATE TABLE edition (
+    edition INTEGER PRIMARY KEY CHECK (edition >= 1),
+    predecessor INTEGER REFERENCES edition CHECK (predecessor < edition),
+    keeps INTEGER NOT NULL CHECK (keeps >= 0),
+    CHECK (predecessor IS NOT NULL OR keeps = 0)
+) STRICT;
+
+CREATE TABLE change (
+    change INTEGER PRIMARY KEY CHECK (change >= 1),
+    kind TEXT NOT NULL CHECK (kind IN ({words(ChangeKind)})),
+    -- microseconds since 1970 began, in universal time
+    time INTEGER NOT NULL,
+    login TEXT NOT NULL,
+    -- the journal after it: an edition up to a length
+    edition INTEGER NOT NULL REFERENCES edition,
+    length INTEGER NOT NULL CHECK (length >= 0),
+    file TEXT,
+    path TEXT,
+    digest TEXT CHECK (length(digest) = 64),
+    -- whose state an undo brings back; 0 is the empty book
+    undone_to INTEGER CHECK (undone_to >= 0 AND undone_to < change),
+    CHECK ((file IS NULL) = (digest IS NULL) AND (file IS NULL) = (path IS NULL)),
+    CHECK ((kind = '{ChangeKind.UNDO.value}') = (undone_to IS NOT NULL))
+) STRICT;
+
+CREATE TABLE given_option (
+    change INTEGER NOT NULL REFERENCES change,
+    place INTEGER NOT NULL,
+    option TEXT NOT NULL,
+    word TEXT NOT NULL,
+    PRIMARY KEY (change, place)
+) STRICT, WITHOUT ROWID;
+
+CREATE TABLE counted (
+    change INTEGER NOT NULL REFERENCES change,
+    what TEXT NOT NULL,
+    count INTEGER NOT NULL CHECK (count >= 0),
+    PRIMARY KEY (change, what)
+) STRICT, WITHOUT ROWID;
+
+CREATE TABLE told (
+    change INTEGER NOT NULL REFERENCES change,
+    place INTEGER NOT NULL,
+    kind TEXT NOT NULL,
+    part TEXT NOT NULL,
+    line INTEGER NOT NULL CHECK (line >= 0),
+    id TEXT NOT NULL,
+    -- an object of texts
+    fields TEXT NOT NULL CHECK (json_valid(fields)),
+    PRIMARY KEY (change, place)
+) STRICT, WITHOUT ROWID;
+
+CREATE TABLE command (
+    edition INTEGER NOT NULL REFERENCES edition,
+    place INTEGER NOT NULL CHECK (place >= 1),
+    kind TEXT NOT NULL CHECK (kind IN ({words(CommandKind)})),
+    animal TEXT NOT NULL CHECK (length(animal) = 19 AND animal {NUMBER}),
+    day TEXT CHECK (day {DAY}),
+    sire TEXT CHECK (length(sire) = 19 AND sire {NUMBER}),
+    dam TEXT CHECK (length(dam) = 19 AND dam {NUMBER}),
+    giver INTEGER CHECK (giver BETWEEN 1 AND 99999999),
+    taker INTEGER CHECK (taker BETWEEN 1 AND 99999999),
+    embryo INTEGER NOT NULL CHECK (embryo IN (0, 1)),
+    -- the reply: the number of the refusal, or 0 where it was accepted
+    refusal INTEGER NOT NULL CHECK (refusal BETWEEN 0 AND 16),
+    CHECK ((kind = 'parents') = (day IS NULL)),
+    CHECK (kind IN ('birth', 'parents') OR (sire IS NULL AND dam IS NULL)),
+    CHECK ((kind IN ('birth', 'transfer')) = (taker IS NOT NULL)),
+    CHECK ((kind = 'transfer') = (giver IS NOT NULL)),
+    CHECK (kind = 'birth' OR embryo = 0),
+    PRIMARY KEY (edition, place)
+) STRICT, WITHOUT ROWID;
+
+CREATE TABLE owner (
+    herd INTEGER PRIMARY KEY CHECK (herd BETWEEN 1 AND 99999998),
+    name TEXT NOT NULL UNIQUE
+) STRICT;
+
+CREATE TABLE animal (
+    animal INTEGER PRIMARY KEY,
+    id TEXT NOT NULL CHECK (id <> ''),
+    since INTEGER NOT NULL REFERENCES change,
+    until INTEGER REFERENCES change CHECK (until > since),
+    number TEXT NOT NULL CHECK (length(number) = 19 AND number {NUMBER}),
+    name TEXT NOT NULL,
+    -- the id and the name in small letters, by which it is found
+    folded_id TEXT NOT NULL,
+    folded_name TEXT NOT NULL,
+    standing TEXT NOT NULL CHECK (standing IN ({words(Standing)})),
+    birth_source TEXT NOT NULL CHECK (birth_source IN ({words(BirthSource)})),
+    birth_period TEXT,
+    birth_no_such_day TEXT,
+    exit_source TEXT NOT NULL CHECK (exit_source IN ({words(ExitSource)})),
+    exit_period TEXT,
+    exit_no_such_day TEXT,
+    exit_text TEXT,
+    sex_source TEXT NOT NULL CHECK (sex_source IN ({words(SexSource)})),
+    written_sire TEXT NOT NULL,
+    written_dam TEXT NOT NULL,
+    by_hand TEXT NOT NULL,
+    -- what the register has, none of it for one that was dropped
+    born TEXT CHECK (born {DAY}),
+    sire TEXT CHECK (length(sire) = 19 AND sire {NUMBER}),
+    dam TEXT CHECK (length(dam) = 19 AND dam {NUMBER}),
+    embryo INTEGER CHECK (embryo IN (0, 1)),
+    herd INTEGER CHECK (herd BETWEEN 1 AND 99999999),
+    owned_since TEXT CHECK (owned_since {DAY}),
+    giver INTEGER CHECK (giver BETWEEN 1 AND 99999999),
+    departed TEXT CHECK (departed {DAY}),
+    CHECK ((birth_source = 'period') = (birth_period IS NOT NULL)),
+    CHECK ((exit_source = 'period') = (exit_period IS NOT NULL)),
+    CHECK ((exit_source = 'unknown day') = (exit_text IS NOT NULL)),
+    CHECK ((standing = 'dropped') = (born IS NULL)),
+    CHECK ((born IS NULL) = (embryo IS NULL) AND (born IS NULL) = (herd IS NULL)),
+    CHECK ((born IS NULL) = (owned_since IS NULL)),
+    UNIQUE (id, since)
+) STRICT;
+CREATE UNIQUE INDEX animal_id ON animal (id) WHERE until IS NULL;
+CREATE UNIQUE INDEX animal_number ON animal (number) WHERE until IS NULL;
+CREATE INDEX animal_folded_id ON animal (folded_id) WHERE until IS NULL;
+CREATE INDEX animal_folded_name ON animal (folded_name) WHERE until IS NULL AND folded_name <> '';
+
+-- the cells of the last sheet that had a row for an animal, as they were written; none where it had no such column
+CREATE TABLE cell (
+    id TEXT NOT NULL,
+    since INTEGER NOT NULL REFERENCES change,
+    until INTEGER REFERENCES change CHECK (until > since),
+    name TEXT,
+    sex TEXT,
+    birth TEXT,
+    sire TEXT,
+    dam TEXT,
+    owner TEXT,
+    exit TEXT,
+    embryo TEXT,
+    PRIMARY KEY (id, since)
+) STRICT, WITHOUT ROWID;
+
+CREATE TABLE remembered (
+    what TEXT NOT NULL CHECK (what IN ({words(Remembered)})),
+    word TEXT NOT NULL,
+    since INTEGER NOT NULL REFERENCES change,
+    until INTEGER REFERENCES change CHECK (until > since),
+    place INTEGER NOT NULL,
+    meaning TEXT NOT NULL,
+    PRIMARY KEY (what, word, since)
+) STRICT, WITHOUT ROWID;
+
+-- the coefficients of the last state, in age order
+CREATE TABLE coefficient (
+    place INTEGER PRIMARY KEY,
+    number TEXT NOT NULL UNIQUE,
+    fraction TEXT NOT NULL,
+    percent TEXT NOT NULL
+) STRICT;
+"""
+
+MIGRATIONS = (FIRST,)
+VERSION = len(MIGRATIONS)
