@@ -216,6 +216,18 @@ def mating(text: str, dam: str, sires: list[str]) -> str:
     return "".join(lines)
 
 
+def relationships(text: str, numbers: list[str], others: list[str] | None = None) -> str:
+    """Of the numbers with the others, or with themselves and those after them."""
+    book = filed(text)[0]
+    entry = book.relationships()
+    lines = [f"{it},refused,1\n" for it in [*numbers, *(others or [])] if it not in book.animals]
+    firsts = [it for it in numbers if it in book.animals]
+    for place, one in enumerate(firsts):
+        partners = firsts[place:] if others is None else [it for it in others if it in book.animals]
+        lines += [f"{one},{it},{entry(one, it)}\n" for it in partners]
+    return "".join(lines)
+
+
 def inverse(text: str) -> str:
     book = filed(text)[0]
     entry, ranks = book.relationships(), book.ranks()
