@@ -10,36 +10,11 @@ from typing import IO, Iterator
 
 from society.book.commands import Command, text_of
 from society.mistake import Mistake, counted
+from society.refusals import Refusal
 
 TOP = pathlib.Path(__file__).resolve().parent.parent
 # how it is said where the built program is
 SAY = "say where it is, as export HERDBOOK=/home/me/herdbook"
-
-REFUSALS = {
-    1: "the number is in the book already",
-    2: "the book is full: it holds at most 60,000 animals",
-    3: "its sire isn't in the book",
-    4: "its dam isn't in the book",
-    5: "its sire isn't male",
-    6: "its dam isn't female",
-    7: "its sire isn't at least a day older",
-    8: "its dam isn't at least a day older",
-    9: "its dam left on a day before the birth",
-    10: "a path of parents would be longer than 60 steps",
-    11: "it isn't in the book",
-    12: "it has left already",
-    13: "the giver isn't its owner",
-    14: "the day is before its birth, or before its owner got it",
-    15: "giver and taker are the same owner",
-    16: "it has offspring born after the day",
-}
-MATING_FAULTS = {
-    1: "the sire isn't in the book",
-    2: "the dam isn't in the book",
-    3: "the sire isn't male",
-    4: "the dam isn't female",
-    5: "offspring would have a path of parents longer than 60 steps",
-}
 
 
 class Herdbook:
@@ -102,8 +77,8 @@ class Herdbook:
             hint = ". Somebody has changed the command file: restore it" if told.startswith("record ") else ""
             raise Mistake(f"the program `herdbook {words[0]}` can't do it: {told}{hint}")
 
-    def file(self, commands: list[Command]) -> dict[int, int]:
-        """The refusals of commands: for each refused one its place, from 0 on, and the refusal's number."""
+    def file(self, commands: list[Command]) -> dict[int, Refusal]:
+        """The refusals of commands: for each refused one its place, from 0 on, and the refusal."""
         replies = self.run(["file"], text_of(commands)).splitlines()
         if len(replies) != len(commands):
             raise Mistake(
@@ -111,4 +86,4 @@ class Herdbook:
                 "one?"
             )
         refused = (line.split(",") for line in replies if line.endswith(",accepted") is False)
-        return {int(serial) - 1: int(refusal) for serial, _, refusal in refused}
+        return {int(serial) - 1: Refusal(int(refusal)) for serial, _, refusal in refused}

@@ -8,15 +8,14 @@ from typing import Iterable, NamedTuple
 
 from society.book.book import Book
 from society.book.known import Known
-from society.herdbook import MATING_FAULTS, Herdbook
+from society.herdbook import Herdbook
 from society.mistake import Mistake
+from society.refusals import MatingFault
 
 TITLES = ["id", "name", "number", "birth", "coefficient", "decimal", "percent"]
 PLACES = 10
 # so many sires are asked for at once: a command line has an end
 SIRES_AT_ONCE = 5_000
-# the faults of a mating that are the dam's
-DAM_FAULTS = (2, 4)
 
 
 class Coefficient(NamedTuple):
@@ -102,18 +101,18 @@ def advise(book: Book, program: Herdbook, dam: Known, sires: list[Known], also_l
     names = book.by_number()
     book_text = book.path.read_bytes()
     found: list[tuple[str, Coefficient]] = []
-    refused: list[tuple[str, int]] = []
+    refused: list[tuple[str, MatingFault]] = []
     for first in range(0, len(numbers), SIRES_AT_ONCE):
         words = ["mating", "--dam", dam.number, *numbers[first : first + SIRES_AT_ONCE]]
         for line in program.run(words, book_text).splitlines():
             number, fraction, percent = line.split(",")
             if fraction == "refused":
-                refused.append((names[number].id, int(percent)))
+                refused.append((names[number].id, MatingFault(int(percent))))
             else:
                 found.append((number, Coefficient(fraction, percent)))
-    of_dam = [fault for _, fault in refused if fault in DAM_FAULTS]
+    of_dam = [fault for _, fault in refused if fault.is_of_dam()]
     if of_dam:
-        raise Mistake(f"{dam.id}: {MATING_FAULTS[of_dam[0]]} (fault {of_dam[0]}): name a female as the dam")
+        raise Mistake(f"{dam.id}: {of_dam[0].words()} (fault {of_dam[0]}): name a female as the dam")
     found.sort(key=lambda pair: (pair[1].value, names[pair[0]].id))
-    told = [f"{id}: refused: {MATING_FAULTS[fault]} (fault {fault})" for id, fault in refused]
+    told = [f"{id}: refused: {fault.words()} (fault {fault})" for id, fault in refused]
     return Advice(rows_of(book, found), told, left, without_row)

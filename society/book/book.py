@@ -12,7 +12,7 @@ from society.book.files import table, write_all
 from society.book.kinds import Standing
 from society.book.known import Known
 from society.book.old_words import STANDING_OF, STANDINGS, read_birth, read_exit, read_sex
-from society.herdbook import REFUSALS, Herdbook
+from society.herdbook import Herdbook
 from society.mistake import CALLED, Mistake
 from society.taking.report import Entry
 
@@ -52,7 +52,7 @@ class Book:
         if refused:
             place, refusal = next(iter(refused.items()))
             raise Mistake(
-                f"{self.path}: command {place + 1} is refused: {REFUSALS[refusal]} (refusal {refusal}). "
+                f"{self.path}: command {place + 1} is refused: {refusal.words()} (refusal {refusal}). "
                 "Somebody has changed this file: restore it, or take the sheet into another folder"
             )
         self.records = replay(self.commands)

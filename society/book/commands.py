@@ -7,6 +7,7 @@ import pathlib
 from dataclasses import dataclass, field
 from typing import Iterable, NamedTuple
 
+from society.book.role import Role
 from society.mistake import Mistake, counted
 
 COLUMNS = ["kind", "animal", "day", "sire", "dam", "from", "to", "embryo"]
@@ -55,6 +56,9 @@ class Record:
     since: datetime.date
     left: datetime.date | None = None
     transfers: list[Command] = field(default_factory=list)
+
+    def parent(self, role: Role) -> str:
+        return self.sire if role is Role.SIRE else self.dam
 
 
 def known(parent: str) -> str:

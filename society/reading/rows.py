@@ -7,6 +7,7 @@ import re
 from dataclasses import dataclass, field
 
 from society.book.inferred import GIVEN_BIRTH, GIVEN_EXIT, BirthBasis, ExitBasis, ExitSource, SexSource
+from society.book.role import Role
 from society.mistake import Mistake
 from society.reading.columns import KNOWN_NO, KNOWN_SEXES, KNOWN_STAYS, KNOWN_YES, plain, sex_word
 from society.reading.days import ANY_DAY, MonthFirst, Span, Unreadable, is_span, read_span, span_within
@@ -14,7 +15,7 @@ from society.reading.sheet import Sheet, squeezed
 from society.reading.unread import Unread, exit_word
 from society.taking.report import CELL, INFERRED, ROW, Report
 
-ROLES = {"sire": "M", "dam": "F"}
+ROLES = {role: role.sex for role in Role}
 # how a spreadsheet shows a long number that it has cut
 CUT = re.compile(r"\d[.,]?\d*E\+\d+", re.IGNORECASE)
 
@@ -47,9 +48,18 @@ class Animal:
     # the fields whose cells can't be read
     unread: list[str] = field(default_factory=list)
 
-    def parents(self) -> list[tuple[str, str]]:
+    def parents(self) -> list[tuple[Role, str]]:
         """The known parents, each with its role."""
-        return [(role, parent) for role, parent in (("sire", self.sire), ("dam", self.dam)) if parent]
+        return [(role, parent) for role, parent in ((Role.SIRE, self.sire), (Role.DAM, self.dam)) if parent]
+
+    def parent(self, role: Role) -> str:
+        return self.sire if role is Role.SIRE else self.dam
+
+    def set_parent(self, role: Role, id: str) -> None:
+        if role is Role.SIRE:
+            self.sire = id
+        else:
+            self.dam = id
 
     def has_id_too(self, sire: str, dam: str) -> str:
         """Why a later row with this animal's id is left out: what it says of the parents is told where it differs."""

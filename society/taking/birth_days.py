@@ -6,8 +6,9 @@ import datetime
 from society.book.inferred import GIVEN_BIRTH, BirthBasis, BirthSource
 from society.reading.days import ANY_DAY, FIRST_DAY, Span
 from society.reading.rows import Animal
+from society.taking.findings import BirthDayInferred
 from society.taking.order import calves_of, in_order
-from society.taking.report import INFERRED, Report
+from society.taking.report import Report
 
 # days between a parent's birth and a calf's, where only one of the two is known
 GENERATION = 730
@@ -40,19 +41,13 @@ class Days:
                 animal.born = animal.birth.first
             else:
                 animal.born, animal.birth_basis = self.day_for(animal)
-                named = f" (line {animal.named_in} names it)" if animal.named_in else ""
-                report.tell(INFERRED, animal.line, id, f"birth day {animal.born}, {self.reason_of(animal)}{named}")
+                is_kept = self.stays(animal, animal.born.toordinal())
+                found = BirthDayInferred(animal.born, animal.birth_basis, is_kept, animal.named_in)
+                report.add(animal.line, id, found)
 
     def stays(self, animal: Animal, day: int) -> bool:
         """Is it the day that was inferred for the book, where the cell has neither month nor year?"""
         return animal.birth == ANY_DAY and animal.id in self.kept and self.kept[animal.id][0] == day
-
-    def reason_of(self, animal: Animal) -> str:
-        """The reason in a sentence: that of a day that stays may not hold any more."""
-        basis = animal.birth_basis
-        if not self.stays(animal, animal.born.toordinal()):
-            return basis.words()
-        return f"as in the book, where it was {'' if basis.is_invented else 'inferred: '}{basis.words()}"
 
     def set_low(self, id: str) -> None:
         animal = self.animals[id]

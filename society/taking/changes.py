@@ -7,11 +7,11 @@ from society.book.book import NO_OWNER
 from society.book.commands import Command, Record, birth, leave, transfer
 from society.book.inferred import NO_DAY, ExitBasis
 from society.book.known import Known
-from society.herdbook import REFUSALS, Herdbook
+from society.herdbook import Herdbook
 from society.mistake import Mistake
 from society.reading.rows import Animal
+from society.taking.findings import NewAnimal, ValueChanged
 from society.taking.next_book import NextBook
-from society.taking.report import CHANGED, NEW
 
 
 class Filing:
@@ -36,7 +36,7 @@ class Filing:
             kind, number, day = commands[place][:3]
             on = f" on {day}" if day else ""
             sentences.append(
-                f"{by_number[number].where()}{kind}{on} is refused: {REFUSALS[refusal]} (refusal {refusal})"
+                f"{by_number[number].where()}{kind}{on} is refused: {refusal.words()} (refusal {refusal})"
             )
         raise Mistake(
             *sentences, f"nothing is taken (refused: {len(refused)}): mend these rows, and take the sheet again"
@@ -102,12 +102,12 @@ class Filing:
         for animal in self.next_book.animals.values():
             record, known = self.next_book.record(animal.id), self.book.known.get(animal.id)
             if record and known:
-                for why in self.changes(animal, record, known):
-                    report.tell(CHANGED, animal.line, animal.id, why)
+                for found in self.changes(animal, record, known):
+                    report.add(animal.line, animal.id, found)
             elif self.book.known and animal.line:
-                report.tell(NEW, animal.line, animal.id, f"a new animal, with the number {animal.number}")
+                report.add(animal.line, animal.id, NewAnimal(animal.number))
 
-    def changes(self, animal: Animal, record: Record, known: Known) -> list[str]:
+    def changes(self, animal: Animal, record: Record, known: Known) -> list[ValueChanged]:
         pairs = [
             ("name", known.name, animal.name),
             ("birth day", str(record.born), str(animal.born)),
@@ -121,9 +121,7 @@ class Filing:
         if known.birth.is_invented and animal.birth_basis.is_invented:
             # invented days are invented anew each time
             del pairs[1]
-        return [
-            f"{what}: {after or 'none'}, before {before or 'none'}" for what, before, after in pairs if before != after
-        ]
+        return [ValueChanged(name, after, before) for name, before, after in pairs if before != after]
 
 
 def exit_words(left: datetime.date | None, basis: ExitBasis) -> str:

@@ -1,9 +1,11 @@
 """Animals that would be their own ancestors: of each cycle one parent is left out."""
 from __future__ import annotations
 
+from society.book.role import Role
 from society.reading.rows import Animal
 from society.taking.order import in_order
-from society.taking.report import PARENT, Report
+from society.taking.parent_findings import OwnAncestor
+from society.taking.report import Report
 
 
 def cut_cycles(animals: dict[str, Animal], report: Report) -> None:
@@ -13,14 +15,13 @@ def cut_cycles(animals: dict[str, Animal], report: Report) -> None:
     while left:
         cycle = find_cycle(animals, left)
         calf, role, parent = faulty_link(animals, cycle)
-        path = " > ".join([calf, *ancestors_round(cycle, calf)])
-        setattr(animals[calf], role, "")
-        why = f"{calf} would be its own ancestor ({path})"
-        report.leave_out(PARENT, animals[calf].line, calf, f"its {role} {parent}", why)
+        path = (calf, *ancestors_round(cycle, calf))
+        animals[calf].set_parent(role, "")
+        report.add(animals[calf].line, calf, OwnAncestor(role, parent, path))
         left -= set(in_order({id: animals[id] for id in left}))
 
 
-Link = tuple[str, str, str]
+Link = tuple[str, Role, str]
 
 
 def find_cycle(animals: dict[str, Animal], left: set[str]) -> list[Link]:

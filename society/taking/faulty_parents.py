@@ -2,21 +2,22 @@
 from __future__ import annotations
 
 from society.book.commands import birth, leave
-from society.herdbook import REFUSALS, Herdbook
+from society.book.role import Role
+from society.herdbook import Herdbook
 from society.mistake import Mistake
 from society.reading.rows import Animal
+from society.refusals import Refusal
 from society.taking.long_paths import too_deep
 from society.taking.next_book import NextBook
-from society.taking.report import PARENT
+from society.taking.parent_findings import DayFact, ParentRefused
 
-# the refusals of parents, by the link that each is about
-SIRE_FAULTS, DAM_FAULTS, TOO_DEEP = (5, 7), (6, 8, 9), 10
-WHY = {
-    5: "it isn't male",
-    6: "it isn't female",
-    7: "it isn't at least a day older",
-    8: "it isn't at least a day older",
-    9: "it left on a day before the birth",
+# whom a refusal is about
+ROLES = {
+    Refusal.SIRE_NOT_MALE: Role.SIRE,
+    Refusal.SIRE_NOT_OLDER: Role.SIRE,
+    Refusal.DAM_NOT_FEMALE: Role.DAM,
+    Refusal.DAM_NOT_OLDER: Role.DAM,
+    Refusal.DAM_LEFT_BEFORE: Role.DAM,
 }
 
 
@@ -34,31 +35,24 @@ def leave_out_faulty_parents(next_book: NextBook, program: Herdbook) -> None:
         if not faults:
             return
         # paths come last: without a parent that is refused they may be shorter
-        deep = [animal for animal, refusal in faults if refusal == TOO_DEEP]
+        deep = [animal for animal, refusal in faults if refusal is Refusal.PATH_TOO_LONG]
         if len(deep) == len(faults):
             raise too_deep(next_book.animals, deep)
         for animal, refusal in faults:
-            if refusal != TOO_DEEP:
+            if refusal is not Refusal.PATH_TOO_LONG:
                 leave_out_parent(next_book, animal, refusal)
 
 
-def leave_out_parent(next_book: NextBook, animal: Animal, refusal: int) -> None:
-    if refusal not in WHY:
-        raise Mistake(f"{animal.where()}{REFUSALS[refusal]} (refusal {refusal})")
-    role = "sire" if refusal in SIRE_FAULTS else "dam"
-    parent = next_book.animals[getattr(animal, role)]
-    facts = [f"line {parent.line}"] if parent.line else []
-    if refusal in (7, 8):
-        facts.append(f"born {parent.born_marked()}")
-    if refusal == 9:
-        facts.append(f"left {parent.left}{' (inferred)' if parent.exit_basis.is_inferred else ''}")
-    of_parent = f"{parent.id} ({', '.join(facts)})" if facts else parent.id
-    why = f"{WHY[refusal]} (refusal {refusal})"
-    if refusal in (5, 6) and parent.sex_source.is_inferred:
-        why += f"; its sex is inferred: {'male' if parent.sex == 'M' else 'female'}, {parent.sex_source.words()}"
-    if refusal not in (5, 6):
-        why += f"; {animal.id} was born {animal.born_marked()}"
-    if refusal == 9:
-        why += "; offspring from a stored embryo needs 1 in the column embryo"
-    next_book.report.leave_out(PARENT, animal.line, animal.id, f"its {role} {of_parent}", why)
-    setattr(animal, role, "")
+def leave_out_parent(next_book: NextBook, animal: Animal, refusal: Refusal) -> None:
+    if refusal not in ROLES:
+        raise Mistake(f"{animal.where()}{refusal.words()} (refusal {refusal})")
+    role = ROLES[refusal]
+    parent = next_book.animals[animal.parent(role)]
+    found = ParentRefused(
+        role, refusal, parent.id, parent.line, parent.sex, parent.sex_source,
+        DayFact(parent.born, parent.birth_basis.is_inferred),
+        DayFact(parent.left, parent.exit_basis.is_inferred) if parent.left else None,
+        animal.id, DayFact(animal.born, animal.birth_basis.is_inferred),
+    )  # fmt: skip
+    next_book.report.add(animal.line, animal.id, found)
+    animal.set_parent(role, "")

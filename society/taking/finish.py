@@ -7,7 +7,7 @@ from society.mistake import Mistake, counted
 from society.taking.changes import Filing
 from society.taking.faulty_parents import leave_out_faulty_parents
 from society.taking.next_book import NextBook
-from society.taking.report import ADDED, CHANGED, GONE, INFERRED, LEFT_OUT
+from society.taking.report import What
 from society.taking.shown_report import show
 from society.taking.wishes import Wishes
 
@@ -18,7 +18,7 @@ def finish(next_book: NextBook, program: Herdbook, wishes: Wishes, about: list[s
     book, report = next_book.book, next_book.report
     next_book.give_numbers(wishes.breed, wishes.country)
     leave_out_faulty_parents(next_book, program)
-    left_out = [entry for entry in report.in_order() if entry.what == LEFT_OUT]
+    left_out = [entry for entry in report.in_order() if entry.what is What.LEFT_OUT]
     if wishes.strict and left_out:
         told = [entry.sentence() for entry in left_out] + report.advice
         raise Mistake(*told, f"{report.left_out()}: with --strict nothing is taken")
@@ -34,16 +34,16 @@ def finish(next_book: NextBook, program: Herdbook, wishes: Wishes, about: list[s
     if before and is_anew:
         print(f"{book.path} is written anew, since something in it was corrected or dropped")
     counts = report.counts()
-    if counts[GONE] and not wishes.drop_gone:
+    if counts[What.GONE] and not wishes.drop_gone:
         print(
             "those that are gone stay: with --drop-gone they are dropped, but for the ancestors of animals that have "
             "a row"
         )
     print("".join(f"{sentence}\n" for sentence in report.advice), end="")
     inferred = [f"{invented} invented"] * bool(invented)
-    inferred += [f"{counts[INFERRED]} inferred"] * bool(counts[INFERRED] or not invented)
+    inferred += [f"{counts[What.INFERRED]} inferred"] * bool(counts[What.INFERRED] or not invented)
     each = f": {book.folder / REPORT} has each" if report.entries else ""
     print(
-        f"{book.folder}: {counted(len(next_book.animals), 'animal')}, {new} new, {counts[CHANGED]} changed, "
-        f"{', '.join(inferred)}, {report.left_out()}, {counts[ADDED]} added, {counts[GONE]} gone{each}"
+        f"{book.folder}: {counted(len(next_book.animals), 'animal')}, {new} new, {counts[What.CHANGED]} changed, "
+        f"{', '.join(inferred)}, {report.left_out()}, {counts[What.ADDED]} added, {counts[What.GONE]} gone{each}"
     )

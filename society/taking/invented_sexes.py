@@ -2,9 +2,11 @@
 from __future__ import annotations
 
 from society.book.inferred import SexSource
-from society.reading.rows import ROLES, Animal
+from society.book.role import Role
+from society.reading.rows import Animal
 from society.taking.cycles import cut_cycles
-from society.taking.report import CHANGED, PARENT, Report
+from society.taking.parent_findings import Couple, NoSexesFit, ParentsSwapped, SameParentTwice
+from society.taking.report import Report
 
 # so many couples that no sexes fit are named
 MOST_COUPLES = 9
@@ -16,8 +18,7 @@ def invent_sexes(animals: dict[str, Animal], report: Report) -> None:
     of them are the parents of the file."""
     for animal in animals.values():
         if animal.sire and animal.sire == animal.dam:
-            why = f"{animal.sire} is its sire too, and no calf has one parent twice"
-            report.leave_out(PARENT, animal.line, animal.id, f"its dam {animal.dam}", why)
+            report.add(animal.line, animal.id, SameParentTwice(animal.sire))
             animal.dam = ""
     cut_cycles(animals, report)
     sexes = Sexes(animals)
@@ -33,7 +34,7 @@ class Sexes:
     def __init__(self, animals: dict[str, Animal]) -> None:
         self.animals = animals
         # the first calf of each parent in each role, and the mates of each with their first calf
-        self.calf: dict[str, dict[str, Animal]] = {"sire": {}, "dam": {}}
+        self.calf: dict[Role, dict[str, Animal]] = {role: {} for role in Role}
         self.mates: dict[str, dict[str, Animal]] = {}
         for animal in animals.values():
             for role, parent in animal.parents():
@@ -46,14 +47,14 @@ class Sexes:
         for id, animal in animals.items():
             if not animal.sex:
                 self.colour(id)
-        both = self.calf["sire"].keys() & self.calf["dam"].keys()
+        both = self.calf[Role.SIRE].keys() & self.calf[Role.DAM].keys()
         # for each animal one that is both, the nearest by mates, and how far it is
         self.both: dict[str, tuple[int, str]] = {id: (0, id) for id in animals if id in both}
         self.spread_both()
 
     def colour(self, first: str) -> None:
         """Gives an animal the sex of its role, and all that are joined to it by couples theirs."""
-        self.animals[first].sex = "M" if first in self.calf["sire"] else "F"
+        self.animals[first].sex = "M" if first in self.calf[Role.SIRE] else "F"
         reached = [first]
         for one in reached:
             for mate in self.mates.get(one, ()):
@@ -75,38 +76,33 @@ class Sexes:
         """Puts the male parent in the sire's place and the female one in the dam's."""
         sexes = [self.animals[parent].sex for _, parent in animal.parents()]
         if len(sexes) == 2 and sexes[0] == sexes[1]:
-            couples = f"no choice of sexes fits all of the couples {self.couples_round(animal)}"
-            report.leave_out(PARENT, animal.line, animal.id, f"its dam {animal.dam}", couples)
+            report.add(animal.line, animal.id, self.no_sexes_fit(animal))
             animal.dam = ""
-        if any(ROLES[role] != self.animals[parent].sex for role, parent in animal.parents()):
-            why = self.why_swapped(animal)
+        if any(role.sex != self.animals[parent].sex for role, parent in animal.parents()):
+            report.add(animal.line, animal.id, self.swapped(animal))
             animal.sire, animal.dam = animal.dam, animal.sire
-            couple = f"the sire {animal.sire or 'unknown'} and the dam {animal.dam or 'unknown'}"
-            report.tell(CHANGED, animal.line, animal.id, f"taken with {couple}, {why}")
 
-    def why_swapped(self, animal: Animal) -> str:
-        """Which animal is a sire in one line and a dam in another: a parent of this one, or one that couples join to
-        it."""
+    def swapped(self, animal: Animal) -> ParentsSwapped:
+        """With the animal that is a sire in one line and a dam in another: a parent of this one, or one that couples
+        join to it."""
         found = [(*self.both[parent], role, parent) for role, parent in animal.parents()]
         steps, both, role, parent = min(found, key=lambda one: one[0])
         calves = {one: self.calf[one][both] for one in self.calf}
         if not steps:
             calves[role] = animal
-        joined = f", which couples join to {parent}," if steps else ""
-        return f"since {both}{joined} is a sire {place(calves['sire'])} and a dam {place(calves['dam'])}"
+        lines = calves[Role.SIRE].line, calves[Role.DAM].line
+        return ParentsSwapped(animal.dam, animal.sire, both, parent if steps else "", *lines)
 
-    def couples_round(self, animal: Animal) -> str:
-        """The couples that lead from the sire by mates to the dam, and with this animal's back: an odd number of
+    def no_sexes_fit(self, animal: Animal) -> NoSexesFit:
+        """With the couples that lead from the sire by mates to the dam, and with this animal's back: an odd number of
         them."""
         up, down = self.way(animal.sire), self.way(animal.dam)
         while len(up) > 1 and len(down) > 1 and up[-2] == down[-2]:
             del up[-1], down[-1]
         way = up + down[-2::-1]
-        couples = [(one, mate, self.mates[one][mate]) for one, mate in zip(way, way[1:])]
-        couples.append((animal.dam, animal.sire, animal))
-        words = [f"{one} and {mate} ({place(calf).removeprefix('in ')})" for one, mate, calf in couples]
-        more = len(words) - MOST_COUPLES
-        return ", ".join(words) if more <= 0 else f"{', '.join(words[-MOST_COUPLES:])} and {more} more"
+        couples = [Couple(one, mate, self.mates[one][mate].line) for one, mate in zip(way, way[1:])]
+        couples.append(Couple(animal.dam, animal.sire, animal.line))
+        return NoSexesFit(animal.dam, tuple(couples[-MOST_COUPLES:]), max(0, len(couples) - MOST_COUPLES))
 
     def way(self, id: str) -> list[str]:
         """From an animal by mates to the first of those that are joined to it."""
@@ -114,8 +110,3 @@ class Sexes:
         while way[-1] in self.found_by:
             way.append(self.found_by[way[-1]])
         return way
-
-
-def place(calf: Animal) -> str:
-    """Where a calf names its parents."""
-    return f"in line {calf.line}" if calf.line else "in the book"

@@ -6,15 +6,17 @@ from dataclasses import replace
 from society.book.book import Book
 from society.book.commands import Command, Record, parents
 from society.book.inferred import SexSource
-from society.book.kinds import Standing
+from society.book.kinds import Field, Standing
 from society.book.known import Known
+from society.book.role import Role
 from society.mistake import Mistake
 from society.reading.days import ANY_DAY, Span
-from society.reading.rows import ROLES, Animal
+from society.reading.rows import Animal
 from society.taking.birth_days import Days
 from society.taking.cycles import cut_cycles
+from society.taking.findings import KeptFromBook, SexInferred, SexNotKnown
 from society.taking.parent_names import Names
-from society.taking.report import INFERRED, ROW, Report
+from society.taking.report import Report
 from society.taking.without_row import add_gone, animals_of_book
 
 MOST_ANIMALS = 60_000
@@ -30,9 +32,9 @@ class NextBook:
         self.is_pedigree = is_pedigree
         self.names = book.by_number()
         # whether a parent is a sire or a dam, by its first offspring
-        self.roles: dict[str, str] = {}
+        self.roles: dict[str, Role] = {}
         # the parents as the sheet writes them, by an animal's id and `sire` or `dam`
-        self.texts: dict[tuple[str, str], str] = {}
+        self.texts: dict[tuple[str, Role], str] = {}
 
     def record(self, id: str) -> Record | None:
         known = self.book.known.get(id)
@@ -71,27 +73,24 @@ class NextBook:
             animal.dam = self.id_of(record.dam)
         if "exit" not in self.given or ("exit" in animal.unread and record.left):
             animal.left, animal.exit_basis = record.left, known.exit
-            self.tell_kept(animal, "exit", f"exit on {record.left}")
+            self.tell_kept(animal, Field.EXIT, str(record.left))
         if "embryo" not in self.given or "embryo" in animal.unread:
             animal.embryo = record.embryo
         owner = self.book.owner_of(record.herd)
         if owner and not animal.owner:
             animal.owner = owner
-            self.tell_kept(animal, "owner", owner)
+            self.tell_kept(animal, Field.OWNER, owner)
         if animal.birth == ANY_DAY and not known.birth.is_inferred:
             animal.birth = Span(record.born, record.born)
-            self.tell_kept(animal, "birth", f"birth day {record.born}")
+            self.tell_kept(animal, Field.BIRTH, str(record.born))
         if not animal.sex and not known.sex.is_inferred:
             animal.sex = record.number[6]
-            self.tell_kept(animal, "sex", {"M": "male", "F": "female"}[animal.sex])
+            self.tell_kept(animal, Field.SEX, animal.sex)
 
-    def tell_kept(self, animal: Animal, field: str, what: str) -> None:
-        if field in self.given:
-            word = f"{field} {what}" if field == "owner" else what
-            # a word such as `sold` gives no day, nor does a text that can't be read
-            none = "gives no day" if field == "exit" else "can't be read"
-            why = none if field in animal.unread else "gives none"
-            self.report.tell(INFERRED, animal.line, animal.id, f"{word}, as in the book, since its cell {why}")
+    def tell_kept(self, animal: Animal, field: Field, value: str) -> None:
+        if field.value in self.given:
+            found = KeptFromBook(field, value, field.value in animal.unread)
+            self.report.add(animal.line, animal.id, found)
 
     def id_of(self, number: str) -> str:
         return self.names[number].id if number else ""
@@ -104,8 +103,7 @@ class NextBook:
                 self.roles.setdefault(parent, role)
         for id, animal in list(self.animals.items()):
             if "sex" in animal.unread and not self.roles.get(id) and not self.book.known.get(id):
-                why = "its sex can't be read, and no animal has it as a parent"
-                self.report.leave_out(ROW, animal.line, id, "the row", why)
+                self.report.add(animal.line, id, SexNotKnown())
                 del self.animals[id]
 
     def find_sexes(self) -> None:
@@ -116,15 +114,13 @@ class NextBook:
                 continue
             role, known = self.roles.get(id), self.book.known.get(id)
             if role:
-                animal.sex, animal.sex_source = ROLES[role], SexSource(role)
+                animal.sex, animal.sex_source = role.sex, SexSource(role.value)
             elif known:
                 animal.sex, animal.sex_source = known.number[6], SexSource.BOOK
             else:
                 animal.sex, animal.sex_source = "F", SexSource.NOTHING
             if animal.line:
-                word = {"M": "male", "F": "female"}[animal.sex]
-                more = ", and its cell can't be read" if "sex" in animal.unread else ""
-                self.report.tell(INFERRED, animal.line, id, f"sex {word}, {animal.sex_source.words()}{more}")
+                self.report.add(animal.line, id, SexInferred(animal.sex, animal.sex_source, "sex" in animal.unread))
 
     def find_days(self) -> None:
         cut_cycles(self.animals, self.report)
@@ -151,21 +147,21 @@ class NextBook:
         before = self.book.dropped | self.book.known
         return {id: replace(known, standing=Standing.DROPPED) for id, known in before.items() if id not in self.animals}
 
-    def written_parents(self) -> dict[tuple[str, str], str]:
+    def written_parents(self) -> dict[tuple[str, Role], str]:
         """The texts of parents that were left out, or are written by their names; those of the book where the sheet
         doesn't give the parent."""
         found = {}
-        before = [(known, role) for known in self.book.known.values() for role in ROLES if known.written(role)]
+        before = [(known, role) for known in self.book.known.values() for role in Role if known.written(role)]
         for known, role in before:
             animal, record = self.animals.get(known.id), self.book.records[known.number]
             if animal and not (animal.line and role in self.given):
-                if getattr(animal, role) == self.id_of(getattr(record, role)):
+                if animal.parent(role) == self.id_of(record.parent(role)):
                     found[known.id, role] = known.written(role)
         for (id, role), text in self.texts.items():
             animal = self.animals.get(id)
             # a pedigree's parents may be swapped
             is_swapped = animal and self.is_pedigree and text in (animal.sire, animal.dam)
-            if animal and getattr(animal, role) != text and not is_swapped:
+            if animal and animal.parent(role) != text and not is_swapped:
                 found[id, role] = text
         return found
 
@@ -177,7 +173,7 @@ class NextBook:
             had_row = before is not None and before.standing.had_row()
             standing = Standing.ROW if animal.line else Standing.GONE if had_row else Standing.PARENT
             inferred = animal.birth_basis, animal.exit_basis, animal.sex_source
-            texts = written.get((id, "sire"), ""), written.get((id, "dam"), "")
+            texts = written.get((id, Role.SIRE), ""), written.get((id, Role.DAM), "")
             kept[id] = Known(animal.number, id, animal.name, standing, *inferred, *texts)
         return kept
 

@@ -5,8 +5,10 @@ import collections
 import shlex
 
 from society.book.book import Book
-from society.reading.rows import ROLES, Animal
-from society.taking.report import ADDED, INFERRED, Report
+from society.book.role import Role
+from society.reading.rows import Animal
+from society.taking.parent_findings import AddedAsParent, FoundByName
+from society.taking.report import Report
 
 # of so many links a parent without a row that is a sire and a dam is told
 MANY = 3
@@ -36,18 +38,17 @@ class Names:
         others = {(role, text.casefold()) for calf, role, text in links if not self.possible(calf, role, text)}
         for calf, role, text in links:
             known = book.known.get(calf.id)
-            in_book = ids.get(getattr(book.records[known.number], role)) if known else None
+            in_book = ids.get(book.records[known.number].parent(role)) if known else None
             possible = self.possible(calf, role, text)
             meant = [one for one in possible if one.id == in_book]
             # where it can't be the parent of one calf there is another animal of this name, which may be that of all
             if not meant and (role, text.casefold()) not in others and len(self.others(calf, text)) == 1:
                 meant = possible
             if meant:
-                setattr(calf, role, meant[0].id)
-                why = f"its {role} '{text}' is {meant[0].id} by its name: if another is meant, write the id of that one"
-                self.report.tell(INFERRED, calf.line, calf.id, why)
+                calf.set_parent(role, meant[0].id)
+                self.report.add(calf.line, calf.id, FoundByName(role, text, meant[0].id))
 
-    def possible(self, calf: Animal, role: str, name: str) -> list[Animal]:
+    def possible(self, calf: Animal, role: Role, name: str) -> list[Animal]:
         return [one for one in self.others(calf, name) if can_be(one, role, calf)]
 
     def others(self, calf: Animal, name: str) -> list[Animal]:
@@ -61,11 +62,8 @@ class Names:
         for animal in list(self.animals.values()):
             for role, parent in animal.parents():
                 if parent not in self.animals:
-                    more = f" and of {calves[parent] - 1} more" if calves[parent] > 1 else ""
-                    why = (
-                        f"the {role} of {animal.id}{more} has no row: added without parents{self.hint(animal, parent)}"
-                    )
-                    self.report.tell(ADDED, animal.line, parent, why)
+                    found = AddedAsParent(role, animal.id, calves[parent] - 1, *self.meant(animal, parent))
+                    self.report.add(animal.line, parent, found)
                     self.animals[parent] = Animal(parent)
                 one = self.animals[parent]
                 one.named_in = one.named_in or (0 if one.line else animal.line)
@@ -76,22 +74,22 @@ class Names:
             (parent, role) for animal in self.animals.values() for role, parent in animal.parents()
         )
         for (parent, role), dams in links.items():
-            sires = links.get((parent, "sire"), 0)
+            sires = links.get((parent, Role.SIRE), 0)
             has_row = parent in self.animals and self.animals[parent].line
-            if role == "dam" and sires and sires + dams >= MANY and not has_row and "," not in parent:
+            if role is Role.DAM and sires and sires + dams >= MANY and not has_row and "," not in parent:
                 many = f"{parent} has no row, and is the sire of {sires} and the dam of {dams}"
                 self.report.advice.append(
                     f"{many}: if it means an unknown parent, take this again with "
                     f"--unknown={shlex.quote(parent)} --drop-gone"
                 )
 
-    def hint(self, calf: Animal, text: str) -> str:
-        """Which id may be meant by a text that is none."""
+    def meant(self, calf: Animal, text: str) -> tuple[str, tuple[str, ...]]:
+        """Which id may be meant by a text that is none, or several that have it as their name."""
         ids = [one.id for one in self.others(calf, text)]
         if len(ids) > 1:
-            return f" ({len(ids)} animals have this name, {', '.join(ids[:5])}: write the id of the one that is meant)"
+            return "", tuple(ids)
         alike = ids[0] if ids else self.alike.get(folded(text.removesuffix(".0")) or text) or self.swapped(folded(text))
-        return f" (is {alike} meant?)" if alike and alike != calf.id else ""
+        return (alike if alike != calf.id else ""), ()
 
     def swapped(self, text: str) -> str:
         """The animal that is meant where two letters or digits beside each other are swapped, but in short ids."""
@@ -101,9 +99,9 @@ class Names:
         return next((self.alike[one] for one in turned if one != text and one in self.alike), "")
 
 
-def can_be(parent: Animal, role: str, calf: Animal) -> bool:
+def can_be(parent: Animal, role: Role, calf: Animal) -> bool:
     """Do its sex and its birth leave open that it is a calf's parent?"""
-    return parent.sex in ("", ROLES[role]) and parent.birth.first < calf.birth.last
+    return parent.sex in ("", role.sex) and parent.birth.first < calf.birth.last
 
 
 def folded(id: str) -> str:

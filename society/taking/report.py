@@ -1,29 +1,97 @@
-"""What is told of a sheet: mistakes, and an entry for each row that was changed, left out or added."""
+"""What is told of a sheet: an entry for each row that was changed, left out or added, as data."""
 from __future__ import annotations
 
 import collections
-from typing import NamedTuple
+import enum
+from dataclasses import dataclass
+from typing import ClassVar
 
 from society.mistake import counted
 
-# what an entry is about, in the order in which the report has them
-LEFT_OUT, INFERRED, CHANGED, GONE, ADDED, NEW = "left out", "inferred", "changed", "gone", "added", "new"
-ORDER = (LEFT_OUT, INFERRED, CHANGED, GONE, ADDED, NEW)
-# what of a sheet is left out: a row of it (of a pedigree a line), a cell, or the link to one parent
-ROW, LINE, CELL, PARENT = "row", "line", "cell", "parent"
+
+class What(enum.StrEnum):
+    """What an entry is about, in the order in which the report has them."""
+
+    LEFT_OUT = "left out"
+    INFERRED = "inferred"
+    CHANGED = "changed"
+    GONE = "gone"
+    ADDED = "added"
+    NEW = "new"
+
+
+class Part(enum.StrEnum):
+    """What of a sheet is left out: a row of it (of a pedigree a line), a cell, or the link to one parent."""
+
+    ROW = "row"
+    LINE = "line"
+    CELL = "cell"
+    PARENT = "parent"
+
+
+INFERRED = What.INFERRED
+ROW, LINE, CELL = Part.ROW, Part.LINE, Part.CELL
 # so many of a kind are printed; the report has all
 MOST_SHOWN = 25
 
 
-class Entry(NamedTuple):
+class Finding:
+    """What an entry tells: each kind is a frozen dataclass of its own, whose fields are the data."""
+
+    what: ClassVar[What]
+    part: ClassVar[Part | None] = None
+
+    def words(self) -> str:
+        raise NotImplementedError
+
+
+class LeftOut(Finding):
+    """A row, a cell or a parent is left out."""
+
+    what = What.LEFT_OUT
+
+    def thing(self) -> str:
+        """What is left out, in words."""
+        raise NotImplementedError
+
+    def why(self) -> str:
+        raise NotImplementedError
+
+    def words(self) -> str:
+        return f"{self.thing()} is left out: {self.why()}"
+
+
+@dataclass(frozen=True, slots=True)
+class Sentence(Finding):
+    """What is told in a sentence."""
+
+    of: What
+    of_part: Part | None
+    sentence: str
+
+    def words(self) -> str:
+        return self.sentence
+
+
+@dataclass(frozen=True, slots=True)
+class Entry:
     """A line of the report. `line` is the sheet's, 0 where the animal has no row; `id` is the society's own."""
 
     line: int
     id: str
-    what: str
-    why: str
-    # of what is left out: a row, a cell or a parent
-    part: str = ""
+    finding: Finding
+
+    @property
+    def what(self) -> What:
+        return self.finding.of if isinstance(self.finding, Sentence) else self.finding.what
+
+    @property
+    def part(self) -> Part | None:
+        return self.finding.of_part if isinstance(self.finding, Sentence) else self.finding.part
+
+    @property
+    def why(self) -> str:
+        return self.finding.words()
 
     def sentence(self) -> str:
         where = f"line {self.line}: " if self.line else ""
@@ -39,22 +107,26 @@ class Report:
         # what to do about more than one entry
         self.advice: list[str] = []
 
-    def tell(self, what: str, line: int, id: str, why: str) -> None:
-        self.entries.append(Entry(line, id, what, why))
+    def add(self, line: int, id: str, finding: Finding) -> None:
+        self.entries.append(Entry(line, id, finding))
 
-    def leave_out(self, part: str, line: int, id: str, what: str, why: str) -> None:
+    def tell(self, what: What, line: int, id: str, why: str) -> None:
+        self.add(line, id, Sentence(what, None, why))
+
+    def leave_out(self, part: Part, line: int, id: str, what: str, why: str) -> None:
         """A row, a cell or a parent is left out: `what` is the words for it."""
-        self.entries.append(Entry(line, id, LEFT_OUT, f"{what} is left out: {why}", part))
+        self.add(line, id, Sentence(What.LEFT_OUT, part, f"{what} is left out: {why}"))
 
     def left_out(self) -> str:
         """How many rows, cells and parents are left out, in words."""
-        counts = collections.Counter(entry.part for entry in self.entries if entry.what == LEFT_OUT)
-        parts = [counted(counts[part], part) for part in (ROW, LINE, CELL, PARENT) if counts[part]]
+        counts = collections.Counter(entry.part for entry in self.entries if entry.what is What.LEFT_OUT)
+        parts = [counted(counts[part], part) for part in Part if counts[part]]
         return f"{counts.total()} left out" + (f" ({', '.join(parts)})" if parts else "")
 
-    def counts(self) -> collections.Counter[str]:
+    def counts(self) -> collections.Counter[What]:
         return collections.Counter(entry.what for entry in self.entries)
 
     def in_order(self) -> list[Entry]:
         """By what they are about, and by line."""
-        return sorted(self.entries, key=lambda entry: (ORDER.index(entry.what), entry.line))
+        order = list(What)
+        return sorted(self.entries, key=lambda entry: (order.index(entry.what), entry.line))

@@ -4,16 +4,16 @@ from __future__ import annotations
 import collections
 import pathlib
 
-from society.taking.report import MOST_SHOWN, NEW, ORDER, Report
+from society.taking.report import MOST_SHOWN, Part, Report, What
 
 
 def show(report: Report, path: pathlib.Path) -> None:
     """The first entries of each kind, and of what is left out the first rows, cells and parents; but no new animals,
     which are as the sheet has them."""
-    for what in ORDER:
-        shown: collections.Counter[str] = collections.Counter()
+    for what in What:
+        shown: collections.Counter[Part | None] = collections.Counter()
         for entry in report.in_order():
-            if entry.what != what or what == NEW:
+            if entry.what is not what or what is What.NEW:
                 continue
             shown[entry.part] += 1
             if shown[entry.part] <= MOST_SHOWN:

@@ -4,7 +4,8 @@ from __future__ import annotations
 from society.book.book import Book
 from society.reading.days import ANY_DAY, Span
 from society.reading.rows import Animal
-from society.taking.report import GONE, Report
+from society.taking.findings import RowIsGone
+from society.taking.report import Report
 
 
 def animals_of_book(book: Book, animals: dict[str, Animal]) -> dict[str, Animal]:
@@ -32,11 +33,8 @@ def add_gone(animals: dict[str, Animal], gone: dict[str, Animal], book: Book, dr
         if id in kept:
             animals[id] = animal
         had_row = book.known[id].standing.had_row()
-        why = "it has no row any more" if had_row else "no animal has it as a parent any more"
-        if id not in kept:
-            report.tell(GONE, 0, id, f"{why}: it is dropped from the book")
-        elif had_row or id not in parents:
-            report.tell(GONE, 0, id, f"{why}, and stays in the book as it is")
+        if id not in kept or had_row or id not in parents:
+            report.add(0, id, RowIsGone(had_row, is_dropped=id not in kept))
 
 
 def ancestors(animals: dict[str, Animal], gone: dict[str, Animal]) -> set[str]:

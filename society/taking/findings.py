@@ -1,0 +1,116 @@
+"""What a taking finds of an animal beside what its row says: each kind as data, and in words."""
+from __future__ import annotations
+
+import datetime
+from dataclasses import dataclass
+
+from society.book.inferred import BirthBasis, SexSource
+from society.book.kinds import Field
+from society.taking.report import Finding, LeftOut, Part, What
+
+SEXES = {"M": "male", "F": "female"}
+
+
+@dataclass(frozen=True, slots=True)
+class SexNotKnown(LeftOut):
+    """Neither its cell nor the book nor any offspring says the sex of an animal."""
+
+    part = Part.ROW
+
+    def thing(self) -> str:
+        return "the row"
+
+    def why(self) -> str:
+        return "its sex can't be read, and no animal has it as a parent"
+
+
+@dataclass(frozen=True, slots=True)
+class KeptFromBook(Finding):
+    """A cell says nothing, and the book does."""
+
+    field: Field
+    value: str
+    cell_is_unread: bool
+
+    what = What.INFERRED
+
+    def words(self) -> str:
+        value = {
+            Field.OWNER: f"owner {self.value}",
+            Field.EXIT: f"exit on {self.value}",
+            Field.BIRTH: f"birth day {self.value}",
+            Field.SEX: SEXES.get(self.value, ""),
+        }[self.field]
+        # a word such as `sold` gives no day, nor does a text that can't be read
+        unread = "gives no day" if self.field is Field.EXIT else "can't be read"
+        return f"{value}, as in the book, since its cell {unread if self.cell_is_unread else 'gives none'}"
+
+
+@dataclass(frozen=True, slots=True)
+class SexInferred(Finding):
+    sex: str
+    source: SexSource
+    cell_is_unread: bool
+
+    what = What.INFERRED
+
+    def words(self) -> str:
+        more = ", and its cell can't be read" if self.cell_is_unread else ""
+        return f"sex {SEXES[self.sex]}, {self.source.words()}{more}"
+
+
+@dataclass(frozen=True, slots=True)
+class BirthDayInferred(Finding):
+    """A birth day that the sheet doesn't give. One that is kept was inferred for the book: its reason may not hold any
+    more. `named_in` is the line that names a parent without a row."""
+
+    day: datetime.date
+    basis: BirthBasis
+    is_kept: bool
+    named_in: int
+
+    what = What.INFERRED
+
+    def words(self) -> str:
+        reason = self.basis.words()
+        if self.is_kept:
+            reason = f"as in the book, where it was {'' if self.basis.is_invented else 'inferred: '}{reason}"
+        return f"birth day {self.day}, {reason}" + (f" (line {self.named_in} names it)" if self.named_in else "")
+
+
+@dataclass(frozen=True, slots=True)
+class RowIsGone(Finding):
+    """An animal of the book has no row. A parent that never had one may be no parent any more."""
+
+    had_row: bool
+    is_dropped: bool
+
+    what = What.GONE
+
+    def words(self) -> str:
+        why = "it has no row any more" if self.had_row else "no animal has it as a parent any more"
+        return f"{why}: it is dropped from the book" if self.is_dropped else f"{why}, and stays in the book as it is"
+
+
+@dataclass(frozen=True, slots=True)
+class NewAnimal(Finding):
+    number: str
+
+    what = What.NEW
+
+    def words(self) -> str:
+        return f"a new animal, with the number {self.number}"
+
+
+@dataclass(frozen=True, slots=True)
+class ValueChanged(Finding):
+    """What a word for a field stood for before, and what it stands for now; empty for none."""
+
+    name: str
+    after: str
+    before: str
+
+    what = What.CHANGED
+
+    def words(self) -> str:
+        return f"{self.name}: {self.after or 'none'}, before {self.before or 'none'}"
