@@ -3,6 +3,7 @@ from __future__ import annotations
 
 import collections
 import enum
+import re
 from dataclasses import dataclass
 from typing import ClassVar
 
@@ -41,8 +42,20 @@ class Finding:
     what: ClassVar[What]
     part: ClassVar[Part | None] = None
 
+    def __init_subclass__(cls) -> None:
+        KINDS[cls.kind()] = cls
+
+    @classmethod
+    def kind(cls) -> str:
+        """The name of the kind, as `own ancestor` for `OwnAncestor`."""
+        return re.sub("(?<!^)(?=[A-Z])", " ", cls.__name__).lower()
+
     def words(self) -> str:
         raise NotImplementedError
+
+
+# the kinds of findings by their names
+KINDS: dict[str, type[Finding]] = {}
 
 
 class LeftOut(Finding):

@@ -1,0 +1,71 @@
+"""What a taking tells as a book stores it: each entry by the name of its kind, with its data as texts, and back."""
+from __future__ import annotations
+
+import dataclasses
+import datetime
+import enum
+import typing
+from collections.abc import Iterator
+from typing import Any
+
+from society.book.changes import Told
+from society.taking.report import KINDS, Entry
+
+YES, NO = "yes", "no"
+
+
+def told_of(entry: Entry) -> Told:
+    fields = tuple(texts_of("", dataclasses.asdict(entry.finding)))
+    return Told(entry.finding.kind(), entry.part or "", entry.line, entry.id, fields)
+
+
+def entry_of(told: Told) -> Entry:
+    return Entry(told.line, told.id, value_of(KINDS[told.kind], "", dict(told.fields)))
+
+
+def within(name: str, part: str) -> str:
+    return f"{name}.{part}" if name else part
+
+
+def texts_of(name: str, value: object) -> Iterator[tuple[str, str]]:
+    """The texts of a value by names, as `born.day` for a part of it; what is none has no text."""
+    if isinstance(value, dict):
+        for part, one in value.items():
+            yield from texts_of(within(name, part), one)
+    elif isinstance(value, tuple):
+        for place, one in enumerate(value):
+            yield from texts_of(within(name, str(place)), one)
+    elif isinstance(value, bool):
+        yield name, YES if value else NO
+    elif value is not None:
+        yield name, str(value.value if isinstance(value, enum.Enum) else value)
+
+
+def value_of(kind: Any, name: str, texts: dict[str, str]) -> Any:
+    """The value of a type from its texts."""
+    if dataclasses.is_dataclass(kind):
+        kinds = typing.get_type_hints(kind)
+        parts = [field.name for field in dataclasses.fields(kind)]
+        return kind(*(value_of(kinds[part], within(name, part), texts) for part in parts))
+    parameters = typing.get_args(kind)
+    if typing.get_origin(kind) is tuple:
+        return tuple(value_of(parameters[0], within(name, place), texts) for place in places(name, texts))
+    if parameters:
+        # of a type, or none
+        is_there = any(f"{key}.".startswith(f"{name}.") for key in texts)
+        return value_of(parameters[0], name, texts) if is_there else None
+    return one_value(kind, texts[name])
+
+
+def places(name: str, texts: dict[str, str]) -> list[str]:
+    """The places of a tuple that have texts, in order."""
+    behind = [key.removeprefix(f"{name}.") for key in texts if key.startswith(f"{name}.")]
+    return list(dict.fromkeys(key.partition(".")[0] for key in behind))
+
+
+def one_value(kind: Any, text: str) -> Any:
+    if kind is bool:
+        return text == YES
+    if kind is datetime.date:
+        return datetime.date.fromisoformat(text)
+    return kind(int(text)) if issubclass(kind, int) else kind(text)
