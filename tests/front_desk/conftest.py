@@ -3,23 +3,22 @@ from __future__ import annotations
 
 import itertools
 import pathlib
-from typing import Callable
 
 import pytest
 
-from front_desk.desk import TOP, Desk
+from front_desk.desk import TOP, Desk, NewDesk
 from front_desk.sheet import Secretary, sheet_text
 
 
 @pytest.fixture
-def new_desk(program: str, tmp_path: pathlib.Path) -> Callable[[], Desk]:
+def new_desk(program: str, tmp_path: pathlib.Path) -> NewDesk:
     """Makes desks in folders of their own, each empty."""
     rooms = (tmp_path / f"desk {count}" for count in itertools.count(1))
     return lambda: Desk(next(rooms), program)
 
 
 @pytest.fixture
-def desk(new_desk: Callable[[], Desk]) -> Desk:
+def desk(new_desk: NewDesk) -> Desk:
     """A desk in an empty folder."""
     return new_desk()
 

@@ -12,6 +12,7 @@ import subprocess
 import sys
 import textwrap
 import xml.etree.ElementTree as xml
+from typing import Callable
 
 TOP = pathlib.Path(__file__).resolve().parent.parent.parent
 # how the front desk is called
@@ -122,3 +123,7 @@ class Desk:
 
     def page(self, name: str) -> xml.Element:
         return xml.fromstring(self.text(name).replace("<!DOCTYPE html>", ""))
+
+
+# makes desks in folders of their own, each empty
+NewDesk = Callable[[], Desk]

@@ -1,0 +1,249 @@
+"""What is inferred where a sheet doesn't give it."""
+from __future__ import annotations
+
+from front_desk.desk import Desk
+
+
+def test_inferred_days(desk: Desk) -> None:
+    """A day lies in its year or month, after the parents' and before the calves'."""
+    done = desk.take(
+        """\
+        id,sex,born,sire,dam
+        year,F,2001,,
+        month,M,03.2002,,
+        late,F,2001-12-30,,
+        squeezed,F,2001,,late
+        calves,F,,,
+        calf,F,2010-05-06,,calves
+        parents,F,,month,
+        between,F,,,late
+        child,M,2002-01-02,,between
+        first,F,,,
+        chain1,M,,,
+        chain2,M,,chain1,
+        chain3,M,2001-01-02,chain2,
+        mate,F,,,
+        theirs,F,,month,mate
+        early,F,2005,,
+        spring,F,2005-03-04,,early
+        """
+    )
+    born = desk.born()
+    wanted = {
+        "year": "2001-07-02", "month": "2002-03-16", "squeezed": "2001-12-31", "calves": "2008-05-06",
+        "parents": "2004-03-15", "between": "2001-12-31",
+        "first": "1900-01-01", "chain1": "1997-01-03", "chain2": "1999-01-03", "mate": "2002-03-16",
+        "theirs": "2004-03-15", "early": "2005-03-03",
+    }  # fmt: skip
+    assert wanted.items() <= born.items()
+    assert " 12 inferred, 0 left out" in done.last
+    marks = {row["id"]: row["birth"] for row in desk.table("book/ids.csv") if row["birth"]}
+    assert marks.keys() == wanted.keys()
+    assert marks["year"] == "from the year 2001"
+    assert marks["calves"] == "from its offspring"
+    listed = {row["id"]: row["birth"] for row in desk.listed("list")}
+    assert all(listed[id] == born[id] + (" (inferred)" if id in wanted else "") for id in born)
+
+
+def test_inferred_days_of_those_that_left(desk: Desk) -> None:
+    """A day that isn't known is none behind the exit of its animal or of its sire."""
+    done = desk.take(
+        "id,sex,born,sire,dam,exit\ncow,F,2001-01-01,,,2006-03-04\ncalf,F,,,cow,\nown,F,,,cow,2002-01-01\n"
+        "later,F,2010-01-01,,calf,\n"
+    )
+    assert desk.born()["calf"] == "2006-03-04"
+    assert desk.born()["own"] == "2002-01-01"
+    assert " 0 left out" in done.last
+
+
+def test_days_that_come(desk: Desk) -> None:
+    """A day that becomes known is taken over, numbers stay, and an inferred day stays where it can."""
+    desk.take("id,sex,born,sire,dam\nmother,F,,,\ncalf,M,2005-06-07,,mother\nyear,F,2003,,\n")
+    before, numbers = desk.born(), desk.numbers()
+    done = desk.take(
+        "id,sex,born,sire,dam\nmother,F,,,\ncalf,M,2005-06-07,,mother\nyear,F,02.02.2003,,\n"
+        "elder,M,2004-08-08,,mother\n"
+    )
+    after = desk.born()
+    assert (before["mother"], after["mother"], after["year"]) == ("2003-06-08", "2003-06-08", "2003-02-02")
+    assert desk.numbers().items() >= numbers.items()
+    done.tells("line 4: year: changed: birth day: 2003-02-02, before 2003-07-02")
+    done = desk.take(
+        "id,sex,born,sire,dam\nmother,F,,,\ncalf,M,2005-06-07,,mother\nyear,F,,,\nelder,M,2004-08-08,,mother\n"
+        "eldest,M,2003-01-01,,mother\n"
+    )
+    assert desk.born()["mother"] == "2002-12-31"
+    assert desk.born()["year"] == "2003-02-02"
+    done.tells("line 4: year: inferred: birth day 2003-02-02, as in the book, since its cell gives none")
+
+
+def test_reasons_that_stay(desk: Desk) -> None:
+    """An inferred day that stays has the reason by which it was inferred, whether its animal has a row or is gone;
+    one that has to change gets another."""
+    rows = "id,sex,born,sire,dam,exit\nbull,M,2001-01-01,,,\ncalf,M,2009-06-07,,mother,\n"
+    earliest = "the earliest that a book can have, since no parent and no offspring has one"
+    undated = {
+        "year": ("year,F,2003,,,", "birth day 2003-07-02, from the year 2003"),
+        "mother": ("mother,F,,,,", "birth day 2007-06-08, from its offspring"),
+        "young": ("young,F,,bull,,", "birth day 2003-01-01, from its parents"),
+        "alone": ("alone,F,,,,", f"birth day 1900-01-01, {earliest}"),
+    }
+
+    def sheet(*more: str) -> str:
+        return rows + "".join(row + "\n" for row in more)
+
+    told = [f"line {at}: {id}: inferred: {day}" for at, (id, (_, day)) in enumerate(undated.items(), 4)]
+    desk.take(sheet(*(row for row, _ in undated.values()))).tells(*told)
+    # all are gone, and then what their days were inferred from is another: it isn't told as if it held today
+    as_in_book = ", as in the book, where it was inferred: "
+    in_book = {id: day.replace(", ", as_in_book, 1) for id, (_, day) in undated.items()}
+    for now in sheet(), sheet(), rows.replace("mother", "").replace("2001-01-01", "2000-01-01"):
+        named = {"mother": " (line 3 names it)"} if "mother" in now else {}
+        done = desk.take(now)
+        done.tells(*(f"{id}: inferred: {day}{named.get(id, '')}" for id, day in in_book.items()))
+        reasons = {row["id"]: row["birth"] for row in desk.table("book/ids.csv") if row["birth"]}
+        found = {id: f"birth day {desk.born()[id]}, {why}" for id, why in reasons.items()}
+        assert found == {id: day for id, (_, day) in undated.items()}, f"{found}"
+    desk.good("trend")
+    words = "".join(desk.page("book/trend.svg").itertext())
+    assert "2003: " in words
+    assert "3 more have no known birth year" in words
+    # they have rows again, whose cells for the day are empty; one is a parent now
+    again = [row.replace("2003", "") for row, _ in undated.values()]
+    told = [f"line {at}: {id}: inferred: {day}" for at, (id, day) in enumerate(in_book.items(), 4)]
+    desk.take(sheet(*again, "late,F,2020-01-01,,alone,")).tells(*told)
+    done = desk.take(sheet(*again, "late,F,2002-01-01,,year,"))
+    done.tells("line 4: year: inferred: birth day 2001-12-31, from its offspring")
+    again[1] += "2005-01-01"
+    done = desk.take(rows.replace("mother", "") + "".join(row + "\n" for row in again))
+    why = "the nearest to the book's that an exit leaves open"
+    done.tells(f"line 5: mother: inferred: birth day 2005-01-01, {why}")
+
+
+def test_invented_days(desk: Desk) -> None:
+    """A day that was invented for a pedigree stays marked as that once the animal is gone, or has a row without
+    a day."""
+    desk.good("take", "--pedigree", desk.write("pedigree.txt", "x 0 0\ny x 0\n"))
+    done = desk.take("id,born,sire,dam\nz,2020-01-01,x,\n")
+    in_book = "as in the book, where it was invented"
+    done.tells(
+        f"x: inferred: birth day 1900-01-01, {in_book} (line 2 names it)",
+        f"y: inferred: birth day 1900-01-02, {in_book}",
+    )
+    listed = {row["id"]: row["birth"] for row in desk.listed("list")}
+    assert all(listed[id].endswith(" (invented)") for id in "xy")
+    # the parents of a sheet aren't swapped: one that is refused is shown with the sheet's text
+    done = desk.take("id,sex,born,sire,dam\nx,M,,,\ny,F,,x,x\n")
+    done.tells(
+        f"line 3: y: inferred: birth day 1900-01-02, {in_book}",
+        "line 3: y: its dam x (line 2) is left out: it isn't female (refusal 6)",
+    )
+    desk.good("certificate", "y", "--out", "page.html")
+    words = " ".join("".join(desk.page("page.html").itertext()).split())
+    assert "unknown (in the sheet: x)" in words
+    assert "(in sheet)" not in words
+
+
+def test_sexes(desk: Desk) -> None:
+    """Without a column of sexes a sire is male and a dam female; what is corrected keeps its digits."""
+    done = desk.take("id,born,sire,dam\na,2001-01-01,,\nb,2001-02-01,,\nc,2003-01-01,a,b\nd,2004-01-01,,\n")
+    assert [number[6] for number in desk.numbers().values()] == ["M", "F", "F", "F"]
+    assert " 4 inferred" in done.last
+    desk.take(
+        "id,born,sire,dam\na,2001-01-01,,\nb,2001-02-01,,\nc,2003-01-01,a,b\nd,2004-01-01,,\ne,2008-01-01,d,c\n"
+    )
+    assert desk.numbers()["d"] == "HOLGBRM000000000004"
+    done = desk.take(
+        "id,sex,born,sire,dam\na,M,2001-01-01,,\nb,F,2001-02-01,,\nc,M,2003-01-01,a,b\nd,M,2004-01-01,,\n"
+        "e,F,2008-01-01,d,c\n"
+    )
+    assert desk.numbers()["c"] == "HOLGBRM000000000003"
+    done.tells("line 6: e: its dam c (line 4) is left out: it isn't female (refusal 6)")
+    done.tells(
+        "line 4: c: changed: number: HOLGBRM000000000003, before HOLGBRF000000000003",
+        "line 6: e: changed: dam: none, before c",
+    )
+
+
+def test_sire_and_dam_without_a_sex(desk: Desk) -> None:
+    """An animal that is a sire and a dam is male, as the first of the two says."""
+    done = desk.take("id,born,sire,dam\na,2001,,\nb,2003,a,\nc,2004,,a\n")
+    done.tells(
+        "line 4: c: its dam a (line 2) is left out: it isn't female (refusal 6); its sex is inferred: male,"
+        " since it is a sire"
+    )
+
+
+MEANT = "if another is meant, write the id of that one"
+
+
+def test_named_parents(desk: Desk) -> None:
+    """A parent that is no id, but one animal's name, is that animal where it can be it; it is told with the
+    line."""
+    sheet = """\
+        id;name;sex;born;sire;dam
+        R1;Max;M;2001-01-01;;
+        R2;Moritz;M;2001-02-01;;
+        E1;Lotte;F;2002-01-01;;
+        E2;Lotte;F;2002-02-01;;
+        E3;Änne;F;2002-03-01;;
+        E4;Rosi;F;2002-03-01;;
+        R5;Leo;M;2001-03-01;;
+        L1;Moritz;M;2004-01-01;moritz;änne
+        L2;;F;2004-02-01;Max;Lotte
+        L3;;F;2000-01-01;Leo;Moritz
+        L4;;F;2004-02-01;Rosi;R1
+        L6;;F;2004-02-01;Leo;Rosi
+        """
+    done = desk.take(sheet)
+    done.tells(
+        f"line 9: L1: inferred: its sire 'moritz' is R2 by its name: {MEANT}",
+        f"line 9: L1: inferred: its dam 'änne' is E3 by its name: {MEANT}",
+        f"line 10: L2: inferred: its sire 'Max' is R1 by its name: {MEANT}",
+        f"line 13: L6: inferred: its dam 'Rosi' is E4 by its name: {MEANT}",
+        (
+            "line 10: Lotte: added: the dam of L2 has no row: added without parents (2 animals have this name, E1,"
+            " E2: write the id of the one that is meant)"
+        ),
+        "line 11: Leo: added: the sire of L3 and of 1 more has no row: added without parents (is R5 meant?)",
+        (
+            "line 11: Moritz: added: the dam of L3 has no row: added without parents (2 animals have this name, R2,"
+            " L1: write the id of the one that is meant)"
+        ),
+        "line 12: Rosi: added: the sire of L4 has no row: added without parents (is E4 meant?)",
+        "line 12: L4: its dam R1 (line 2) is left out: it isn't female (refusal 6)",
+    )
+    assert " 8 inferred, 1 left out (1 parent), 4 added, 0 gone" in done.last
+    parents = desk.parents()
+    wanted = {
+        "L1": ("R2", "E3"), "L2": ("R1", "Lotte"), "L3": ("Leo", "Moritz"), "L4": ("Rosi", ""), "L6": ("Leo", "E4"),
+    }
+    assert wanted.items() <= parents.items()
+    # a later animal of the name doesn't change what is in the book, but a new calf may be of either
+    more = "E9;Änne;F;2010-01-01;;\nL5;;F;2012-01-01;;Moritz\nL9;;F;2012-01-01;;Änne\n"
+    done = desk.take(sheet + more.replace("\n", "\n            "))
+    assert desk.parents()["L1"] == ("R2", "E3")
+    assert " 0 changed" in done.last
+    assert desk.parents()["L9"] == ("", "Änne")
+
+
+def test_named_parent_that_comes_later(desk: Desk) -> None:
+    """A row that comes later is found by its name, and a founder that stood for it is no parent any more."""
+    desk.take("id,name,sex,born,sire,dam\nc,,F,2004-01-01,Hans,\n")
+    grown = "id,name,sex,born,sire,dam\nc,,F,2004-01-01,Hans,\nH1,Hans,M,2000-01-01,,\n"
+    done = desk.take(grown)
+    stays = "no animal has it as a parent any more, and stays in the book as it is"
+    done.tells(
+        f"line 2: c: inferred: its sire 'Hans' is H1 by its name: {MEANT}",
+        "line 2: c: changed: sire: H1, before Hans",
+        f"Hans: gone: {stays}",
+    )
+    assert ", 1 gone: " in done.last
+    assert "with --drop-gone they are dropped" in done.out
+    why = "as in the book, where it was inferred: from its offspring"
+    done.tells(f"Hans: inferred: birth day 2002-01-01, {why}")
+    assert desk.numbers()["Hans"] == "HOLGBRM000000000001"
+    done = desk.take(grown, "--drop-gone")
+    done.tells("Hans: gone: no animal has it as a parent any more: it is dropped from the book")
+    assert desk.numbers().keys() == {"c", "H1"}
+    assert desk.parents()["c"] == ("H1", "")

@@ -1,0 +1,144 @@
+"""For geneticists: pedigrees of `id sire dam`, and the inverse."""
+from __future__ import annotations
+
+import pathlib
+
+import pytest
+import scipy.io
+
+import reference
+from front_desk.desk import Desk
+
+
+MRODE = {
+    "blanks": "1 0 0\n2 0 0\n3 1 2\n4 1 0\n5 4 3\n6 5 2\n",
+    "titles": "ID,Sire,Dam\n1,NA,NA\n2,NA,NA\n3,1,2\n4,1,NA\n5,4,3\n6,5,2\n",
+    "any order": "# a comment\n6\t5\t2\n5\t4\t3\n\n4\t1\t.\n3\t1\t2\n",
+    "turned": "dam;id;sire\n0;1;0\n0;2;0\n2;3;1\n0;4;1\n3;5;4\n2;6;5\n",
+}
+DIAGONAL = [11 / 6, 61 / 30, 5 / 2, 11 / 6, 38 / 15, 32 / 15]
+OFF_THE_DIAGONAL = {
+    ("1", "2"): 0.5, ("1", "3"): -1, ("1", "4"): -2 / 3, ("2", "5"): 8 / 15, ("2", "6"): -16 / 15,
+    ("3", "4"): 0.5, ("3", "5"): -1, ("1", "5"): 0, ("4", "6"): 0,
+}  # fmt: skip
+
+
+@pytest.mark.parametrize("form", MRODE)
+def test_textbook(desk: Desk, form: str) -> None:
+    """Mrode's six animals: F is 1/8 for two, and the inverse is as published."""
+    done = desk.good("take", "--pedigree", desk.write("mrode.txt", MRODE[form]))
+    assert "6 animals, " in done.last
+    assert " 0 left out" in done.last
+    assert "are invented" in done.out
+    found = {row["id"]: (row["coefficient"], row["decimal"]) for row in desk.listed("list")}
+    assert found == dict.fromkeys("1234", ("0", "0")) | dict.fromkeys("56", ("1/8", "0.125"))
+    desk.good("inverse", "--matrix-market", "inverse.mtx")
+    ids, matrix = desk.text("inverse.mtx.ids").split(), matrix_of(desk.room / "inverse.mtx")
+    at = {id: ids.index(id) for id in ids}
+    diagonal = [matrix[at[id], at[id]] for id in "123456"]
+    assert all(abs(one - other) < 1e-15 * 4 for one, other in zip(diagonal, DIAGONAL))
+    assert all(abs(matrix.get((at[r], at[c]), 0) - value) < 1e-14 for (r, c), value in OFF_THE_DIAGONAL.items())
+    assert form == "any order" or ids == list("123456")
+
+
+def matrix_of(path: pathlib.Path) -> dict[tuple[int, int], float]:
+    """A symmetric MatrixMarket file, by scipy and by a reader of its own."""
+    first, *lines = [line for line in path.read_text().splitlines() if not line.startswith("% ")]
+    rows, columns, count = map(int, lines[0].split())
+    found, below = {}, []
+    for line in lines[1:]:
+        row, column, value = line.split()
+        below.append(int(column) <= int(row) <= rows and (int(row) - 1, int(column) - 1) not in found)
+        found[int(row) - 1, int(column) - 1] = found[int(column) - 1, int(row) - 1] = float(value)
+    assert all(below)
+    assert first == "%%MatrixMarket matrix coordinate real symmetric"
+    assert rows == columns
+    assert len(lines) == count + 1
+    read = scipy.io.mmread(path).todok()
+    assert {at: value for at, value in read.items()} == found
+    return found
+
+
+def test_inverse_of_many(secretary_desk: Desk) -> None:
+    """The summed inverse of the secretary's book, times the relationships, is the identity."""
+    desk = secretary_desk
+    desk.good("inverse", "--matrix-market", "a.mtx")
+    matrix = matrix_of(desk.room / "a.mtx")
+    ids, numbers = desk.text("a.mtx.ids").splitlines(), desk.numbers()
+    entry = reference.filed(desk.text("book/commands.csv"))[0].relationships()
+    of_row: dict[int, list[tuple[int, float]]] = {}
+    for (row, column), value in matrix.items():
+        of_row.setdefault(row, []).append((column, value))
+    worst = 0.0
+    for column in range(0, len(ids), 10):
+        relationships = [float(entry(numbers[id], numbers[ids[column]])) for id in ids]
+        for row in range(len(ids)):
+            worst = max(worst, abs(sum(value * relationships[at] for at, value in of_row[row]) - (row == column)))
+    assert len(ids) == 201
+    assert worst < 1e-12
+
+
+def test_invented(desk: Desk) -> None:
+    """A certificate says what a pedigree doesn't have."""
+    desk.good("take", "--pedigree", desk.write("one.txt", "x 0 0\n"))
+    desk.good("certificate", "x", "--out", "x.html")
+    words = "".join(desk.page("x.html").itertext())
+    assert words.count(" (invented)") == 2
+    assert "(invented): the pedigree has neither" in words
+
+
+BOTH = "a 0 0\nb 0 0\nc a b\nd c a\ne d c\nf 0 d\n"
+
+
+def test_sires_that_are_dams(desk: Desk) -> None:
+    done = desk.good("take", "--pedigree", desk.write("both.txt", BOTH))
+    assert " 0 left out" in done.last
+    found = {row["id"]: row["coefficient"] for row in desk.listed("list")}
+    assert found == {"a": "0", "b": "0", "c": "0", "d": "1/4", "e": "3/8", "f": "0"}
+    done.tells(
+        "line 4: d: changed: taken with the sire a and the dam c, since c is a sire in line 4 and a dam in line 5",
+        "line 6: f: changed: taken with the sire d and the dam unknown, since d is a sire in line 5 and a dam "
+        "in line 6",
+    )
+    desk.wrong(
+        "no animal of the book has a known birth year, so there is no trend to draw: take a sheet with birth days",
+        "trend",
+    )
+
+
+def test_odd_pedigree(desk: Desk) -> None:
+    """Cycles, one parent twice, and couples that no choice of sexes fits."""
+    done = desk.good("take", "--pedigree", desk.write("odd.txt", "a b 0\nb a 0\nc a a\nd a b\ne b c\nf c a\n"))
+    done.tells(
+        "line 3: c: its dam a is left out: a is its sire too, and no calf has one parent twice",
+        "line 2: b: its sire a is left out: b would be its own ancestor (b > a > b)",
+        "line 5: e: its dam c is left out: no choice of sexes fits all of the couples b and a (line 4), a and c"
+        " (line 6), c and b (line 5)",
+    )
+    assert " 3 left out (3 parents), " in done.last
+
+
+def test_pedigree_that_grows_and_shrinks(desk: Desk) -> None:
+    both = desk.write("both.txt", BOTH)
+    desk.good("take", "--pedigree", both)
+    grown = desk.write("more.txt", "g f e\na 0 0\nb 0 0\nc a b\nd c a\ne d c\nf 0 d\n")
+    assert ", 1 new, " in desk.good("take", "--pedigree", grown).last
+    done = desk.good("take", "--pedigree", both, "--drop-gone")
+    assert "book: 6 animals, 0 new, " in done.last
+    assert ", 1 gone: " in done.last
+
+
+@pytest.mark.parametrize(("text", "told"), [
+    ("a b\n", "line 1: 'a b' has 2 cells: write an id, its sire and its dam"),
+    ("", "has no animals: write a line `id sire dam` for each"),
+    ("a 0 0\n0 a a\n", "line 2: '0' is a word for an unknown parent"),
+    ("id,sire\na,b\n", "line 1: 'id sire': the titles have to be id, sire and dam"),
+])  # fmt: skip
+def test_no_pedigree(desk: Desk, text: str, told: str) -> None:
+    desk.wrong(told, "take", "--pedigree", desk.write("wrong.txt", text))
+
+
+def test_words_for_no_pedigree(desk: Desk) -> None:
+    desk.wrong("can't be read: No such file or directory", "take", "--pedigree", "absent.txt")
+    both = desk.write("both.txt", BOTH)
+    desk.wrong("name a sheet, or a pedigree", "take", both, "--pedigree", both)

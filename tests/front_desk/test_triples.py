@@ -1,0 +1,263 @@
+"""Pedigrees of `id sire dam`: lost links and swaps as the file has them, odd cells, and paths that are too long."""
+from __future__ import annotations
+
+import itertools
+import random
+import re
+
+import pytest
+
+from front_desk.desk import TOP, Desk, Done
+
+LOST = re.compile(r"line (\d+): (\S+): its (sire|dam) (\S+) is left out: ")
+TAKEN = re.compile(
+    r"line (\d+): (\S+): changed: taken with the sire (\S+) and the dam (\S+), since (\S+?)(?:, which couples join to "
+    r"(\S+),)? is a sire in line (\d+) and a dam in line (\d+)"
+)
+COUPLE = re.compile(r"(\S+) and (\S+) \(line (\d+)\)")
+Rows = list[list[str]]
+
+
+def text_of(rows: Rows) -> str:
+    return "".join(" ".join(row) + "\n" for row in rows)
+
+
+def random_rows(seed: int) -> Rows:
+    """Animals that are sires and dams, some of whose parents are younger or themselves."""
+    chance = random.Random(seed)
+    count = chance.randint(4, 14)
+    rows = []
+    for at in range(count):
+        most = max(1, min(count, at + (chance.random() < 0.3) * 4))
+        rows.append([f"a{at}", *(f"a{chance.randrange(most)}" if chance.random() < 0.7 else "0" for _ in range(2))])
+    chance.shuffle(rows)
+    return rows
+
+
+def test_lost_link(desk: Desk) -> None:
+    """Of a lost link the file's role is told, and of a swap what was taken and which lines ask for it."""
+    done = desk.good(
+        "take", "--pedigree", desk.write("cycle.txt", "a 0 0\nb b a\nc a 0\nd a c\n"), "--book", "cycle"
+    )
+    done.tells(
+        "line 2: b: its sire b is left out: b would be its own ancestor (b > b)",
+        (
+            "line 2: b: changed: taken with the sire a and the dam unknown, since a is a sire in line 3 and a dam "
+            "in line 2"
+        ),
+    )
+    assert ", 1 changed, 4 invented, 1 left out (1 parent), 0 added, 0 gone: cycle/report.csv has each" in done.last
+
+
+def test_random_pedigrees(desk: Desk) -> None:
+    """What is told of random pedigrees is as their lines have it, and as the books have it."""
+    swaps = lost = couples = 0
+    for seed in range(40):
+        rows = random_rows(seed)
+        # no more than 25 of a kind are printed
+        done = desk.good("take", "--pedigree", desk.write("random.txt", text_of(rows)), "--book", f"book{seed}")
+        assert "and " not in [line[:4] for line in done.out.splitlines()], f"{seed}: too many are told"
+        counts = as_told(desk, rows, done, f"book{seed}")
+        swaps, lost, couples = swaps + counts[0], lost + counts[1], couples + counts[2]
+    assert swaps > 9
+    assert lost > 20
+    assert couples > 2
+
+
+def as_told(desk: Desk, rows: Rows, done: Done, book: str) -> tuple[int, int, int]:
+    """Compares what is told with the file's lines and with the book's parents; counts swaps and lost links."""
+    told = {row[0]: row[1:] for row in rows}
+    lost = LOST.findall(done.out)
+    for line, id, role, parent in lost:
+        at = ["sire", "dam"].index(role)
+        assert rows[int(line) - 1][0] == id, f"{book}: line {line} has no {role} {parent}: {rows}"
+        assert rows[int(line) - 1][1 + at] == parent, f"{book}: line {line} has no {role} {parent}: {rows}"
+        told[id] = [parent if at != place else "0" for place, parent in enumerate(told[id])]
+    taken = TAKEN.findall(done.out)
+    for line, id, sire, dam, both, mate, as_sire, as_dam in taken:
+        assert rows[int(line) - 1][0] == id, f"{book}: {id}: {told[id]} was taken with {sire}, {dam}"
+        assert [dam, sire] == [one.replace("0", "unknown") if one == "0" else one for one in told[id]]
+        assert (mate or both) in told[id], f"{book}: {both} is no sire in line {as_sire} or no dam in {as_dam}: {rows}"
+        assert rows[int(as_sire) - 1][1] == both == rows[int(as_dam) - 1][2]
+        told[id].reverse()
+    assert {id: tuple(pair) for id, pair in told.items()} == parents_in(desk, book)
+    fits = [line for line in done.out.splitlines() if "no choice of sexes fits all of the couples " in line]
+    for line in fits:
+        couples = COUPLE.findall(line.split("couples ")[1].replace(",", ""))
+        right = all({one, other} == set(rows[int(at) - 1][1:]) for one, other, at in couples)
+        ends = [one for pair in couples for one in pair[:2]]
+        assert right, f"{book}: {line}: {rows}"
+        assert len(couples) % 2, f"{book}: {line}: {rows}"
+        assert all(ends.count(one) == 2 for one in ends), f"{book}: {line}: {rows}"
+    assert f"{len(taken)} changed, " in done.last
+    assert f" {len(lost)} left out" in done.last
+    return len(taken), len(lost), len(fits)
+
+
+def parents_in(desk: Desk, book: str) -> dict[str, tuple[str, ...]]:
+    ids = {row["number"]: row["id"] for row in desk.table(f"{book}/ids.csv")} | {"0": "0"}
+    births = [line.split(",") for line in (desk.room / book / "commands.csv").read_text().splitlines()[1:]]
+    return {ids[birth[1]]: tuple(ids[parent] for parent in birth[3:5]) for birth in births}
+
+
+# as published, above the diagonal too
+RELATIONSHIPS = {
+    "11": 1, "14": 0.5, "25": 0.25, "33": 1, "34": 0.25, "45": 0.625, "55": 1.125, "36": 0.5625, "66": 1.125,
+    "12": 0,
+}  # fmt: skip
+
+
+@pytest.mark.parametrize("pair", RELATIONSHIPS)
+def test_relationships(desk: Desk, pair: str) -> None:
+    """With the lines `u x 0` and `calf u y` the relationship of x and y, whatever their sexes, is four times F of
+    `calf`."""
+    x, y = pair
+    rows = [line.split() for line in (TOP / "examples/mrode.txt").read_text().splitlines() if line[:1].isdigit()]
+    desk.good("take", "--pedigree", desk.write("more.txt", text_of([*rows, ["u", x, "0"], ["calf", "u", y]])))
+    found = {row["id"]: row["decimal"] for row in desk.listed("list")}
+    assert 4 * float(found["calf"]) == RELATIONSHIPS[pair]
+
+
+@pytest.mark.parametrize(("text", "told"), [
+    ("1 a 0 0\n2 b 0 0\n3 c a b\n",
+     "line 1: '1 a 0 0' has 4 cells, and without titles each line has an id, its sire and its dam alone: "
+     "write a first line with the titles"),
+    ("ANIMAL PARENT1 PARENT2\na 0 0\n",
+     "line 1: 'ANIMAL PARENT1 PARENT2': the titles have to be id, sire and dam"),
+    ("a;0;0;x\n", "line 1: 'a 0 0 x' has 4 cells, and without titles"),
+    ('"id" "sire" "dam"\n"1" "a" 0 0\n',
+     "line 2: '1 a 0 0' has 4 cells, and line 1 has 3 titles: write one for each column "
+     "(R writes such a file without row.names = FALSE)"),
+    ("a 0 0\nb 0 0\nc , a , b\n",
+     "line 3: 'c , a , b' has ',', and the first line has blanks between its cells: "
+     "write all lines with the same"),
+    ("a 0 0\nc, a, 0\n", "line 2: 'c, a, 0' has ','"), ("a 0 0\n;;\n", "line 2: ';;' has ';'"),
+    ("a,0,0\nb a 0\n", "line 2: 'b a 0' has 1 cell: write an id, its sire"),
+])  # fmt: skip
+def test_odd_cells(desk: Desk, text: str, told: str) -> None:
+    """Other columns need titles, and what stands between cells is the same in all lines."""
+    desk.wrong(told, "take", "--pedigree", desk.write("wrong.txt", text))
+
+
+@pytest.mark.parametrize("text", [
+    "no id sire dam\n1 a 0 0\n2 b 0 0\n3 c a b\n",
+    '"Row","Animal","Dam","x","Sire"\n1,a,0,,0\n2,b,0,u,\n3,c,b,v,a,\n', "a,0,0,\nb,0,0,,\nc,a,b\n",
+    'a 0 0\n"b" 0 0\n"c" "a" "b"\n',
+])  # fmt: skip
+def test_cells(desk: Desk, text: str) -> None:
+    """Columns are found by titles, blanks at the end and quotation marks are no cells, and what isn't read is told."""
+    done = desk.good("take", "--pedigree", desk.write("right.txt", text))
+    assert desk.parents() == {"a": ("", ""), "b": ("", ""), "c": ("a", "b")}
+    columns = [line for line in done.out.splitlines() if line.startswith("columns: id from '")]
+    assert len(columns) == (text[:2] not in ("a,", "a "))
+    assert all("not read: '" in line for line in columns)
+
+
+def test_blanks_in_ids(desk: Desk) -> None:
+    done = desk.good("take", "--pedigree", desk.write("blanks.txt", 'a 0 0\n"b b" 0 0\nc a "b b"\n'))
+    assert "3 animals, 3 new" in done.last
+    assert done.last.endswith(", 0 gone")
+
+
+def test_id_in_several_lines(desk: Desk) -> None:
+    done = desk.good("take", "--pedigree", desk.write("twice.txt", "a 0 0\nb 0 0\nc a b\nc a b\nc b 0\n"))
+    done.tells(
+        "line 4: c: the line is left out: line 3 has this id too",
+        (
+            "line 5: c: the line is left out: line 3 has this id too, with other parents, which are taken (a and b;"
+            " here they are b and unknown)"
+        ),
+    )
+    assert " 2 left out (2 lines), " in done.last
+
+
+def test_unknown_words(desk: Desk) -> None:
+    """A parent without a row that is a sire and a dam of many may mean an unknown one; `--unknown` takes it."""
+    pedigree = desk.write("nine.txt", "a -9 -9\nb -9 -9\nc a b\nd 00 b\n")
+    advice = (
+        "-9 has no row, and is the sire of 2 and the dam of 2: if it means an unknown parent, take this again with "
+        "--unknown=-9 --drop-gone"
+    )
+    desk.good("take", "--pedigree", pedigree).tells(advice)
+    done = desk.wrong(
+        "2 left out (2 parents): with --strict nothing is taken", "take", "--pedigree", pedigree, "--strict"
+    )
+    assert advice in done.err
+    done = desk.good("take", "--pedigree", pedigree, "--unknown=-9,00", "--drop-gone")
+    assert "book: 4 animals, 0 new, 3 changed, 4 invented, 0 left out, 0 added, 2 gone: " in done.last
+    for words in (
+        ["--unknown", "-9,00"],
+        ["--unknown", "-9", "--unknown", "00"],
+        ["--unknown=-9", "--unknown", "00"],
+    ):
+        done = desk.good("take", *words, "--pedigree", pedigree, "--book", "new" + "".join(words))
+        assert ": 4 animals, 4 new, 0 changed, 4 invented, 0 left out, 0 added, 0 gone" in done.last
+
+
+def test_unknown_words_in_a_sheet(desk: Desk) -> None:
+    done = desk.take(
+        "id,born,sire,dam\na,2001,fremd,fremd\nb,2002,fremd,\nc,2003,n b,n b\nd,2004,x,x\ne,2005,n b,\n"
+    )
+    assert (
+        "fremd has no row, and is the sire of 2 and the dam of 1: if it means an unknown parent, take this again "
+        "with --unknown=fremd --drop-gone"
+        in done.out
+    )
+    assert "with --unknown='n b' --drop-gone" in done.out
+    assert "x has no row, and is" not in done.out
+
+
+def test_long_paths(desk: Desk) -> None:
+    """A path that is too long is told with its length, and what is told to do makes it fit."""
+    rows = [[f"a{at}", f"a{at - 1}" if at else "0", "0"] for at in range(77)]
+    done = desk.wrong(
+        "line 62: a61: a path of parents would be longer than 60 steps",
+        "take",
+        "--pedigree",
+        desk.write("line.txt", text_of(rows)),
+    )
+    assert (
+        "the longest path has 76 steps, 16 more than 60, from a76 (line 77) up to a0 (line 1); its oldest 16 "
+        "animals are a0 (line 1), a1 (line 2), "
+        in done.err
+    )
+    assert "set the parents of this animal to unknown, and no path is too long: a16 (line 17)." in done.err
+
+
+def deep_rows(seed: int, years: int) -> Rows:
+    """Four animals a year, most of whose parents are of the year before."""
+    chance = random.Random(seed)
+    rows = []
+    for year, at in itertools.product(range(years), range(4)):
+        rows.append([f"g{year}-{at}", *(deep_parent(chance, year, sex) for sex in range(2))])
+    return rows
+
+
+def deep_parent(chance: random.Random, year: int, sex: int) -> str:
+    if chance.random() < 0.1 or not year:
+        return "0"
+    before = max(0, year - 1 - (chance.random() < 0.01))
+    return f"g{before}-{sex + 2 * chance.randrange(2)}"
+
+
+@pytest.mark.parametrize(("seed", "years"), [(0, 150), (1, 63), (2, 76)])
+def test_cuts_of_long_paths(desk: Desk, seed: int, years: int) -> None:
+    """With the parents cut that are told no path is too long, and few are."""
+    rows = deep_rows(seed, years)
+    deep = desk.write("deep.txt", text_of(rows))
+    done = desk.wrong("set the parents of these animals to unknown", "take", "--pedigree", deep)
+    cut = re.findall(r"(g\d+-\d) \(line", done.err.split("no path is too long: ")[1])
+    assert 0 < len(cut) < len(rows) // 20
+    short = desk.write("cut.txt", text_of([[row[0], "0", "0"] if row[0] in cut else row for row in rows]))
+    assert f": {len(rows)} animals, " in desk.good("take", "--pedigree", short).last
+
+
+def test_long_path_in_a_sheet(desk: Desk) -> None:
+    sheet = "id,sex,born,sire,dam\n" + "".join(
+        f"a{at},M,{1900 + at},{f'a{at - 1}' if at else ''},\n" for at in range(62)
+    )
+    done = desk.wrong("its oldest animal is a0 (line 2)", "take", desk.write("deep.csv", sheet))
+    assert "to unknown, and no path is too long: a1 (line 3)." in done.err
+    # a parent that is refused for another reason is on no path
+    done = desk.good("take", desk.write("deep.csv", sheet.replace("a30,M,", "a30,F,")))
+    assert " 1 left out (1 parent)" in done.last
