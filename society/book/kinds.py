@@ -26,8 +26,8 @@ class Standing(enum.Enum):
         return self in (Standing.ROW, Standing.FILED)
 
 
-class Field(enum.Enum):
-    """What a sheet has a column for."""
+class Field(enum.StrEnum):
+    """What a sheet has a column for. `since` is the day since which the owner has the animal."""
 
     ID = "id"
     NAME = "name"
@@ -36,6 +36,7 @@ class Field(enum.Enum):
     SIRE = "sire"
     DAM = "dam"
     OWNER = "owner"
+    SINCE = "since"
     EXIT = "exit"
     EMBRYO = "embryo"
 

@@ -3,70 +3,151 @@ from __future__ import annotations
 
 import calendar
 import datetime
+import enum
 import re
 from typing import NamedTuple
 
 from society.book.inferred import Period
+from society.reading.months import MONTHS, NAME, compared
 
 FIRST_YEAR, LAST_YEAR = 1900, 2199
 FIRST_DAY, LAST_DAY = datetime.date(FIRST_YEAR, 1, 1), datetime.date(LAST_YEAR, 12, 31)
 
 # a time of day behind a day is read and dropped
 TIME = r"(?:(?: +|T)\d{1,2}:\d{2}(?::\d{2}(?:[.,]\d+)?)?(?: ?[AaPp][Mm])?(?: ?(?:Z|UTC|[+-]\d{2}:?\d{2}))?)?"
+DAY = r"(?P<day>\d{1,2})"
+YEAR = r"(?P<year>\d{4})"
+NAMED = f"(?P<name>{NAME})"
 FORMS = [
-    re.compile(form)
+    re.compile(form, re.IGNORECASE)
     for form in (
         r"(?P<year>\d{4})-(?P<month>\d{1,2})-(?P<day>\d{1,2})" + TIME,
         r"(?P<day>\d{1,2})\. ?(?P<month>\d{1,2})\. ?(?P<year>\d{4})" + TIME,
-        r"(?P<day>\d{1,2})(?P<slash>/)(?P<month>\d{1,2})/(?P<year>\d{4})" + TIME,
+        r"(?P<day>\d{1,2})(?P<slash>[/-])(?P<month>\d{1,2})(?P=slash)(?P<year>\d{4})" + TIME,
         r"(?P<year>\d{4})/(?P<month>\d{1,2})/(?P<day>\d{1,2})" + TIME,
+        # `3. April 2010`, `08 January 2005`, `03-Mar-2005`, `1er mars 2005`, `2nd of May 2004`
+        DAY + r"(?:\.|er|st|nd|rd|th)?[ ./-]*(?:of |de |d')?" + NAMED + "[ ./,-]*" + YEAR + TIME,
+        # `January 8, 2005`, `2005-Mar-03`
+        NAMED + "[ ./-]*" + DAY + "(?:st|nd|rd|th)?(?:, ?| )" + YEAR + TIME,
+        YEAR + "[ ./-]" + NAMED + "[ ./-]" + DAY,
+        NAMED + "[ ./,-]*" + YEAR,
         r"(?P<year>\d{4})[-/](?P<month>\d{1,2})",
         r"(?P<month>\d{1,2})[./] ?(?P<year>\d{4})",
         r"(?P<year>\d{4})",
     )
 ]
+TWO_DIGITS = re.compile(rf"\d{{1,2}}[ ./-]+(?:\d{{1,2}}|{NAME})[ ./-]+'?\d{{2}}", re.IGNORECASE)
+# a year within a text
+SOME_YEAR = re.compile(r"(?<!\d)(?:19|20|21)\d{2}(?!\d)")
+# a year that isn't the one that is meant
+NOT_THAT_YEAR = re.compile(
+    r"\b(before|after|since|until|till|to|from|vor|nach|seit|bis|ab|avant|après|depuis|jusqu\w*|dès)\b|[<>]",
+    re.IGNORECASE,
+)
+
+
+class DayFault(enum.Enum):
+    """Why a text is no day that can be taken."""
+
+    NO_DAY = "no day"
+    TWO_DIGITS = "two digits"
+    NUMBER = "number"
+    YEAR = "year"
+    # the month stands first where the day should, or the other way about
+    WRONG_ORDER = "wrong order"
+    AFTER_TODAY = "after today"
+    BEFORE_BIRTH = "before birth"
+    # a number within a text that can't be its day
+    WITHIN_BEFORE_BIRTH = "within before birth"
+    WORD_ALONE = "word alone"
+    WORD_WITH_NUMBERS = "word with numbers"
+
+    def words(self, text: str) -> str:
+        return FAULT_WORDS[self].format(text=text)
+
+
+FAULT_WORDS = {
+    DayFault.NO_DAY: "'{text}' is no day: write it as 2001-03-01 or 01.03.2001, or 03.2001 or 2001 alone",
+    DayFault.TWO_DIGITS: "'{text}' has two digits of the year: write all four",
+    DayFault.NUMBER: "'{text}' is a number: give the column the format of a date, and save the sheet again",
+    DayFault.YEAR: f"the year {{text}} isn't one of {FIRST_YEAR} to {LAST_YEAR}",
+    DayFault.WRONG_ORDER: "'{text}' has the day and the month in the other order",
+    DayFault.AFTER_TODAY: "{text} is after today",
+    DayFault.BEFORE_BIRTH: "{text} is before its birth",
+    DayFault.WITHIN_BEFORE_BIRTH: "the day in '{text}' would be before its birth",
+    DayFault.WORD_ALONE: "'{text}' has no day",
+    DayFault.WORD_WITH_NUMBERS: "'{text}' has no single day with a year of four digits",
+}
 
 
 class Unreadable(ValueError):
-    """A text is no day, with the reason in words."""
+    """A text is no day. The text is the part that shows it."""
+
+    def __init__(self, fault: DayFault, text: str) -> None:
+        super().__init__(fault.words(text))
+        self.fault, self.text = fault, text
 
 
-class MonthFirst(Unreadable):
-    """A day with slashes whose month stands first, so that no day with slashes can be trusted."""
+class Precision(enum.Enum):
+    """How much of a day is known."""
+
+    DAY = enum.auto()
+    MONTH = enum.auto()
+    YEAR = enum.auto()
+    NOTHING = enum.auto()
 
 
 class Span(NamedTuple):
-    """The days that a cell leaves open: one day, or those of a month or of a year. `wrong` is a day that there
-    isn't."""
+    """The days that a cell leaves open: one day, or those of a month or of a year. `wrong` is a day that there isn't,
+    `text` one from which only the year could be read."""
 
     first: datetime.date
     last: datetime.date
     wrong: str = ""
+    text: str = ""
+    precision: Precision = Precision.DAY
 
     @property
     def is_day(self) -> bool:
-        return self.first == self.last
+        return self.precision is Precision.DAY
 
     def period(self) -> Period:
         """The month or the year."""
-        is_month = (self.first.year, self.first.month) == (self.last.year, self.last.month)
+        is_month = self.precision is Precision.MONTH
         return Period(f"{self.first:%Y-%m}" if is_month else str(self.first.year), self.wrong)
 
+    def until(self, last: datetime.date) -> Span:
+        """The days of it that aren't after the last one; it begins before that."""
+        return self._replace(last=last) if last < self.last else self
 
-ANY_DAY = Span(FIRST_DAY, LAST_DAY)
+
+ANY_DAY = Span(FIRST_DAY, LAST_DAY, precision=Precision.NOTHING)
 
 
-def read_span(text: str) -> Span:
-    """The day, month or year of a cell; raises `Unreadable`."""
+def month_of(year: int, month: int, wrong: str = "") -> Span:
+    last = calendar.monthrange(year, month)[1]
+    return Span(datetime.date(year, month, 1), datetime.date(year, month, last), wrong, precision=Precision.MONTH)
+
+
+def year_of(year: int, wrong: str = "", text: str = "") -> Span:
+    return Span(datetime.date(year, 1, 1), datetime.date(year, 12, 31), wrong, text, Precision.YEAR)
+
+
+def read_span(text: str, month_first: bool = False, legible: bool = True) -> Span:
+    """The day, month or year of a cell, or, where that is wanted, the only year that is legible in it; raises
+    `Unreadable`."""
     for form in FORMS:
         found = form.fullmatch(text)
         if found:
-            return span_of(found.groupdict())
-    if re.fullmatch(r"\d{1,2}[./-]\d{1,2}[./-]\d{2}", text):
-        raise Unreadable(f"'{text}' has two digits of the year: write all four")
+            return span_of(found.groupdict(), text, month_first)
+    if TWO_DIGITS.fullmatch(text):
+        raise Unreadable(DayFault.TWO_DIGITS, text)
     if re.fullmatch(r"\d{5}(\.\d+)?", text):
-        raise Unreadable(f"'{text}' is a number: give the column the format of a date, and save the sheet again")
-    raise Unreadable(f"'{text}' is no day: write it as 2001-03-01 or 01.03.2001, or 03.2001 or 2001 alone")
+        raise Unreadable(DayFault.NUMBER, text)
+    years = set(SOME_YEAR.findall(text))
+    if legible and len(years) == 1 and not NOT_THAT_YEAR.search(text):
+        return year_of(int(years.pop()), text=text)
+    raise Unreadable(DayFault.NO_DAY, text)
 
 
 def is_span(text: str) -> bool:
@@ -74,40 +155,43 @@ def is_span(text: str) -> bool:
     return any(form.fullmatch(text) for form in FORMS)
 
 
-def span_within(text: str) -> Span | None:
+def span_within(text: str, month_first: bool = False) -> Span | None:
     """The only day, month or year within a text, if there is one."""
     for form in FORMS:
         # a year alone ends the text: other numbers may be prices
         behind = r"(?=[).]*$)" if form is FORMS[-1] else r"(?!\d|[./-]\d)"
-        found = list(re.finditer(r"(?<![\d./-])" + form.pattern + behind, text))
+        found = list(re.finditer(r"(?<![\w./-])" + form.pattern + behind, text, re.IGNORECASE))
         if len(found) == 1:
             try:
-                return span_of(found[0].groupdict())
-            except MonthFirst:
-                raise
-            except Unreadable:
+                return span_of(found[0].groupdict(), found[0].group(), month_first)
+            except Unreadable as error:
+                if error.fault is DayFault.WRONG_ORDER:
+                    raise
                 return None
         if found:
             return None
     return None
 
 
-def span_of(parts: dict[str, str | None]) -> Span:
+def span_of(parts: dict[str, str | None], text: str, month_first: bool) -> Span:
+    named = parts.get("name")
     year, month, day = (int(parts.get(name) or 0) for name in ("year", "month", "day"))
-    text = "-".join(parts[name] or "" for name in ("year", "month", "day") if parts.get(name))
+    is_slashed = bool(parts.get("slash"))
+    if named:
+        month = MONTHS[compared(named)]
+    elif is_slashed and month_first:
+        month, day = day, month
     if not FIRST_YEAR <= year <= LAST_YEAR:
-        raise Unreadable(f"the year {year} isn't one of {FIRST_YEAR} to {LAST_YEAR}")
-    whole = ".".join(parts[name] or "" for name in ("day", "month", "year") if parts.get(name))
+        raise Unreadable(DayFault.YEAR, str(year))
     # zeros stand for a month or a day that isn't known
-    if not parts.get("month") or (month == 0 and day == 0):
-        return Span(datetime.date(year, 1, 1), datetime.date(year, 12, 31))
-    if parts.get("slash") and month > 12 and 1 <= day <= 12:
-        raise MonthFirst(f"'{parts['day']}/{parts['month']}/{parts['year']}' has the month first")
+    if not (parts.get("month") or named) or (month == 0 and day == 0):
+        return year_of(year)
+    if is_slashed and month > 12 and 1 <= day <= 12:
+        raise Unreadable(DayFault.WRONG_ORDER, text)
     if not 1 <= month <= 12:
-        raise Unreadable(f"there is no month {month} in '{text}'")
-    last = calendar.monthrange(year, month)[1]
+        return year_of(year, text)
     if not parts.get("day"):
-        return Span(datetime.date(year, month, 1), datetime.date(year, month, last))
-    if not 1 <= day <= last:
-        return Span(datetime.date(year, month, 1), datetime.date(year, month, last), whole)
+        return month_of(year, month)
+    if not 1 <= day <= calendar.monthrange(year, month)[1]:
+        return month_of(year, month, text)
     return Span(datetime.date(year, month, day), datetime.date(year, month, day))

@@ -4,97 +4,58 @@ from __future__ import annotations
 import collections
 import datetime
 import re
-from dataclasses import dataclass, field
+from typing import Container
 
-from society.book.inferred import GIVEN_BIRTH, GIVEN_EXIT, BirthBasis, ExitBasis, ExitSource, SexSource
+from society.book.inferred import GIVEN_EXIT, ExitBasis, ExitSource
+from society.book.kinds import Field
 from society.book.role import Role
-from society.mistake import Mistake
-from society.reading.columns import KNOWN_NO, KNOWN_SEXES, KNOWN_STAYS, KNOWN_YES, plain, sex_word
-from society.reading.days import ANY_DAY, MonthFirst, Span, Unreadable, is_span, read_span, span_within
-from society.reading.sheet import Sheet, squeezed
-from society.reading.unread import Unread, exit_word
-from society.taking.report import CELL, INFERRED, ROW, Report
+from society.mistake import counted
+from society.reading.animal import ROLES, Animal
+from society.reading.days import ANY_DAY, DayFault, Span, Unreadable, is_span, read_span, span_within
+from society.reading.encodings import Letters
+from society.reading.errors import ErrorValues
+from society.reading.exits import exit_word, lives, word_fault
+from society.reading.findings import (
+    DAYS, DayLeftOut, EmbryoUnread, ExitInferred, IdAgain, NoId, SexUnread, TooManyCells,
+)  # fmt: skip
+from society.reading.order import Order
+from society.reading.sexes import Sexes
+from society.reading.sheet import Sheet
+from society.reading.unread import Unread
+from society.reading.words import KNOWN_NO, KNOWN_SUMS, KNOWN_YES, plain
+from society.taking.report import Finding, Report
 
-ROLES = {role: role.sex for role in Role}
 # how a spreadsheet shows a long number that it has cut
 CUT = re.compile(r"\d[.,]?\d*E\+\d+", re.IGNORECASE)
-
-# what is told of an exit without a day; the day is that of the book, where it has one
-GONE = "the animal counts as gone"
-
-
-@dataclass(slots=True)
-class Animal:
-    """An animal as it is to stand in the book. Parents are ids, and empty where they are unknown."""
-
-    id: str
-    line: int = 0
-    name: str = ""
-    sex: str = ""
-    birth: Span = ANY_DAY
-    sire: str = ""
-    dam: str = ""
-    owner: str = ""
-    left: datetime.date | None = None
-    embryo: bool = False
-    # what is found for it later: its birth day, its number, and what was inferred and from what
-    born: datetime.date = ANY_DAY.first
-    number: str = ""
-    birth_basis: BirthBasis = GIVEN_BIRTH
-    exit_basis: ExitBasis = GIVEN_EXIT
-    sex_source: SexSource = SexSource.GIVEN
-    # for a parent without a row the line that names it
-    named_in: int = 0
-    # the fields whose cells can't be read
-    unread: list[str] = field(default_factory=list)
-
-    def parents(self) -> list[tuple[Role, str]]:
-        """The known parents, each with its role."""
-        return [(role, parent) for role, parent in ((Role.SIRE, self.sire), (Role.DAM, self.dam)) if parent]
-
-    def parent(self, role: Role) -> str:
-        return self.sire if role is Role.SIRE else self.dam
-
-    def set_parent(self, role: Role, id: str) -> None:
-        if role is Role.SIRE:
-            self.sire = id
-        else:
-            self.dam = id
-
-    def has_id_too(self, sire: str, dam: str) -> str:
-        """Why a later row with this animal's id is left out: what it says of the parents is told where it differs."""
-        why = f"line {self.line} has this id too"
-        if (sire, dam) == (self.sire, self.dam):
-            return why
-        before, here = (
-            " and ".join(parent or "unknown" for parent in pair) for pair in ((self.sire, self.dam), (sire, dam))
-        )
-        return f"{why}, with other parents, which are taken ({before}; here they are {here})"
-
-    def has_day(self) -> bool:
-        return self.birth.is_day
-
-    def born_marked(self) -> str:
-        return f"{self.born}{' (inferred)' if self.birth_basis.is_inferred else ''}"
-
-    def where(self) -> str:
-        """How a sentence about it begins."""
-        return f"line {self.line}: {self.id}: " if self.line else f"{self.id}: "
+# a formula in place of its value
+FORMULA = re.compile(r"=.+", re.DOTALL)
 
 
 class Rows:
-    """Reads the rows of a sheet."""
+    """Reads the rows of a sheet. `today` is the last day on which an animal can be born or leave."""
 
     def __init__(
-        self, sheet: Sheet, columns: dict[str, int], unknown: set[str], sexes: dict[str, str], report: Report
+        self,
+        sheet: Sheet,
+        columns: dict[str, int],
+        unknown: Container[str],
+        sexes: dict[str, str],
+        report: Report,
+        month_first: bool = False,
+        today: datetime.date | None = None,
     ) -> None:
         self.sheet, self.columns, self.unknown, self.report = sheet, columns, unknown, report
-        self.sexes = KNOWN_SEXES | sexes
-        self.given_sexes = sexes
-        self.short = self.short_words()
-        # how often a short word is taken for a longer one of its column
-        self.abbreviated: collections.Counter[tuple[str, str]] = collections.Counter()
-        self.unread = Unread({field: sheet.titles[at] for field, at in columns.items()})
+        self.month_first, self.today = month_first, today or datetime.date.today()
+        self.errors = ErrorValues(sheet, columns)
+        self.sexes = Sexes(self.texts(Field.SEX), sexes)
+        self.unread = Unread({name: sheet.titles[at] for name, at in columns.items()})
+        self.letters = Letters()
+        # what keeps the sheet from being taken, and what may be wrong
+        self.faults: list[str] = []
+        self.notes: list[str] = []
+
+    def texts(self, name: str) -> list[str]:
+        return [self.cell(cells, name) for _, cells in self.sheet.rows]
 
     def animals(self) -> dict[str, Animal]:
         """The animals by id, in the order of the rows."""
@@ -105,135 +66,160 @@ class Rows:
         lengths = collections.Counter(len(cells) for _, cells in self.sheet.rows)
         usual = max([titles, *(length for length, count in lengths.items() if 2 * count > len(self.sheet.rows))])
         for line, cells in self.sheet.rows:
-            id = self.cell(cells, "id")
-            if len(cells) > usual or any(squeezed(cell) for cell in cells[titles:]):
-                why = f"it has {len(cells)} cells, and there are {titles} titles: is there a separator too many?"
-            elif id.casefold() in self.unknown:
-                why = f"'{id}' is a word for an unknown animal: give it another id" if id else "it has no id"
+            id = self.cell(cells, Field.ID)
+            if len(cells) > usual or any(cells[titles:]):
+                self.report.add(line, id, TooManyCells(len(cells), titles))
+            elif id in self.unknown:
+                self.report.add(line, id, NoId(id))
             elif id in found:
-                parents = [self.parent(cells, role) for role in ROLES]
-                why = found[id].has_id_too(*parents) + self.differing(first[id], cells)
+                self.report.add(line, id, self.id_again(found[id], first[id], cells))
             else:
                 found[id], first[id] = self.animal(line, id, cells), cells
-                continue
-            self.report.leave_out(ROW, line, id, "the row", why)
-        self.unread.refuse_most()
+        self.look_at_all(found)
         return found
 
-    def cell(self, cells: list[str], field: str) -> str:
-        at = self.columns.get(field)
-        return squeezed(cells[at]) if at is not None and at < len(cells) else ""
+    def look_at_all(self, animals: dict[str, Animal]) -> None:
+        """What is told of the sheet as a whole."""
+        self.errors.leave_out(animals, self.report)
+        order = Order(
+            (f"line {line}: {self.cell(cells, Field.ID)}: {DAYS[name]}", self.cell(cells, name))
+            for name in DAYS
+            for line, cells in self.sheet.rows
+        )
+        self.faults += [order.fault(self.month_first), *self.cut_numbers()]
+        self.faults += [*self.unread.mostly(), *self.errors.mostly()]
+        self.notes += [*self.letters.told(), *self.errors.told(), order.note(self.month_first), self.sums(animals)]
+        self.faults, self.notes = [one for one in self.faults if one], [one for one in self.notes if one]
 
-    def differing(self, first: list[str], cells: list[str]) -> str:
-        """What a second row of an id says otherwise than the first, but for the parents."""
-        fields = [field for field in self.columns if field not in ROLES]
-        pairs = [(field, self.cell(cells, field), self.cell(first, field)) for field in fields]
-        told = [f"{field} '{here}', there '{there}'" for field, here, there in pairs if here != there]
-        return f" ({'; '.join(told)})" if told else ""
+    def cell(self, cells: list[str], name: str) -> str:
+        at = self.columns.get(name)
+        text = cells[at] if at is not None and at < len(cells) else ""
+        return "" if text[:1] in "#E" and self.errors.is_one(text) else text
+
+    def id_again(self, animal: Animal, first: list[str], cells: list[str]) -> IdAgain:
+        """What a second row of an id says otherwise than the first."""
+        fields = [name for name in self.columns if name not in ROLES]
+        pairs = [(name, self.cell(cells, name), self.cell(first, name)) for name in fields]
+        differing = tuple((name, here, there) for name, here, there in pairs if here != there)
+        here = self.parent(cells, Role.SIRE), self.parent(cells, Role.DAM)
+        return IdAgain(animal.line, (animal.sire, animal.dam), here, differing)
 
     def animal(self, line: int, id: str, cells: list[str]) -> Animal:
-        animal = Animal(id, line, name=self.cell(cells, "name"), owner=self.cell(cells, "owner"))
+        animal = Animal(id, line, name=self.cell(cells, Field.NAME), owner=self.cell(cells, Field.OWNER))
         animal.sire, animal.dam = (self.parent(cells, role) for role in ROLES)
-        for text in id, animal.sire, animal.dam:
-            if CUT.fullmatch(text):
-                raise Mistake(
-                    f"line {line}: '{text}' is a long number that the spreadsheet has cut: give the columns of ids "
-                    "the format text, or number without decimals, save the sheet again, and take that"
-                )
-        animal.sex = self.sex(animal, self.cell(cells, "sex"))
-        animal.birth = self.span(animal, "birth", self.cell(cells, "birth")) or ANY_DAY
-        self.read_exit(animal, self.cell(cells, "exit"))
-        animal.embryo = self.is_embryo(animal, self.cell(cells, "embryo"))
+        for text in id, animal.name, animal.owner, animal.sire, animal.dam:
+            self.letters.look(line, text)
+        self.read_sex(animal, self.cell(cells, Field.SEX))
+        animal.birth = self.span(animal, Field.BIRTH, self.cell(cells, Field.BIRTH)) or ANY_DAY
+        self.read_exit(animal, self.cell(cells, Field.EXIT))
+        animal.since = self.span(animal, Field.SINCE, self.cell(cells, Field.SINCE))
+        animal.embryo = self.is_embryo(animal, self.cell(cells, Field.EMBRYO))
         return animal
 
     def parent(self, cells: list[str], role: str) -> str:
         parent = self.cell(cells, role)
-        return "" if parent.casefold() in self.unknown else parent
+        return "" if parent in self.unknown else parent
 
-    def short_words(self) -> dict[str, list[tuple[str, str]]]:
-        """The sexes of the column's known words, by their first letters: for each the word and its sex."""
-        words = {self.cell(cells, "sex") for _, cells in self.sheet.rows}
-        found: dict[str, list[tuple[str, str]]] = {}
-        for word in sorted(words):
-            known, sex = sex_word(word), self.sexes.get(sex_word(word), "")
-            for length in range(1, len(known) if sex else 0):
-                found.setdefault(known[:length], []).append((word, sex))
-        return found
+    def leave_out(self, animal: Animal, name: str, text: str, found: Finding) -> None:
+        """A cell that can't be read."""
+        self.unread.add(name, text, animal.line)
+        self.not_taken(animal, name, found)
 
-    def abbreviations(self) -> list[str]:
-        """Which words for sexes are taken for longer ones."""
-        counts = sorted(self.abbreviated.items())
-        taken = [f"'{text}'{f' ({count} times)' if count > 1 else ''} for '{whole}'" for (text, whole), count in counts]
-        return [f"words for sexes are taken for longer ones of the same column: {', '.join(taken)}"] if taken else []
+    def not_taken(self, animal: Animal, name: str, found: Finding) -> None:
+        animal.unread.append(name)
+        self.report.add(animal.line, animal.id, found)
 
-    def leave_out(self, animal: Animal, field: str, text: str, what: str, why: str) -> None:
-        animal.unread.append(field)
-        self.unread.add(field, text, animal.line)
-        self.report.leave_out(CELL, animal.line, animal.id, what, why)
-
-    def sex(self, animal: Animal, text: str) -> str:
-        word = sex_word(text)
-        if text.casefold() in self.unknown and word not in self.given_sexes:
-            return ""
-        self.unread.read["sex"] += 1
-        sex, longer = self.sexes.get(word, ""), self.short.get(word, [])
-        if not sex and len({sex for _, sex in longer}) == 1:
-            whole, sex = longer[0]
-            self.abbreviated[text, whole] += 1
-        if not sex:
-            why = f"'{text}' isn't known: write M or F, or name it as --sexes {text}=m or {text}=f"
-            self.leave_out(animal, "sex", text, "its sex", why)
-        return sex
+    def read_sex(self, animal: Animal, text: str) -> None:
+        animal.sex, animal.castrated = self.sexes.read(text)
+        if animal.sex:
+            self.unread.read[Field.SEX] += 1
+        elif text not in self.unknown:
+            self.unread.read[Field.SEX] += 1
+            self.leave_out(animal, Field.SEX, text, SexUnread(text))
 
     def read_exit(self, animal: Animal, text: str) -> None:
         """An exit is a day, a text with a day, or a word, such as `sold`: then it has left on a day that isn't
         known."""
-        if text.casefold() in KNOWN_NO or plain(text) in KNOWN_STAYS:
+        if lives(text):
             return
-        left = self.span(animal, "exit", text)
-        if left and not is_span(text) and left.last < animal.birth.first:
-            # a number within a text that can't be its day
-            self.leave_out(animal, "exit", text, "its exit", f"the day in '{text}' would be before its birth; {GONE}")
+        left = self.span(animal, Field.EXIT, text)
+        if left and left.last < animal.birth.first:
+            if is_span(text):
+                self.not_taken(animal, Field.EXIT, DayLeftOut(Field.EXIT, DayFault.BEFORE_BIRTH, text, True))
+            else:
+                found = DayLeftOut(Field.EXIT, DayFault.WITHIN_BEFORE_BIRTH, text, True)
+                self.leave_out(animal, Field.EXIT, text, found)
             left = None
         if left:
             animal.left = left.last
             animal.exit_basis = GIVEN_EXIT if left.is_day else ExitBasis(ExitSource.PERIOD, left.period())
-            within = "" if is_span(text) else f", from '{text}'"
-            if animal.exit_basis.is_inferred:
-                why = f"exit on {animal.left}, the last day of {animal.exit_basis.words()}{within}"
-                self.report.tell(INFERRED, animal.line, animal.id, why)
-            elif within:
-                self.report.tell(INFERRED, animal.line, animal.id, f"exit on {animal.left}{within}")
-        elif "exit" in animal.unread:
+            if animal.exit_basis.is_inferred or not is_span(text):
+                inferred = ExitInferred(animal.left, animal.exit_basis, "" if is_span(text) else text)
+                self.report.add(animal.line, animal.id, inferred)
+        elif Field.EXIT in animal.unread and not self.is_later(text):
             animal.exit_basis = ExitBasis(ExitSource.UNKNOWN_DAY, text=text)
 
-    def span(self, animal: Animal, field: str, text: str) -> Span | None:
-        if text.casefold() in self.unknown:
+    def is_later(self, text: str) -> bool:
+        """Is it a day after today?"""
+        try:
+            span = span_within(text, self.month_first) or read_span(text, self.month_first, False)
+        except Unreadable:
+            return False
+        return span.first > self.today
+
+    def span(self, animal: Animal, field: Field, text: str) -> Span | None:
+        is_exit = field is Field.EXIT
+        has_left = is_exit and exit_word(text)
+        if text in self.unknown and not has_left:
             return None
         self.unread.read[field] += 1
-        name = {"birth": "birth day", "exit": "exit"}[field]
         try:
-            within = span_within(text) if field == "exit" and not is_span(text) else None
-            return within or read_span(text)
-        except MonthFirst as why:
-            raise Mistake(
-                f"line {animal.line}: {animal.id}: {name}: {why}, so days with / can't be told from months: "
-                "write all days as 2001-03-01 or 01.03.2001"
-            ) from None
-        except Unreadable as why:
-            told = f"'{text}' has {no_day(text)}" if field == "exit" and exit_word(text) else str(why)
-            self.leave_out(animal, field, text, f"its {name}", f"{told}; {GONE}" if field == "exit" else told)
+            within = span_within(text, self.month_first) if is_exit and not is_span(text) else None
+            span = within or read_span(text, self.month_first, legible=not is_exit)
+        except Unreadable as error:
+            found = DayLeftOut(field, error.fault, error.text, is_exit)
+            if has_left:
+                found = DayLeftOut(field, word_fault(text), text, True)
+            self.leave_out(animal, field, text, found)
             return None
+        # the day of a transfer is looked at where it is filed
+        if field is Field.SINCE:
+            return span
+        if span.first > self.today:
+            self.not_taken(animal, field, DayLeftOut(field, DayFault.AFTER_TODAY, text))
+            return None
+        return span.until(self.today)
 
     def is_embryo(self, animal: Animal, text: str) -> bool:
-        self.unread.read["embryo"] += text.casefold() not in self.unknown - KNOWN_NO
-        if text and text.casefold() not in KNOWN_YES | KNOWN_NO | self.unknown:
-            self.leave_out(
-                animal, "embryo", text, "its cell for a stored embryo", f"'{text}' isn't known: write 1 or nothing"
-            )
+        is_told = text not in self.unknown or text.casefold() in KNOWN_NO
+        self.unread.read[Field.EMBRYO] += bool(text) and is_told
+        if text and is_told and text.casefold() not in KNOWN_YES | KNOWN_NO:
+            self.leave_out(animal, Field.EMBRYO, text, EmbryoUnread(text))
         return text.casefold() in KNOWN_YES
 
+    # -- of the sheet as a whole
 
-def no_day(text: str) -> str:
-    """What a text for an exit lacks: it may have a day with two digits for the year, several days, or a price."""
-    return "no single day with a year of four digits" if re.search(r"\d", text) else "no day"
+    def cut_numbers(self) -> list[str]:
+        """Ids that the spreadsheet has cut, and formulas in place of their values."""
+        found = []
+        for pattern, what in (CUT, CUT_TOLD), (FORMULA, FORMULA_TOLD):
+            names = (Field.ID, *ROLES) if pattern is CUT else self.columns
+            places = [(line, self.cell(cells, name)) for line, cells in self.sheet.rows for name in names]
+            those = [(line, text) for line, text in places if pattern.fullmatch(text)]
+            more = f" ({counted(len(those), 'such cell')})" if len(those) > 1 else ""
+            found += [f"line {line}: '{text}' {what}{more}" for line, text in those[:1]]
+        return found
+
+    def sums(self, animals: dict[str, Animal]) -> str:
+        """Rows that seem to count or to sum up."""
+        those = [one for one in animals.values() if plain(one.id.split()[0]) in KNOWN_SUMS]
+        lines = ", ".join(f"line {one.line}: {one.id}" for one in those[:9])
+        what = "is this row an animal, as which it is taken" if len(those) == 1 else "are these rows animals"
+        return f"{what} ({lines})? Leave out rows that count or sum up, and take the sheet again" if those else ""
+
+
+CUT_TOLD = (
+    "is a long number that the spreadsheet has cut: give the columns of ids the format text, or number without "
+    "decimals, save the sheet again, and take that"
+)
+FORMULA_TOLD = "is a formula without its value: open the file in the spreadsheet, save it there, and take that"

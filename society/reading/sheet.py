@@ -1,22 +1,20 @@
-"""A spreadsheet as rows of cells: CSV in one of three separators and two encodings, or `.xlsx`."""
+"""A spreadsheet as rows of cells: CSV in one of three separators and three encodings, or `.xlsx`."""
 from __future__ import annotations
 
 import csv
-import datetime
 import io
 import pathlib
 from typing import Callable, NamedTuple
 
 from society.mistake import Mistake
+from society.reading.encodings import decoding
+from society.reading.words import clean
+from society.reading.workbook import read_workbook
 
 SEPARATORS = ";\t,"
 # the titles stand in one of so many rows
 BEGINNING = 5
-# how files begin that are no text
-NOT_TEXT = {
-    b"\xd0\xcf\x11\xe0": "an old Excel file (.xls)",
-    b"%PDF": "a PDF file",
-}
+Score = Callable[[list[str]], int]
 
 
 class Row(NamedTuple):
@@ -27,67 +25,55 @@ class Row(NamedTuple):
 
 
 class Sheet(NamedTuple):
-    """The row of titles with its line, the rows below it, and how the file was read, in words."""
+    """The row of titles with its line, the rows below it, how the file was read, in words, and what keeps it from
+    being taken."""
 
     line: int
     titles: list[str]
     rows: list[Row]
     how: str
+    faults: list[str]
 
 
-def read_sheet(path: pathlib.Path, score: Callable[[list[str]], int]) -> Sheet:
-    """Reads a file. `score` says how many titles of a row are known: the separator that gives most is taken."""
-    try:
-        data = path.read_bytes()
-    except IsADirectoryError:
-        raise Mistake(f"{path} is a folder: name the sheet's file") from None
-    except OSError as error:
-        raise Mistake(f"{path} can't be read: {error.strerror or error}. Is the name right?") from None
+def read_sheet(path: pathlib.Path, score: Score, worksheet: str = "") -> Sheet:
+    """Reads a file. `score` says how many titles of a row are known: the separator that gives most is taken, and the
+    worksheet where none is named."""
+    data = bytes_of(path)
     if data.startswith(b"PK") and path.suffix.lower() == ".ods":
         raise Mistake(f"{path} is an .ods file: save the sheet as CSV or .xlsx, and take that")
     if data.startswith(b"PK"):
-        rows, how = read_workbook(path, data)
+        found = read_workbook(path, data, score, BEGINNING, worksheet)
+        rows, how, faults = numbered(found.rows), found.how, found.faults
     else:
-        text, encoding = decoded(path, data)
+        if worksheet:
+            raise Mistake(f"{path} is no .xlsx file, and has no worksheets: leave out --worksheet")
+        text, encoding, fault = decoding(path, data)
         rows, separator = read_text(text, score)
         how = f"{encoding}, cells separated by " + {";": "semicolons", "\t": "tabs", ",": "commas"}[separator]
+        faults = [fault] * bool(fault)
     if not rows:
         raise Mistake(f"{path} is empty: its first row has to have the titles of the columns")
     at = title_row([row.cells for row in rows[:BEGINNING]], score)
     line, titles = rows[at]
-    return Sheet(line, [squeezed(title) for title in titles], rows[at + 1 :], how)
+    return Sheet(line, titles, rows[at + 1 :], how, faults)
 
 
-def title_row(rows: list[list[str]], score: Callable[[list[str]], int]) -> int:
+def bytes_of(path: pathlib.Path) -> bytes:
+    try:
+        return path.read_bytes()
+    except IsADirectoryError:
+        raise Mistake(f"{path} is a folder: name the sheet's file") from None
+    except OSError as error:
+        raise Mistake(f"{path} can't be read: {error.strerror or error}. Is the name right?") from None
+
+
+def title_row(rows: list[list[str]], score: Score) -> int:
     """The first row, or a later one that has the titles where the first has less of them, as below a heading."""
     best = max(range(len(rows)), key=lambda at: score(rows[at]))
     return best if score(rows[best]) >= 3 and score(rows[best]) > score(rows[0]) else 0
 
 
-def squeezed(text: str) -> str:
-    """The text without blanks at its ends, and with one for several, or for a line's end, between words."""
-    return " ".join(text.split())
-
-
-def decoded(path: pathlib.Path, data: bytes) -> tuple[str, str]:
-    for beginning, what in NOT_TEXT.items():
-        if data.startswith(beginning):
-            raise Mistake(f"{path} is {what}: save the sheet as CSV or .xlsx, and take that")
-    if data.startswith((b"\xff\xfe", b"\xfe\xff")):
-        tried = ["utf-16"]
-    else:
-        tried = ["utf-8-sig", "cp1252"]
-    for encoding in tried:
-        try:
-            text = data.decode(encoding)
-        except UnicodeDecodeError:
-            continue
-        if "\0" not in text:
-            return text, {"utf-8-sig": "UTF-8", "cp1252": "Windows-1252", "utf-16": "UTF-16"}[encoding]
-    raise Mistake(f"{path} is no text in UTF-8 or Windows-1252: save the sheet as CSV in UTF-8, and take that")
-
-
-def read_text(text: str, score: Callable[[list[str]], int]) -> tuple[list[Row], str]:
+def read_text(text: str, score: Score) -> tuple[list[Row], str]:
     # a first line that names the separator, as Excel reads it
     named = text[:4].lower() == "sep=" and text[4:5] in SEPARATORS and text[4:5]
     if named:
@@ -104,12 +90,14 @@ def read_text(text: str, score: Callable[[list[str]], int]) -> tuple[list[Row], 
 
 
 def read_records(text: str, separator: str) -> list[Row]:
+    """The rows; `="007"` is how some programs keep a spreadsheet from taking away zeros."""
     reader = csv.reader(io.StringIO(text, newline=""), delimiter=separator, strict=True)
     rows, begins = [], 1
     try:
         for cells in reader:
-            if any(cell.strip() for cell in cells):
-                rows.append(Row(begins, cells))
+            texts = [clean(cell[2:-1] if cell[:2] == '="' and cell[-1:] == '"' else cell) for cell in cells]
+            if any(texts):
+                rows.append(Row(begins, texts))
             begins = reader.line_num + 1
     except csv.Error:
         raise Mistake(
@@ -119,35 +107,6 @@ def read_records(text: str, separator: str) -> list[Row]:
     return rows
 
 
-def read_workbook(path: pathlib.Path, data: bytes) -> tuple[list[Row], str]:
-    """The first sheet of an `.xlsx` file, and which it is."""
-    try:
-        import openpyxl
-    except ImportError:
-        raise Mistake(
-            f"{path} is an .xlsx file, and openpyxl, which reads these, isn't installed: save the sheet as CSV, and "
-            "take that"
-        ) from None
-    try:
-        workbook = openpyxl.load_workbook(io.BytesIO(data), read_only=True, data_only=True)
-        sheet = workbook.worksheets[0]
-        # some programs write the size of a sheet wrong; without it each row is read as far as it goes
-        sheet.reset_dimensions()
-        values = list(sheet.iter_rows(values_only=True))
-    except Exception as error:  # openpyxl raises whatever its parts raise
-        raise Mistake(
-            f"{path} can't be read as an .xlsx file ({error}): save the sheet as CSV, and take that"
-        ) from None
-    rows = [Row(line, [cell_text(value) for value in cells]) for line, cells in enumerate(values, 1)]
-    first = f"the first of {len(workbook.worksheets)} sheets of " if len(workbook.worksheets) > 1 else ""
-    return [row for row in rows if any(row.cells)], f"{first}an .xlsx file"
-
-
-def cell_text(value: object) -> str:
-    if value is None:
-        return ""
-    if isinstance(value, datetime.datetime):
-        return value.date().isoformat()
-    if isinstance(value, float) and value.is_integer():
-        return str(int(value))
-    return str(value).strip()
+def numbered(rows: list[list[str]]) -> list[Row]:
+    """The rows of a worksheet that have a cell with text."""
+    return [Row(line, cells) for line, cells in enumerate(rows, 1) if any(cells)]

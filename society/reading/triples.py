@@ -7,10 +7,12 @@ import re
 from typing import NamedTuple
 
 from society.mistake import Mistake, counted
-from society.reading.columns import KNOWN_TITLES, plain
-from society.reading.rows import Animal
-from society.reading.sheet import decoded
-from society.taking.report import LINE, Report
+from society.reading.animal import Animal
+from society.reading.encodings import decoded
+from society.reading.findings import LineAgain
+from society.reading.titles import KNOWN_TITLES
+from society.reading.words import plain
+from society.taking.report import Report
 
 FIELDS = ("id", "sire", "dam")
 # where blanks stand between cells, an id with blanks has quotation marks
@@ -51,7 +53,8 @@ def read_triples(path: pathlib.Path, unknown: set[str], report: Report) -> Tripl
             raise Mistake(f"{where} is a word for an unknown parent, and stands for an animal: give it another id")
         sire, dam = ("" if parent.casefold() in unknown else parent for parent in (sire, dam))
         if id in animals:
-            report.leave_out(LINE, line.number, id, "the line", animals[id].has_id_too(sire, dam))
+            first = animals[id]
+            report.add(line.number, id, LineAgain(first.line, (first.sire, first.dam), (sire, dam), ()))
         else:
             animals[id] = Animal(id, line.number, sire=sire, dam=dam)
     if not animals:

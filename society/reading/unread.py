@@ -3,8 +3,8 @@ from __future__ import annotations
 
 import collections
 
-from society.mistake import Mistake, counted
-from society.reading.columns import KNOWN_EXITS, plain
+from society.mistake import counted
+from society.reading.exits import exit_word
 
 # what to do where cells of a column can't be read
 ADVICE = {
@@ -17,6 +17,10 @@ ADVICE = {
         "write days as 2001-03-01 or 01.03.2001, a word such as sold, verkauft or vendu where the day isn't known, and "
         "nothing or alive, lebt or vivant where the animal hasn't left; or name another column, as --columns "
         "exit=TITLE, or none, as --columns exit="
+    ),
+    "since": (
+        "write days as 2001-03-01 or 01.03.2001; or name another column, as --columns since=TITLE, or none, as "
+        "--columns since="
     ),
     "embryo": "write 1 or nothing; or name another column, as --columns embryo=TITLE, or none, as --columns embryo=",
 }
@@ -64,12 +68,11 @@ class Unread:
         says = f"{counted(count, 'cell')} that {verb}{'s' if count == 1 else ''} {what}"
         return f"{len(cells)} of {says} in the column '{self.titles[field]}'"
 
-    def refuse_most(self) -> None:
+    def mostly(self) -> list[str]:
         """A column is a mistake where more than half of its cells that say something, and at least three, can't be
         read: hardly anything of it would be taken."""
-        for field, cells in self.cells.items():
-            if len(cells) > max(2, self.read[field] // 2):
-                raise Mistake(self.summary(field, cells))
+        columns = self.cells.items()
+        return [self.summary(field, cells) for field, cells in columns if len(cells) > max(2, self.read[field] // 2)]
 
 
 def texts_of(cells: list[Cell]) -> list[tuple[str, int]]:
@@ -84,7 +87,3 @@ def shown(cells: list[Cell]) -> str:
     more = f" and {len(counts) - MOST_TEXTS} more" if len(counts) > MOST_TEXTS else ""
     return f"the first in line {cells[0][1]}: {', '.join(texts)}{more}"
 
-
-def exit_word(text: str) -> str:
-    """The first word by which animals leave, if it has one."""
-    return next((word for word in text.split() if plain(word) in KNOWN_EXITS), "")

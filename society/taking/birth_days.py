@@ -4,8 +4,8 @@ from __future__ import annotations
 import datetime
 
 from society.book.inferred import GIVEN_BIRTH, BirthBasis, BirthSource
+from society.reading.animal import Animal
 from society.reading.days import ANY_DAY, FIRST_DAY, Span
-from society.reading.rows import Animal
 from society.taking.findings import BirthDayInferred
 from society.taking.order import calves_of, in_order
 from society.taking.report import Report
@@ -20,6 +20,8 @@ class Days:
 
     def __init__(self, animals: dict[str, Animal], kept: dict[str, tuple[int, BirthBasis]]) -> None:
         self.animals = animals
+        # no day that is inferred is after it
+        self.today = datetime.date.today().toordinal()
         # the day that was inferred for an animal of the book, and from what
         self.kept = kept
         self.order = in_order(animals)
@@ -42,7 +44,7 @@ class Days:
             else:
                 animal.born, animal.birth_basis = self.day_for(animal)
                 is_kept = self.stays(animal, animal.born.toordinal())
-                found = BirthDayInferred(animal.born, animal.birth_basis, is_kept, animal.named_in)
+                found = BirthDayInferred(animal.born, animal.birth_basis, is_kept, animal.named_in, animal.birth.text)
                 report.add(animal.line, id, found)
 
     def stays(self, animal: Animal, day: int) -> bool:
@@ -66,7 +68,7 @@ class Days:
         dam = self.animals.get(animal.dam) if not animal.embryo else None
         exits = [animal.left, dam.left if dam else None]
         before = [self.high[calf] - 1 for calf in calves] + [left.toordinal() for left in exits if left]
-        self.high[id] = min([last, *before])
+        self.high[id] = min([last, self.today, *before])
         by_calves = [self.likely[calf][0] - GENERATION for calf in calves if calf in self.likely]
         dated = [parent for _, parent in animal.parents() if self.animals[parent].birth != ANY_DAY]
         if animal.birth != ANY_DAY:

@@ -9,7 +9,7 @@ from society.book.inferred import NO_DAY, ExitBasis
 from society.book.known import Known
 from society.herdbook import Herdbook
 from society.mistake import Mistake
-from society.reading.rows import Animal
+from society.reading.animal import Animal
 from society.taking.findings import NewAnimal, ValueChanged
 from society.taking.next_book import NextBook
 

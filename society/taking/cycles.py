@@ -2,7 +2,7 @@
 from __future__ import annotations
 
 from society.book.role import Role
-from society.reading.rows import Animal
+from society.reading.animal import Animal
 from society.taking.order import in_order
 from society.taking.parent_findings import OwnAncestor
 from society.taking.report import Report

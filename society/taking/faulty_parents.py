@@ -5,7 +5,7 @@ from society.book.commands import birth, leave
 from society.book.role import Role
 from society.herdbook import Herdbook
 from society.mistake import Mistake
-from society.reading.rows import Animal
+from society.reading.animal import Animal
 from society.refusals import Refusal
 from society.taking.long_paths import too_deep
 from society.taking.next_book import NextBook

@@ -62,17 +62,18 @@ class SexInferred(Finding):
 @dataclass(frozen=True, slots=True)
 class BirthDayInferred(Finding):
     """A birth day that the sheet doesn't give. One that is kept was inferred for the book: its reason may not hold any
-    more. `named_in` is the line that names a parent without a row."""
+    more. `named_in` is the line that names a parent without a row, `text` a cell in which a year is legible."""
 
     day: datetime.date
     basis: BirthBasis
     is_kept: bool
     named_in: int
+    text: str = ""
 
     what = What.INFERRED
 
     def words(self) -> str:
-        reason = self.basis.words()
+        reason = self.basis.words() + (f" of '{self.text}'" if self.text else "")
         if self.is_kept:
             reason = f"as in the book, where it was {'' if self.basis.is_invented else 'inferred: '}{reason}"
         return f"birth day {self.day}, {reason}" + (f" (line {self.named_in} names it)" if self.named_in else "")

@@ -6,8 +6,8 @@ import pathlib
 from society.book.book import Book
 from society.herdbook import Herdbook
 from society.mistake import counted
-from society.reading.columns import unknown_words
 from society.reading.triples import read_triples
+from society.reading.unknown import unknown_words
 from society.taking.finish import finish
 from society.taking.invented_days import invent_days
 from society.taking.invented_sexes import invent_sexes

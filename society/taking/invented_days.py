@@ -5,8 +5,8 @@ import datetime
 import heapq
 
 from society.book.inferred import BirthBasis, BirthSource
+from society.reading.animal import Animal
 from society.reading.days import FIRST_DAY
-from society.reading.rows import Animal
 from society.taking.order import calves_of
 
 INVENTED = BirthBasis(BirthSource.INVENTED)

@@ -3,7 +3,7 @@ from __future__ import annotations
 
 from society.book.inferred import SexSource
 from society.book.role import Role
-from society.reading.rows import Animal
+from society.reading.animal import Animal
 from society.taking.cycles import cut_cycles
 from society.taking.parent_findings import Couple, NoSexesFit, ParentsSwapped, SameParentTwice
 from society.taking.report import Report

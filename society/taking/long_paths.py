@@ -2,7 +2,7 @@
 from __future__ import annotations
 
 from society.mistake import Mistake
-from society.reading.rows import Animal
+from society.reading.animal import Animal
 from society.taking.order import calves_of, in_order
 from society.taking.report import MOST_SHOWN
 

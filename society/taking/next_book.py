@@ -10,8 +10,8 @@ from society.book.kinds import Field, Standing
 from society.book.known import Known
 from society.book.role import Role
 from society.mistake import Mistake
+from society.reading.animal import Animal
 from society.reading.days import ANY_DAY, Span
-from society.reading.rows import Animal
 from society.taking.birth_days import Days
 from society.taking.cycles import cut_cycles
 from society.taking.findings import KeptFromBook, SexInferred, SexNotKnown

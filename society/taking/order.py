@@ -1,7 +1,7 @@
 """The order of a pedigree: parents before their offspring."""
 from __future__ import annotations
 
-from society.reading.rows import Animal
+from society.reading.animal import Animal
 
 
 def in_order(part: dict[str, Animal]) -> list[str]:

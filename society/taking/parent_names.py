@@ -6,7 +6,7 @@ import shlex
 
 from society.book.book import Book
 from society.book.role import Role
-from society.reading.rows import Animal
+from society.reading.animal import Animal
 from society.taking.parent_findings import AddedAsParent, FoundByName
 from society.taking.report import Report
 

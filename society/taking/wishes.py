@@ -20,3 +20,5 @@ class Wishes:
     strict: bool = False
     drop_gone: bool = False
     semicolons: bool = False
+    worksheet: str = ""
+    month_first: bool = False

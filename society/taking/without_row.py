@@ -2,8 +2,8 @@
 from __future__ import annotations
 
 from society.book.book import Book
+from society.reading.animal import Animal
 from society.reading.days import ANY_DAY, Span
-from society.reading.rows import Animal
 from society.taking.findings import RowIsGone
 from society.taking.report import Report
 

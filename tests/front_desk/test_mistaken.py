@@ -51,13 +51,6 @@ SHEETS: list[tuple[str | bytes, str]] = [
             "name another column"
         ),
     ),
-    (
-        GOOD + "b,F,2001-01-01,,,2000-01-01\n",
-        (
-            "line 3: b: exit on 2000-01-01 is refused: the day is before its birth, or before its owner got it "
-            "(refusal 14)"
-        ),
-    ),
 ]
 
 

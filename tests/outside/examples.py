@@ -15,7 +15,7 @@ from outside.runs import SECONDS, wrote
 
 # what `take` counts, in its last line
 TAKEN = (
-    "book: 502 animals, 500 new, 0 changed, 4 inferred, 3 left out (1 row, 1 cell, 1 parent), 2 added, 0 gone: "
+    "book: 502 animals, 500 new, 0 changed, 4 inferred, 2 left out (1 row, 1 parent), 2 added, 0 gone: "
     "book/report.csv has each"
 )
 

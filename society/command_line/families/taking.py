@@ -30,7 +30,7 @@ def add_words(words: Words) -> None:
     )  # fmt: skip
     take.add_argument(
         "--columns", action="append", default=[], metavar="FIELD=TITLE,..",
-        help="titles for id, name, sex, birth, sire, dam, owner, exit, embryo",
+        help="titles for id, name, sex, birth, sire, dam, owner, since, exit, embryo",
     )  # fmt: skip
     take.add_argument(
         "--unknown", action="append", default=[], metavar="WORD,..",
@@ -40,6 +40,10 @@ def add_words(words: Words) -> None:
         "--sexes", action="append", default=[], metavar="WORD=m,..",
         help="more words for the sexes, as Aue=f,Bk=m",
     )  # fmt: skip
+    take.add_argument("--worksheet", default="", metavar="NAME", help="the worksheet of an .xlsx file [whose titles fit]")
+    take.add_argument(
+        "--month-first", action="store_true", help="days such as 03/25/2001 have the month first [the day], also later"
+    )
     take.add_argument("--breed", type=three_letters, metavar="ABC", help="the numbers' breed [HOL, or as in the book]")
     take.add_argument(
         "--country", type=three_letters, metavar="ABC",
@@ -63,7 +67,7 @@ def do_take(asked: argparse.Namespace) -> None:
         raise Mistake("--columns and --sexes are for a sheet: a pedigree has an id, a sire and a dam in each line")
     wishes = Wishes(
         asked.book, asked.columns, asked.unknown, asked.sexes, asked.breed or "", asked.country or "", asked.day,
-        asked.strict, asked.drop_gone, asked.semicolons,
+        asked.strict, asked.drop_gone, asked.semicolons, asked.worksheet, asked.month_first,
     )  # fmt: skip
     if asked.sheet:
         take_sheet(asked.sheet, wishes)

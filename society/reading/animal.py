@@ -1,0 +1,64 @@
+"""An animal as a sheet has it, and as it is to stand in the book."""
+from __future__ import annotations
+
+import datetime
+from dataclasses import dataclass, field
+
+from society.book.inferred import GIVEN_BIRTH, GIVEN_EXIT, BirthBasis, ExitBasis, SexSource
+from society.book.role import Role
+from society.reading.days import ANY_DAY, Span
+
+ROLES = {role: role.sex for role in Role}
+
+
+@dataclass(slots=True)
+class Animal:
+    """An animal as it is to stand in the book. Parents are ids, and empty where they are unknown."""
+
+    id: str
+    line: int = 0
+    name: str = ""
+    sex: str = ""
+    birth: Span = ANY_DAY
+    sire: str = ""
+    dam: str = ""
+    owner: str = ""
+    # since when it has this owner, where the sheet says it
+    since: Span | None = None
+    left: datetime.date | None = None
+    embryo: bool = False
+    # a male that is castrated, as the sheet's word for its sex says
+    castrated: bool = False
+    # what is found for it later: its birth day, its number, and what was inferred and from what
+    born: datetime.date = ANY_DAY.first
+    number: str = ""
+    birth_basis: BirthBasis = GIVEN_BIRTH
+    exit_basis: ExitBasis = GIVEN_EXIT
+    sex_source: SexSource = SexSource.GIVEN
+    # for a parent without a row the line that names it
+    named_in: int = 0
+    # the fields whose cells can't be read
+    unread: list[str] = field(default_factory=list)
+
+    def parents(self) -> list[tuple[Role, str]]:
+        """The known parents, each with its role."""
+        return [(role, parent) for role, parent in ((Role.SIRE, self.sire), (Role.DAM, self.dam)) if parent]
+
+    def parent(self, role: Role) -> str:
+        return self.sire if role is Role.SIRE else self.dam
+
+    def set_parent(self, role: Role, id: str) -> None:
+        if role is Role.SIRE:
+            self.sire = id
+        else:
+            self.dam = id
+
+    def has_day(self) -> bool:
+        return self.birth.is_day
+
+    def born_marked(self) -> str:
+        return f"{self.born}{' (inferred)' if self.birth_basis.is_inferred else ''}"
+
+    def where(self) -> str:
+        """How a sentence about it begins."""
+        return f"line {self.line}: {self.id}: " if self.line else f"{self.id}: "

@@ -1,0 +1,145 @@
+"""From a file's bytes to its text: UTF-8, UTF-16 or Windows-1252, and what is wrong with the letters."""
+from __future__ import annotations
+
+import pathlib
+import re
+from typing import NamedTuple
+
+from society.mistake import Mistake, counted
+
+# how files begin that are no text
+NOT_TEXT = {
+    b"\xd0\xcf\x11\xe0": "an old Excel file (.xls)",
+    b"%PDF": "a PDF file",
+    b"{\\rtf": "a text with formats (.rtf)",
+}
+# a letter of UTF-8 in several bytes
+SEVERAL_BYTES = re.compile(rb"[\xc2-\xdf][\x80-\xbf]|[\xe0-\xef][\x80-\xbf]{2}|[\xf0-\xf4][\x80-\xbf]{3}")
+# letters outside of ASCII that follow one another
+FOREIGN = re.compile(r"[^\x00-\x7f]+")
+LOST = "\ufffd"
+# so many words are shown
+MOST_SHOWN = 5
+
+
+class Decoded(NamedTuple):
+    """A file's text, the encoding in words, and what is wrong with some bytes, if anything is."""
+
+    text: str
+    encoding: str
+    fault: str = ""
+
+
+def decoding(path: pathlib.Path, data: bytes) -> Decoded:
+    for beginning, what in NOT_TEXT.items():
+        if data.startswith(beginning):
+            raise Mistake(f"{path} is {what}: save the sheet as CSV or .xlsx, and take that")
+    if data.startswith((b"\xff\xfe", b"\xfe\xff")):
+        try:
+            return Decoded(data.decode("utf-16"), "UTF-16")
+        except UnicodeDecodeError:
+            raise no_text(path) from None
+    if b"\0" in data:
+        raise no_text(path)
+    try:
+        return Decoded(data.decode("utf-8-sig"), "UTF-8")
+    except UnicodeDecodeError as error:
+        if not is_mostly_utf8(data):
+            return windows(path, data)
+        return Decoded(data.decode("utf-8-sig", errors="replace"), "UTF-8", stray_bytes(path, data, error))
+
+
+def decoded(path: pathlib.Path, data: bytes) -> tuple[str, str]:
+    """A file's text and encoding, where each of its bytes is right."""
+    found = decoding(path, data)
+    if found.fault:
+        raise Mistake(found.fault)
+    return found.text, found.encoding
+
+
+def windows(path: pathlib.Path, data: bytes) -> Decoded:
+    try:
+        return Decoded(data.decode("cp1252"), "Windows-1252")
+    except UnicodeDecodeError:
+        raise no_text(path) from None
+
+
+def no_text(path: pathlib.Path) -> Mistake:
+    return Mistake(f"{path} is no text in UTF-8 or Windows-1252: save the sheet as CSV in UTF-8, and take that")
+
+
+def is_mostly_utf8(data: bytes) -> bool:
+    """Are there at least as many letters of UTF-8 as bytes that are none?"""
+    letters = len(SEVERAL_BYTES.findall(data))
+    return letters > 0 and letters >= len(stray(data))
+
+
+def stray(data: bytes) -> list[int]:
+    """The bytes outside of ASCII that aren't part of a letter of UTF-8."""
+    return list(re.sub(rb"[\x00-\x7f]+", b"", SEVERAL_BYTES.sub(b"", data)))
+
+
+def stray_bytes(path: pathlib.Path, data: bytes, error: UnicodeDecodeError) -> str:
+    """Where the first byte stands that isn't UTF-8, and how many more there are."""
+    # a byte-order mark isn't counted in the place of the error
+    before = data.removeprefix(b"\xef\xbb\xbf")[: error.start]
+    lines = re.split(rb"\r\n|\n|\r", before)
+    byte = data.removeprefix(b"\xef\xbb\xbf")[error.start]
+    more = len(stray(data)) - 1
+    others = f", nor are {counted(more, 'more byte')}" if more > 0 else ""
+    beginning = lines[-1].decode("utf-8", errors="replace")[-30:]
+    return (
+        f"{path}: line {len(lines)}, byte {len(lines[-1]) + 1} of the line, behind '{beginning}': the byte {byte:02X} "
+        f"isn't UTF-8, as the rest of the file is{others}: write this letter anew, and save the sheet as CSV in UTF-8"
+    )
+
+
+def decoded_twice(text: str) -> str:
+    """The text as it was before its letters were decoded twice, as `Müller` of `MÃ¼ller`; empty where they weren't."""
+    if text.isascii():
+        return ""
+    mended = FOREIGN.sub(lambda found: mended_letters(found.group()), text)
+    return mended if mended != text else ""
+
+
+def mended_letters(letters: str) -> str:
+    for encoding in "cp1252", "latin-1":
+        try:
+            found = letters.encode(encoding).decode("utf-8")
+        except (UnicodeEncodeError, UnicodeDecodeError):
+            continue
+        if all("\u00a0" <= one <= "\u017f" or "\u2010" <= one <= "\u20ac" for one in found):
+            return found
+    return letters
+
+
+class Letters:
+    """The cells whose letters were decoded twice or are lost, each text with its first line."""
+
+    def __init__(self) -> None:
+        self.twice: dict[str, tuple[int, str]] = {}
+        self.lost: dict[str, int] = {}
+
+    def look(self, line: int, text: str) -> None:
+        if LOST in text:
+            self.lost.setdefault(text, line)
+        elif mended := decoded_twice(text):
+            self.twice.setdefault(text, (line, mended))
+
+    def told(self) -> list[str]:
+        found = []
+        if self.twice:
+            texts = [f"'{text}' for '{mended}' (line {line})" for text, (line, mended) in self.twice.items()]
+            found.append(
+                f"letters were decoded twice in {counted(len(texts), 'text')}: {shortened(texts)}: save the sheet anew "
+                "from the spreadsheet in which the letters are right, as CSV in UTF-8"
+            )
+        if self.lost:
+            texts = [f"'{text}' (line {line})" for text, line in self.lost.items()]
+            found.append(f"letters are lost in {counted(len(texts), 'text')}: {shortened(texts)}: write them anew")
+        return found
+
+
+def shortened(texts: list[str]) -> str:
+    more = f" and {len(texts) - MOST_SHOWN} more" if len(texts) > MOST_SHOWN else ""
+    return f"{', '.join(texts[:MOST_SHOWN])}{more}"

@@ -1,0 +1,142 @@
+"""What is found of a sheet's rows and cells: each kind as data, and in words."""
+from __future__ import annotations
+
+import datetime
+from dataclasses import dataclass
+
+from society.book.inferred import ExitBasis
+from society.book.kinds import Field
+from society.reading.days import DayFault
+from society.taking.report import Finding, LeftOut, Part, What
+
+# what the columns of days have, in words
+DAYS = {Field.BIRTH: "birth day", Field.SINCE: "first day with its owner", Field.EXIT: "exit"}
+
+
+class RowLeftOut(LeftOut):
+    part = Part.ROW
+
+    def thing(self) -> str:
+        return "the row"
+
+
+@dataclass(frozen=True, slots=True)
+class TooManyCells(RowLeftOut):
+    cells: int
+    titles: int
+
+    def why(self) -> str:
+        return f"it has {self.cells} cells, and there are {self.titles} titles: is there a separator too many?"
+
+
+@dataclass(frozen=True, slots=True)
+class NoId(RowLeftOut):
+    """The id is empty, or a word for an unknown animal."""
+
+    word: str
+
+    def why(self) -> str:
+        return f"'{self.word}' is a word for an unknown animal: give it another id" if self.word else "it has no id"
+
+
+@dataclass(frozen=True, slots=True)
+class IdAgain(RowLeftOut):
+    """An earlier row has the id: its line, the parents there and here, and what else differs: the field, the cell here
+    and the one there."""
+
+    line: int
+    parents_there: tuple[str, str]
+    parents_here: tuple[str, str]
+    differing: tuple[tuple[str, str, str], ...]
+
+    def why(self) -> str:
+        told = f"line {self.line} has this id too"
+        if self.parents_there != self.parents_here:
+            there, here = (
+                " and ".join(parent or "unknown" for parent in pair) for pair in (self.parents_there, self.parents_here)
+            )
+            told += f", with other parents, which are taken ({there}; here they are {here})"
+        cells = "; ".join(f"{name} '{here}', there '{there}'" for name, here, there in self.differing)
+        return told + (f" ({cells})" if cells else "")
+
+
+@dataclass(frozen=True, slots=True)
+class LineAgain(IdAgain):
+    """An earlier line of a pedigree has the id."""
+
+    part = Part.LINE
+
+    def thing(self) -> str:
+        return "the line"
+
+
+class CellLeftOut(LeftOut):
+    part = Part.CELL
+
+
+@dataclass(frozen=True, slots=True)
+class SexUnread(CellLeftOut):
+    text: str
+
+    def thing(self) -> str:
+        return "its sex"
+
+    def why(self) -> str:
+        return f"'{self.text}' isn't known: write M or F, or name it as --sexes {self.text}=m or {self.text}=f"
+
+
+@dataclass(frozen=True, slots=True)
+class DayLeftOut(CellLeftOut):
+    """A day that can't be read, or can't be. An animal may be gone all the same."""
+
+    field: Field
+    fault: DayFault
+    text: str
+    is_gone: bool = False
+
+    def thing(self) -> str:
+        return f"its {DAYS[self.field]}"
+
+    def why(self) -> str:
+        return self.fault.words(self.text) + "; the animal counts as gone" * self.is_gone
+
+
+@dataclass(frozen=True, slots=True)
+class EmbryoUnread(CellLeftOut):
+    text: str
+
+    def thing(self) -> str:
+        return "its cell for a stored embryo"
+
+    def why(self) -> str:
+        return f"'{self.text}' isn't known: write 1 or nothing"
+
+
+@dataclass(frozen=True, slots=True)
+class ErrorValue(CellLeftOut):
+    """A cell that shows a spreadsheet's error."""
+
+    title: str
+    text: str
+
+    def thing(self) -> str:
+        return f"its cell '{self.title}'"
+
+    def why(self) -> str:
+        return f"'{self.text}' is an error of the spreadsheet, and no value"
+
+
+@dataclass(frozen=True, slots=True)
+class ExitInferred(Finding):
+    """An exit on the last day of a month or a year, or one whose day stands within a text, which is empty where the
+    cell has nothing else."""
+
+    day: datetime.date
+    basis: ExitBasis
+    text: str
+
+    what = What.INFERRED
+
+    def words(self) -> str:
+        last = f", the last day of {self.basis.words()}" if self.basis.is_inferred else ""
+        return f"exit on {self.day}{last}" + (f", from '{self.text}'" if self.text else "")

@@ -1,0 +1,32 @@
+"""Reads the options of `take` that say how cells are read."""
+from __future__ import annotations
+
+from society.mistake import Mistake
+from society.reading.titles import TITLES
+from society.reading.words import KNOWN_SEXES, plain, sex_word
+
+
+def parts_of(words: list[str]) -> list[str]:
+    return [part for word in words for part in word.split(",")]
+
+
+def read_given(words: list[str]) -> dict[str, str]:
+    """The fields and titles of `--columns id=Ohrmarke,sire=Vater`."""
+    given = {}
+    for part in parts_of(words):
+        field, equals, title = (piece.strip() for piece in part.partition("="))
+        if not equals or field not in TITLES:
+            raise Mistake(f"--columns {part}: write FIELD=TITLE, where FIELD is one of {', '.join(TITLES)}")
+        given[field] = title
+    return given
+
+
+def read_sexes(words: list[str]) -> dict[str, str]:
+    """The words and sexes of `--sexes Aue=f,Bk=m`, each word as it is compared."""
+    given = {}
+    for part in parts_of(words):
+        word, equals, sex = (piece.strip() for piece in part.partition("="))
+        if not equals or not word or plain(sex) not in KNOWN_SEXES:
+            raise Mistake(f"--sexes {part}: write WORD=m for males and WORD=f for females, as --sexes Aue=f,Bk=m")
+        given[sex_word(word)] = KNOWN_SEXES[plain(sex)]
+    return given

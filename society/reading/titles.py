@@ -1,0 +1,83 @@
+"""What a column of a sheet may have, and the usual titles in English, German and French."""
+from __future__ import annotations
+
+from society.book.kinds import Field
+from society.reading.words import listed, plain
+
+# The usual titles, the likelier first: where a sheet has both a column of days and one of words, as `Abgangsdatum` and
+# `Abgang`, the one of days is read; a column of all exits is read before one of deaths alone. They are compared in
+# small letters, without accents, blanks and signs. A parent's column may also have a word for the parent beside one
+# for the id, as `Vater Ohrmarke`.
+TITLES = {
+    Field.ID: "id, animal id, ear tag, eartag, ear tag number, ear tag no, tag, tag number, tag no, animal number, "
+    "animal no, registration, registration number, registration no, reg no, reg, reg number, registered number, "
+    "herd book number, herd book no, stud book number, stud book no, stud no, flock book no, passport no, microchip, "
+    "chip, chip no, chip number, UELN, "
+    "identification, ident, Ohrmarke, Ohrmarkennummer, Ohrmarken-Nr, Ohrm, Lebensnummer, Lebens-Nr, Lebensohrmarke, "
+    "Herdbuchnummer, Herdbuch-Nr, Zuchtbuchnummer, Zuchtbuch-Nr, ZB-Nr, Chipnummer, Chip-Nr, Tiernummer, Tier-Nr, "
+    "Tier-ID, LOM, HB-Nr, Kennzeichen, Stallnummer, numéro national, n° national, numéro d'identification, "
+    "identifiant, n° d'identification, LOF, n° LOF, tatouage, puce, "
+    "boucle, matricule, animal, Tier, number, no, nr, Nummer, numéro, n°",
+    Field.NAME: "name, registered name, animal name, full name, Tiername, Rufname, call name, Zuchtname, "
+    "Name des Tieres, nom, nom de l'animal, nom du chien, nom du cheval, dog name, name of dog, horse name, "
+    "name of horse, Name des Hundes, Name des Pferdes, Pferdename, Hundename, dog, horse, Hund, Pferd, chien, cheval",
+    Field.SEX: "sex, gender, Geschlecht, Geschl, sexe, m/w, m/f, w/m, f/m",
+    Field.BIRTH: "birth date, date of birth, birthday, birth day, dob, Geburtsdatum, Geburtstag, geboren am, geb. am, "
+    "geb-Datum, Geb.-Dat, Geburtsdat, date de naissance, date naissance, né le, née le, né(e) le, ddn, date naiss, "
+    "whelping date, date whelped, foaling date, date foaled, lambing date, date lambed, Wurfdatum, Wurftag, Lammdatum, "
+    "Kalbedatum, Abfohldatum, "
+    "born, birth, whelped, foaled, lambed, calved, geboren, Geburt, geb, gew, geworfen, gewölft, naissance, né, née, "
+    "birth year, year of birth, year, Geburtsjahr, Jahrgang, année de naissance, année",
+    Field.SIRE: "sire, of sire, father, Vater, des Vaters, Vatertier, père, du père, "
+    "sire name, name of sire, sire's name, father name, Name Vater, Vatername, Name des Vaters, nom du père, nom père, "
+    "sire registered name",
+    Field.DAM: "dam, of dam, mother, Mutter, der Mutter, Muttertier, mère, de la mère, "
+    "dam name, name of dam, dam's name, mother name, Name Mutter, Muttername, Name der Mutter, nom de la mère, "
+    "nom mère, dam registered name",
+    Field.OWNER: "owner, owner name, name of owner, herd, flock, farm, holding, keeper, Besitzer, Besitzerin, "
+    "Eigentümer, Eigentümerin, Halter, Tierhalter, Betrieb, propriétaire, détenteur, élevage, exploitation",
+    Field.SINCE: "owner since, owned since, since, date of transfer, transfer date, transferred, date of purchase, "
+    "purchase date, bought, acquired, Besitzer seit, im Besitz seit, seit, Besitzwechsel, Besitzerwechsel, "
+    "Besitzwechsel am, Besitzerwechsel am, Wechseldatum, Halter seit, Eigentümer seit, gekauft am, Kaufdatum, "
+    "Zugangsdatum, Zugang am, Zugang, propriétaire depuis, depuis, date d'achat, date de transfert, "
+    "date d'acquisition, acheté le",
+    Field.EXIT: "exit date, date of exit, Abgangsdatum, Abgang am, abgegangen am, date de sortie, "
+    "exit, left, departure, Abgang, abgegangen, sortie, "
+    "date of death, Todesdatum, gestorben am, date de décès, mort le, died, death, gestorben, mort, décès, "
+    "Verbleib, fate, whereabouts, disposal, devenir, status, Tierstatus, statut, état",
+    Field.EMBRYO: "embryo, embryo calf, stored embryo, embryo transfer, et, et calf, Embryotransfer, ET-Kalb, "
+    "Embryokalb, embryon, transfert d'embryon",
+}  # fmt: skip
+# the sire and the dam of a sheet that has one column for each of a pair, and none of the titles above
+PAIRS = {Field.SIRE: "dog, stallion, ram, buck, bull, Rüde, Hengst, Bock, Bulle, étalon, bélier, chien",
+         Field.DAM: "bitch, mare, ewe, doe, cow, Hündin, Stute, Aue, Ziege, Kuh, jument, brebis, chienne"}  # fmt: skip
+# titles whose columns may have something else than exits
+DOUBTFUL_EXITS = "Verbleib, fate, whereabouts, disposal, devenir, status, Tierstatus, statut, état"
+# Columns that a sheet has to have; `--columns sire=` says that there is none.
+NEEDED = (Field.ID, Field.BIRTH, Field.SIRE, Field.DAM)
+
+
+def usual_titles(field: Field) -> list[str]:
+    """The titles of a field as they are compared: for a parent those with a word for the id come first."""
+    alone = [plain(title) for title in listed(TITLES[field])]
+    if field not in (Field.SIRE, Field.DAM):
+        return list(dict.fromkeys(alone))
+    ids = [plain(title) for title in listed(TITLES[Field.ID])]
+    pairs = [plain(title) for title in listed(PAIRS[field])]
+    both = [both for id in ids for one in alone for both in (one + id, id + one)]
+    return list(dict.fromkeys(both + alone + pairs))
+
+
+KNOWN_TITLES: dict[str, list[str]] = {field: usual_titles(field) for field in TITLES}
+KNOWN_PAIRS = {field: {plain(title) for title in listed(titles)} for field, titles in PAIRS.items()}
+KNOWN_DOUBTFUL = {plain(title) for title in listed(DOUBTFUL_EXITS)}
+
+
+def known_titles(titles: list[str]) -> int:
+    """How many titles are known."""
+    known = {one for usual in KNOWN_TITLES.values() for one in usual}
+    return sum(plain(title) in known for title in titles)
+
+
+def title_list(titles: list[str]) -> str:
+    return ", ".join(f"'{title}'" for title in titles if title)

@@ -1,0 +1,48 @@
+"""Which texts stand for an unknown parent."""
+from __future__ import annotations
+
+import re
+from typing import Collection
+
+from society.reading.words import UNKNOWN, is_error_value, listed
+
+# signs alone, as `?`, `*` and `---`, and zeros alone, as `00` and `0.0`
+SIGNS = re.compile(r"[-–—?.*/_~+]+|[-+]?0[0.,]*")
+# the words of a geneticist's pedigree
+PEDIGREE = (
+    "0, -, --, ?, ., n/a, #n/a, #nv, na, nan, none, null, unknown, unbekannt, unbek, unbek., k.A., keine Angabe, "
+    "inconnu, inconnue"
+)
+
+
+def compared(text: str) -> str:
+    """The text in small letters, without the points of abbreviations and the blanks behind them."""
+    return re.sub(r"\.\s*", "", text.casefold())
+
+
+KNOWN_UNKNOWN = {compared(word) for word in listed(UNKNOWN)}
+
+
+def unknown_words(more: list[str]) -> set[str]:
+    """The words for an unknown parent of a pedigree, in small letters: the usual ones, with `more`."""
+    return {""} | {word.casefold() for one in [PEDIGREE, *more] for word in listed(one)}
+
+
+class UnknownParents:
+    """The texts that stand for an unknown parent: the usual ones, those that the society names besides, and not those
+    that it says are known."""
+
+    def __init__(self, more: Collection[str] = (), known: Collection[str] = ()) -> None:
+        self.more = {word.casefold() for one in more for word in listed(one)}
+        self.known = {word.casefold() for one in known for word in listed(one)}
+
+    def __contains__(self, text: object) -> bool:
+        return isinstance(text, str) and self.is_one(text)
+
+    def is_one(self, text: str) -> bool:
+        folded = text.casefold()
+        if not folded or folded in self.known:
+            return not folded
+        if folded in self.more or compared(text) in KNOWN_UNKNOWN or is_error_value(text):
+            return True
+        return SIGNS.fullmatch(text) is not None

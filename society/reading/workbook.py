@@ -1,0 +1,125 @@
+"""Reads `.xlsx` files by openpyxl: which worksheet, and each cell as the spreadsheet shows it."""
+from __future__ import annotations
+
+import datetime
+import io
+import pathlib
+import re
+from typing import Any, Callable, NamedTuple
+
+from society.mistake import Mistake, counted
+from society.reading.words import clean
+
+# a number with more digits than a spreadsheet keeps
+TOO_LONG = 10**15
+# what stands between quotation marks, brackets or behind a backslash in a format isn't part of a date
+QUOTED = re.compile(r'"[^"]*"|\[[^\]]*\]|\\.')
+Score = Callable[[list[str]], int]
+
+
+class Worksheet(NamedTuple):
+    """The cells of a worksheet as texts, from its first row on, and which one it is, in words."""
+
+    rows: list[list[str]]
+    how: str
+    faults: list[str]
+
+
+def read_workbook(path: pathlib.Path, data: bytes, score: Score, most: int, named: str) -> Worksheet:
+    """The worksheet that is named, or else the one whose titles fit: `score` says how many titles of a row are known,
+    and they stand in one of the first `most` rows."""
+    shown, written = opened(path, data, True), opened(path, data, False)
+    titles: list[str] = [sheet.title for sheet in shown.worksheets]
+    at = titles.index(chosen(path, shown, score, most, named))
+    values, texts = shown.worksheets[at], written.worksheets[at]
+    rows = [[cell_text(cell) for cell in row] for row in values.iter_rows()]
+    others = [f"'{title}'" for title in titles if title != titles[at]]
+    how = f"the worksheet '{titles[at]}' of an .xlsx file" + (f"; not read: {', '.join(others)}" if others else "")
+    return Worksheet(rows, how if others else "an .xlsx file", faults(values, texts))
+
+
+def opened(path: pathlib.Path, data: bytes, values: bool) -> Any:
+    try:
+        import openpyxl
+    except ImportError:
+        raise Mistake(
+            f"{path} is an .xlsx file, and openpyxl, which reads these, isn't installed: save the sheet as CSV, and "
+            "take that"
+        ) from None
+    try:
+        return openpyxl.load_workbook(io.BytesIO(data), data_only=values)
+    except Exception as error:  # openpyxl raises whatever its parts raise
+        raise Mistake(
+            f"{path} can't be read as an .xlsx file ({error}): save the sheet as CSV, and take that"
+        ) from None
+
+
+def chosen(path: pathlib.Path, workbook: Any, score: Score, most: int, named: str) -> str:
+    titles: list[str] = [sheet.title for sheet in workbook.worksheets]
+    shown = ", ".join(f"'{title}'" for title in titles)
+    if named and named not in titles:
+        raise Mistake(f"{path} has no worksheet '{named}', which --worksheet names: it has {shown}")
+    if named or len(titles) == 1:
+        return named or titles[0]
+    scores = {sheet.title: best_score(sheet, score, most) for sheet in workbook.worksheets}
+    best: list[str] = [title for title, points in scores.items() if points == max(scores.values())]
+    if len(best) > 1:
+        fit = f"{len(best)} worksheets have titles that fit" if max(scores.values()) else "no worksheet has such titles"
+        names = ", ".join(f"'{title}'" for title in best)
+        raise Mistake(f"{path}: {fit} ({names}): say which one is taken, as --worksheet '{best[0]}'")
+    return best[0]
+
+
+def best_score(sheet: Any, score: Score, most: int) -> int:
+    rows = [[cell_text(cell) for cell in row] for row in sheet.iter_rows(max_row=most)]
+    return max((score(row) for row in rows), default=0)
+
+
+def faults(values: Any, texts: Any) -> list[str]:
+    """Formulas without a value, and long numbers that have lost digits."""
+    without, long = [], []
+    for row in texts.iter_rows():
+        for cell in row:
+            if cell.data_type == "f" and values[cell.coordinate].value is None:
+                without.append(cell.coordinate)
+            elif isinstance(cell.value, (int, float)) and abs(cell.value) >= TOO_LONG:
+                long.append(cell.coordinate)
+    found = []
+    if without:
+        found.append(
+            f"the worksheet '{values.title}' has {counted(len(without), 'formula')} without a value, the first in the "
+            f"cell {without[0]}: open the file in the spreadsheet, save it there, and take that"
+        )
+    if long:
+        found.append(
+            f"the worksheet '{values.title}' has {counted(len(long), 'number')} of more than 15 digits, of which a "
+            f"spreadsheet loses the last, the first in the cell {long[0]}: give the column the format text, and write "
+            "these anew"
+        )
+    return found
+
+
+def cell_text(cell: Any) -> str:
+    """A cell's value as the spreadsheet shows it, but for days, which are written as 2001-03-01."""
+    value = cell.value
+    if value is None:
+        return ""
+    if isinstance(value, (datetime.datetime, datetime.date)):
+        return day_text(value, str(cell.number_format or ""))
+    if isinstance(value, bool):
+        return str(value)
+    if isinstance(value, float) and value.is_integer():
+        value = int(value)
+    if isinstance(value, int):
+        # the format 00000 shows zeros before a number
+        zeros = re.fullmatch(r"0+", str(cell.number_format or ""))
+        return f"{value:0{len(zeros.group())}}" if zeros else str(value)
+    return clean(str(value))
+
+
+def day_text(day: datetime.date, shown: str) -> str:
+    """The day, or the month or the year alone where the cell's format shows no more."""
+    letters = QUOTED.sub("", shown).lower()
+    if "y" in letters and "d" not in letters:
+        return f"{day:%Y-%m}" if "m" in letters else f"{day:%Y}"
+    return f"{day:%Y-%m-%d}"
