@@ -106,6 +106,7 @@ class Rows:
 
     def animal(self, line: int, id: str, cells: list[str]) -> Animal:
         animal = Animal(id, line, name=self.cell(cells, Field.NAME), owner=self.cell(cells, Field.OWNER))
+        animal.cells = {name: self.cell(cells, name) for name in self.columns if name != Field.ID}
         animal.sire, animal.dam = (self.parent(cells, role) for role in ROLES)
         for text in id, animal.name, animal.owner, animal.sire, animal.dam:
             self.letters.look(line, text)
@@ -180,7 +181,9 @@ class Rows:
             found = DayLeftOut(field, error.fault, error.text, is_exit)
             if has_left:
                 found = DayLeftOut(field, word_fault(text), text, True)
-            self.leave_out(animal, field, text, found)
+            # days in the wrong order keep the whole sheet from being taken, and are told once
+            if error.fault is not DayFault.WRONG_ORDER:
+                self.leave_out(animal, field, text, found)
             return None
         # the day of a transfer is looked at where it is filed
         if field is Field.SINCE:

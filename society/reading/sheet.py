@@ -38,7 +38,7 @@ class Sheet(NamedTuple):
 def read_sheet(path: pathlib.Path, score: Score, worksheet: str = "") -> Sheet:
     """Reads a file. `score` says how many titles of a row are known: the separator that gives most is taken, and the
     worksheet where none is named."""
-    data = bytes_of(path)
+    data = read_bytes(path)
     if data.startswith(b"PK") and path.suffix.lower() == ".ods":
         raise Mistake(f"{path} is an .ods file: save the sheet as CSV or .xlsx, and take that")
     if data.startswith(b"PK"):
@@ -58,7 +58,7 @@ def read_sheet(path: pathlib.Path, score: Score, worksheet: str = "") -> Sheet:
     return Sheet(line, titles, rows[at + 1 :], how, faults)
 
 
-def bytes_of(path: pathlib.Path) -> bytes:
+def read_bytes(path: pathlib.Path) -> bytes:
     try:
         return path.read_bytes()
     except IsADirectoryError:

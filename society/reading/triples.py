@@ -56,7 +56,7 @@ def read_triples(path: pathlib.Path, unknown: set[str], report: Report) -> Tripl
             first = animals[id]
             report.add(line.number, id, LineAgain(first.line, (first.sire, first.dam), (sire, dam), ()))
         else:
-            animals[id] = Animal(id, line.number, sire=sire, dam=dam)
+            animals[id] = Animal(id, line.number, sire=sire, dam=dam, cells={"sire": sire, "dam": dam})
     if not animals:
         raise Mistake(f"{path} has no animals: write a line `id sire dam` for each")
     return Triples(animals, columns_read(titles.cells, places) if titles else "")

@@ -65,12 +65,11 @@ class NextBook:
         known, record = self.book.known.get(animal.id), self.record(animal.id)
         if known is None or record is None:
             return
-        if "name" not in self.given:
+        if "name" not in self.given or Field.NAME in animal.unread:
             animal.name = known.name
-        if "sire" not in self.given:
-            animal.sire = self.id_of(record.sire)
-        if "dam" not in self.given:
-            animal.dam = self.id_of(record.dam)
+        for role in Role:
+            if role not in self.given or role in animal.unread:
+                animal.set_parent(role, self.id_of(record.parent(role)))
         if "exit" not in self.given or ("exit" in animal.unread and record.left):
             animal.left, animal.exit_basis = record.left, known.exit
             self.tell_kept(animal, Field.EXIT, str(record.left))

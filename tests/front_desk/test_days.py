@@ -1,0 +1,129 @@
+"""Days as sheets write them, in three languages, and days that can't be."""
+from __future__ import annotations
+
+import datetime
+
+import pytest
+
+from front_desk.desk import Desk
+
+TITLES = "id;sex;birth;sire;dam;exit\n"
+TODAY = datetime.date.today()
+NEXT_MONTH = TODAY + datetime.timedelta(days=40)
+
+DAYS = {
+    "3. April 2010": "2010-04-03",
+    "08 January 2005": "2005-01-08",
+    "03-Mar-2005": "2005-03-03",
+    "1er août 2005": "2005-08-01",
+    "January 8, 2005": "2005-01-08",
+    "5.Dez.2011": "2011-12-05",
+    "31/12/2010": "2010-12-31",
+    "31-12-2010": "2010-12-31",
+    "März 2004": "2004-03-16",
+    "févr. 2004": "2004-02-15",
+    "about 2010": "2010-07-02",
+    "ca. 2010": "2010-07-02",
+    "2010?": "2010-07-02",
+    "2.5.2010 oder 3.5.2010": "2010-07-02",
+    "15.13.2010": "2010-07-02",
+}
+UNREADABLE = ["before 2010", "vor 2010", "2009 oder 2010", "03-Mar-05", "01.02.98", "37800", "Mai"]
+
+
+def test_days_in_three_languages(desk: Desk) -> None:
+    rows = "".join(f"a{at};F;{text};;;\n" for at, text in enumerate(DAYS))
+    done = desk.take(TITLES + rows)
+    assert list(desk.born().values()) == sorted(DAYS.values())
+    assert {desk.born()[f"a{at}"] for at, _ in enumerate(DAYS)} == set(DAYS.values())
+    assert all(desk.born()[f"a{at}"] == day for at, day in enumerate(DAYS.values()))
+    done.tells(
+        "line 12: a10: inferred: birth day 2010-07-02, from the year 2010 of 'about 2010'",
+        "line 16: a14: inferred: birth day 2010-07-02, from the year 2010, since there is no day 15.13.2010",
+    )
+
+
+def test_texts_without_a_day(desk: Desk) -> None:
+    rows = "".join(f"a{at};F;{text};;;\n" for at, text in enumerate([*UNREADABLE, *DAYS]))
+    done = desk.take(TITLES + rows)
+    assert f" {len(UNREADABLE)} left out" in done.last
+
+
+def test_month_first(desk: Desk) -> None:
+    """The option is told where a day shows that it is needed; it stays with the book."""
+    sheet = TITLES + "a;F;03/25/2001;;;\nb;F;04/05/2004;;;\n"
+    desk.wrong(
+        "line 2: a: birth day: '03/25/2001' has the month first, so days with / can't be told from months: take this "
+        "again with --month-first",
+        "take",
+        desk.write("sheet.csv", sheet),
+    )
+    desk.take(sheet, "--month-first")
+    assert desk.born() == {"a": "2001-03-25", "b": "2004-04-05"}
+    assert "as at the last time: --month-first" in desk.take(sheet).out
+    assert desk.born() == {"a": "2001-03-25", "b": "2004-04-05"}
+
+
+def test_both_orders(desk: Desk) -> None:
+    sheet = desk.write("sheet.csv", TITLES + "a;F;03/25/2001;;;\nb;F;25/03/2004;;;\n")
+    told = "others have the day first (line 3: b: birth day: '25/03/2004'): write all days as 2001-03-01"
+    desk.wrong(told, "take", sheet)
+    desk.wrong("others have the month first (line 2: a: birth day: '03/25/2001')", "take", sheet, "--month-first")
+
+
+def test_no_day_shows_the_order(desk: Desk) -> None:
+    done = desk.take(TITLES + "a;F;03/04/2001;;;\nb;F;05/05/2004;;;\n")
+    assert "1 day with / could have the month first, and no day of the sheet shows whether" in done.out
+
+
+def test_days_after_today(desk: Desk) -> None:
+    """A birth or an exit after today is left out, and told, and no day that is inferred is after today."""
+    done = desk.take(
+        TITLES + f"a;F;2062-03-01;;;\nb;F;2001-03-01;;;{NEXT_MONTH}\nc;F;{TODAY};;b;{TODAY}\nd;F;{TODAY.year};;;{TODAY.year}\n"
+        "e;F;;;c;\nf;F;;;b;\n"
+    )
+    done.tells(
+        "line 2: a: its birth day is left out: 2062-03-01 is after today",
+        f"line 3: b: its exit is left out: {NEXT_MONTH} is after today",
+    )
+    assert all(day <= str(TODAY) for day in desk.born().values())
+    left = {line.split(",")[1]: line.split(",")[2] for line in desk.commands() if line.startswith("exit")}
+    ids = {number: id for id, number in desk.numbers().items()}
+    assert {ids[number]: day for number, day in left.items()} == {"c": str(TODAY), "d": str(TODAY)}
+    exits = {row["id"]: row["exit"] for row in desk.table("book/ids.csv")}
+    assert exits["b"] == ""
+
+
+EXITS = {
+    "lebt (Stand 2024)": "",
+    "im Bestand seit 2019": "",
+    "alive 2023": "",
+    "en vie": "",
+    "lebt nicht mehr": "day unknown",
+    "sold 01.01.2012": "2012-01-01",
+    "01.01.2012": "2012-01-01",
+    "† 3. April 2010": "2010-04-03",
+    "sold 01.01.2000": "day unknown",
+    "01.01.2000": "day unknown",
+}
+
+
+def test_exits(desk: Desk) -> None:
+    """What says that an animal lives is no exit, and a day is read alike with a word before it and without."""
+    rows = "".join(f"a{at};F;2001-01-01;;;{text}\n" for at, text in enumerate(EXITS))
+    done = desk.take(TITLES + rows)
+    left = {line.split(",")[1]: line.split(",")[2] for line in desk.commands() if line.startswith("exit")}
+    exits = [left.get(row["number"], row["exit"].partition(":")[0]) for row in desk.table("book/ids.csv")]
+    assert exits == list(EXITS.values())
+    done.tells(
+        "line 10: a8: its exit is left out: the day in 'sold 01.01.2000' would be before its birth; the animal counts as "
+        "gone",
+        "line 11: a9: its exit is left out: 01.01.2000 is before its birth; the animal counts as gone",
+    )
+
+
+@pytest.mark.parametrize("cell", ["01.01.2012", "sold 01.01.2012"])
+def test_exit_before_offspring(desk: Desk, cell: str) -> None:
+    """An exit that is refused costs that cell."""
+    done = desk.take(TITLES + f"a;F;2001-01-01;;;{cell}\nb;F;2014-01-01;;a;\n")
+    assert "2 animals" in done.last

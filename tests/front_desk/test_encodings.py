@@ -1,0 +1,46 @@
+"""Letters of a sheet: bytes that are wrong, letters that were decoded twice, and letters that are composed."""
+from __future__ import annotations
+
+import pytest
+
+from front_desk.desk import Desk
+
+SHEET = "Ohrmarke;Name;Geschlecht;Geburtsdatum;Vater;Mutter\nÄ1;Müller;m;01.03.2001;;\nB2;Süße;w;02.03.2004;Ä1;\n"
+
+
+def test_stray_byte(desk: Desk) -> None:
+    """A sheet that is UTF-8 but for a byte isn't taken: its line and its place are told."""
+    sheet = desk.write("sheet.csv", SHEET.encode().replace("Süße".encode(), b"S\xfc\xc3\x9fe"))
+    desk.wrong("sheet.csv: line 3, byte 5 of the line, behind 'B2;S': the byte FC isn't UTF-8", "take", sheet)
+
+
+def test_stray_byte_with_other_obstacles(desk: Desk) -> None:
+    """All that keeps a sheet from being taken is told in one run."""
+    data = SHEET.encode().replace("Süße".encode(), b"S\xfc\xc3\x9fe").replace(b"Mutter", b"M").replace(b"02.03", b"03/25/")
+    done = desk.wrong("the byte FC isn't UTF-8", "take", desk.write("sheet.csv", data))
+    assert "line 1: no column for dam is found" in done.err
+    assert len(done.err.splitlines()) == 2
+
+
+def test_windows_letters_stay(desk: Desk) -> None:
+    """A sheet in Windows-1252 has letters that could be UTF-8 by chance."""
+    text = SHEET.replace("Müller", "Strauß’ Müller").encode("cp1252")
+    assert "Windows-1252" in desk.take(text).out
+    assert [row["name"] for row in desk.table("book/ids.csv")] == ["Strauß’ Müller", "Süße"]
+
+
+@pytest.mark.parametrize("encoding", ["utf-8", "cp1252"])
+def test_letters_decoded_twice(desk: Desk, encoding: str) -> None:
+    twice = SHEET.replace("Müller", "MÃ¼ller").replace("Süße", "S\ufffd")
+    done = desk.take(twice.encode(encoding, errors="ignore"))
+    assert "letters were decoded twice in 1 text: 'MÃ¼ller' for 'Müller' (line 2): save the sheet anew" in done.out
+    assert ("letters are lost in 1 text: 'S\ufffd' (line 3)" in done.out) == (encoding == "utf-8")
+
+
+def test_composed_letters_and_blanks(desk: Desk) -> None:
+    """An id is the same with composed letters and with letters and accents apart, with one blank or several."""
+    done = desk.take(
+        "id;birth;sire;dam\n\u00c41 7;2001-03-01;;\nB;2004-03-01;A\u03081\u00a0 7;\nC;2004-03-02;\u200b\u00c41 7\u00ad;\n"
+    )
+    assert desk.parents() == {"\u00c41 7": ("", ""), "B": ("\u00c41 7", ""), "C": ("\u00c41 7", "")}
+    assert " 0 added" in done.last

@@ -1,0 +1,106 @@
+"""Titles of columns, which column has the ids, and obstacles that are told together."""
+from __future__ import annotations
+
+import pytest
+
+from front_desk.desk import Desk
+
+SHEETS = {
+    "dogs": (
+        "Reg. No.;Registered Name;Sex;Whelped;Sire Reg.;Dam Reg.;Status\n"
+        "KC1;Rex;dog;08 January 2005;;;alive\nKC2;Bella;bitch;09 January 2005;;;dead\n"
+        "KC3;Max;dog;10 January 2008;KC1;KC2;alive\n"
+    ),
+    "litters": "Registered Name;Sex;DOB;Dog;Bitch\nKC1;m;2005-01-08;;\nKC2;f;2005-01-09;;\nKC3;m;2008-01-10;KC1;KC2\n",
+    "sheep": (
+        "Tag;Geschlecht;Lammdatum;Vater;Mutter;Verbleib\nKC1;Bock;08.01.2005;;;im Bestand\n"
+        "KC2;Aue;09.01.2005;;;verkauft 2010\nKC3;Bock;10.01.2008;KC1;KC2;\n"
+    ),
+    "horses": (
+        "UELN;Nom du cheval;Sexe;Né le;Père;Mère;Devenir\nKC1;Éole;étalon;08/01/2005;;;en vie\n"
+        "KC2;Brise;jument;09/01/2005;;;\nKC3;Noé;hongre;10/01/2008;KC1;KC2;vendu le 13/02/2012\n"
+    ),
+    "names of parents": (
+        "Nr;Hund;Sex;geb.;Name Vater;Name Mutter\n1;KC1;m;2005-01-08;;\n2;KC2;f;2005-01-09;;\n3;KC3;m;2008-01-10;KC1;KC2\n"
+    ),
+}
+
+
+@pytest.mark.parametrize("kind", SHEETS)
+def test_titles(desk: Desk, kind: str) -> None:
+    desk.take(SHEETS[kind])
+    assert desk.parents()["KC3"] == ("KC1", "KC2")
+    assert desk.born()["KC3"] == "2008-01-10"
+
+
+def test_status_of_something_else(desk: Desk) -> None:
+    """A column `Status` whose cells tell of no exit isn't read."""
+    done = desk.take("id;birth;sire;dam;Status\na;2001;;;Herdbuch A\nb;2002;;;Herdbuch B\nc;2003;;;verkauft\n")
+    assert "the column 'Status' isn't read, since most of its cells tell of no exit" in done.out
+    assert "not read: 'Status'" in done.out
+
+
+def test_title_twice(desk: Desk) -> None:
+    done = desk.take("id;birth;sire;dam;Sire\na;2001;;;\nb;2004;a;;x\n")
+    assert "the title 'sire' stands in the columns 3 and 5, with other cells: only the first can be read" in done.out
+
+
+def test_obstacles_together(desk: Desk) -> None:
+    """A title that is missing, a number that was cut, a column that can't be read and months that come first."""
+    rows = "".join(f"a{at};q;03/25/2001;;sold\n" for at in range(3))
+    sheet = desk.write("sheet.csv", f"id;sex;birth;sire;exit\n{rows}b;F;2004-01-01;2,76E+14;\n")
+    done = desk.wrong("line 1: no column for dam is found", "take", sheet)
+    told = done.err.splitlines()
+    assert len(told) == 4
+    assert any("line 2: a0: birth day: '03/25/2001' has the month first (3 such days)" in one for one in told)
+    assert any("'2,76E+14' is a long number that the spreadsheet has cut" in one for one in told)
+    assert any("3 of 4 cells that say something in the column 'sex' can't be read" in one for one in told)
+
+
+# -- which column has the ids
+
+FLOCK = [("DE01", "276001", "", ""), ("DE02", "276002", "", ""), ("DE03", "276003", "DE01", "DE02"),
+         ("DE04", "276004", "DE01", "DE03")]  # fmt: skip
+
+
+def sheet_of(titles: str, *columns: int) -> str:
+    """A sheet of the flock: the columns are row numbers (0), tags (1), national numbers (2)."""
+    rows = [
+        ";".join([*((str(at), tag, national)[column] for column in columns), f"200{at}-01-01", sire, dam])
+        for at, (tag, national, sire, dam) in enumerate(FLOCK, 1)
+    ]
+    return f"{titles};Geburtsdatum;Vater;Mutter\n" + "\n".join(rows) + "\n"
+
+
+@pytest.mark.parametrize(
+    ("titles", "columns"),
+    [("Nr;Ohrmarke", (0, 1)), ("Ohrmarke;Lebensnummer", (2, 1)), ("Nr;Kürzel", (0, 1)), ("LOM;Nr;Kürzel", (2, 0, 1))],
+)
+def test_ids_are_where_parents_are_found(desk: Desk, titles: str, columns: tuple[int, ...]) -> None:
+    desk.take(sheet_of(titles, *columns))
+    assert desk.numbers().keys() == {"DE01", "DE02", "DE03", "DE04"}
+
+
+def test_further_column_of_ids(desk: Desk) -> None:
+    """Which column has the ids is remembered, and seen in its cells where its title is another."""
+    desk.take(sheet_of("Lebensnummer", 1))
+    before = desk.numbers()
+    for titles, columns in [("Ohrmarke;Lebensnummer", (2, 1)), ("Tag;Ohrmarke", (1, 2)), ("Nr;LOM", (0, 1))]:
+        done = desk.take(sheet_of(titles, *columns))
+        assert desk.numbers() == before, titles
+        assert " 0 new, 0 changed" in done.last
+    assert "the ids of the book are in the column 'LOM': they were in 'Tag'" in done.out
+
+
+def test_likelier_column_comes_later(desk: Desk) -> None:
+    """What the book remembers of the other columns is used again, and a likelier one is told."""
+    desk.take("id;birth;sire;dam;Abgang\na;2001-01-01;;;01.02.2010\n")
+    done = desk.take("id;birth;sire;dam;Abgangsdatum;Abgang\na;2001-01-01;;;;01.02.2010\n")
+    assert "exit is read from 'Abgang', as at the last time, and 'Abgangsdatum' isn't: if that is the one" in done.out
+    assert sum(line.startswith("exit") for line in desk.commands()) == 1
+
+
+def test_sums(desk: Desk) -> None:
+    done = desk.take("id;birth;sire;dam\na;2001-01-01;;\nSumme: 1;;;\n")
+    assert "is this row an animal, as which it is taken (line 3: Summe: 1)? Leave out rows that count or sum up" in done.out
+    assert "2 animals" in done.last

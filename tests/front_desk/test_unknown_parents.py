@@ -1,0 +1,38 @@
+"""Words and signs for unknown parents, and a spreadsheet's errors."""
+from __future__ import annotations
+
+from front_desk.desk import Desk
+
+TITLES = "id;sex;birth;sire;dam\n"
+UNKNOWN = (
+    "NN, n.n., N.N., n.b., k. A., k.A., nicht bekannt, unbekannt, not known, Not recorded, n/a, none, unk, inconnu, "
+    "inconnue, -1, -9, *, 00, 0, 000, ?, -, --, ."
+).split(", ")
+ERRORS = "#REF! #BEZUG! #N/A #NV #WERT! #VALUE! #VALEUR! #NAME? #NOM? #DIV/0! #ZAHL! #NULL! Err:502 ####".split()
+
+
+def test_usual_words(desk: Desk) -> None:
+    rows = "".join(f"a{at};F;2001-01-01;{word};{word}\n" for at, word in enumerate(UNKNOWN))
+    done = desk.take(TITLES + rows)
+    assert set(desk.parents().values()) == {("", "")}
+    assert " 0 left out, 0 added" in done.last
+
+
+def test_error_values(desk: Desk) -> None:
+    """They are empty in any cell, and told; what the book has stays."""
+    rows = "s;M;2001-01-01;;\n" + "".join(f"a{at};F;2004-01-01;s;\n" for at, _ in enumerate(ERRORS))
+    rows += "".join(f"c{at};F;2005-01-01;;a0\n" for at in range(20))
+    desk.take(TITLES + rows)
+    before = desk.parents()
+    broken = rows
+    for at, word in enumerate(ERRORS):
+        broken = broken.replace(f"a{at};F;2004-01-01;s;", f"a{at};F;2004-01-01;s;{word}")
+    done = desk.take(TITLES + broken.replace("a0;F;2004-01-01;s;", "a0;F;2004-01-01;#REF!;"))
+    assert desk.parents() == before
+    assert "15 cells with an error of the spreadsheet in 'sire', 'dam', the first in line 3: '#REF!', '#BEZUG!'" in done.out
+    assert " 15 left out (15 cells)" in done.last
+
+
+def test_columns_of_errors(desk: Desk) -> None:
+    rows = "".join(f"a{at};F;2001-01-01;#BEZUG!;{word}\n" for at, word in enumerate(["x", "#REF!", "#REF!"]))
+    desk.wrong("3 of 3 cells of the column 'sire' (sire) show an error", "take", desk.write("sheet.csv", TITLES + rows))
