@@ -6,6 +6,9 @@ that most others wait for. The library that comes of it is kept, so that a call 
 with those that aren't proved, and after a change with those that were changed and those above them. The program itself
 is proved at each call. Standard error tells each crate as it begins and as it ends, with the minutes so far.
 
+Beside the program is left what it was built of: its lines of crates.txt, and its sources with their checksums.
+`build.py --of PROGRAM` prints what that is now, and builds nothing.
+
 The status is 0 once the program is built, 1 where it can't be, 2 where PROGRAM is no program.
 """
 from __future__ import annotations
@@ -13,6 +16,7 @@ from __future__ import annotations
 import shutil
 import sys
 
+from building.built import text_now
 from building.crates import Crates
 from building.ending import end_by_signals
 from building.place import Place
@@ -45,6 +49,9 @@ def main(words: list[str]) -> int:
     try:
         if words in (["-h"], ["--help"]):
             print(__doc__, end="")
+            return 0
+        if len(words) == 2 and words[0] == "--of":
+            print(text_now(Crates(words[1])), end="")
             return 0
         if len(words) != 1 or words[0].startswith("-"):
             raise Stop("name one program to build, as in build.py herdbook", 2)

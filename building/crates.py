@@ -2,10 +2,10 @@
 from __future__ import annotations
 
 import functools
+import graphlib
 import os
 import pathlib
 import shutil
-from typing import Iterator
 
 from building.telling import Stop
 
@@ -26,26 +26,24 @@ class Crates:
         self.program = program
         self.lines = {name: lines[name] for name in lines if name in closure(lines, program)}
         self.below = {name: named(line) & {*self.lines} for name, line in self.lines.items()}
+        try:
+            # those below first
+            self.upwards = [*graphlib.TopologicalSorter(self.below).static_order()]
+        except graphlib.CycleError as error:
+            raise Stop(f"crates.txt has crates that stand on themselves: {' > '.join(error.args[1][::-1])}", 2) from None
 
     def all_below(self, name: str) -> set[str]:
         """A crate and all that it stands on."""
         return closure(self.lines, name)
 
     @functools.cached_property
-    def by_chain(self) -> list[str]:
-        """All of them, first those with the longest chain of others that wait for them, by the bytes of sources."""
-        lengths = {name: sum(it.stat().st_size for it in sources(name) if it.suffix == ".rt") for name in self.lines}
-
-        @functools.cache
-        def chain(name: str) -> int:
-            return lengths[name] + max((chain(it) for it in self.lines if name in self.below[it]), default=0)
-
-        return sorted(self.lines, key=lambda name: -chain(name))
-
-    def newest_source(self) -> float:
-        """When the newest source was changed."""
-        files = [TOP / "crates.txt", *(file for name in self.lines for file in sources(name))]
-        return max(it.stat().st_mtime for it in files)
+    def chains(self) -> dict[str, int]:
+        """The longest chain of each and of others that wait for it, by the bytes of their sources."""
+        chains: dict[str, int] = {}
+        for name in reversed(self.upwards):
+            length = sum(it.stat().st_size for it in sources(folder(name)) if it.suffix == ".rt")
+            chains[name] = length + max((chains[it] for it in chains if name in self.below[it]), default=0)
+        return chains
 
     def copy_to(self, room: pathlib.Path, name: str) -> None:
         """Makes a repository of a crate and those below it alone, with what is kept of their proofs."""
@@ -94,8 +92,8 @@ def closure(lines: dict[str, str], name: str) -> set[str]:
     return found
 
 
-def folder(name: str) -> pathlib.Path:
-    return TOP / "crates" / name
+def folder(name: str, top: pathlib.Path = TOP) -> pathlib.Path:
+    return top / "crates" / name
 
 
 def is_program(name: str) -> bool:
@@ -106,11 +104,10 @@ def programs(lines: dict[str, str]) -> str:
     return ", ".join(sorted(filter(is_program, lines)))
 
 
-def sources(name: str) -> Iterator[pathlib.Path]:
-    """The files of a crate that are proved and built."""
-    for part in ("src", "specs", "proofs"):
-        for kind in ("*.rt", "*.antt"):
-            yield from (folder(name) / part).rglob(kind)
+def sources(crate: pathlib.Path) -> list[pathlib.Path]:
+    """The files of a crate's folder that are proved and built: all of these kinds but those that were made of it."""
+    files = (it for kind in ("*.rt", "*.antt") for it in crate.rglob(kind))
+    return [it for it in files if "out" not in it.relative_to(crate).parts]
 
 
 def link(file: str, to: str) -> None:

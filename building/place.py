@@ -9,6 +9,7 @@ import pathlib
 import shutil
 from typing import IO, Callable, Iterator
 
+from building.built import text_now
 from building.crates import Crates, folder
 from building.telling import Stop
 
@@ -22,6 +23,8 @@ class Place:
         self.crates = crates
         self.out = out(crates.program)
         self.program = self.out / crates.program
+        # what the program was built of
+        self.built = self.out / f"{crates.program}.built"
 
     @contextlib.contextmanager
     def alone(self, waits: Callable[[], None]) -> Iterator[bool]:
@@ -41,16 +44,24 @@ class Place:
             yield has_waited
 
     def is_new(self) -> bool:
-        """Whether the program is there, and no source of it is newer."""
-        return self.program.exists() and self.crates.newest_source() <= self.program.stat().st_mtime
+        """Whether the program is there, and was built of what is there."""
+        with contextlib.suppress(FileNotFoundError):
+            return self.program.exists() and self.built.read_text(encoding="utf-8") == text_now(self.crates)
+        return False
 
-    def put(self, made: pathlib.Path, begun: float) -> None:
-        """Puts the program there, as of the time that its build began: a source that was changed meanwhile is newer."""
+    def put(self, made: pathlib.Path, built: str) -> None:
+        """Puts the program there, and beside it what it was built of.
+
+        What the one before was built of is removed first: a call that is killed meanwhile leaves nothing that tells it
+        of this one.
+        """
         self.out.mkdir(exist_ok=True)
+        self.built.unlink(missing_ok=True)
         beside = self.out / f"{self.program.name}.new"
         shutil.copy(made, beside)
-        os.utime(beside, (begun, begun))
         os.replace(beside, self.program)
+        beside.write_text(built, encoding="utf-8")
+        os.replace(beside, self.built)
 
 
 def out(name: str) -> pathlib.Path:

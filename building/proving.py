@@ -3,9 +3,10 @@ from __future__ import annotations
 
 import collections
 import concurrent.futures
+import graphlib
 import re
-import time
 
+from building.built import checksums, text_of
 from building.crates import Crates
 from building.machine import Machine, room, sweep
 from building.place import Place
@@ -21,35 +22,51 @@ class Proving:
 
     def __init__(self, crates: Crates, place: Place, teller: Teller) -> None:
         self.crates, self.place, self.say, self.write = crates, place, teller.say, teller.write
-        self.begun = time.time()
         self.runs, self.machine = Runs(), Machine()
-        self.proved: set[str] = set()
+        self.order = graphlib.TopologicalSorter(crates.below)
+        self.order.prepare()
+        # those that may begin, the runs under way with their crates and processes, and whether all have passed so far
+        self.ready: list[str] = []
+        self.running: dict[concurrent.futures.Future[bool], tuple[str, int]] = {}
+        self.is_well = True
+        # the checksums of the sources that were proved
+        self.summed: dict[str, list[str]] = {}
 
     def build(self) -> bool:
         """Proves all and puts the program in its place, and returns whether all passed."""
         sweep()
-        left, is_well = [*self.crates.by_chain], True
-        running: dict[concurrent.futures.Future[bool], tuple[str, int]] = {}
         with concurrent.futures.ThreadPoolExecutor(self.machine.most_runs) as pool:
             try:
-                while (left and is_well) or running:
-                    ready = [name for name in left if self.crates.below[name] <= self.proved] if is_well else []
-                    for name in ready[: self.machine.most_runs - len(running)]:
-                        left.remove(name)
-                        jobs = self.machine.jobs([jobs for _, jobs in running.values()])
-                        self.say(f"proving {name}")
-                        running[pool.submit(self.prove, name, jobs)] = name, jobs
-                    for it in concurrent.futures.wait(running, return_when=concurrent.futures.FIRST_COMPLETED).done:
-                        name, _ = running.pop(it)
-                        if it.result():
-                            self.proved.add(name)
-                        else:
-                            is_well = False
-                    if running and not is_well:
-                        self.say(f"still proving {', '.join(name for name, _ in running.values())}")
+                self.begin(pool)
+                while self.running:
+                    self.end()
+                    self.begin(pool)
             finally:
                 self.runs.end()
-        return is_well
+        return self.is_well
+
+    def begin(self, pool: concurrent.futures.Executor) -> None:
+        """Begins as many as there is room for, first those that most others wait for; none once one has failed."""
+        if not self.is_well:
+            return
+        chains = self.crates.chains
+        self.ready = sorted([*self.ready, *self.order.get_ready()], key=lambda name: -chains[name])
+        while self.ready and len(self.running) < self.machine.most_runs:
+            name = self.ready.pop(0)
+            jobs = self.machine.jobs([jobs for _, jobs in self.running.values()])
+            self.say(f"proving {name}")
+            self.running[pool.submit(self.prove, name, jobs)] = name, jobs
+
+    def end(self) -> None:
+        """Waits until one has ended."""
+        for it in concurrent.futures.wait(self.running, return_when=concurrent.futures.FIRST_COMPLETED).done:
+            name, _ = self.running.pop(it)
+            if it.result():
+                self.order.done(name)
+            else:
+                self.is_well = False
+        if self.running and not self.is_well:
+            self.say(f"still proving {', '.join(name for name, _ in self.running.values())}")
 
     def prove(self, name: str, jobs: int) -> bool:
         """Proves a crate by so many processes, over those below it, and keeps what comes of it."""
@@ -57,9 +74,11 @@ class Proving:
         try:
             with room() as at:
                 self.crates.copy_to(at, name)
+                self.summed[name] = checksums(name, at)
                 told.extend(self.runs.lines(self.words(name, jobs), at / "crates" / name))
                 if name == self.crates.program:
-                    self.place.put(at / "crates" / name / "out" / name, self.begun)
+                    summed = (line for lines in self.summed.values() for line in lines)
+                    self.place.put(at / "crates" / name / "out" / name, text_of(self.crates, summed))
                 else:
                     self.crates.keep(at, name)
         except Ended:

@@ -10,6 +10,7 @@ import os
 import pathlib
 
 import pytest
+from _pytest.terminal import TerminalReporter
 
 from counting import counts_of, sum_of
 
@@ -33,7 +34,6 @@ def pytest_assertion_pass(item: pytest.Item) -> None:
     counts_of(item).passed += 1
 
 
-@pytest.hookimpl(tryfirst=True)
 def pytest_runtest_makereport(item: pytest.Item, call: pytest.CallInfo[None]) -> pytest.TestReport:
     report = pytest.TestReport.from_item_and_call(item, call)
     if report.when == "setup":
@@ -43,6 +43,14 @@ def pytest_runtest_makereport(item: pytest.Item, call: pytest.CallInfo[None]) ->
     return report
 
 
-def pytest_terminal_summary(terminalreporter: pytest.TerminalReporter) -> None:
+def pytest_addoption(parser: pytest.Parser) -> None:
+    parser.addoption("--counts", metavar="FILE", help="write how many checks passed and failed into a file, for ./check")
+
+
+def pytest_terminal_summary(terminalreporter: TerminalReporter, exitstatus: int, config: pytest.Config) -> None:
     passed, failed = sum_of(itertools.chain.from_iterable(terminalreporter.stats.values()))
-    terminalreporter.write_line(f"checks: {passed} passed, {failed} failed")
+    # what ended otherwise, as where there is no test
+    told = f"{passed} passed, {failed or int(exitstatus != 0)} failed"
+    terminalreporter.write_line(f"checks: {told}")
+    if config.option.counts:
+        pathlib.Path(config.option.counts).write_text(f"{told}\n", encoding="utf-8")

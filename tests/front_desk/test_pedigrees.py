@@ -4,7 +4,7 @@ from __future__ import annotations
 import pathlib
 
 import pytest
-import scipy.io
+import scipy.io  # type: ignore[import]
 
 import reference
 from front_desk.desk import Desk

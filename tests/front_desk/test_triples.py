@@ -101,21 +101,20 @@ def parents_in(desk: Desk, book: str) -> dict[str, tuple[str, ...]]:
 
 
 # as published, above the diagonal too
-RELATIONSHIPS = {
-    "11": 1, "14": 0.5, "25": 0.25, "33": 1, "34": 0.25, "45": 0.625, "55": 1.125, "36": 0.5625, "66": 1.125,
-    "12": 0,
-}  # fmt: skip
+RELATIONSHIPS = [
+    ("1", "1", 1), ("1", "4", 0.5), ("2", "5", 0.25), ("3", "3", 1), ("3", "4", 0.25), ("4", "5", 0.625),
+    ("5", "5", 1.125), ("3", "6", 0.5625), ("6", "6", 1.125), ("1", "2", 0),
+]  # fmt: skip
 
 
-@pytest.mark.parametrize("pair", RELATIONSHIPS)
-def test_relationships(desk: Desk, pair: str) -> None:
+@pytest.mark.parametrize(("x", "y", "relationship"), RELATIONSHIPS)
+def test_relationships(desk: Desk, x: str, y: str, relationship: float) -> None:
     """With the lines `u x 0` and `calf u y` the relationship of x and y, whatever their sexes, is four times F of
     `calf`."""
-    x, y = pair
     rows = [line.split() for line in (TOP / "examples/mrode.txt").read_text().splitlines() if line[:1].isdigit()]
     desk.good("take", "--pedigree", desk.write("more.txt", text_of([*rows, ["u", x, "0"], ["calf", "u", y]])))
     found = {row["id"]: row["decimal"] for row in desk.listed("list")}
-    assert 4 * float(found["calf"]) == RELATIONSHIPS[pair]
+    assert 4 * float(found["calf"]) == relationship
 
 
 @pytest.mark.parametrize(("text", "told"), [

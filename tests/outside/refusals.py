@@ -4,12 +4,10 @@ from __future__ import annotations
 import concurrent.futures
 import itertools
 import os
-import pathlib
 import re
-import subprocess
 from collections.abc import Callable, Mapping
 
-from outside.runs import TOP, Checks, Done, Words
+from outside.runs import Checks, Done, Words
 
 # no run makes so many calls: the number of the last call that is refused where all are
 ALL = 1 << 40
@@ -18,19 +16,6 @@ MOST_CALLS, AT_ONCE = 20_000, 64
 
 # whether a run is right: what it answers where nothing is refused, and what it answered
 IsRight = Callable[[Done, Done], bool]
-
-
-def without_refuser(room: str) -> str:
-    """Makes `refuse.so` of `refuse.c`. A sentence if that can't be done."""
-    words = ["cc", "-O1", "-shared", "-fPIC", "-o", f"{room}/refuse.so", str(TOP / "tests/refuse.c"), "-ldl"]
-    install = "install gcc and libc6-dev (apt-get install gcc libc6-dev) and call this again"
-    try:
-        subprocess.run(words, check=True)
-    except OSError:
-        return f"there is no C compiler cc, which tests/refuse.c needs: {install}"
-    except subprocess.CalledProcessError:
-        return f"the C compiler cc can't make tests/refuse.c: {install}"
-    return ""
 
 
 class Refusals(Checks):

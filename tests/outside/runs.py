@@ -7,6 +7,10 @@ import subprocess
 from collections.abc import Callable, Mapping, Sequence
 from typing import IO, Self
 
+import pytest
+
+from counting import Counts, counts_of
+
 TOP = pathlib.Path(__file__).resolve().parent.parent.parent
 SECONDS = 60
 
@@ -36,19 +40,28 @@ def fault(text: str, out: str = "", status: int = 1) -> Done:
 
 
 class Checks:
-    """Runs a program, in an environment without the caller's variables, and counts what passed and what failed."""
+    """Runs a program, in an environment without the caller's variables, and counts what passed and what failed.
 
-    def __init__(self, program: str, room: str) -> None:
-        self.program, self.room = program, pathlib.Path(room)
-        self.passed = self.failed = 0
+    Each of its methods whose name begins with `test_` is a group of checks, and one test of pytest.
+    """
+
+    program: str
+    room: pathlib.Path
+    refuser: pathlib.Path
+    counts: Counts
+
+    @pytest.fixture(autouse=True)
+    def begin(
+        self, program: str, refuser: pathlib.Path, tmp_path: pathlib.Path, request: pytest.FixtureRequest
+    ) -> None:
+        self.program, self.refuser, self.room, self.counts = program, refuser, tmp_path, counts_of(request.node)
 
     def built(self, name: str) -> Self:
         """The checks of another program that the gate built, in the same room."""
-        return type(self)(str(TOP / f"crates/{name}/out/{name}"), str(self.room))
-
-    def take_over(self, other: Checks) -> None:
-        """Adds what was counted elsewhere."""
-        self.passed, self.failed = self.passed + other.passed, self.failed + other.failed
+        other = type(self)()
+        other.program = str(TOP / f"crates/{name}/out/{name}")
+        other.refuser, other.room, other.counts = self.refuser, self.room, self.counts
+        return other
 
     def run(
         self,
@@ -62,7 +75,7 @@ class Checks:
         """Runs the program. `refuse` is what `refuse.c` reads; `before` is called in the new process."""
         env = {"PATH": "/usr/bin:/bin", "LANG": "C.UTF-8"}
         if refuse:
-            env |= {"LD_PRELOAD": str(self.room / "refuse.so")} | {name: str(value) for name, value in refuse.items()}
+            env |= {"LD_PRELOAD": str(self.refuser)} | {name: str(value) for name, value in refuse.items()}
         done = subprocess.run(
             [self.program, *words],
             input=None if isinstance(given, int) else given.encode() if isinstance(given, str) else given,
@@ -76,9 +89,7 @@ class Checks:
         return Done(done.returncode, done.stdout or b"", done.stderr or b"")
 
     def count(self, right: object, what: str) -> None:
-        self.passed, self.failed = self.passed + bool(right), self.failed + (not right)
-        if not right:
-            print(f"FAILED {what}", flush=True)
+        self.counts.count(right, what)
 
     def expect(
         self,

@@ -22,8 +22,8 @@ def in_room(kilobytes: int) -> Callable[[], None]:
     return functools.partial(resource.setrlimit, resource.RLIMIT_AS, (kilobytes * 1024, kilobytes * 1024))
 
 
-class MemoryChecks(Refusals):
-    def little_memory(self) -> None:
+class TestMemory(Refusals):
+    def test_little_memory(self) -> None:
         """From the least room in which the version is told, each end is the full answer or a text that may come.
 
         In the first of that room the stack may find none, and then nothing is written: no call can be told of that.

@@ -24,8 +24,8 @@ TOLD: list[tuple[Words, str]] = [
 ]
 
 
-class WriteChecks(Refusals):
-    def failing_writes(self) -> None:
+class TestWrites(Refusals):
+    def test_failing_writes(self) -> None:
         with open("/dev/full", "wb") as full:
             for words in [*each_order(), ["--help"], ["mating", "--help"], ["--version"]]:
                 self.failing_output(words, full)
@@ -51,7 +51,7 @@ class WriteChecks(Refusals):
         both = self.run(words, given, out=full, err=full)
         self.count(both.status == wanted.status or wanted.out, f"nothing writable: {words}: {both}")
 
-    def refused_writes(self) -> None:
+    def test_refused_writes(self) -> None:
         for words in [*each_order(), ["--help"]]:
             refused = self.until_none("write", words, SMALL, {"REFUSE": "write"}, is_write_fault(words[0]))
             self.count(refused, f"no write was refused: {words}")
@@ -63,7 +63,7 @@ class WriteChecks(Refusals):
             told = self.until_none("told", words, SMALL, {"REFUSE": "told"}, is_same)
             self.count(told, f"nothing was told: {words}")
 
-    def long_texts(self) -> None:
+    def test_long_texts(self) -> None:
         """A text of several parts is written part by part; where a write is refused, the parts before it are there."""
         text = males(12_000) + founder(animal("F", 1))
         sires = [animal("M", one) for one in range(1, 5_001)]

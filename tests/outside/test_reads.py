@@ -17,8 +17,8 @@ WITHOUT_BOOK: list[Words] = [
 ]
 
 
-class ReadChecks(Refusals):
-    def refused_reads(self) -> None:
+class TestReads(Refusals):
+    def test_refused_reads(self) -> None:
         for words in each_order():
             self.refused_reads_of(words)
         for without in WITHOUT_BOOK:

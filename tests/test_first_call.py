@@ -1,9 +1,7 @@
-#!/usr/bin/env python3
-"""first_call.py: tries build.py, which proves the program's crates side by side, with a stand-in for rt.
+"""The build of the first call: build.py, which proves the program's crates side by side, with a stand-in for rt.
 
 The repository's Python and crates.txt are copied to a folder in which each crate has one short source. The stand-in
-proves nothing: it notes when a crate begins and ends, and leaves a library or a program as rt does. The last line is
-`N passed, M failed`; the status is 1 if anything failed.
+proves nothing: it notes when a crate begins and ends, and leaves a library or a program as rt does.
 """
 from __future__ import annotations
 
@@ -15,15 +13,15 @@ import shutil
 import signal
 import subprocess
 import sys
-import tempfile
 import time
 import unittest.mock
+from collections.abc import Callable, Iterator
 
-TOP = pathlib.Path(__file__).resolve().parent.parent
-sys.path.insert(0, str(TOP))
+import pytest
 
-from building.crates import closure, lines_of, named  # noqa: E402
-from building.machine import Machine  # noqa: E402
+from building.crates import TOP, closure, lines_of, named
+from building.machine import Machine
+from counting import Counts, counts_of
 
 PROGRAM = "herdbook"
 LINES = lines_of(TOP / "crates.txt")
@@ -71,8 +69,11 @@ class Repository:
 
     def __init__(self, room: pathlib.Path) -> None:
         self.top, self.notes, self.rooms = room / "repository", room / "notes", room / "rooms"
-        for folder in (self.notes, self.rooms, room / "bin"):
+        self.no_python = room / "no python"
+        for folder in (self.notes, self.rooms, room / "bin", self.no_python):
             folder.mkdir(parents=True)
+        (self.no_python / "python3").write_text("#!/bin/sh\nexit 99\n", encoding="utf-8")
+        (self.no_python / "python3").chmod(0o755)
         shutil.copytree(TOP / "building", self.top / "building", ignore=shutil.ignore_patterns("__pycache__"))
         with open(self.top / "building/machine.py", "a", encoding="utf-8") as machine:
             machine.write(FOUR_PROCESSORS)
@@ -104,6 +105,27 @@ class Repository:
     def call(self) -> tuple[int, str, str]:
         """The status of a call, and what it wrote."""
         return ended(self.begin_program())
+
+    def call_without_python(self) -> tuple[int, str, str]:
+        """The same, where a call of Python ends with a fault."""
+        env, self.env = self.env, {**self.env, "PATH": f"{self.no_python}:{self.env['PATH']}"}
+        try:
+            return self.call()
+        finally:
+            self.env = env
+
+    def write(self, name: str, text: str) -> None:
+        (self.top / name).parent.mkdir(parents=True, exist_ok=True)
+        (self.top / name).write_text(text, encoding="utf-8")
+
+    def add_line(self, line: str) -> None:
+        with open(self.top / "crates.txt", "a", encoding="utf-8") as lines:
+            lines.write(f"{line}\n")
+
+    def change_line(self, name: str) -> None:
+        """Lets a crate stand on one more of the kit's."""
+        text = (self.top / "crates.txt").read_text(encoding="utf-8")
+        self.write("crates.txt", text.replace(LINES[name], f"{LINES[name]} anyhow"))
 
     def noted(self) -> list[tuple[str, str]]:
         """What the stand-in noted since the last look: `begin`, `end` or what was missing, and the crate."""
@@ -152,39 +174,118 @@ def in_order(noted: list[tuple[str, str]]) -> bool:
     return len(begun) == len(set(begun))
 
 
+def wait_until(is_so: Callable[[], bool]) -> None:
+    """Waits until it is so, a minute at most."""
+    until = time.monotonic() + SECONDS
+    while not is_so() and time.monotonic() < until:
+        time.sleep(0.05)
+
+
 def tells(err: str, *ends: str) -> bool:
     """Whether lines of standard error end so."""
     return all(any(line.endswith(end) for line in err.splitlines()) for end in ends)
 
 
-class Checks:
-    """What passed and what failed."""
+# what changes what the program was built of
+CHANGES: dict[str, Callable[[Repository], object]] = {
+    "a source is changed": lambda here: here.write("crates/herd_kinship/src/lib.rt", "// another crate\n"),
+    "a source is added": lambda here: here.write("crates/herd_pool/specs/More.antt", "// a definition\n"),
+    "a source is removed": lambda here: (here.top / "crates/herd_pool/specs/More.antt").unlink(),
+    "a line of crates.txt is changed": lambda here: here.change_line("herd_report"),
+    "it isn't known what it was built of": lambda here: (here.top / f"crates/{PROGRAM}/out/{PROGRAM}.built").unlink(),
+}
 
-    def __init__(self, room: pathlib.Path) -> None:
-        self.rooms = (room / str(count) for count in itertools.count())
-        self.passed = self.failed = 0
+# processors, free memory in GB; runs at once, processes of the first, of one beside it
+SHARES = [
+    (1, 60, 1, 1, 1),
+    (2, 24, 2, 2, 1),
+    (4, 24, 2, 4, 2),
+    (4, 8, 2, 2, 1),
+    (4, 4, 1, 2, 1),
+    (4, 2, 1, 1, 1),
+    (16, 60, 8, 4, 2),
+]
+
+
+class TestFirstCall:
+    """Each method whose name begins with `test_` is a group of checks."""
+
+    rooms: Iterator[pathlib.Path]
+    counts: Counts
+
+    @pytest.fixture(autouse=True)
+    def begin(self, tmp_path: pathlib.Path, request: pytest.FixtureRequest) -> None:
+        self.rooms = (tmp_path / str(count) for count in itertools.count())
+        self.counts = counts_of(request.node)
 
     def count(self, right: object, what: object) -> None:
-        self.passed, self.failed = self.passed + bool(right), self.failed + (not right)
-        if not right:
-            print(f"FAILED {what}")
+        self.counts.count(right, f"{what}")
 
-    def builds(self) -> None:
-        """A first call, the next one, and one after a change."""
+    def test_builds(self) -> None:
+        """A first call, one after each change of what the program was built of, and after each a call that builds
+        nothing."""
         here = Repository(next(self.rooms))
-        for why in ("nothing is built", "a source is newer"):
-            status, out, err = here.call()
-            noted = here.noted()
-            self.count((status, out) == (0, "is built\n"), f"{why}: {status} {out!r} {err!r}")
-            self.count(in_order(noted) and {name for _, name in noted} == CRATES, f"{why}: {noted}")
-            told = [f"min: proving {name}" for name in CRATES] + [f"min: {name} is proved" for name in CRATES]
-            self.count(tells(err, *told, "herdbook is built"), f"{why}: {err!r}")
-            self.count(here.kept() == CRATES - {PROGRAM}, f"{why}: {here.kept()}")
-            self.count(here.call() == (0, "is built\n", "") and not here.noted(), f"{why}: the next call")
-            (here.top / "crates/herd_kinship/src/lib.rt").touch()
+        self.builds(here, "nothing is built")
+        for why, change in CHANGES.items():
+            change(here)
+            self.builds(here, why)
         self.count(not any(here.rooms.iterdir()), "rooms are left")
 
-    def fails(self) -> None:
+    def builds(self, here: Repository, why: str) -> None:
+        """A call that builds all, and one after it."""
+        status, out, err = here.call()
+        noted = here.noted()
+        self.count((status, out) == (0, "is built\n"), f"{why}: {status} {out!r} {err!r}")
+        self.count(in_order(noted) and {name for _, name in noted} == CRATES, f"{why}: {noted}")
+        told = [f"min: proving {name}" for name in CRATES] + [f"min: {name} is proved" for name in CRATES]
+        self.count(tells(err, *told, "herdbook is built"), f"{why}: {err!r}")
+        self.count(here.kept() == CRATES - {PROGRAM}, f"{why}: {here.kept()}")
+        self.builds_nothing(here, f"{why}: the next call")
+
+    def builds_nothing(self, here: Repository, why: str) -> None:
+        """A call that runs the program as it is, without Python."""
+        done = here.call_without_python()
+        self.count(done == (0, "is built\n", "") and not here.noted(), f"{why}: {done}")
+
+    def test_builds_nothing(self) -> None:
+        """What changes nothing of what the program was built of."""
+        here = Repository(next(self.rooms))
+        here.call()
+        here.noted()
+        (here.top / "crates/herd_kinship/src/lib.rt").touch()
+        self.builds_nothing(here, "a source that was written again")
+        here.add_line("my_own_crate: herd_report herd_animal anyhow")
+        self.builds_nothing(here, "a line for somebody's own crate")
+        here.write("crates/my_own_crate/src/main.rt", "// a program\n")
+        here.write("crates/herd_kinship/must-fail/wrong.edit", "file: src/lib.rt\n")
+        self.builds_nothing(here, "files that aren't built")
+        of = ended(here.begin(sys.executable, str(here.top / "build.py"), "--of", PROGRAM))
+        built = (here.top / f"crates/{PROGRAM}/out/{PROGRAM}.built").read_text(encoding="utf-8")
+        self.count(of == (0, built, ""), f"what is told of the program: {of}; left was {built!r}")
+
+    def test_changes_meanwhile(self) -> None:
+        """A source that is changed once it is proved, before the build ends, is noticed by the next call."""
+        here = Repository(next(self.rooms))
+        (here.notes / f"{PROGRAM}.seconds").write_text("2", encoding="utf-8")
+        call = here.begin_program()
+        wait_until(lambda: "herd_kinship" in here.kept())
+        here.write("crates/herd_kinship/src/lib.rt", "// another crate\n")
+        done = ended(call)
+        self.count(done[:2] == (0, "is built\n"), f"a change meanwhile: {done}")
+        here.noted()
+        self.builds(here, "a source was changed meanwhile")
+
+    def test_stands_on_itself(self) -> None:
+        """Crates that stand on themselves are told, and nothing is begun."""
+        here = Repository(next(self.rooms))
+        text = (here.top / "crates.txt").read_text(encoding="utf-8")
+        here.write("crates.txt", text.replace("herd_animal: ", "herd_animal: herd_frozen "))
+        status, out, err = here.call()
+        self.count(status == 1 and not out and not here.noted(), f"a cycle: {status} {out!r}")
+        told = "crates.txt has crates that stand on themselves: herd_"
+        self.count(told in err and "herd_animal" in err and "herd_frozen" in err, f"a cycle: {err!r}")
+
+    def test_fails(self) -> None:
         """A crate that isn't proved: no other is begun, those proved are kept, and the next call goes on."""
         here = Repository(next(self.rooms))
         (here.notes / "herd_kinship.fails").touch()
@@ -200,7 +301,7 @@ class Checks:
         (here.notes / "herd_kinship.fails").unlink()
         self.count(here.call()[:2] == (0, "is built\n"), "the call after one that failed")
 
-    def ends(self) -> None:
+    def test_ends(self) -> None:
         """Calls ended by Control-C and by a signal to build.py alone: their runs end, and what is proved is kept."""
         for number in (signal.SIGINT, signal.SIGTERM):
             here = Repository(next(self.rooms))
@@ -208,9 +309,7 @@ class Checks:
             slow.write_text(f"{10 * SECONDS}", encoding="utf-8")
             is_key = number == signal.SIGINT
             call = here.begin_program() if is_key else here.begin(sys.executable, str(here.top / "build.py"), PROGRAM)
-            until = time.monotonic() + SECONDS
-            while "herd_kinship" not in here.kept() and time.monotonic() < until:
-                time.sleep(0.05)
+            wait_until(lambda: "herd_kinship" in here.kept())
             os.killpg(call.pid, number) if is_key else call.send_signal(number)
             status, _, err = ended(call)
             self.count(status if is_key else status == 1, f"{number.name}: status {status}")
@@ -221,7 +320,7 @@ class Checks:
             slow.unlink()
             self.count(here.call()[:2] == (0, "is built\n"), f"{number.name}: the call after it")
 
-    def waits(self) -> None:
+    def test_waits(self) -> None:
         """Two calls at once: one builds, the other waits for it."""
         here = Repository(next(self.rooms))
         calls = [here.begin_program(), here.begin_program()]
@@ -229,7 +328,7 @@ class Checks:
         self.count([(status, out) for status, out, _ in done] == [(0, "is built\n")] * 2, done)
         self.count(in_order(here.noted()), "two calls prove each crate once")
 
-    def shares(self) -> None:
+    def test_shares(self) -> None:
         """What a machine's processors and free memory give: runs at once, and the processes of each."""
         for processors, free, runs, first, second in SHARES:
             with (
@@ -239,34 +338,3 @@ class Checks:
                 machine = Machine()
             got = (machine.most_runs, machine.jobs([]), machine.jobs([machine.most_jobs]))
             self.count(got == (runs, first, second), f"{processors} processors, {free} GB: {got}")
-
-
-# processors, free memory in GB; runs at once, processes of the first, of one beside it
-SHARES = [
-    (1, 60, 1, 1, 1),
-    (2, 24, 2, 2, 1),
-    (4, 24, 2, 4, 2),
-    (4, 8, 2, 2, 1),
-    (4, 4, 1, 2, 1),
-    (4, 2, 1, 1, 1),
-    (16, 60, 8, 4, 2),
-]
-
-
-GROUPS = "builds fails ends waits shares".split()
-
-
-def main() -> int:
-    with tempfile.TemporaryDirectory(prefix="herdbook-first-call-") as room:
-        checks = Checks(pathlib.Path(room))
-        for group in GROUPS:
-            try:
-                getattr(checks, group)()
-            except (OSError, subprocess.SubprocessError) as error:
-                checks.count(False, f"{group}: {error}")
-    print(f"{checks.passed} passed, {checks.failed} failed")
-    return 1 if checks.failed else 0
-
-
-if __name__ == "__main__":
-    sys.exit(main())

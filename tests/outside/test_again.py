@@ -20,8 +20,8 @@ FAULTS = {
 }
 
 
-class AgainChecks(Refusals):
-    def asked_again(self) -> None:
+class TestAgain(Refusals):
+    def test_asked_again(self) -> None:
         """Each growth and start is refused in turn: the call tells it, leaves no trace, and answers when made again."""
         asked = self.built("refused_growth")
         answers = (TOP / "crates/refused_growth/stdout").read_text()
@@ -38,7 +38,6 @@ class AgainChecks(Refusals):
         threads = asked.until_none("thread", [], "", {"REFUSE": "thread"}, told)
         # two workers, of which the calling thread is one
         asked.count(threads == 5, f"{threads} threads were started for five levels")
-        self.take_over(asked)
 
 
 class AskedAgain:

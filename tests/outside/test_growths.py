@@ -20,8 +20,8 @@ WITHOUT_BOOK: list[Words] = [
 ]
 
 
-class GrowthChecks(Refusals):
-    def refused_growths(self) -> None:
+class TestGrowths(Refusals):
+    def test_refused_growths(self) -> None:
         for words in [*each_order(), WIDEST_BLOCK]:
             self.refused_growths_of("growth", words, {"REFUSE": "growth"})
             self.refused_growths_of("all growths from", words, {"REFUSE": "growth", "REFUSE_LAST": ALL})
@@ -42,7 +42,7 @@ class GrowthChecks(Refusals):
         few = right.unstarted <= 2 or words != ONE_CLERK
         self.count(few, f"{right.unstarted} growths are told as want of a thread: {words}")
 
-    def refused_growths_before_a_line_fault(self) -> None:
+    def test_refused_growths_before_a_line_fault(self) -> None:
         """A line fault is told before a want of memory while filing: once a file is read, no growth hides it."""
         for words in each_order()[1:]:
             right = GrowthsBeforeLineFault(words[0])

@@ -9,8 +9,8 @@ from outside.orders import order_names
 from outside.runs import TOP, Checks, wrote
 
 
-class HelpChecks(Checks):
-    def help(self) -> None:
+class TestHelp(Checks):
+    def test_help(self) -> None:
         newest = re.search(r"(?m)^## (\S+)", (TOP / "CHANGELOG.md").read_text())
         for words in ["--version"], ["-V"]:
             self.expect("version", wrote(f"herdbook {newest[1] if newest else 'of CHANGELOG.md'}\n"), words)

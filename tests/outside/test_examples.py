@@ -20,8 +20,8 @@ TAKEN = (
 )
 
 
-class ExampleChecks(Rooms):
-    def examples(self) -> None:
+class TestExamples(Rooms):
+    def test_examples(self) -> None:
         """The spreadsheet becomes a book of which nothing is refused."""
         room = self.example_room("examples")
         taken = self.shell("society/society take examples/society.csv", room)

@@ -8,8 +8,8 @@ from outside.runs import Checks, wrote
 MOST_DESKS = 16
 
 
-class ClerkChecks(Checks):
-    def clerks(self) -> None:
+class TestClerks(Checks):
+    def test_clerks(self) -> None:
         for count in 0, 1, 3, 40, 1000:
             self.clerks_of_founders(count)
         self.clerks_of_calves()

@@ -47,8 +47,8 @@ def is_no_thread(wanted: Done, done: Done) -> bool:
     return done == fault("no thread")
 
 
-class ThreadChecks(Refusals):
-    def workers(self) -> None:
+class TestThreads(Refusals):
+    def test_workers(self) -> None:
         """Each number of workers lists what the reference does, over blocks of several lengths, by threads."""
         for text, work in WORK:
             wanted = wrote(reference.inbreeding(text))
@@ -58,7 +58,7 @@ class ThreadChecks(Refusals):
                     self.expect("workers", wanted, words, text)
                     self.starts(words, text, sum(min(workers, it) - 1 for it in most))
 
-    def desks(self) -> None:
+    def test_desks(self) -> None:
         """Each number of desks has a thread a desk."""
         for desks in range(1, MOST_DESKS + 1):
             self.starts(clerks(desks), SMALL, desks)
@@ -70,7 +70,7 @@ class ThreadChecks(Refusals):
         right = told == fault("no thread") if is_there else threads == 0
         self.count(right and not is_another, f"{threads} threads aren't started, or more are: {words}: {told}")
 
-    def refused_threads(self) -> None:
+    def test_refused_threads(self) -> None:
         """Each start is refused in turn: there are as many as desks, and in a level one fewer than have work."""
         for words, calves, threads in STARTED:
             # the eight cows have the first ranks, and then come the eight bulls

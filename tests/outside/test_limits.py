@@ -7,8 +7,8 @@ from outside.runs import Checks, wrote
 from outside.small import SMALL
 
 
-class LimitChecks(Checks):
-    def limits(self) -> None:
+class TestLimits(Checks):
+    def test_limits(self) -> None:
         """A book of 60,000 animals is full, and a block may be as long; more than a million commands: `line_faults`."""
         replies = "".join(f"{serial},accepted\n" for serial in range(1, 60_001)) + "60001,refused,2\n"
         self.expect("a full book", wrote(replies), ["file"], males(60_001))

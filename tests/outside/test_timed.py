@@ -33,8 +33,8 @@ NO_OFFICES = [
 NO_PEDIGREES = ["corrections 9", "births many", "deaths 7", "births", ""]
 
 
-class TimedChecks(Checks):
-    def timed_offices(self) -> None:
+class TestTimed(Checks):
+    def test_timed_offices(self) -> None:
         """Births of `office_timing`, more of them than a book takes too, with and without inspectors."""
         office = self.built("office_timing")
         for births, desks, inspectors in OFFICES:
@@ -43,7 +43,6 @@ class TimedChecks(Checks):
         for before, births, inspectors in (3, 5, 0), (7, 8, 1):
             office.births_beside(before, births, inspectors)
         office.no_tasks(NO_OFFICES)
-        self.take_over(office)
 
     def births_beside(self, before: int, births: int, inspectors: int) -> None:
         """Births after others, with the time of the longest and of all."""
@@ -54,13 +53,12 @@ class TimedChecks(Checks):
         right = (done.status, done.out) == (0, told.encode()) and 0 < longest <= total <= births * longest
         self.count(right, f"beside: {before}, {births}, {inspectors}: {done}")
 
-    def timed_pedigrees(self) -> None:
+    def test_timed_pedigrees(self) -> None:
         """Each task of `pedigree_timing` tells how many animals there are."""
         pedigree = self.built("pedigree_timing")
         for words, animals in PEDIGREES:
             pedigree.expect("a timed pedigree", wrote(f"{animals}\n"), words.split())
         pedigree.no_tasks(NO_PEDIGREES)
-        self.take_over(pedigree)
 
     def no_tasks(self, lines: list[str]) -> None:
         """Words that ask for no task are told, and nothing is done."""

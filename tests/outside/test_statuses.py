@@ -59,8 +59,8 @@ FAULTY_FILES = [
 ]
 
 
-class StatusChecks(Checks):
-    def words(self) -> None:
+class TestStatuses(Checks):
+    def test_words(self) -> None:
         for words, told in NO_COMMAND_LINES:
             done = self.run(words, HEADER)
             right = done.err.startswith(b"error: ") or not words
@@ -69,7 +69,7 @@ class StatusChecks(Checks):
         for no_text in NO_TEXTS:
             self.expect("words", fault("a word isn't UTF-8 text", status=2), no_text)
 
-    def wrong_numbers(self) -> None:
+    def test_wrong_numbers(self) -> None:
         right = animal("F", 2)
         for number, told in NO_NUMBERS:
             wanted = fault(f"animal number fault {told}", status=2)
@@ -77,7 +77,7 @@ class StatusChecks(Checks):
             self.expect("number", wanted, ["mating", "--dam", right, animal("M", 1), number, "HOLGBRX000000000001"])
             self.expect("number", wanted, ["mating", "--dam", number, "HOLGBRM1"])
 
-    def line_faults(self) -> None:
+    def test_line_faults(self) -> None:
         for text, record, told in FAULTY_FILES:
             answered = "1,accepted\n" if record == 2 else ""
             self.expect("line fault", fault(f"record {record}: fault {told}", answered), ["file"], text)
@@ -88,7 +88,7 @@ class StatusChecks(Checks):
         self.expect("too many", fault("record 1000001: fault 12 TooMany", answers), ["file"], many)
         self.expect("too many", fault("record 1000001: fault 12 TooMany"), ["clerks"], many)
 
-    def other_statuses(self) -> None:
+    def test_other_statuses(self) -> None:
         text = SAMPLES[1].read_text()
         self.expect("absent", fault("not registered"), ["certificate", animal("M", 9)], text)
         # what can't be read at all
