@@ -1,4 +1,4 @@
-//! Calls that are to be refused memory or a thread from outside, each growth in turn (`tests/program.py`): reading a
+//! Calls that are to be refused memory or a thread from outside, each growth in turn (`tests/outside/`): reading a
 //! command file, computing coefficients with two workers, opening an office, filing in it and freezing its book. A call
 //! that is refused tells it in a line, and is made again; so a run that meets one refusal prints one fault more.
 #![tactic(auto)]
