@@ -9,7 +9,6 @@ import pathlib
 import shlex
 import shutil
 import subprocess
-import sys
 import textwrap
 import xml.etree.ElementTree as xml
 from typing import Callable
@@ -58,7 +57,7 @@ class Desk:
         known = {
             "PATH": os.environ["PATH"], "HERDBOOK": program or self.program, "LANG": "C", "PYTHONPATH": str(self.room)
         }  # fmt: skip
-        command = [sys.executable, str(TOP / "society/society"), *words]
+        command = [str(TOP / "society/society"), *words]
         done = subprocess.run(command, cwd=self.room, env=known, capture_output=True, timeout=SECONDS)
         found = Done(done.returncode, done.stdout.decode(), done.stderr.decode())
         is_well = "Traceback" not in found.err and "fault of the front desk" not in found.err

@@ -8,6 +8,7 @@ import pathlib
 from society.command_line.arguments import day, three_letters
 from society.command_line.parser import Words
 from society.mistake import Mistake
+from society.packages import Group, need
 from society.taking.from_pedigree import take_pedigree
 from society.taking.from_sheet import take_sheet
 from society.taking.wishes import Wishes
@@ -69,7 +70,18 @@ def do_take(asked: argparse.Namespace) -> None:
         asked.book, asked.columns, asked.unknown, asked.sexes, asked.breed or "", asked.country or "", asked.day,
         asked.strict, asked.drop_gone, asked.semicolons, asked.worksheet, asked.month_first,
     )  # fmt: skip
+    if asked.sheet and is_workbook(asked.sheet):
+        need(Group.WORKBOOKS, ": or save the sheet as CSV, and take that")
     if asked.sheet:
         take_sheet(asked.sheet, wishes)
     else:
         take_pedigree(asked.pedigree, wishes)
+
+
+def is_workbook(path: pathlib.Path) -> bool:
+    """Is it an .xlsx file? Whether it can be read at all is told later."""
+    try:
+        with open(path, "rb") as file:
+            return file.read(2) == b"PK" and path.suffix.lower() != ".ods"
+    except OSError:
+        return False
