@@ -3,14 +3,23 @@ from __future__ import annotations
 
 import shlex
 import sys
+from typing import Sequence
 
 # how the front desk was called, for commands that a sentence shows
 CALLED = shlex.quote(sys.argv[0])
+# so many ids are named in a message
+MOST_NAMED = 12
 
 
 def counted(count: int, noun: str) -> str:
     """So many of what a noun names, as `1 row` or `2 rows`."""
     return f"{count} {noun}" if count == 1 else f"{count} {noun}s"
+
+
+def some_of(texts: Sequence[str], most: int = MOST_NAMED) -> str:
+    """The first of them, and how many more there are."""
+    more = f" and {len(texts) - most} more" if len(texts) > most else ""
+    return ", ".join(texts[:most]) + more
 
 
 class Mistake(Exception):

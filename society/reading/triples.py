@@ -1,86 +1,94 @@
-"""Reads a geneticist's pedigree: a text file with `id sire dam` in each line, or with these among its titles."""
+"""Reads a geneticist's pedigree: `id sire dam` in each line, or with these among its titles; sex and birth too, where
+it has them."""
 from __future__ import annotations
 
-import csv
 import pathlib
-import re
-from typing import NamedTuple
+from dataclasses import dataclass
+from typing import Container, Mapping
 
+from society.book.kinds import Field
 from society.mistake import Mistake, counted
 from society.reading.animal import Animal
-from society.reading.encodings import decoded
-from society.reading.findings import LineAgain
-from society.reading.titles import KNOWN_TITLES
-from society.reading.words import plain
+from society.reading.days import ANY_DAY, Unreadable, read_span
+from society.reading.findings import DayLeftOut, LineAgain, SexUnread
+from society.reading.pedigree_lines import Line, read_lines
+from society.reading.pedigree_titles import Columns, are_titles, columns_read, find_pedigree_columns
+from society.reading.sexes import Sexes
 from society.taking.report import Report
 
-FIELDS = ("id", "sire", "dam")
-# where blanks stand between cells, an id with blanks has quotation marks
-CELL = re.compile(r'"[^"]*"|\S+')
+WITHOUT_TITLES: Columns = {Field.ID: 0, Field.SIRE: 1, Field.DAM: 2}
+# the sexes of PLINK and of R's kinship2; other numbers stand for an unknown sex there
+SEX_CODES = {"1": "M", "2": "F"}
+UNKNOWN_CODES = ("0", "3", "4", "9")
 
 
-class Line(NamedTuple):
-    """A line that has cells."""
-
-    number: int
-    cells: list[str]
-
-    def __str__(self) -> str:
-        return f"line {self.number}: '{' '.join(self.cells)}'"
-
-
-class Triples(NamedTuple):
-    """The animals by id, in the order of the lines, and which columns were read, in words."""
+@dataclass(frozen=True)
+class Triples:
+    """The animals by id, in the order of the lines, which columns they have, and what is told of the file."""
 
     animals: dict[str, Animal]
-    columns: str
+    columns: Columns
+    told: list[str]
 
 
-def read_triples(path: pathlib.Path, unknown: set[str], report: Report) -> Triples:
-    try:
-        text, _ = decoded(path, path.read_bytes())
-    except OSError as error:
-        raise Mistake(f"{path} can't be read: {error.strerror or error}. Is the name right?") from None
-    lines = split(text)
-    titles = lines.pop(0) if lines and has_titles(lines[0].cells) else None
-    places = title_places(titles) if titles else [0, 1, 2]
-    animals: dict[str, Animal] = {}
+def read_triples(path: pathlib.Path, given: Mapping[Field, str], unknown: Container[str], report: Report) -> Triples:
+    lines = read_lines(path)
+    titles = lines.pop(0) if lines and are_titles(lines[0].cells, given) else None
+    if given and not titles and lines:
+        raise Mistake(f"{lines[0]} has none of the titles that --columns names: write a first line with titles")
+    if not lines:
+        raise Mistake(f"{path} has no animals: write a line `id sire dam` for each")
+    if titles is None:
+        columns, told = WITHOUT_TITLES, [f"{lines[0]} has none of the known titles, and is taken for an animal"]
+    else:
+        columns = find_pedigree_columns(f"line {titles.number}", titles.cells, given)
+        told = [columns_read(titles.cells, columns)]
+    reader = Reader(columns, unknown, Sexes([], {}), report)
     for line in lines:
-        check_cells(line, titles, max(places))
-        id, sire, dam = (line.cells[at] for at in places)
-        if id.casefold() in unknown:
+        check_cells(line, titles, max(columns.values()))
+        reader.read(line)
+    return Triples(reader.animals, columns, told)
+
+
+class Reader:
+    """Reads the animals line by line."""
+
+    def __init__(self, columns: Columns, unknown: Container[str], sexes: Sexes, report: Report) -> None:
+        self.columns, self.unknown, self.sexes, self.report = columns, unknown, sexes, report
+        self.animals: dict[str, Animal] = {}
+
+    def read(self, line: Line) -> None:
+        id, sire, dam = (line.cells[self.columns[field]] for field in (Field.ID, Field.SIRE, Field.DAM))
+        if id in self.unknown:
             where = f"line {line.number}: '{id}'"
             raise Mistake(f"{where} is a word for an unknown parent, and stands for an animal: give it another id")
-        sire, dam = ("" if parent.casefold() in unknown else parent for parent in (sire, dam))
-        if id in animals:
-            first = animals[id]
-            report.add(line.number, id, LineAgain(first.line, (first.sire, first.dam), (sire, dam), ()))
-        else:
-            animals[id] = Animal(id, line.number, sire=sire, dam=dam, cells={"sire": sire, "dam": dam})
-    if not animals:
-        raise Mistake(f"{path} has no animals: write a line `id sire dam` for each")
-    return Triples(animals, columns_read(titles.cells, places) if titles else "")
+        sire, dam = ("" if parent in self.unknown else parent for parent in (sire, dam))
+        first = self.animals.get(id)
+        if first:
+            self.report.add(line.number, id, LineAgain(first.line, (first.sire, first.dam), (sire, dam), ()))
+            return
+        animal = Animal(id, line.number, sire=sire, dam=dam, cells={"sire": sire, "dam": dam})
+        if Field.SEX in self.columns:
+            self.read_sex(animal, line.cells[self.columns[Field.SEX]])
+        if Field.BIRTH in self.columns:
+            self.read_birth(animal, line.cells[self.columns[Field.BIRTH]])
+        self.animals[id] = animal
 
+    def read_sex(self, animal: Animal, text: str) -> None:
+        animal.cells["sex"] = text
+        animal.sex = SEX_CODES.get(text) or self.sexes.read(text)[0]
+        if not animal.sex and text not in UNKNOWN_CODES and text not in self.unknown:
+            self.report.add(animal.line, animal.id, SexUnread(text))
 
-def split(text: str) -> list[Line]:
-    """The lines that have cells; `#` begins a comment. The first line says what stands between cells."""
-    numbered = enumerate(text.splitlines(), 1)
-    lines = [(number, part) for number, part in numbered if part.strip() and not part.lstrip().startswith("#")]
-    separator = next((one for one in ";\t," if lines and one in lines[0][1]), None)
-    if separator:
-        return [
-            Line(number, [cell.strip() for cell in next(csv.reader([part], delimiter=separator))])
-            for number, part in lines
-        ]
-    for number, part in lines:
-        other = next((one for one in (";", ",") if one in re.sub('"[^"]*"', "", part)), None)
-        if other:
-            why = (
-                f"has '{other}', and the first line has blanks between its cells: write all lines with the same between"
-                " them"
-            )
-            raise Mistake(f"line {number}: '{part.strip()}' {why}")
-    return [Line(number, [cell.strip('"').strip() for cell in CELL.findall(part)]) for number, part in lines]
+    def read_birth(self, animal: Animal, text: str) -> None:
+        animal.cells["birth"] = text
+        if text in self.unknown:
+            return
+        try:
+            animal.birth = read_span(text)
+        except Unreadable as error:
+            animal.birth = ANY_DAY
+            self.report.add(animal.line, animal.id, DayLeftOut(Field.BIRTH, error.fault, error.text))
 
 
 def check_cells(line: Line, titles: Line | None, last: int) -> None:
@@ -98,26 +106,3 @@ def check_cells(line: Line, titles: Line | None, last: int) -> None:
             f"{line} has {count} cells, and line {titles.number} has {len(titles.cells)} titles: write one for each "
             "column (R writes such a file without row.names = FALSE), or an id with blanks in quotation marks"
         )
-
-
-def has_titles(cells: list[str]) -> bool:
-    """Two usual titles, or that of ids in the first place."""
-    return (
-        plain(cells[0]) in KNOWN_TITLES["id"]
-        or sum(plain(cell) in KNOWN_TITLES[field] for cell in cells for field in FIELDS) >= 2
-    )
-
-
-def title_places(line: Line) -> list[int]:
-    """The columns of the id, the sire and the dam, by the likeliest of the usual titles."""
-    titles = [plain(cell) for cell in line.cells]
-    usual = [[title for title in KNOWN_TITLES[field] if title in titles] for field in FIELDS]
-    if not all(usual):
-        raise Mistake(f"{line}: the titles have to be id, sire and dam, or other usual words for these")
-    return [titles.index(likely[0]) for likely in usual]
-
-
-def columns_read(titles: list[str], places: list[int]) -> str:
-    used = [f"{field} from '{titles[at]}'" for field, at in zip(FIELDS, places)]
-    unread = [f"'{title}'" for at, title in enumerate(titles) if title and at not in places]
-    return f"columns: {', '.join(used)}" + (f"; not read: {', '.join(unread)}" if unread else "")

@@ -37,7 +37,7 @@ def leave_out_faulty_parents(next_book: NextBook, program: Herdbook) -> None:
         # paths come last: without a parent that is refused they may be shorter
         deep = [animal for animal, refusal in faults if refusal is Refusal.PATH_TOO_LONG]
         if len(deep) == len(faults):
-            raise too_deep(next_book.animals, deep)
+            raise too_deep(next_book.animals, deep, next_book.is_pedigree)
         for animal, refusal in faults:
             if refusal is not Refusal.PATH_TOO_LONG:
                 leave_out_parent(next_book, animal, refusal)

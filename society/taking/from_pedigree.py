@@ -4,13 +4,21 @@ from __future__ import annotations
 import pathlib
 
 from society.book.book import Book
+from society.book.kinds import Field
 from society.herdbook import Herdbook
-from society.mistake import counted
-from society.reading.triples import read_triples
-from society.reading.unknown import unknown_words
+from society.mistake import Mistake, counted
+from society.reading.options import read_given
+from society.reading.pedigree_lines import STANDARD_INPUT
+from society.reading.pedigree_titles import READ
+from society.reading.triples import Triples, read_triples
+from society.reading.unknown import UnknownParents
+from society.taking.both_parents import leave_out_same_parent, refuse_both
+from society.taking.cycles import cut_cycles
 from society.taking.finish import finish
 from society.taking.invented_days import invent_days
 from society.taking.invented_sexes import invent_sexes
+from society.taking.kept_animals import keep_with_ancestors
+from society.taking.lost_links import refuse_lost_links
 from society.taking.next_book import NextBook
 from society.taking.report import Report
 from society.taking.wishes import Wishes
@@ -18,16 +26,58 @@ from society.taking.wishes import Wishes
 
 def take_pedigree(path: pathlib.Path, wishes: Wishes) -> None:
     report = Report()
-    animals, columns = read_triples(path, unknown_words(wishes.unknown), report)
+    triples = read_triples(path, given_columns(wishes.columns), UnknownParents(wishes.unknown), report)
+    animals, about = triples.animals, [*triples.told]
+    if wishes.keep:
+        about.append(keep_with_ancestors(animals, wishes.keep))
+        report.entries = [entry for entry in report.entries if entry.id in animals]
     program = Herdbook()
     book = Book(wishes.book)
     book.load(program)
-    next_book = NextBook(book, animals, {"sire", "dam"}, report, is_pedigree=True)
+    given = {field.value for field in triples.columns if field is not Field.ID}
+    next_book = NextBook(book, animals, given, report, is_pedigree=True)
     next_book.complete(wishes.drop_gone)
-    for animal in animals.values():
-        animal.sex = ""
-    invent_sexes(animals, report)
-    invent_days(animals)
-    what = f"the sexes and birth days of {counted(len(animals), 'animal')}"
-    about = [columns] * bool(columns) + [f"{path}: {what} are invented so that parents are older than their offspring"]
-    finish(next_book, program, wishes, about, len(animals))
+    if not wishes.leave_out:
+        refuse_both(animals, report)
+    # what is told of both are the parents of the file
+    leave_out_same_parent(animals, report)
+    cut_cycles(animals, report)
+    find_sexes_and_days(next_book, triples)
+    if not wishes.leave_out:
+        refuse_lost_links(report)
+    missing = [field for field in (Field.SEX, Field.BIRTH) if field not in triples.columns]
+    what = "standard input" if path == STANDARD_INPUT else str(path)
+    about += [invented(what, len(animals), missing)] * bool(missing)
+    finish(next_book, program, wishes, about, len(animals) if missing else 0)
+
+
+def given_columns(words: list[str]) -> dict[Field, str]:
+    """The titles that `--columns` names for fields of a pedigree."""
+    given = {Field(field): title for field, title in read_given(words).items()}
+    others = [field.value for field in given if field not in READ]
+    if others:
+        fields = ", ".join(field.value for field in READ)
+        raise Mistake(f"--columns {others[0]}=: of a pedigree the columns {fields} are read")
+    return given
+
+
+def find_sexes_and_days(next_book: NextBook, triples: Triples) -> None:
+    """Sexes and days of the file, and those that it doesn't give inferred; without a column for them they are
+    invented."""
+    animals, report = next_book.animals, next_book.report
+    if Field.SEX in triples.columns:
+        next_book.find_sexes()
+    else:
+        for animal in animals.values():
+            animal.sex = ""
+        invent_sexes(animals, report)
+    if Field.BIRTH in triples.columns:
+        next_book.find_days()
+    else:
+        invent_days(animals)
+
+
+def invented(path: str, count: int, missing: list[Field]) -> str:
+    words = {Field.SEX: "sexes", Field.BIRTH: "birth days"}
+    what = " and ".join(words[field] for field in missing)
+    return f"{path}: the {what} of {counted(count, 'animal')} are invented so that parents are older than their offspring"

@@ -4,8 +4,7 @@ from __future__ import annotations
 from society.book.inferred import SexSource
 from society.book.role import Role
 from society.reading.animal import Animal
-from society.taking.cycles import cut_cycles
-from society.taking.parent_findings import Couple, NoSexesFit, ParentsSwapped, SameParentTwice
+from society.taking.parent_findings import Couple, NoSexesFit, ParentsSwapped
 from society.taking.report import Report
 
 # so many couples that no sexes fit are named
@@ -14,13 +13,7 @@ MOST_COUPLES = 9
 
 def invent_sexes(animals: dict[str, Animal], report: Report) -> None:
     """A sire is a male and a dam a female. Where an animal is both, sexes are sought that make a male and a female of
-    each couple, and the parents of some are swapped, which changes no coefficient. Cycles are cut before: what is told
-    of them are the parents of the file."""
-    for animal in animals.values():
-        if animal.sire and animal.sire == animal.dam:
-            report.add(animal.line, animal.id, SameParentTwice(animal.sire))
-            animal.dam = ""
-    cut_cycles(animals, report)
+    each couple, and the parents of some are swapped, which changes no coefficient. No calf has one parent twice."""
     sexes = Sexes(animals)
     for animal in animals.values():
         animal.sex_source = SexSource.INVENTED

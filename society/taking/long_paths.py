@@ -1,14 +1,15 @@
 """Paths of parents that are longer than a book takes: how long, and which parents to set to unknown."""
 from __future__ import annotations
 
-from society.mistake import Mistake
+from society.mistake import Mistake, some_of
 from society.reading.animal import Animal
 from society.taking.order import calves_of, in_order
-from society.taking.report import MOST_SHOWN
 
 MOST_STEPS = 60
-# so many animals are named of those whose parents are to be set to unknown
-MOST_NAMED = 200
+KEEP_FEWER = (
+    "where not all animals are needed, --keep FILE takes those that the file names, one id a line, with their ancestors: "
+    "their coefficients stay as they are, and their paths may be short enough"
+)
 
 
 class Paths:
@@ -44,7 +45,7 @@ class Paths:
         ]
 
 
-def too_deep(animals: dict[str, Animal], refused: list[Animal]) -> Mistake:
+def too_deep(animals: dict[str, Animal], refused: list[Animal], is_pedigree: bool) -> Mistake:
     """What is told where the program refuses parents for their depth."""
     paths = Paths(animals)
     path = paths.longest()
@@ -60,16 +61,16 @@ def too_deep(animals: dict[str, Animal], refused: list[Animal]) -> Mistake:
         ),
         (
             f"the longest path has {steps} steps, {more} more than {MOST_STEPS}, from {youngest} up to {oldest}; "
-            f"its oldest {f'{more} animals are' if more > 1 else 'animal is'} {named(animals, top, MOST_SHOWN)}"
+            f"its oldest {f'{more} animals are' if more > 1 else 'animal is'} {named(animals, top)}"
         ),
         (
             f"set the parents of {'these animals' if len(cut) > 1 else 'this animal'} to unknown, and no path is too "
-            f"long: {named(animals, cut, MOST_NAMED)}. To leave out rows of founders doesn't help: they are added "
-            "again as parents"
+            f"long: {named(animals, cut)}. That changes coefficients: an unknown parent counts as unrelated. To leave "
+            "out rows of founders doesn't help: they are added again as parents"
         ),
+        *[KEEP_FEWER] * is_pedigree,
     )
 
 
-def named(animals: dict[str, Animal], ids: list[str], most: int = 1) -> str:
-    lines = [f"{id} (line {animals[id].line})" if animals[id].line else id for id in ids[:most]]
-    return ", ".join(lines) + (f" and {len(ids) - most} more" if len(ids) > most else "")
+def named(animals: dict[str, Animal], ids: list[str]) -> str:
+    return some_of([f"{id} (line {animals[id].line})" if animals[id].line else id for id in ids])

@@ -54,11 +54,21 @@ class NextBook:
         self.leave_out_unread_sexes()
         Names(self.animals, self.report).add_parents()
         if len(self.animals) > MOST_ANIMALS:
-            many = f"the sheet and the book have {len(self.animals):,} animals together"
-            raise Mistake(
-                f"{many}, and a book holds at most {MOST_ANIMALS:,}: leave out the oldest, and take the rest with "
-                "--drop-gone"
+            raise self.too_many()
+
+    def too_many(self) -> Mistake:
+        what = "pedigree" if self.is_pedigree else "sheet"
+        many = f"the {what} and the book have {len(self.animals):,} animals together"
+        how = (
+            "name those that you need in a file, one id a line, and take them with their ancestors by --keep FILE: "
+            "their coefficients stay as they are"
+        )
+        if not self.is_pedigree:
+            how = (
+                "leave out animals that aren't ancestors of any other, and take the rest with --drop-gone. To leave out "
+                "ancestors, such as the oldest animals, changes coefficients"
             )
+        return Mistake(f"{many}, and a book holds at most {MOST_ANIMALS:,}: {how}")
 
     def keep(self, animal: Animal) -> None:
         """What the sheet has no column for, or no text that can be read, stays as it is in the book."""

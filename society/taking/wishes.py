@@ -20,5 +20,8 @@ class Wishes:
     strict: bool = False
     drop_gone: bool = False
     semicolons: bool = False
+    # of a pedigree: the animals that are taken with their ancestors, and whether links may be left out
+    keep: pathlib.Path | None = None
+    leave_out: bool = False
     worksheet: str = ""
     month_first: bool = False

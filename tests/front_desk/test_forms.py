@@ -189,4 +189,4 @@ def test_named_words_for_sexes(desk: Desk) -> None:
     assert sorted(sexes) == list("FFFMM")
     assert " 0 left out" in done.last
     desk.wrong("--sexes Bk: write WORD=m for males and WORD=f for females", "take", sheet, "--sexes", "Bk")
-    desk.wrong("--columns and --sexes are for a sheet", "take", "--pedigree", sheet, "--sexes", "Bk=m")
+    desk.wrong("--sexes is for a sheet", "take", "--pedigree", sheet, "--sexes", "Bk=m")

@@ -91,7 +91,7 @@ BOTH = "a 0 0\nb 0 0\nc a b\nd c a\ne d c\nf 0 d\n"
 
 
 def test_sires_that_are_dams(desk: Desk) -> None:
-    done = desk.good("take", "--pedigree", desk.write("both.txt", BOTH))
+    done = desk.good("take", "--pedigree", desk.write("both.txt", BOTH), "--leave-out")
     assert " 0 left out" in done.last
     found = {row["id"]: row["coefficient"] for row in desk.listed("list")}
     assert found == {"a": "0", "b": "0", "c": "0", "d": "1/4", "e": "3/8", "f": "0"}
@@ -108,7 +108,7 @@ def test_sires_that_are_dams(desk: Desk) -> None:
 
 def test_odd_pedigree(desk: Desk) -> None:
     """Cycles, one parent twice, and couples that no choice of sexes fits."""
-    done = desk.good("take", "--pedigree", desk.write("odd.txt", "a b 0\nb a 0\nc a a\nd a b\ne b c\nf c a\n"))
+    done = desk.good("take", "--pedigree", desk.write("odd.txt", "a b 0\nb a 0\nc a a\nd a b\ne b c\nf c a\n"), "--leave-out")
     done.tells(
         "line 3: c: its dam a is left out: a is its sire too, and no calf has one parent twice",
         "line 2: b: its sire a is left out: b would be its own ancestor (b > a > b)",
@@ -120,10 +120,10 @@ def test_odd_pedigree(desk: Desk) -> None:
 
 def test_pedigree_that_grows_and_shrinks(desk: Desk) -> None:
     both = desk.write("both.txt", BOTH)
-    desk.good("take", "--pedigree", both)
+    desk.good("take", "--pedigree", both, "--leave-out")
     grown = desk.write("more.txt", "g f e\na 0 0\nb 0 0\nc a b\nd c a\ne d c\nf 0 d\n")
-    assert ", 1 new, " in desk.good("take", "--pedigree", grown).last
-    done = desk.good("take", "--pedigree", both, "--drop-gone")
+    assert ", 1 new, " in desk.good("take", "--pedigree", grown, "--leave-out").last
+    done = desk.good("take", "--pedigree", both, "--leave-out", "--drop-gone")
     assert "book: 6 animals, 0 new, " in done.last
     assert ", 1 gone: " in done.last
 
@@ -132,7 +132,7 @@ def test_pedigree_that_grows_and_shrinks(desk: Desk) -> None:
     ("a b\n", "line 1: 'a b' has 2 cells: write an id, its sire and its dam"),
     ("", "has no animals: write a line `id sire dam` for each"),
     ("a 0 0\n0 a a\n", "line 2: '0' is a word for an unknown parent"),
-    ("id,sire\na,b\n", "line 1: 'id sire': the titles have to be id, sire and dam"),
+    ("id,sire\na,b\n", "line 1: no title for the dam is found. The titles are 'id', 'sire'"),
 ])  # fmt: skip
 def test_no_pedigree(desk: Desk, text: str, told: str) -> None:
     desk.wrong(told, "take", "--pedigree", desk.write("wrong.txt", text))

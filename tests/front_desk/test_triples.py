@@ -8,6 +8,8 @@ import re
 import pytest
 
 from front_desk.desk import TOP, Desk, Done
+from society.reading.animal import Animal
+from society.taking.long_paths import Paths
 
 LOST = re.compile(r"line (\d+): (\S+): its (sire|dam) (\S+) is left out: ")
 TAKEN = re.compile(
@@ -37,7 +39,7 @@ def random_rows(seed: int) -> Rows:
 def test_lost_link(desk: Desk) -> None:
     """Of a lost link the file's role is told, and of a swap what was taken and which lines ask for it."""
     done = desk.good(
-        "take", "--pedigree", desk.write("cycle.txt", "a 0 0\nb b a\nc a 0\nd a c\n"), "--book", "cycle"
+        "take", "--pedigree", desk.write("cycle.txt", "a 0 0\nb b a\nc a 0\nd a c\n"), "--book", "cycle", "--leave-out"
     )
     done.tells(
         "line 2: b: its sire b is left out: b would be its own ancestor (b > b)",
@@ -55,7 +57,7 @@ def test_random_pedigrees(desk: Desk) -> None:
     for seed in range(40):
         rows = random_rows(seed)
         # no more than 25 of a kind are printed
-        done = desk.good("take", "--pedigree", desk.write("random.txt", text_of(rows)), "--book", f"book{seed}")
+        done = desk.good("take", "--pedigree", desk.write("random.txt", text_of(rows)), "--book", f"book{seed}", "--leave-out")
         assert "and " not in [line[:4] for line in done.out.splitlines()], f"{seed}: too many are told"
         counts = as_told(desk, rows, done, f"book{seed}")
         swaps, lost, couples = swaps + counts[0], lost + counts[1], couples + counts[2]
@@ -112,7 +114,7 @@ def test_relationships(desk: Desk, x: str, y: str, relationship: float) -> None:
     """With the lines `u x 0` and `calf u y` the relationship of x and y, whatever their sexes, is four times F of
     `calf`."""
     rows = [line.split() for line in (TOP / "examples/mrode.txt").read_text().splitlines() if line[:1].isdigit()]
-    desk.good("take", "--pedigree", desk.write("more.txt", text_of([*rows, ["u", x, "0"], ["calf", "u", y]])))
+    desk.good("take", "--pedigree", desk.write("more.txt", text_of([*rows, ["u", x, "0"], ["calf", "u", y]])), "--leave-out")
     found = {row["id"]: row["decimal"] for row in desk.listed("list")}
     assert 4 * float(found["calf"]) == relationship
 
@@ -122,7 +124,8 @@ def test_relationships(desk: Desk, x: str, y: str, relationship: float) -> None:
      "line 1: '1 a 0 0' has 4 cells, and without titles each line has an id, its sire and its dam alone: "
      "write a first line with the titles"),
     ("ANIMAL PARENT1 PARENT2\na 0 0\n",
-     "line 1: 'ANIMAL PARENT1 PARENT2': the titles have to be id, sire and dam"),
+     "line 1: no title for the sire and the dam is found. The titles are 'ANIMAL', 'PARENT1', 'PARENT2'. Say which it "
+     "is, as --columns sire=TITLE,dam=TITLE"),
     ("a;0;0;x\n", "line 1: 'a 0 0 x' has 4 cells, and without titles"),
     ('"id" "sire" "dam"\n"1" "a" 0 0\n',
      "line 2: '1 a 0 0' has 4 cells, and line 1 has 3 titles: write one for each column "
@@ -159,7 +162,7 @@ def test_blanks_in_ids(desk: Desk) -> None:
 
 
 def test_id_in_several_lines(desk: Desk) -> None:
-    done = desk.good("take", "--pedigree", desk.write("twice.txt", "a 0 0\nb 0 0\nc a b\nc a b\nc b 0\n"))
+    done = desk.good("take", "--pedigree", desk.write("twice.txt", "a 0 0\nb 0 0\nc a b\nc a b\nc b 0\n"), "--leave-out")
     done.tells(
         "line 4: c: the line is left out: line 3 has this id too",
         (
@@ -172,22 +175,22 @@ def test_id_in_several_lines(desk: Desk) -> None:
 
 def test_unknown_words(desk: Desk) -> None:
     """A parent without a row that is a sire and a dam of many may mean an unknown one; `--unknown` takes it."""
-    pedigree = desk.write("nine.txt", "a -9 -9\nb -9 -9\nc a b\nd 00 b\n")
+    pedigree = desk.write("nine.txt", "a -7 -7\nb -7 -7\nc a b\nd 07 b\n")
     advice = (
-        "-9 has no row, and is the sire of 2 and the dam of 2: if it means an unknown parent, take this again with "
-        "--unknown=-9 --drop-gone"
+        "-7 has no row, and is the sire of 2 and the dam of 2: if it means an unknown parent, take this again with "
+        "--unknown=-7 --drop-gone"
     )
-    desk.good("take", "--pedigree", pedigree).tells(advice)
-    done = desk.wrong(
-        "2 left out (2 parents): with --strict nothing is taken", "take", "--pedigree", pedigree, "--strict"
-    )
+    assert advice in desk.wrong("1 animal is both sire and dam: -7", "take", "--pedigree", pedigree).err
+    words = "take", "--pedigree", pedigree, "--leave-out"
+    desk.good(*words).tells(advice)
+    done = desk.wrong("2 left out (2 parents): with --strict nothing is taken", *words, "--strict")
     assert advice in done.err
-    done = desk.good("take", "--pedigree", pedigree, "--unknown=-9,00", "--drop-gone")
+    done = desk.good("take", "--pedigree", pedigree, "--unknown=-7,07", "--drop-gone")
     assert "book: 4 animals, 0 new, 3 changed, 4 invented, 0 left out, 0 added, 2 gone: " in done.last
     for words in (
-        ["--unknown", "-9,00"],
-        ["--unknown", "-9", "--unknown", "00"],
-        ["--unknown=-9", "--unknown", "00"],
+        ["--unknown", "-7,07"],
+        ["--unknown", "-7", "--unknown", "07"],
+        ["--unknown=-7", "--unknown", "07"],
     ):
         done = desk.good("take", *words, "--pedigree", pedigree, "--book", "new" + "".join(words))
         assert ": 4 animals, 4 new, 0 changed, 4 invented, 0 left out, 0 added, 0 gone" in done.last
@@ -245,8 +248,13 @@ def test_cuts_of_long_paths(desk: Desk, seed: int, years: int) -> None:
     rows = deep_rows(seed, years)
     deep = desk.write("deep.txt", text_of(rows))
     done = desk.wrong("set the parents of these animals to unknown", "take", "--pedigree", deep)
-    cut = re.findall(r"(g\d+-\d) \(line", done.err.split("no path is too long: ")[1])
+    told = re.findall(r"(g\d+-\d) \(line", done.err.split("no path is too long: ")[1])
+    animals = {id: Animal(id, sire=sire.strip("0") and sire, dam=dam.strip("0") and dam) for id, sire, dam in rows}
+    for parent in {parent for animal in animals.values() for _, parent in animal.parents()} - animals.keys():
+        animals[parent] = Animal(parent)
+    cut = list(dict.fromkeys(Paths(animals).to_cut()))
     assert 0 < len(cut) < len(rows) // 20
+    assert told == cut[:12]
     short = desk.write("cut.txt", text_of([[row[0], "0", "0"] if row[0] in cut else row for row in rows]))
     assert f": {len(rows)} animals, " in desk.good("take", "--pedigree", short).last
 

@@ -27,7 +27,16 @@ def add_words(words: Words) -> None:
     )  # fmt: skip
     take.add_argument(
         "--pedigree", type=pathlib.Path, metavar="TRIPLES",
-        help="a text file with `id sire dam` in each line, or with these among its titles, in place of a sheet",
+        help="a text file with `id sire dam` in each line, or with these among its titles, in place of a sheet; - is "
+        "standard input",
+    )  # fmt: skip
+    take.add_argument(
+        "--keep", type=pathlib.Path, metavar="FILE",
+        help="of a pedigree only the animals that this file names, one id a line, and their ancestors",
+    )  # fmt: skip
+    take.add_argument(
+        "--leave-out", action="store_true",
+        help="take a pedigree without the links that can't stand in a book, which changes coefficients",
     )  # fmt: skip
     take.add_argument(
         "--columns", action="append", default=[], metavar="FIELD=TITLE,..",
@@ -64,11 +73,14 @@ def add_words(words: Words) -> None:
 def do_take(asked: argparse.Namespace) -> None:
     if (asked.sheet is None) == (asked.pedigree is None):
         raise Mistake("take reads one file: name a sheet, or a pedigree with --pedigree")
-    if asked.pedigree and (asked.columns or asked.sexes):
-        raise Mistake("--columns and --sexes are for a sheet: a pedigree has an id, a sire and a dam in each line")
+    if asked.pedigree and asked.sexes:
+        raise Mistake("--sexes is for a sheet: in a pedigree write M and F, or 1 and 2")
+    if asked.sheet and (asked.keep or asked.leave_out):
+        raise Mistake("--keep and --leave-out are for a pedigree, as --pedigree FILE")
     wishes = Wishes(
         asked.book, asked.columns, asked.unknown, asked.sexes, asked.breed or "", asked.country or "", asked.day,
-        asked.strict, asked.drop_gone, asked.semicolons, asked.worksheet, asked.month_first,
+        asked.strict, asked.drop_gone, asked.semicolons, asked.keep, asked.leave_out, asked.worksheet,
+        asked.month_first,
     )  # fmt: skip
     if asked.sheet and is_workbook(asked.sheet):
         need(Group.WORKBOOKS, ": or save the sheet as CSV, and take that")

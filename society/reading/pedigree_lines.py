@@ -1,0 +1,59 @@
+"""The lines of a geneticist's pedigree: a text file, or what comes from standard input."""
+from __future__ import annotations
+
+import csv
+import pathlib
+import re
+import sys
+from typing import NamedTuple
+
+from society.mistake import Mistake
+from society.reading.encodings import decoded
+
+# how standard input is named
+STANDARD_INPUT = pathlib.Path("-")
+# where blanks stand between cells, an id with blanks has quotation marks
+CELL = re.compile(r'"[^"]*"|\S+')
+
+
+class Line(NamedTuple):
+    """A line that has cells."""
+
+    number: int
+    cells: list[str]
+
+    def __str__(self) -> str:
+        return f"line {self.number}: '{' '.join(self.cells)}'"
+
+
+def read_lines(path: pathlib.Path) -> list[Line]:
+    """The lines that have cells; `#` begins a comment. The first line says what stands between cells."""
+    text, _ = decoded(path, read_bytes(path))
+    numbered = enumerate(text.splitlines(), 1)
+    lines = [(number, part) for number, part in numbered if part.strip() and not part.lstrip().startswith("#")]
+    separator = next((one for one in ";\t," if lines and one in lines[0][1]), None)
+    if separator:
+        return [
+            Line(number, [cell.strip() for cell in next(csv.reader([part], delimiter=separator))])
+            for number, part in lines
+        ]
+    for number, part in lines:
+        check_blanks(number, part)
+    return [Line(number, [cell.strip('"').strip() for cell in CELL.findall(part)]) for number, part in lines]
+
+
+def read_bytes(path: pathlib.Path) -> bytes:
+    try:
+        return sys.stdin.buffer.read() if path == STANDARD_INPUT else path.read_bytes()
+    except OSError as error:
+        raise Mistake(f"{path} can't be read: {error.strerror or error}. Is the name right?") from None
+
+
+def check_blanks(number: int, part: str) -> None:
+    other = next((one for one in (";", ",") if one in part and one in re.sub('"[^"]*"', "", part)), None)
+    if other:
+        why = (
+            f"has '{other}', and the first line has blanks between its cells: write all lines with the same between"
+            " them"
+        )
+        raise Mistake(f"line {number}: '{part.strip()}' {why}")

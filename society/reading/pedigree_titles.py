@@ -1,0 +1,81 @@
+"""Which column of a geneticist's pedigree has what, by the titles that the usual programs write."""
+from __future__ import annotations
+
+from typing import Mapping
+
+from society.book.kinds import Field
+from society.mistake import Mistake
+from society.reading.titles import KNOWN_TITLES
+from society.reading.words import listed, plain
+
+# Beside the titles of sheets those of R's packages (optiSel, kinship2, pedigreemm, nadiv, purgeR, MCMCglmm), of PLINK,
+# and of the programs of evaluation centres.
+TITLES = {
+    Field.ID: "indiv, individual, ind, ID, idnum, iid, label, calf, anim, aid, progeny, offspring, kid, child, self, subject, "
+    "line, genotype, clone, tree, fish, name, filho, produto, animal_id, nom, hijo, cria",
+    Field.SIRE: "pat, dad, dadid, fatherid, father id, paternal id, pid, sid, sire number, pai, padre, pere, male parent, "
+    "pollen parent",
+    Field.DAM: "mat, mom, momid, mum, motherid, mother id, maternal id, mid, did, dam number, mae, madre, mere, "
+    "female parent, seed parent",
+    Field.SEX: "sexo, sexo animal, sex code",
+    Field.BIRTH: "yob, byear, birthyear, birthdate, bdate, cohort, nascimento, nacimiento",
+}  # fmt: skip
+# titles that are read beside others alone: an animal may have such an id
+SHORT = {Field.SIRE: "s, f, p", Field.DAM: "d, m"}
+NEEDED = (Field.ID, Field.SIRE, Field.DAM)
+READ = (*NEEDED, Field.SEX, Field.BIRTH)
+OF_FIELD = {
+    field: list(dict.fromkeys([*KNOWN_TITLES[field], *(plain(title) for title in listed(TITLES[field]))]))
+    for field in READ
+}
+SHORT_OF_FIELD = {field: [plain(title) for title in listed(titles)] for field, titles in SHORT.items()}
+KNOWN = {title for titles in OF_FIELD.values() for title in titles}
+
+Columns = dict[Field, int]
+
+
+def are_titles(cells: list[str], given: Mapping[Field, str]) -> bool:
+    """Is one of them a known title, or one that is given?"""
+    wanted = KNOWN | {plain(title) for title in given.values() if title}
+    return any(plain(cell) in wanted for cell in cells)
+
+
+def find_pedigree_columns(where: str, cells: list[str], given: Mapping[Field, str]) -> Columns:
+    """The columns of a line of titles: those that are given, and else those of the likeliest titles."""
+    titles = [plain(cell) for cell in cells]
+    found: Columns = {}
+    for field in READ:
+        if field in given:
+            if given[field]:
+                found[field] = given_place(where, cells, field, given[field])
+            continue
+        usual = [*OF_FIELD[field], *SHORT_OF_FIELD.get(field, ())]
+        at = next((titles.index(title) for title in usual if title in titles), None)
+        if at is not None and at not in found.values():
+            found[field] = at
+    missing = [field for field in NEEDED if field not in found]
+    if missing:
+        shown = ", ".join(f"'{cell}'" for cell in cells)
+        names = ",".join(f"{field.value}=TITLE" for field in missing)
+        raise Mistake(
+            f"{where}: no title for the {' and the '.join(field.value for field in missing)} is found. The titles are "
+            f"{shown}. Say which it is, as --columns {names}"
+        )
+    return found
+
+
+def given_place(where: str, cells: list[str], field: Field, title: str) -> int:
+    places = [at for at, cell in enumerate(cells) if cell == title]
+    places += [at for at, cell in enumerate(cells) if plain(cell) == plain(title)]
+    if not places:
+        shown = ", ".join(f"'{cell}'" for cell in cells)
+        raise Mistake(
+            f"{where}: there is no column '{title}', which --columns names for {field.value}. The titles are {shown}"
+        )
+    return places[0]
+
+
+def columns_read(cells: list[str], columns: Columns) -> str:
+    used = [f"{field.value} from '{cells[at]}'" for field, at in columns.items()]
+    unread = [f"'{cell}'" for at, cell in enumerate(cells) if cell and at not in columns.values()]
+    return f"columns: {', '.join(used)}" + (f"; not read: {', '.join(unread)}" if unread else "")

@@ -1,0 +1,43 @@
+"""Animals of a pedigree that are both sire and dam, as trees and many fish are: a book has each as a male or a female."""
+from __future__ import annotations
+
+from society.book.role import Role
+from society.mistake import Mistake, counted, some_of
+from society.reading.animal import Animal
+from society.taking.parent_findings import SameParentTwice
+from society.taking.report import Report
+
+
+def refuse_both(animals: dict[str, Animal], report: Report) -> None:
+    """A mistake where an animal is a sire and a dam, or both parents of one."""
+    first: dict[Role, dict[str, Animal]] = {role: {} for role in Role}
+    for animal in animals.values():
+        for role, parent in animal.parents():
+            first[role].setdefault(parent, animal)
+    both = [id for id in first[Role.SIRE] if id in first[Role.DAM]]
+    if not both:
+        return
+    named = some_of([told(id, first[Role.SIRE][id], first[Role.DAM][id]) for id in both])
+    are = "is" if len(both) == 1 else "are"
+    raise Mistake(
+        f"{counted(len(both), 'animal')} {are} both sire and dam: {named}",
+        "nothing is taken: a book has each animal as a male or as a female, and a link that is left out changes "
+        "coefficients. With --leave-out it is taken all the same: parents are exchanged where that changes no "
+        "coefficient, and links that no choice of sexes fits are left out, each told",
+        *report.advice,
+    )
+
+
+def leave_out_same_parent(animals: dict[str, Animal], report: Report) -> None:
+    """A calf that has one parent twice has it as its sire alone."""
+    for animal in animals.values():
+        if animal.sire and animal.sire == animal.dam:
+            report.add(animal.line, animal.id, SameParentTwice(animal.sire))
+            animal.dam = ""
+
+
+def told(id: str, of_sire: Animal, of_dam: Animal) -> str:
+    """Where it is a sire, and where a dam."""
+    if of_sire is of_dam:
+        return f"{id} (both parents of {of_sire.id} in line {of_sire.line})"
+    return f"{id} (a sire in line {of_sire.line}, a dam in line {of_dam.line})"

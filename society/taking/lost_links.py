@@ -1,0 +1,26 @@
+"""Links of a pedigree that would be left out: each changes coefficients, so nothing is taken unless that is wished."""
+from __future__ import annotations
+
+from society.mistake import MOST_NAMED, Mistake, counted
+from society.reading.findings import IdAgain
+from society.taking.report import Entry, Part, Report, What
+
+
+def refuse_lost_links(report: Report) -> None:
+    lost = [entry.sentence() for entry in report.in_order() if is_lost_link(entry)]
+    if not lost:
+        return
+    more = [f"and {len(lost) - MOST_NAMED} more"] * (len(lost) > MOST_NAMED)
+    raise Mistake(
+        *lost[:MOST_NAMED],
+        *more,
+        f"nothing is taken, since that changes coefficients ({counted(len(lost), 'link')}): mend these lines, or take the "
+        "pedigree without these links by --leave-out",
+    )
+
+
+def is_lost_link(entry: Entry) -> bool:
+    """Does a parent go, or a line whose parents aren't those that are taken?"""
+    if isinstance(entry.finding, IdAgain):
+        return entry.finding.parents_there != entry.finding.parents_here
+    return entry.what is What.LEFT_OUT and entry.part is Part.PARENT
