@@ -11,10 +11,10 @@ from society.reading.words import listed, plain
 # Beside the titles of sheets those of R's packages (optiSel, kinship2, pedigreemm, nadiv, purgeR, MCMCglmm), of PLINK,
 # and of the programs of evaluation centres.
 TITLES = {
-    Field.ID: "indiv, individual, ind, ID, idnum, iid, label, calf, anim, aid, progeny, offspring, kid, child, self, subject, "
-    "line, genotype, clone, tree, fish, name, filho, produto, animal_id, nom, hijo, cria",
-    Field.SIRE: "pat, dad, dadid, fatherid, father id, paternal id, pid, sid, sire number, pai, padre, pere, male parent, "
-    "pollen parent",
+    Field.ID: "indiv, individual, ind, idnum, iid, label, calf, anim, aid, progeny, offspring, kid, child, self, "
+    "subject, genotype, clone, tree, fish, name, filho, produto, animal_id, nom, hijo, cria",
+    Field.SIRE: "pat, dad, dadid, fatherid, father id, paternal id, pid, sid, sire number, pai, padre, pere, "
+    "male parent, pollen parent",
     Field.DAM: "mat, mom, momid, mum, motherid, mother id, maternal id, mid, did, dam number, mae, madre, mere, "
     "female parent, seed parent",
     Field.SEX: "sexo, sexo animal, sex code",

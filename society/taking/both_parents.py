@@ -1,4 +1,4 @@
-"""Animals of a pedigree that are both sire and dam, as trees and many fish are: a book has each as a male or a female."""
+"""Animals of a pedigree that are both sire and dam, as trees and some fish: a book has each as a male or a female."""
 from __future__ import annotations
 
 from society.book.role import Role

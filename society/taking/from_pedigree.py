@@ -80,4 +80,5 @@ def find_sexes_and_days(next_book: NextBook, triples: Triples) -> None:
 def invented(path: str, count: int, missing: list[Field]) -> str:
     words = {Field.SEX: "sexes", Field.BIRTH: "birth days"}
     what = " and ".join(words[field] for field in missing)
-    return f"{path}: the {what} of {counted(count, 'animal')} are invented so that parents are older than their offspring"
+    animals = counted(count, "animal")
+    return f"{path}: the {what} of {animals} are invented so that parents are older than their offspring"

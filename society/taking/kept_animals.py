@@ -30,4 +30,5 @@ def keep_with_ancestors(animals: dict[str, Animal], path: pathlib.Path) -> str:
     before = len(animals)
     for id in animals.keys() - kept.keys():
         del animals[id]
-    return f"kept: {counted(len(wanted), 'animal')} of {path} with their ancestors, {len(animals):,} of {before:,} lines"
+    named = counted(len(wanted), "animal")
+    return f"kept: {named} of {path} with their ancestors, {len(animals):,} of {before:,} lines"

@@ -7,8 +7,8 @@ from society.taking.order import calves_of, in_order
 
 MOST_STEPS = 60
 KEEP_FEWER = (
-    "where not all animals are needed, --keep FILE takes those that the file names, one id a line, with their ancestors: "
-    "their coefficients stay as they are, and their paths may be short enough"
+    "where not all animals are needed, --keep FILE takes those that the file names, one id a line, with their "
+    "ancestors: their coefficients stay as they are, and their paths may be short enough"
 )
 
 

@@ -14,8 +14,8 @@ def refuse_lost_links(report: Report) -> None:
     raise Mistake(
         *lost[:MOST_NAMED],
         *more,
-        f"nothing is taken, since that changes coefficients ({counted(len(lost), 'link')}): mend these lines, or take the "
-        "pedigree without these links by --leave-out",
+        f"nothing is taken, since that changes coefficients ({counted(len(lost), 'link')}): mend these lines, or take "
+        "the pedigree without these links by --leave-out",
     )
 
 

@@ -65,8 +65,8 @@ class NextBook:
         )
         if not self.is_pedigree:
             how = (
-                "leave out animals that aren't ancestors of any other, and take the rest with --drop-gone. To leave out "
-                "ancestors, such as the oldest animals, changes coefficients"
+                "leave out animals that aren't ancestors of any other, and take the rest with --drop-gone. To leave "
+                "out ancestors, such as the oldest animals, changes coefficients"
             )
         return Mistake(f"{many}, and a book holds at most {MOST_ANIMALS:,}: {how}")
 

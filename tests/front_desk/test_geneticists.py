@@ -107,9 +107,11 @@ def drawn_rows(seed: int, count: int, back: int) -> list[tuple[str, str, str]]:
     def parent(at: int, sex: int) -> str:
         last = at - 1 - (at - 1 - sex) % 2
         first = max(sex, at - back)
-        return str(draw.randrange(first + (first - sex) % 2, last + 1, 2)) if last > first and draw.random() < 0.9 else "0"
+        if last <= first or draw.random() < 0.1:
+            return "0"
+        return f"i{draw.randrange(first + (first - sex) % 2, last + 1, 2)}"
 
-    return [(f"i{at}", *(f"i{one}" if one != "0" else "0" for one in (parent(at, 0), parent(at, 1)))) for at in range(count)]
+    return [(f"i{at}", parent(at, 0), parent(at, 1)) for at in range(count)]
 
 
 def ancestry(rows: list[tuple[str, str, str]], kept: list[str]) -> set[str]:
@@ -153,13 +155,15 @@ def test_keep(desk: Desk) -> None:
 def test_keep_names_an_animal_that_is_not_there(desk: Desk) -> None:
     pedigree = desk.write("few.txt", "a 0 0\nb a 0\n")
     kept = desk.write("kept.txt", "b\nx\n")
-    desk.wrong("kept.txt names animals that have no line in the pedigree: x", "take", "--pedigree", pedigree, "--keep", kept)
+    told = "kept.txt names animals that have no line in the pedigree: x"
+    desk.wrong(told, "take", "--pedigree", pedigree, "--keep", kept)
     desk.wrong("--keep and --leave-out are for a pedigree", "take", pedigree, "--keep", kept)
 
 
 def test_long_path_cut_by_keep(desk: Desk) -> None:
     pedigree = desk.write("deep.txt", "".join(f"a{at} {f'a{at - 1}' if at else 0} 0\n" for at in range(70)))
-    done = desk.wrong("That changes coefficients: an unknown parent counts as unrelated.", "take", "--pedigree", pedigree)
+    told = "That changes coefficients: an unknown parent counts as unrelated."
+    done = desk.wrong(told, "take", "--pedigree", pedigree)
     assert "--keep FILE takes those that the file names" in done.err
     assert " 31 animals, " in desk.good("take", "--pedigree", pedigree, "--keep", desk.write("kept.txt", "a30\n")).last
 

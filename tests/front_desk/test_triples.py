@@ -57,7 +57,8 @@ def test_random_pedigrees(desk: Desk) -> None:
     for seed in range(40):
         rows = random_rows(seed)
         # no more than 25 of a kind are printed
-        done = desk.good("take", "--pedigree", desk.write("random.txt", text_of(rows)), "--book", f"book{seed}", "--leave-out")
+        pedigree = desk.write("random.txt", text_of(rows))
+        done = desk.good("take", "--pedigree", pedigree, "--book", f"book{seed}", "--leave-out")
         assert "and " not in [line[:4] for line in done.out.splitlines()], f"{seed}: too many are told"
         counts = as_told(desk, rows, done, f"book{seed}")
         swaps, lost, couples = swaps + counts[0], lost + counts[1], couples + counts[2]
@@ -114,7 +115,8 @@ def test_relationships(desk: Desk, x: str, y: str, relationship: float) -> None:
     """With the lines `u x 0` and `calf u y` the relationship of x and y, whatever their sexes, is four times F of
     `calf`."""
     rows = [line.split() for line in (TOP / "examples/mrode.txt").read_text().splitlines() if line[:1].isdigit()]
-    desk.good("take", "--pedigree", desk.write("more.txt", text_of([*rows, ["u", x, "0"], ["calf", "u", y]])), "--leave-out")
+    more = desk.write("more.txt", text_of([*rows, ["u", x, "0"], ["calf", "u", y]]))
+    desk.good("take", "--pedigree", more, "--leave-out")
     found = {row["id"]: row["decimal"] for row in desk.listed("list")}
     assert 4 * float(found["calf"]) == relationship
 
@@ -162,7 +164,8 @@ def test_blanks_in_ids(desk: Desk) -> None:
 
 
 def test_id_in_several_lines(desk: Desk) -> None:
-    done = desk.good("take", "--pedigree", desk.write("twice.txt", "a 0 0\nb 0 0\nc a b\nc a b\nc b 0\n"), "--leave-out")
+    twice = desk.write("twice.txt", "a 0 0\nb 0 0\nc a b\nc a b\nc b 0\n")
+    done = desk.good("take", "--pedigree", twice, "--leave-out")
     done.tells(
         "line 4: c: the line is left out: line 3 has this id too",
         (
@@ -181,9 +184,9 @@ def test_unknown_words(desk: Desk) -> None:
         "--unknown=-7 --drop-gone"
     )
     assert advice in desk.wrong("1 animal is both sire and dam: -7", "take", "--pedigree", pedigree).err
-    words = "take", "--pedigree", pedigree, "--leave-out"
-    desk.good(*words).tells(advice)
-    done = desk.wrong("2 left out (2 parents): with --strict nothing is taken", *words, "--strict")
+    taken = "take", "--pedigree", pedigree, "--leave-out"
+    desk.good(*taken).tells(advice)
+    done = desk.wrong("2 left out (2 parents): with --strict nothing is taken", *taken, "--strict")
     assert advice in done.err
     done = desk.good("take", "--pedigree", pedigree, "--unknown=-7,07", "--drop-gone")
     assert "book: 4 animals, 0 new, 3 changed, 4 invented, 0 left out, 0 added, 2 gone: " in done.last
