@@ -10,6 +10,7 @@ from society.book.book import Book, open_book
 from society.command_line.output import tell
 from society.herdbook import Herdbook
 from society.mistake import CALLED, Mistake
+from society.packages import Group, need
 
 ABOUT = """Keeps a society's herd book in a folder: takes its spreadsheet, and writes lists, certificates, mating advice
 and pictures. Every refusal and every coefficient comes from the program herdbook; the front desk around it isn't
@@ -68,11 +69,15 @@ class Words:
         return one
 
     def add_for_book(
-        self, name: str, does: Callable[[argparse.Namespace, Book, Herdbook], None], help: str, more: str = ""
-    ) -> Parser:
-        """A word for a book that is there; the book's notes are told behind what it does."""
+        self, name: str, does: Callable[[argparse.Namespace, Book, Herdbook], None], help: str, more: str = "",
+        group: Group | None = None,
+    ) -> Parser:  # fmt: skip
+        """A word for a book that is there, with the packages that it needs; the book's notes are told behind what it
+        does."""
 
         def opened(asked: argparse.Namespace) -> None:
+            if group:
+                need(group)
             program = Herdbook()
             book = open_book(asked.book, program)
             does(asked, book, program)

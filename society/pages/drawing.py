@@ -6,6 +6,7 @@ import html
 from society.book.book import Book
 from society.book.known import Known
 from society.pages.languages import Language
+from society.pages.marks import mark_of
 
 FONT = "'Helvetica Neue', Arial, 'Liberation Sans', 'DejaVu Sans', sans-serif"
 INK, GREY, LINE, PAPER = "#1d2733", "#66717e", "#98a2ad", "#ffffff"
@@ -13,12 +14,14 @@ SIRE, DAM = "#e8f0f8", "#fbeef0"
 INBRED, INBRED_INK = "#fff3cf", "#b4560c"
 
 
+def printable(text: str) -> str:
+    """The text without the characters that no page may have."""
+    return "".join(one for one in text if one >= " " and not 0xD800 <= ord(one) < 0xE000 and one not in "\ufffe\uffff")
+
+
 def escape(text: object) -> str:
-    """The text for a page: characters that no page may have are left out."""
-    kept = "".join(
-        one for one in str(text) if one >= " " and not 0xD800 <= ord(one) < 0xE000 and one not in "\ufffe\uffff"
-    )
-    return html.escape(kept, quote=True)
+    """The text for a picture."""
+    return html.escape(printable(str(text)), quote=True)
 
 
 def text_at(
@@ -48,7 +51,7 @@ def shortened(text: str, most: int) -> str:
 
 def year_of(book: Book, known: Known, language: Language) -> str:
     """The birth year, with a mark where the day was inferred."""
-    return language.marked(str(book.records[known.number].born.year), known.birth.mark())
+    return language.marked(str(book.records[known.number].born.year), mark_of(known.birth))
 
 
 def file_name(kind: str, id: str, suffix: str) -> str:

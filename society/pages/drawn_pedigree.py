@@ -22,6 +22,8 @@ from society.pages.drawing import (
     year_of,
 )
 from society.pages.languages import Language
+from society.pages.marks import mark_of
+from society.pedigree_order import ancestors
 
 BOX_WIDTH, BOX_HEIGHT, COLUMN, ROW, MARGIN = 200, 62, 236, 72, 24
 HEAD, FOOT = 64, 62
@@ -63,17 +65,6 @@ def nodes_of(node: Node) -> list[Node]:
     return [node, *(one for parent in node.parents for one in nodes_of(parent))]
 
 
-def all_ancestors(book: Book, number: str) -> set[str]:
-    found, new = set(), [number]
-    while new:
-        record = book.records[new.pop()]
-        for parent in (record.sire, record.dam):
-            if parent and parent not in found:
-                found.add(parent)
-                new.append(parent)
-    return found
-
-
 def tree_picture(
     book: Book, known: Known, coefficients: dict[str, Coefficient], generations: int, language: Language
 ) -> str:
@@ -88,7 +79,12 @@ def tree_picture(
     parts += [
         box(book, node, names[node.number], coefficients[node.number], times[node.number], language) for node in nodes
     ]
-    hidden = len(all_ancestors(book, known.number) - set(times))
+
+    def parents(number: str) -> list[str]:
+        record = book.records[number]
+        return [parent for parent in (record.sire, record.dam) if parent]
+
+    hidden = len(ancestors([known.number], parents) - set(times))
     note = language.counted("ancestors", len(times) - 1) + (language.counted("hidden", hidden) if hidden else "")
     return picture(parts, known, width, height, note, language.texts)
 
@@ -115,7 +111,7 @@ def box(book: Book, node: Node, known: Known, coefficient: Coefficient, times: i
     round_by = 3 if known.number[6] == "M" else 16
     texts = language.texts
     facts = [year_of(book, known, language)] + ([texts["drawn times"].format(times)] if times > 1 else [])
-    day = language.marked(language.day(book.records[known.number].born), known.birth.mark())
+    day = language.marked(language.day(book.records[known.number].born), mark_of(known.birth))
     tip = (
         f"{known.id} {known.name}".strip()
         + f", {known.number}, {texts['born on'].format(day)}, F {coefficient.fraction}"

@@ -2,6 +2,7 @@
 from __future__ import annotations
 
 from society.answers.listing import Coefficient
+from society.pages.marks import Mark
 
 LANGUAGES = ("en", "de", "fr")
 
@@ -148,6 +149,6 @@ class Language:
     def percent_of(self, coefficient: Coefficient) -> str:
         return f"F\u00a0{self.percent(coefficient.percent)}"
 
-    def marked(self, text: str, mark: str) -> str:
+    def marked(self, text: str, mark: Mark | None) -> str:
         """A text, as a day or a sex, with the mark behind it, if it has one."""
-        return text + mark.replace("inferred", self.texts["inferred"]).replace("invented", self.texts["invented"])
+        return f"{text} ({self.texts[mark.value]})" if mark else text

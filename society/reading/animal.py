@@ -46,6 +46,9 @@ class Animal:
         """The known parents, each with its role."""
         return [(role, parent) for role, parent in ((Role.SIRE, self.sire), (Role.DAM, self.dam)) if parent]
 
+    def parent_ids(self) -> list[str]:
+        return [parent for parent in (self.sire, self.dam) if parent]
+
     def parent(self, role: Role) -> str:
         return self.sire if role is Role.SIRE else self.dam
 
@@ -64,3 +67,8 @@ class Animal:
     def where(self) -> str:
         """How a sentence about it begins."""
         return f"line {self.line}: {self.id}: " if self.line else f"{self.id}: "
+
+
+def parents_of_all(animals: dict[str, Animal]) -> dict[str, list[str]]:
+    """The known parents of each animal."""
+    return {id: animal.parent_ids() for id, animal in animals.items()}

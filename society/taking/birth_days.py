@@ -4,10 +4,10 @@ from __future__ import annotations
 import datetime
 
 from society.book.inferred import GIVEN_BIRTH, BirthBasis, BirthSource
-from society.reading.animal import Animal
+from society.pedigree_order import in_order, offspring
+from society.reading.animal import Animal, parents_of_all
 from society.reading.days import ANY_DAY, FIRST_DAY, Span
 from society.taking.findings import BirthDayInferred
-from society.taking.order import calves_of, in_order
 from society.taking.report import Report
 
 # days between a parent's birth and a calf's, where only one of the two is known
@@ -24,8 +24,8 @@ class Days:
         self.today = datetime.date.today().toordinal()
         # the day that was inferred for an animal of the book, and from what
         self.kept = kept
-        self.order = in_order(animals)
-        self.calves = calves_of(animals)
+        parents = parents_of_all(animals)
+        self.order, self.calves = in_order(parents), offspring(parents)
         self.low: dict[str, int] = {}
         self.high: dict[str, int] = {}
         # a likely day, and from what

@@ -2,39 +2,37 @@
 from __future__ import annotations
 
 from society.book.role import Role
-from society.reading.animal import Animal
-from society.taking.order import in_order
+from society.pedigree_order import in_order, round_from
+from society.reading.animal import Animal, parents_of_all
 from society.taking.parent_findings import OwnAncestor
 from society.taking.report import Report
+
+
+Link = tuple[str, Role, str]
 
 
 def cut_cycles(animals: dict[str, Animal], report: Report) -> None:
     """Leaves out one parent of each animal that would be its own ancestor: of a cycle the link whose days can't be, or
     else that of the latest row."""
-    left = animals.keys() - in_order(animals)
+    left = animals.keys() - in_order(parents_of_all(animals))
     while left:
         cycle = find_cycle(animals, left)
         calf, role, parent = faulty_link(animals, cycle)
         path = (calf, *ancestors_round(cycle, calf))
         animals[calf].set_parent(role, "")
         report.add(animals[calf].line, calf, OwnAncestor(role, parent, path))
-        left -= set(in_order({id: animals[id] for id in left}))
-
-
-Link = tuple[str, Role, str]
+        left -= set(in_order(parents_of_all({id: animals[id] for id in left})))
 
 
 def find_cycle(animals: dict[str, Animal], left: set[str]) -> list[Link]:
     """A cycle of links (calf, role, parent). Each of those left, which no order reached, has a parent among them."""
-    links: list[Link] = []
-    at: dict[str, int] = {}
-    id = min(left, key=lambda one: (animals[one].line, one))
-    while id not in at:
-        at[id] = len(links)
+
+    def link(id: str) -> Link:
         role, parent = next((role, parent) for role, parent in animals[id].parents() if parent in left)
-        links.append((id, role, parent))
-        id = parent
-    return links[at[id] :]
+        return id, role, parent
+
+    first = min(left, key=lambda one: (animals[one].line, one))
+    return [link(id) for id in round_from(first, lambda id: link(id)[2])]
 
 
 def faulty_link(animals: dict[str, Animal], cycle: list[Link]) -> Link:

@@ -2,8 +2,8 @@
 from __future__ import annotations
 
 from society.mistake import Mistake, some_of
-from society.reading.animal import Animal
-from society.taking.order import calves_of, in_order
+from society.pedigree_order import in_order, longest_paths, offspring
+from society.reading.animal import Animal, parents_of_all
 
 MOST_STEPS = 60
 KEEP_FEWER = (
@@ -17,19 +17,16 @@ class Paths:
 
     def __init__(self, animals: dict[str, Animal]) -> None:
         self.animals = animals
-        self.up: dict[str, int] = {}
-        self.down: dict[str, int] = {}
-        order, calves = in_order(animals), calves_of(animals)
-        for id in order:
-            self.up[id] = max((self.up[parent] + 1 for _, parent in animals[id].parents()), default=0)
-        for id in reversed(order):
-            self.down[id] = max((self.down[calf] + 1 for calf in calves.get(id, ())), default=0)
+        parents = parents_of_all(animals)
+        order, calves = in_order(parents), offspring(parents)
+        self.up = longest_paths(order, lambda id: parents[id])
+        self.down = longest_paths(reversed(order), lambda id: calves.get(id, ()))
 
     def longest(self) -> list[str]:
         """The animals of a longest path, the youngest first."""
         path = [max(self.up, key=lambda id: self.up[id])]
-        while parents := self.animals[path[-1]].parents():
-            path.append(max((parent for _, parent in parents), key=lambda id: self.up[id]))
+        while parents := self.animals[path[-1]].parent_ids():
+            path.append(max(parents, key=lambda id: self.up[id]))
         return path
 
     def to_cut(self) -> list[str]:

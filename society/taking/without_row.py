@@ -2,6 +2,7 @@
 from __future__ import annotations
 
 from society.book.book import Book
+from society.pedigree_order import ancestors
 from society.reading.animal import Animal
 from society.reading.days import ANY_DAY, Span
 from society.taking.findings import RowIsGone
@@ -27,7 +28,11 @@ def animals_of_book(book: Book, animals: dict[str, Animal]) -> dict[str, Animal]
 
 def add_gone(animals: dict[str, Animal], gone: dict[str, Animal], book: Book, drop: bool, report: Report) -> None:
     """Adds those of the book, or drops them but for the ancestors of an animal that has a row."""
-    kept = ancestors(animals, gone) if drop else gone.keys()
+
+    def gone_parents(id: str) -> list[str]:
+        return [parent for parent in (animals.get(id) or gone[id]).parent_ids() if parent in gone]
+
+    kept = ancestors(animals, gone_parents) if drop else gone.keys()
     parents = {parent for animal in (*animals.values(), *gone.values()) for _, parent in animal.parents()}
     for id, animal in gone.items():
         if id in kept:
@@ -35,15 +40,3 @@ def add_gone(animals: dict[str, Animal], gone: dict[str, Animal], book: Book, dr
         had_row = book.known[id].standing.had_row()
         if id not in kept or had_row or id not in parents:
             report.add(0, id, RowIsGone(had_row, is_dropped=id not in kept))
-
-
-def ancestors(animals: dict[str, Animal], gone: dict[str, Animal]) -> set[str]:
-    """Which of those without a row are ancestors of animals that have one."""
-    found: set[str] = set()
-    new = list(animals.values())
-    for animal in new:
-        for _, parent in animal.parents():
-            if parent in gone and parent not in found:
-                found.add(parent)
-                new.append(gone[parent])
-    return found

@@ -9,7 +9,7 @@ from society.book.files import write_file
 from society.command_line.arguments import file, generations
 from society.command_line.parser import Words
 from society.herdbook import Herdbook
-from society.pages.certificate import certificate_page
+from society.packages import Group
 from society.pages.drawing import file_name
 from society.pages.drawn_pedigree import tree_picture
 from society.pages.languages import LANGUAGES, Language
@@ -18,7 +18,8 @@ from society.pages.trend import trend_picture
 
 def add_words(words: Words) -> None:
     certificate = words.add_for_book(
-        "certificate", do_certificate, "write an animal's certificate, a page of HTML for the printer"
+        "certificate", do_certificate, "write an animal's certificate, a page of HTML for the printer",
+        group=Group.PAGES,
     )
     certificate.add_argument(
         "--title", default="", help="what stands above the animal [Certificate of pedigree, in the language]"
@@ -38,6 +39,8 @@ def add_words(words: Words) -> None:
 
 
 def do_certificate(asked: argparse.Namespace, book: Book, program: Herdbook) -> None:
+    from society.pages.certificate import certificate_page
+
     known = book.find(asked.id)
     page = certificate_page(book, program, known, coefficients(book, program), asked.language, asked.title)
     give(asked, page, file_name("certificate", known.id, ".html"))
