@@ -2,11 +2,11 @@
 from __future__ import annotations
 
 import csv
-import difflib
 import pathlib
 import shlex
 from dataclasses import replace
 
+from society.alike import closest
 from society.book.commands import Command, Record, read_commands, replay, text_of
 from society.book.files import table, write_all
 from society.book.kinds import Standing
@@ -158,7 +158,7 @@ class Book:
         names = [*self.known, *(known.name for known in self.known.values() if known.name)]
         if any(name.startswith(f"{word} ") for name in names):
             raise Mistake(f"the book has no animal '{word}': put an id or a name with blanks between quotation marks")
-        close = difflib.get_close_matches(word, names, 3, 0.75) if len(names) < 20_000 else []
+        close = closest(word, names)
         hint = f": is {' or '.join(close)} meant?" if close else f": {self.folder / IDS} has the ids"
         raise Mistake(f"the book has no animal '{word}'{hint}")
 

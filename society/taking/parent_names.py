@@ -2,8 +2,10 @@
 from __future__ import annotations
 
 import collections
+import functools
 import shlex
 
+from society.alike import SameLetters
 from society.book.book import Book
 from society.book.role import Role
 from society.reading.animal import Animal
@@ -12,8 +14,6 @@ from society.taking.report import Report
 
 # of so many links a parent without a row that is a sire and a dam is told
 MANY = 3
-# ids with less letters and digits are often alike
-SHORT = 5
 
 
 class Names:
@@ -22,8 +22,6 @@ class Names:
     def __init__(self, animals: dict[str, Animal], report: Report) -> None:
         self.animals, self.report = animals, report
         self.named: collections.defaultdict[str, list[Animal]] = collections.defaultdict(list)
-        self.alike = {folded(animal.name): id for id, animal in animals.items() if animal.name}
-        self.alike |= {folded(id): id for id in animals}
         for animal in animals.values():
             if animal.name:
                 self.named[animal.name.casefold()].append(animal)
@@ -83,27 +81,21 @@ class Names:
                     f"--unknown={shlex.quote(parent)} --drop-gone"
                 )
 
+    @functools.cached_property
+    def same_letters(self) -> SameLetters:
+        """All names and ids; an id counts before a name."""
+        names = [(animal.name, id) for id, animal in self.animals.items() if animal.name]
+        return SameLetters([*names, *((id, id) for id in self.animals)])
+
     def meant(self, calf: Animal, text: str) -> tuple[str, tuple[str, ...]]:
         """Which id may be meant by a text that is none, or several that have it as their name."""
         ids = [one.id for one in self.others(calf, text)]
         if len(ids) > 1:
             return "", tuple(ids)
-        alike = ids[0] if ids else self.alike.get(folded(text.removesuffix(".0")) or text) or self.swapped(folded(text))
+        alike = ids[0] if ids else self.same_letters.meant(text.removesuffix(".0")) or self.same_letters.meant(text)
         return (alike if alike != calf.id else ""), ()
-
-    def swapped(self, text: str) -> str:
-        """The animal that is meant where two letters or digits beside each other are swapped, but in short ids."""
-        if len(text) < SHORT:
-            return ""
-        turned = (text[:at] + text[at + 1] + text[at] + text[at + 2 :] for at in range(len(text) - 1))
-        return next((self.alike[one] for one in turned if one != text and one in self.alike), "")
 
 
 def can_be(parent: Animal, role: Role, calf: Animal) -> bool:
     """Do its sex and its birth leave open that it is a calf's parent?"""
     return parent.sex in ("", role.sex) and parent.birth.first < calf.birth.last
-
-
-def folded(id: str) -> str:
-    """An id without blanks, signs and the size of letters, by which two that are meant alike are found."""
-    return "".join(one for one in id.casefold() if one.isalnum())
