@@ -20,6 +20,12 @@ def day(text: str) -> datetime.date:
         raise argparse.ArgumentTypeError(f"'{text}' isn't a day written as 2001-03-01") from None
 
 
+def days(text: str) -> int:
+    if not text.isdecimal() or int(text) > 10_000:
+        raise argparse.ArgumentTypeError(f"'{text}' isn't a number of days")
+    return int(text)
+
+
 def file(text: str) -> pathlib.Path:
     if pathlib.Path(text).is_dir():
         raise argparse.ArgumentTypeError(f"'{text}' is a folder: name a file")

@@ -18,12 +18,13 @@ PARENTS = Field.SIRE, Field.DAM
 
 @dataclass
 class Columns:
-    """For each field its column; what keeps the sheet from being taken, what may keep it, and what is told."""
+    """For each field its column; what keeps the sheet from being taken, and what is told."""
 
     sheet: Sheet
     found: dict[str, int] = field(default_factory=dict)
     faults: list[str] = field(default_factory=list)
-    doubts: list[str] = field(default_factory=list)
+    # the title of the book's ids, where no column has these
+    lacks_ids: str = ""
     notes: list[str] = field(default_factory=list)
 
     def cells(self, at: int) -> list[str]:

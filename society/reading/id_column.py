@@ -73,11 +73,7 @@ class IdColumn:
             return best
         if titled:
             return titled[0]
-        if self.before:
-            columns.doubts.append(
-                f"the book's ids were in a column '{self.before}', which this sheet lacks, and no other column has "
-                "them: it looks like another flock, or like another id of the animals"
-            )
+        columns.lacks_ids = self.before
         return None
 
     # -- the ids of a first sheet

@@ -23,10 +23,13 @@ from society.reading.sexes import Sexes
 from society.reading.sheet import Sheet
 from society.reading.unread import Unread
 from society.reading.words import KNOWN_NO, KNOWN_SUMS, KNOWN_YES, plain
+from society.taking.look_findings import LikeASum
 from society.taking.report import Finding, Report
 
 # how a spreadsheet shows a long number that it has cut
 CUT = re.compile(r"\d[.,]?\d*E\+\d+", re.IGNORECASE)
+# animals of one id that are born so many days from one another are others
+YEARS_APART = 700
 # a formula in place of its value
 FORMULA = re.compile(r"=.+", re.DOTALL)
 
@@ -79,8 +82,11 @@ class Rows:
         return found
 
     def look_at_all(self, animals: dict[str, Animal]) -> None:
-        """What is told of the sheet as a whole."""
+        """What is told of the sheet as a whole, and of rows that seem to count or to sum up."""
         self.errors.leave_out(animals, self.report)
+        for animal in animals.values():
+            if plain(animal.id.split()[0]) in KNOWN_SUMS:
+                self.report.add(animal.line, animal.id, LikeASum())
         order = Order(
             (f"line {line}: {self.cell(cells, Field.ID)}: {DAYS[name]}", self.cell(cells, name))
             for name in DAYS
@@ -88,7 +94,7 @@ class Rows:
         )
         self.faults += [order.fault(self.month_first), *self.cut_numbers()]
         self.faults += [*self.unread.mostly(), *self.errors.mostly()]
-        self.notes += [*self.letters.told(), *self.errors.told(), order.note(self.month_first), self.sums(animals)]
+        self.notes += [*self.letters.told(), *self.errors.told(), order.note(self.month_first)]
         self.faults, self.notes = [one for one in self.faults if one], [one for one in self.notes if one]
 
     def cell(self, cells: list[str], name: str) -> str:
@@ -102,7 +108,16 @@ class Rows:
         pairs = [(name, self.cell(cells, name), self.cell(first, name)) for name in fields]
         differing = tuple((name, here, there) for name, here, there in pairs if here != there)
         here = self.parent(cells, Role.SIRE), self.parent(cells, Role.DAM)
-        return IdAgain(animal.line, (animal.sire, animal.dam), here, differing)
+        return IdAgain(animal.line, (animal.sire, animal.dam), here, differing, self.are_years_apart(animal, cells))
+
+    def are_years_apart(self, animal: Animal, cells: list[str]) -> bool:
+        """Was the animal of a second row of an id born years before or after that of the first?"""
+        try:
+            here = read_span(self.cell(cells, Field.BIRTH), self.month_first)
+        except Unreadable:
+            return False
+        is_known = here.is_day and animal.has_day()
+        return is_known and abs((here.first - animal.birth.first).days) >= YEARS_APART
 
     def animal(self, line: int, id: str, cells: list[str]) -> Animal:
         animal = Animal(id, line, name=self.cell(cells, Field.NAME), owner=self.cell(cells, Field.OWNER))
@@ -212,13 +227,6 @@ class Rows:
             more = f" ({counted(len(those), 'such cell')})" if len(those) > 1 else ""
             found += [f"line {line}: '{text}' {what}{more}" for line, text in those[:1]]
         return found
-
-    def sums(self, animals: dict[str, Animal]) -> str:
-        """Rows that seem to count or to sum up."""
-        those = [one for one in animals.values() if plain(one.id.split()[0]) in KNOWN_SUMS]
-        lines = ", ".join(f"line {one.line}: {one.id}" for one in those[:9])
-        what = "is this row an animal, as which it is taken" if len(those) == 1 else "are these rows animals"
-        return f"{what} ({lines})? Leave out rows that count or sum up, and take the sheet again" if those else ""
 
 
 CUT_TOLD = (

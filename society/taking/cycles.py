@@ -1,23 +1,26 @@
 """Animals that would be their own ancestors: of each cycle one parent is left out."""
 from __future__ import annotations
 
+from collections.abc import Collection
+
 from society.book.role import Role
 from society.pedigree_order import in_order, round_from
 from society.reading.animal import Animal, parents_of_all
 from society.taking.parent_findings import OwnAncestor
 from society.taking.report import Report
 
-
 Link = tuple[str, Role, str]
+# a calf and its parent
+Pair = tuple[str, str]
 
 
-def cut_cycles(animals: dict[str, Animal], report: Report) -> None:
-    """Leaves out one parent of each animal that would be its own ancestor: of a cycle the link whose days can't be, or
-    else that of the latest row."""
+def cut_cycles(animals: dict[str, Animal], report: Report, in_book: Collection[Pair] = ()) -> None:
+    """Leaves out one parent of each animal that would be its own ancestor: of a cycle a link that the book doesn't
+    have, one whose days can't be, or else that of the latest row."""
     left = animals.keys() - in_order(parents_of_all(animals))
     while left:
         cycle = find_cycle(animals, left)
-        calf, role, parent = faulty_link(animals, cycle)
+        calf, role, parent = faulty_link(animals, cycle, in_book)
         path = (calf, *ancestors_round(cycle, calf))
         animals[calf].set_parent(role, "")
         report.add(animals[calf].line, calf, OwnAncestor(role, parent, path))
@@ -35,12 +38,13 @@ def find_cycle(animals: dict[str, Animal], left: set[str]) -> list[Link]:
     return [link(id) for id in round_from(first, lambda id: link(id)[2])]
 
 
-def faulty_link(animals: dict[str, Animal], cycle: list[Link]) -> Link:
+def faulty_link(animals: dict[str, Animal], cycle: list[Link], in_book: Collection[Pair]) -> Link:
     def is_younger(link: Link) -> bool:
         calf, parent = animals[link[0]], animals[link[2]]
         return parent.birth.first >= calf.birth.last
 
-    candidates = [link for link in cycle if is_younger(link)] or cycle
+    new = [link for link in cycle if (link[0], link[2]) not in in_book] or cycle
+    candidates = [link for link in new if is_younger(link)] or new
     return max(candidates, key=lambda link: animals[link[0]].line)
 
 

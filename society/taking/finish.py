@@ -7,6 +7,7 @@ from society.mistake import Mistake, counted
 from society.taking.changes import Filing
 from society.taking.faulty_parents import leave_out_faulty_parents
 from society.taking.lost_links import refuse_lost_links
+from society.taking.looks import Looks
 from society.taking.next_book import NextBook
 from society.taking.report import What
 from society.taking.shown_report import show
@@ -21,6 +22,8 @@ def finish(next_book: NextBook, program: Herdbook, wishes: Wishes, about: list[s
     leave_out_faulty_parents(next_book, program)
     if next_book.is_pedigree and not wishes.leave_out:
         refuse_lost_links(report)
+    if not next_book.is_pedigree:
+        Looks(next_book.animals, wishes.limits(), report).tell("exit" in next_book.given)
     left_out = [entry for entry in report.in_order() if entry.what is What.LEFT_OUT]
     if wishes.strict and left_out:
         told = [entry.sentence() for entry in left_out] + report.advice

@@ -15,6 +15,7 @@ from society.reading.rows import Rows
 from society.reading.sheet import Sheet, read_sheet
 from society.reading.titles import known_titles
 from society.reading.unknown import UnknownParents
+from society.taking.completing import complete
 from society.taking.finish import finish
 from society.taking.next_book import NextBook
 from society.taking.report import Report
@@ -31,9 +32,7 @@ def take_sheet(path: pathlib.Path, wishes: Wishes) -> None:
     words = remember(book, wishes)
     read = read_animals(path, wishes, book, words)
     next_book = NextBook(book, read.animals, set(read.columns.found), read.report)
-    next_book.complete(wishes.drop_gone)
-    next_book.find_sexes()
-    next_book.find_days()
+    complete(next_book, read.columns, wishes)
     about = [
         f"{path}: {counted(len(read.sheet.rows), 'row')} below the titles in line {read.sheet.line}, {read.sheet.how}",
         read.columns.words(),

@@ -1,6 +1,7 @@
 """The book that is to be: what the sheet says of its animals, and what the book has besides."""
 from __future__ import annotations
 
+import collections
 from dataclasses import replace
 
 from society.book.book import Book
@@ -15,6 +16,7 @@ from society.reading.days import ANY_DAY, Span
 from society.taking.birth_days import Days
 from society.taking.cycles import cut_cycles
 from society.taking.findings import KeptFromBook, SexInferred, SexNotKnown
+from society.taking.near_ids import NearIds
 from society.taking.parent_names import Names
 from society.taking.report import Report
 from society.taking.without_row import add_gone, animals_of_book
@@ -31,8 +33,10 @@ class NextBook:
         self.book, self.animals, self.given, self.report = book, animals, given, report
         self.is_pedigree = is_pedigree
         self.names = book.by_number()
-        # whether a parent is a sire or a dam, by its first offspring
+        # whether a parent is a sire or a dam, by most of its offspring
         self.roles: dict[str, Role] = {}
+        # the ids of rows that are left out, since the book has them for other animals, which stay
+        self.used_again: set[str] = set()
         # the parents as the sheet writes them, by an animal's id and `sire` or `dam`
         self.texts: dict[tuple[str, Role], str] = {}
 
@@ -49,10 +53,17 @@ class NextBook:
         for animal in self.animals.values():
             self.texts |= {(animal.id, role): parent for role, parent in animal.parents() if role in self.given}
         gone = animals_of_book(self.book, self.animals)
+        if not self.is_pedigree:
+            near = NearIds(self.animals, self.animals | gone, self.book)
+            near.find_parents(self.report)
+            near.tell_alike(self.report)
         Names(self.animals | gone, self.report).find_parents(self.animals, self.book)
+        self.animals |= {id: gone.pop(id) for id in self.used_again}
         add_gone(self.animals, gone, self.book, drop_gone, self.report)
         self.leave_out_unread_sexes()
-        Names(self.animals, self.report).add_parents()
+        names = Names(self.animals, self.report)
+        names.advise_unknown(self.is_pedigree)
+        names.add_parents()
         if len(self.animals) > MOST_ANIMALS:
             raise self.too_many()
 
@@ -107,17 +118,27 @@ class NextBook:
     def leave_out_unread_sexes(self) -> None:
         """The row of an animal whose sex can't be read is left out, where neither the book nor any offspring says
         it."""
-        for animal in self.animals.values():
-            for role, parent in animal.parents():
-                self.roles.setdefault(parent, role)
+        links = collections.Counter(
+            (parent, role) for animal in self.animals.values() for role, parent in animal.parents()
+        )
+        for parent in {parent for parent, _ in links}:
+            sires, dams = links[parent, Role.SIRE], links[parent, Role.DAM]
+            self.roles[parent] = self.role_of(parent, sires, dams)
         for id, animal in list(self.animals.items()):
             if "sex" in animal.unread and not self.roles.get(id) and not self.book.known.get(id):
                 self.report.add(animal.line, id, SexNotKnown())
                 del self.animals[id]
 
+    def role_of(self, id: str, sires: int, dams: int) -> Role:
+        """Where an animal is both, what it is in the book is preferred, and then what it is more often."""
+        known = self.book.known.get(id)
+        if sires and dams and known:
+            return Role.SIRE if known.is_male else Role.DAM
+        return Role.SIRE if sires >= dams else Role.DAM
+
     def find_sexes(self) -> None:
-        """An animal without a sex has that of the first parent that it is, or else that of the book; else it is taken
-        for a female."""
+        """An animal without a sex has that of the parent that it is, or else that of the book; else it is taken for a
+        female."""
         for id, animal in self.animals.items():
             if animal.sex:
                 continue
@@ -132,10 +153,15 @@ class NextBook:
                 self.report.add(animal.line, id, SexInferred(animal.sex, animal.sex_source, "sex" in animal.unread))
 
     def find_days(self) -> None:
-        cut_cycles(self.animals, self.report)
+        cut_cycles(self.animals, self.report, self.links_of_book())
         inferred = [(id, known) for id, known in self.book.known.items() if known.birth.is_inferred]
         kept = {id: (self.book.records[known.number].born.toordinal(), known.birth) for id, known in inferred}
         Days(self.animals, kept).infer(self.report)
+
+    def links_of_book(self) -> set[tuple[str, str]]:
+        """Each animal of the book with a parent that it has there."""
+        pairs = ((known.id, self.book.records[known.number]) for known in self.book.known.values())
+        return {(id, self.id_of(parent)) for id, record in pairs for parent in (record.sire, record.dam) if parent}
 
     def give_numbers(self, breed: str, country: str) -> None:
         """An animal that is or was in the book keeps its twelve digits; new ones go on from the greatest, by birth day
@@ -180,7 +206,7 @@ class NextBook:
         for id, animal in self.animals.items():
             before = self.book.known.get(id)
             had_row = before is not None and before.standing.had_row()
-            standing = Standing.ROW if animal.line else Standing.GONE if had_row else Standing.PARENT
+            standing = Standing.ROW if animal.line or id in self.used_again else Standing.GONE if had_row else Standing.PARENT
             inferred = animal.birth_basis, animal.exit_basis, animal.sex_source
             texts = written.get((id, Role.SIRE), ""), written.get((id, Role.DAM), "")
             kept[id] = Known(animal.number, id, animal.name, standing, *inferred, *texts)

@@ -28,6 +28,23 @@ class FoundByName(Finding):
 
 
 @dataclass(frozen=True, slots=True)
+class FoundByNearId(Finding):
+    """A parent whose cell differs from just one id in case, blanks or leading zeros."""
+
+    role: Role
+    written: str
+    id: str
+
+    what = What.INFERRED
+
+    def words(self) -> str:
+        return (
+            f"its {self.role} '{self.written}' is {self.id}, whose id differs in case, blanks or zeros alone: if another "
+            "is meant, give that one a row"
+        )
+
+
+@dataclass(frozen=True, slots=True)
 class AddedAsParent(Finding):
     """A parent without a row. It may be an animal with a row that is written otherwise: `meant` is that one, or
     `named` are those that have its text as their name."""

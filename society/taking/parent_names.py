@@ -14,6 +14,8 @@ from society.taking.report import Report
 
 # of so many links a parent without a row that is a sire and a dam is told
 MANY = 3
+# in a sheet a text without a digit is told where so many animals have it as a parent, and so many texts are
+SEVERAL, MOST_WORDS = 2, 9
 
 
 class Names:
@@ -56,7 +58,6 @@ class Names:
     def add_parents(self) -> None:
         """A founder for each parent without a row."""
         calves = collections.Counter(parent for animal in self.animals.values() for _, parent in animal.parents())
-        self.advise_unknown()
         for animal in list(self.animals.values()):
             for role, parent in animal.parents():
                 if parent not in self.animals:
@@ -66,20 +67,32 @@ class Names:
                 one = self.animals[parent]
                 one.named_in = one.named_in or (0 if one.line else animal.line)
 
-    def advise_unknown(self) -> None:
-        """A parent without a row that is a sire and a dam of many may be a word for an unknown one."""
-        links = collections.Counter(
-            (parent, role) for animal in self.animals.values() for role, parent in animal.parents()
-        )
-        for (parent, role), dams in links.items():
-            sires = links.get((parent, Role.SIRE), 0)
+    def advise_unknown(self, is_pedigree: bool) -> None:
+        """A parent without a row that several animals have may be a word for an unknown one: one that is both a sire
+        and a dam, or, in a sheet, a text without a digit."""
+        calves = collections.defaultdict[str, dict[Role, int]](lambda: {Role.SIRE: 0, Role.DAM: 0})
+        children = collections.defaultdict[str, set[str]](set)
+        for animal in self.animals.values():
+            for role, parent in animal.parents():
+                calves[parent][role] += 1
+                children[parent].add(animal.id)
+        told = []
+        for parent, counts in calves.items():
             has_row = parent in self.animals and self.animals[parent].line
-            if role is Role.DAM and sires and sires + dams >= MANY and not has_row and "," not in parent:
-                many = f"{parent} has no row, and is the sire of {sires} and the dam of {dams}"
-                self.report.advice.append(
-                    f"{many}: if it means an unknown parent, take this again with "
-                    f"--unknown={shlex.quote(parent)} --drop-gone"
-                )
+            is_both = counts[Role.SIRE] and counts[Role.DAM]
+            if is_pedigree:
+                may_be = is_both and sum(counts.values()) >= MANY
+            else:
+                may_be = len(children[parent]) >= SEVERAL and (is_both or not any(map(str.isdigit, parent)))
+            if may_be and not has_row and "," not in parent:
+                told.append((-sum(counts.values()), parent, counts))
+        for _, parent, counts in sorted(told, key=lambda one: one[:2])[:MOST_WORDS]:
+            self.report.advice.append(unknown_advice(parent, counts))
+        if len(told) > MOST_WORDS:
+            self.report.advice.append(
+                f"{len(told) - MOST_WORDS} more parents without a row are no numbers, and of several animals: the "
+                "report has all that were added"
+            )
 
     @functools.cached_property
     def same_letters(self) -> SameLetters:
@@ -94,6 +107,14 @@ class Names:
             return "", tuple(ids)
         alike = ids[0] if ids else self.same_letters.meant(text.removesuffix(".0")) or self.same_letters.meant(text)
         return (alike if alike != calf.id else ""), ()
+
+
+def unknown_advice(parent: str, counts: dict[Role, int]) -> str:
+    roles = " and ".join(f"the {role} of {count}" for role, count in counts.items() if count)
+    return (
+        f"{parent} has no row, and is {roles}: if it means an unknown parent, take this again with "
+        f"--unknown={shlex.quote(parent)} --drop-gone"
+    )
 
 
 def can_be(parent: Animal, role: Role, calf: Animal) -> bool:

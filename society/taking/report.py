@@ -13,6 +13,8 @@ from society.mistake import counted
 class What(enum.StrEnum):
     """What an entry is about, in the order in which the report has them."""
 
+    # it is taken as it stands, and may be wrong
+    LOOK = "to look at"
     LEFT_OUT = "left out"
     INFERRED = "inferred"
     CHANGED = "changed"

@@ -5,6 +5,8 @@ import datetime
 import pathlib
 from dataclasses import dataclass, field
 
+from society.taking.looks import APART, YOUNGEST, Limits
+
 
 @dataclass
 class Wishes:
@@ -25,3 +27,13 @@ class Wishes:
     leave_out: bool = False
     worksheet: str = ""
     month_first: bool = False
+    # take also what looks like another sheet than the book's
+    anyway: bool = False
+    youngest: int | None = None
+    apart: int | None = None
+    known: list[str] = field(default_factory=list)
+    owners: list[str] = field(default_factory=list)
+
+    def limits(self) -> Limits:
+        """What parents' ages and births of one dam are looked at for."""
+        return Limits(YOUNGEST if self.youngest is None else self.youngest, APART if self.apart is None else self.apart)

@@ -102,5 +102,8 @@ def test_likelier_column_comes_later(desk: Desk) -> None:
 
 def test_sums(desk: Desk) -> None:
     done = desk.take("id;birth;sire;dam\na;2001-01-01;;\nSumme: 1;;;\n")
-    assert "is this row an animal, as which it is taken (line 3: Summe: 1)? Leave out rows that count or sum up" in done.out
+    done.tells(
+        "line 3: Summe: 1: to look at: is this row an animal? It is taken as one: leave out rows that count or sum up, and "
+        "take the sheet again"
+    )
     assert "2 animals" in done.last

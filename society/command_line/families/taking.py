@@ -5,7 +5,7 @@ import argparse
 import datetime
 import pathlib
 
-from society.command_line.arguments import day, three_letters
+from society.command_line.arguments import day, days, three_letters
 from society.command_line.parser import Words
 from society.mistake import Mistake
 from society.packages import Group, need
@@ -54,6 +54,16 @@ def add_words(words: Words) -> None:
     take.add_argument(
         "--month-first", action="store_true", help="days such as 03/25/2001 have the month first [the day], also later"
     )
+    take.add_argument(
+        "--anyway", action="store_true",
+        help="take the sheet though it looks like another one than the book's: another flock, another id, an older sheet",
+    )  # fmt: skip
+    take.add_argument(
+        "--youngest", type=days, metavar="DAYS", help="tell parents that were younger at a birth, also later [180]"
+    )
+    take.add_argument(
+        "--apart", type=days, metavar="DAYS", help="tell births of one dam that are nearer, also later [100]"
+    )
     take.add_argument("--breed", type=three_letters, metavar="ABC", help="the numbers' breed [HOL, or as in the book]")
     take.add_argument(
         "--country", type=three_letters, metavar="ABC",
@@ -80,7 +90,7 @@ def do_take(asked: argparse.Namespace) -> None:
     wishes = Wishes(
         asked.book, asked.columns, asked.unknown, asked.sexes, asked.breed or "", asked.country or "", asked.day,
         asked.strict, asked.drop_gone, asked.semicolons, asked.keep, asked.leave_out, asked.worksheet,
-        asked.month_first,
+        asked.month_first, asked.anyway, asked.youngest, asked.apart,
     )  # fmt: skip
     if asked.sheet and is_workbook(asked.sheet):
         need(Group.WORKBOOKS, ": or save the sheet as CSV, and take that")

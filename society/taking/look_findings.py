@@ -1,0 +1,129 @@
+"""What is taken as it stands, and told for somebody to look at: each kind as data, and in words."""
+from __future__ import annotations
+
+import datetime
+from dataclasses import dataclass
+
+from society.book.role import Role
+from society.mistake import counted
+from society.taking.report import Finding, What
+
+
+class Look(Finding):
+    what = What.LOOK
+
+
+def at_line(id: str, line: int) -> str:
+    return f"{id} (line {line})" if line else id
+
+
+@dataclass(frozen=True, slots=True)
+class IdsAlike(Look):
+    """Two animals have ids that differ in case, blanks or leading zeros alone."""
+
+    other: str
+    line: int
+
+    def words(self) -> str:
+        where = f"line {self.line}" if self.line else "in the book"
+        return f"its id differs from {self.other} ({where}) in case, blanks or zeros alone: are they one animal?"
+
+
+@dataclass(frozen=True, slots=True)
+class YoungParent(Look):
+    """A parent that was younger than a limit when its offspring was born."""
+
+    role: Role
+    parent: str
+    line: int
+    days: int
+    limit: int
+
+    def words(self) -> str:
+        return (
+            f"its {self.role} {at_line(self.parent, self.line)} was {counted(self.days, 'day')} old at its birth: less "
+            f"than {self.limit} (--youngest {self.limit})"
+        )
+
+
+@dataclass(frozen=True, slots=True)
+class BirthsTooNear(Look):
+    """Two births of one dam that are nearer to one another than can be."""
+
+    dam: str
+    other: str
+    line: int
+    days: int
+    limit: int
+
+    def words(self) -> str:
+        return (
+            f"its dam {self.dam} bore {at_line(self.other, self.line)} {counted(self.days, 'day')} before: less than "
+            f"{self.limit} (--apart {self.limit})"
+        )
+
+
+@dataclass(frozen=True, slots=True)
+class SireLeftLongBefore(Look):
+    sire: str
+    line: int
+    left: datetime.date
+    born: datetime.date
+
+    def words(self) -> str:
+        return (
+            f"its sire {at_line(self.sire, self.line)} left on {self.left}, more than a year before its birth on "
+            f"{self.born}: is it another sire, or frozen semen?"
+        )
+
+
+@dataclass(frozen=True, slots=True)
+class CastratedSire(Look):
+    """A wether, a gelding or another castrated male has offspring."""
+
+    word: str
+    calves: int
+    first: str
+    line: int
+
+    def words(self) -> str:
+        more = f" and of {self.calves - 1} more" if self.calves > 1 else ""
+        return f"it is the sire of {at_line(self.first, self.line)}{more}, and its sex is '{self.word}'"
+
+
+@dataclass(frozen=True, slots=True)
+class OldAsLiving(Look):
+    """An animal without an exit that was born decades before the others."""
+
+    born: datetime.date
+    years: int
+    median: int
+
+    def words(self) -> str:
+        return (
+            f"born {self.born}, it counts as living, {self.years} years older than half of those that do ({self.median}): "
+            "has it left?"
+        )
+
+
+@dataclass(frozen=True, slots=True)
+class LikeASum(Look):
+    """A row that seems to count or to sum up."""
+
+    def words(self) -> str:
+        return "is this row an animal? It is taken as one: leave out rows that count or sum up, and take the sheet again"
+
+
+@dataclass(frozen=True, slots=True)
+class OwnerRespelt(Look):
+    """All animals of an owner have one now whose name is much alike, and whom the book didn't have."""
+
+    before: str
+    now: str
+    animals: int
+
+    def words(self) -> str:
+        return (
+            f"the {counted(self.animals, 'animal')} of '{self.before}' are now of '{self.now}', whom the book didn't have: "
+            f"if the name is only written otherwise, undo this, and take the sheet with --owner '{self.before}={self.now}'"
+        )

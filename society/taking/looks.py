@@ -1,0 +1,93 @@
+"""What may be wrong of animals that are taken as they stand: ages, births of one dam, sires that left or are castrated,
+and animals that must have left."""
+from __future__ import annotations
+
+import collections
+import datetime
+import statistics
+from dataclasses import dataclass
+
+from society.book.role import Role
+from society.reading.animal import Animal
+from society.taking.look_findings import BirthsTooNear, CastratedSire, OldAsLiving, SireLeftLongBefore, YoungParent
+from society.taking.report import Report
+
+YOUNGEST, APART = 180, 100
+# births of one litter or of twins may be so many days from one another
+LITTER = 3
+YEAR = 365
+# an animal that is so many years older than half of the living ones has probably left
+DECADES = 20
+# of fewer living animals the median says little
+FEW = 10
+
+
+@dataclass(frozen=True, slots=True)
+class Limits:
+    """How many days old a parent is at least, and how far the births of one dam are from one another."""
+
+    youngest: int = YOUNGEST
+    apart: int = APART
+
+
+class Looks:
+    """Looks at all animals, whose days and parents are found. Days that were inferred tell nothing."""
+
+    def __init__(self, animals: dict[str, Animal], limits: Limits, report: Report) -> None:
+        self.animals, self.limits, self.report = animals, limits, report
+
+    def tell(self, exits_are_given: bool) -> None:
+        for animal in self.animals.values():
+            if animal.line:
+                self.look_at_parents(animal)
+        self.look_at_dams()
+        self.look_at_castrated()
+        if exits_are_given:
+            self.look_at_living()
+
+    def look_at_parents(self, calf: Animal) -> None:
+        for role, id in calf.parents():
+            parent = self.animals[id]
+            if not calf.has_day():
+                return
+            days = (calf.born - parent.born).days
+            if parent.has_day() and days < self.limits.youngest:
+                found = YoungParent(role, id, parent.line, days, self.limits.youngest)
+                self.report.add(calf.line, calf.id, found)
+            if role is Role.SIRE and parent.left and calf.born > parent.left + datetime.timedelta(YEAR):
+                left = SireLeftLongBefore(id, parent.line, parent.left, calf.born)
+                self.report.add(calf.line, calf.id, left)
+
+    def look_at_dams(self) -> None:
+        calves = collections.defaultdict(list)
+        for animal in self.animals.values():
+            if animal.dam and animal.has_day() and not animal.embryo:
+                calves[animal.dam].append(animal)
+        for dam, its in calves.items():
+            its.sort(key=lambda one: (one.born, one.line))
+            for before, calf in zip(its, its[1:]):
+                days = (calf.born - before.born).days
+                if LITTER < days < self.limits.apart and (calf.line or before.line):
+                    found = BirthsTooNear(dam, before.id, before.line, days, self.limits.apart)
+                    self.report.add(calf.line, calf.id, found)
+
+    def look_at_castrated(self) -> None:
+        calves = collections.defaultdict(list)
+        for animal in self.animals.values():
+            if animal.sire and self.animals[animal.sire].castrated:
+                calves[animal.sire].append(animal)
+        for sire, its in calves.items():
+            animal = self.animals[sire]
+            found = CastratedSire(animal.cells.get("sex", ""), len(its), its[0].id, its[0].line)
+            self.report.add(animal.line, sire, found)
+
+    def look_at_living(self) -> None:
+        living = [one for one in self.animals.values() if one.line and not one.left and not one.exit_basis.is_inferred]
+        dated = [one for one in living if one.has_day()]
+        if len(dated) < FEW:
+            return
+        median = int(statistics.median(one.born.year for one in dated))
+        for animal in dated:
+            if animal.born.year <= median - DECADES:
+                found = OldAsLiving(animal.born, median - animal.born.year, median)
+                self.report.add(animal.line, animal.id, found)

@@ -1,0 +1,41 @@
+"""Ids that differ in case, blanks or leading zeros alone: of a parent's cell, and of two rows."""
+from __future__ import annotations
+
+import collections
+
+from society.book.book import Book
+from society.reading.animal import Animal
+from society.reading.ids import nearly
+from society.taking.look_findings import IdsAlike
+from society.taking.parent_findings import FoundByNearId
+from society.taking.parent_names import can_be
+from society.taking.report import Report
+
+
+class NearIds:
+    """The animals that have a row, or had one, by what their ids have but for case, blanks and zeros. `animals` are
+    those of the sheet and of the book."""
+
+    def __init__(self, rows: dict[str, Animal], animals: dict[str, Animal], book: Book) -> None:
+        self.rows, self.animals = rows, animals
+        self.with_row = rows.keys() | {id for id, known in book.known.items() if known.standing.had_row()}
+        self.near: collections.defaultdict[str, list[str]] = collections.defaultdict(list)
+        for id in sorted(self.with_row & animals.keys(), key=lambda one: (animals[one].line, one)):
+            self.near[nearly(id)].append(id)
+
+    def find_parents(self, report: Report) -> None:
+        """A parent that is no id, but differs so from just one, is that animal where it can be it."""
+        for calf in self.rows.values():
+            for role, text in calf.parents():
+                near = [] if text in self.with_row else self.near.get(nearly(text), [])
+                if len(near) == 1 and near[0] != calf.id and can_be(self.animals[near[0]], role, calf):
+                    calf.set_parent(role, near[0])
+                    report.add(calf.line, calf.id, FoundByNearId(role, text, near[0]))
+
+    def tell_alike(self, report: Report) -> None:
+        """Rows whose ids differ only so."""
+        for ids in self.near.values():
+            for id in ids[1:]:
+                animal, first = self.animals[id], self.animals[ids[0]]
+                if animal.line or first.line:
+                    report.add(animal.line, id, IdsAlike(first.id, first.line))

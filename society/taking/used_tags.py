@@ -1,0 +1,50 @@
+"""Ids that are used again for other animals, born years later: the row is left out, and the book keeps the first."""
+from __future__ import annotations
+
+from society.book.book import Book
+from society.book.known import Known
+from society.reading.animal import Animal
+from society.taking.report import Report
+from society.taking.row_findings import IdUsedAgain
+
+# an animal that is born so many days later may be another one
+YEARS_LATER = 700
+
+
+def leave_out_used_tags(animals: dict[str, Animal], book: Book, report: Report) -> set[str]:
+    """Leaves out rows of animals that can't be those of the book which have their ids; answers these ids."""
+    found = set()
+    calves = earliest_calves(book)
+    for id, animal in list(animals.items()):
+        known = book.known.get(id)
+        if known and is_another(animal, known, book, calves.get(known.number)):
+            record = book.records[known.number]
+            named = [one for one in animals.values() if id in (one.sire, one.dam) and one.birth.last > animal.birth.first]
+            lines = tuple(one.line for one in named)
+            report.add(animal.line, id, IdUsedAgain(record.born, known.name, animal.birth.first, animal.name, lines))
+            del animals[id]
+            found.add(id)
+    return found
+
+
+def earliest_calves(book: Book) -> dict[str, int]:
+    """The day on which the first offspring of each parent was born."""
+    found: dict[str, int] = {}
+    for record in book.records.values():
+        for parent in (record.sire, record.dam):
+            if parent:
+                found[parent] = min(found.get(parent, record.born.toordinal()), record.born.toordinal())
+    return found
+
+
+def is_another(animal: Animal, known: Known, book: Book, first_calf: int | None) -> bool:
+    """Was it born years after the animal of the book, and has it another name or another sex, or has that one offspring
+    that is older?"""
+    record = book.records[known.number]
+    if not animal.has_day() or known.birth.is_inferred:
+        return False
+    if (animal.birth.first - record.born).days < YEARS_LATER:
+        return False
+    has_other_name = animal.name and known.name and animal.name.casefold() != known.name.casefold()
+    has_other_sex = animal.sex and not known.sex.is_inferred and animal.sex != known.number[6]
+    return bool(has_other_name or has_other_sex or (first_calf and first_calf <= animal.birth.first.toordinal()))
