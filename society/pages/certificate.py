@@ -8,10 +8,10 @@ from society.book.book import NO_OWNER, Book
 from society.book.known import Known
 from society.book.role import Role
 from society.herdbook import Herdbook
-from society.pages.drawing import DAM, FONT, GREY, INBRED, INBRED_INK, INK, LINE, PAPER, SIRE
 from society.pages.languages import Language
 from society.pages.marks import Mark, mark_of
-from society.pages.rendering import rendered
+from society.pages.page import rendered
+from society.pages.picture import DAM, FONT, GREY, INBRED, INBRED_INK, INK, LINE, PAPER, SIRE
 
 # the fourteen ancestors, line by line of the drawn pedigree: each stands in the line where it begins
 LINES = [

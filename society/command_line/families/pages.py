@@ -10,10 +10,10 @@ from society.command_line.arguments import file, generations
 from society.command_line.parser import Words
 from society.herdbook import Herdbook
 from society.packages import Group
-from society.pages.drawing import file_name
-from society.pages.drawn_pedigree import tree_picture
 from society.pages.languages import LANGUAGES, Language
-from society.pages.trend import trend_picture
+from society.pages.pedigree_picture import tree_picture
+from society.pages.picture import file_name
+from society.pages.trend_picture import trend_picture
 
 
 def add_words(words: Words) -> None:

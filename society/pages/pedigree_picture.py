@@ -7,7 +7,9 @@ from dataclasses import dataclass, field
 from society.answers.listing import Coefficient
 from society.book.book import Book
 from society.book.known import Known
-from society.pages.drawing import (
+from society.pages.languages import Language
+from society.pages.marks import mark_of
+from society.pages.picture import (
     DAM,
     GREY,
     INBRED,
@@ -21,8 +23,6 @@ from society.pages.drawing import (
     text_at,
     year_of,
 )
-from society.pages.languages import Language
-from society.pages.marks import mark_of
 from society.pedigree_order import ancestors
 
 BOX_WIDTH, BOX_HEIGHT, COLUMN, ROW, MARGIN = 200, 62, 236, 72, 24

@@ -5,7 +5,7 @@ import pathlib
 
 import jinja2
 
-from society.pages.drawing import printable
+from society.pages.picture import printable
 
 HERE = pathlib.Path(__file__).resolve().parent
 

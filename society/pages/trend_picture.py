@@ -9,8 +9,8 @@ from typing import Callable, NamedTuple
 from society.answers.listing import Coefficient
 from society.book.book import Book
 from society.mistake import Mistake
-from society.pages.drawing import GREY, INBRED_INK, INK, PAPER, escape, svg, text_at
 from society.pages.languages import Language
+from society.pages.picture import GREY, INBRED_INK, INK, PAPER, escape, svg, text_at
 
 WIDTH, HEIGHT = 1000, 520
 LEFT, RIGHT, TOP, BOTTOM = 70, 70, 84, 92
