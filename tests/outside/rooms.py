@@ -16,6 +16,8 @@ class Rooms(Checks):
             room.mkdir()
             for folder in "examples", "society":
                 shutil.copytree(TOP / folder, room / folder)
+            # the front desk asks it for the packages that it needs
+            shutil.copy(TOP / "pyproject.toml", room)
             (room / "herdbook").symlink_to(self.program)
         return room
 
