@@ -5,6 +5,7 @@ import functools
 import os
 import random
 import subprocess
+import sys
 from fractions import Fraction
 
 import pytest
@@ -100,18 +101,19 @@ def selfed(generations: int) -> str:
     return "t0 0 0\n" + "".join(f"t{at + 1} t{at} t{at}\n" for at in range(generations))
 
 
-def drawn_rows(seed: int, count: int, back: int) -> list[tuple[str, str, str]]:
-    """Animals of alternate sexes, whose parents are among so many before them."""
+def drawn_rows(seed: int, families: int, size: int) -> list[tuple[str, str, str]]:
+    """Families of animals of alternate sexes, whose parents are of their family."""
     draw = random.Random(seed)
 
-    def parent(at: int, sex: int) -> str:
-        last = at - 1 - (at - 1 - sex) % 2
-        first = max(sex, at - back)
-        if last <= first or draw.random() < 0.1:
-            return "0"
-        return f"i{draw.randrange(first + (first - sex) % 2, last + 1, 2)}"
+    def parent(family: int, at: int, sex: int) -> str:
+        able = range(max(sex, (at - 40) // 2 * 2 + sex), at, 2)
+        return f"i{family * size + draw.choice(able)}" if able and draw.random() < 0.95 else "0"
 
-    return [(f"i{at}", parent(at, 0), parent(at, 1)) for at in range(count)]
+    return [
+        (f"i{family * size + at}", parent(family, at, 0), parent(family, at, 1))
+        for family in range(families)
+        for at in range(size)
+    ]
 
 
 def ancestry(rows: list[tuple[str, str, str]], kept: list[str]) -> set[str]:
@@ -126,8 +128,8 @@ def ancestry(rows: list[tuple[str, str, str]], kept: list[str]) -> set[str]:
 
 def test_keep(desk: Desk) -> None:
     """Of 200,000 lines some animals with their ancestors are taken, and have the coefficients of the whole."""
-    rows = drawn_rows(1, 200_000, 30_000)
-    kept = [id for id, *_ in rows[-100::10]]
+    rows = drawn_rows(1, 1_000, 200)
+    kept = [f"i{family * 200 + 150}" for family in range(10, 20)]
     pedigree = desk.write("many.txt", "".join(" ".join(row) + "\n" for row in rows))
     done = desk.wrong("the pedigree and the book have 200,000 animals together", "take", "--pedigree", pedigree)
     assert "by --keep FILE: their coefficients stay as they are" in done.err
@@ -148,8 +150,8 @@ def test_keep(desk: Desk) -> None:
         older, younger = sorted((one, other), key=order.__getitem__)
         return (kinship(older, parents[younger][0]) + kinship(older, parents[younger][1])) / 2
 
-    for id in kept[:3]:
-        assert found[id] == kinship(*parents[id])
+    coefficients = [kinship(*parents[id]) for id in kept]
+    assert [found[id] for id in kept] == coefficients and max(coefficients) > 0
 
 
 def test_keep_names_an_animal_that_is_not_there(desk: Desk) -> None:
@@ -175,3 +177,27 @@ def test_standard_input(desk: Desk, program: str) -> None:
     done = subprocess.run(words, cwd=desk.room, env=env, input=given, capture_output=True, text=True, timeout=60)
     assert done.returncode == 0 and "standard input: the sexes and birth days of 2 animals" in done.stdout
     assert desk.parents() == {"a": ("", ""), "b": ("a", "")}
+
+
+# the solutions of Mrode's example 3.1 as printed (Linear Models for the Prediction of Animal Breeding Values, 2014)
+SOLUTIONS = {
+    "male": 4.358, "female": 3.404, "1": 0.098, "2": -0.019, "3": -0.041, "4": -0.009, "5": -0.186, "6": 0.177,
+    "7": -0.249, "8": 0.183,
+}  # fmt: skip
+
+
+def test_recipes_by_scipy(desk: Desk) -> None:
+    """Breeding values of the textbook's calves, and kinships, from the inverse."""
+    desk.good("take", "--pedigree", str(TOP / "examples/growth.txt"))
+    desk.good("inverse", "--matrix-market", "inverse.mtx")
+    found = recipe(desk, "blup_scipy.py", "inverse.mtx", str(TOP / "examples/growth.csv"), "2")
+    assert {name: float(value) for name, value in found} == pytest.approx(SOLUTIONS, abs=0.00101)
+    kinships = recipe(desk, "kinship_scipy.py", "inverse.mtx", "7", "8", "5")
+    wanted = [0.5, 0.125, 0.25, 0.5, 0.1875, 0.5]
+    assert [float(value) for _, _, value in kinships] == wanted
+
+
+def recipe(desk: Desk, name: str, *words: str) -> list[list[str]]:
+    command = [sys.executable, str(TOP / "examples/recipes" / name), *words]
+    done = subprocess.run(command, cwd=desk.room, capture_output=True, text=True, timeout=60, check=True)
+    return [line.split() for line in done.stdout.splitlines()]

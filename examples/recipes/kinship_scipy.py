@@ -1,0 +1,13 @@
+# kinship_scipy.py FILE ID..: the kinship of each pair of animals, in SciPy, from the inverse relationship matrix that
+# `society/society inverse --matrix-market FILE` writes. Kinship is half of the relationship.
+import sys
+import numpy
+from scipy.io import mmread
+from scipy.sparse.linalg import splu
+inverse = splu(mmread(sys.argv[1]).tocsc())
+ids = open(sys.argv[1] + ".ids", encoding="utf-8").read().splitlines()
+named = [ids.index(id) for id in sys.argv[2:]]
+# the columns of the relationship matrix that are named, and no others
+columns = inverse.solve(numpy.eye(len(ids))[:, named])
+for row, column in ((row, column) for row in range(len(named)) for column in range(row, len(named))):
+    print(ids[named[row]], ids[named[column]], f"{columns[named[row], column] / 2:.6f}")
