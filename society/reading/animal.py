@@ -61,9 +61,6 @@ class Animal:
     def has_day(self) -> bool:
         return self.birth.is_day
 
-    def born_marked(self) -> str:
-        return f"{self.born}{' (inferred)' if self.birth_basis.is_inferred else ''}"
-
     def where(self) -> str:
         """How a sentence about it begins."""
         return f"line {self.line}: {self.id}: " if self.line else f"{self.id}: "

@@ -77,18 +77,6 @@ class LeftOut(Finding):
 
 
 @dataclass(frozen=True, slots=True)
-class Sentence(Finding):
-    """What is told in a sentence."""
-
-    of: What
-    of_part: Part | None
-    sentence: str
-
-    def words(self) -> str:
-        return self.sentence
-
-
-@dataclass(frozen=True, slots=True)
 class Entry:
     """A line of the report. `line` is the sheet's, 0 where the animal has no row; `id` is the society's own."""
 
@@ -98,11 +86,11 @@ class Entry:
 
     @property
     def what(self) -> What:
-        return self.finding.of if isinstance(self.finding, Sentence) else self.finding.what
+        return self.finding.what
 
     @property
     def part(self) -> Part | None:
-        return self.finding.of_part if isinstance(self.finding, Sentence) else self.finding.part
+        return self.finding.part
 
     @property
     def why(self) -> str:
@@ -124,13 +112,6 @@ class Report:
 
     def add(self, line: int, id: str, finding: Finding) -> None:
         self.entries.append(Entry(line, id, finding))
-
-    def tell(self, what: What, line: int, id: str, why: str) -> None:
-        self.add(line, id, Sentence(what, None, why))
-
-    def leave_out(self, part: Part, line: int, id: str, what: str, why: str) -> None:
-        """A row, a cell or a parent is left out: `what` is the words for it."""
-        self.add(line, id, Sentence(What.LEFT_OUT, part, f"{what} is left out: {why}"))
 
     def left_out(self) -> str:
         """How many rows, cells and parents are left out, in words."""
