@@ -31,7 +31,8 @@ def without_day(word: str) -> str:
 
 def certificate(desk: Desk, id: str, *words: str) -> str:
     desk.good("certificate", id, "--out", "page.html", *words)
-    return " ".join(" ".join(desk.page("page.html").itertext()).split())
+    body = next(part for part in desk.page("page.html") if part.tag.endswith("body"))
+    return " ".join(" ".join(body.itertext()).split())
 
 
 @pytest.fixture
