@@ -6,7 +6,6 @@ import pathlib
 import shlex
 import subprocess
 import sys
-from typing import IO, Iterator
 
 from society.book.commands import Command, text_of
 from society.mistake import Mistake, counted
@@ -47,7 +46,7 @@ class Herdbook:
             raise Mistake(f"{self.path} --version ended with status {done.returncode}: is it the program herdbook?")
         return text.decode(errors="replace").strip()
 
-    def start(self, words: list[str], given: int | IO[bytes], errors: int | None) -> subprocess.Popen[bytes]:
+    def start(self, words: list[str], given: int, errors: int | None) -> subprocess.Popen[bytes]:
         try:
             return subprocess.Popen([str(self.path), *words], stdin=given, stdout=subprocess.PIPE, stderr=errors)
         except OSError as error:
@@ -62,14 +61,9 @@ class Herdbook:
         self.ended(running.returncode, err, words)
         return out.decode()
 
-    def lines(self, words: list[str], path: pathlib.Path) -> Iterator[str]:
-        """Line by line what it writes of a command file, for long lists."""
-        with open(path, "rb") as book:
-            running = self.start(words, book, subprocess.PIPE)
-            for line in running.stdout or ():
-                yield line.decode().rstrip("\n")
-            err = running.stderr.read() if running.stderr else b""
-            self.ended(running.wait(), err, words)
+    def lines(self, words: list[str], book: bytes) -> list[str]:
+        """The lines that it writes of a command file."""
+        return self.run(words, book).splitlines()
 
     def ended(self, status: int, err: bytes, words: list[str]) -> None:
         if status:
@@ -79,11 +73,14 @@ class Herdbook:
 
     def file(self, commands: list[Command]) -> dict[int, Refusal]:
         """The refusals of commands: for each refused one its place, from 0 on, and the refusal."""
-        replies = self.run(["file"], text_of(commands)).splitlines()
-        if len(replies) != len(commands):
+        return self.file_text(text_of(commands), len(commands))
+
+    def file_text(self, book: bytes, count: int) -> dict[int, Refusal]:
+        """The same of a command file with so many commands."""
+        replies = self.lines(["file"], book)
+        if len(replies) != count:
             raise Mistake(
-                f"the program answered {len(replies)} of {counted(len(commands), 'command')}: is {self.path} the right "
-                "one?"
+                f"the program answered {len(replies)} of {counted(count, 'command')}: is {self.path} the right one?"
             )
-        refused = (line.split(",") for line in replies if line.endswith(",accepted") is False)
+        refused = (line.split(",") for line in replies if not line.endswith(",accepted"))
         return {int(serial) - 1: Refusal(int(refusal)) for serial, _, refusal in refused}

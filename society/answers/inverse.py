@@ -4,7 +4,7 @@ from __future__ import annotations
 import pathlib
 
 from society.book.book import Book
-from society.book.files import write_all
+from society.book.out import write_outs
 from society.herdbook import Herdbook
 
 # Elements are summed up as whole numbers of this unit, so that rounding comes last.
@@ -17,7 +17,7 @@ def summed(book: Book, program: Herdbook) -> tuple[list[str], dict[int, int]]:
     order: list[str] = []
     rank: dict[str, int] = {}
     elements: dict[int, int] = {}
-    for line in program.lines(["inverse"], book.path):
+    for line in program.lines(["inverse"], book.command_file()):
         animal, row, column, value = line.split(",")
         if animal not in rank:
             rank[animal] = len(order)
@@ -33,7 +33,7 @@ def scaled(value: str) -> int:
     return ((int(numerator) << BITS + 1) + below) // (2 * below)
 
 
-def write_inverse(book: Book, program: Herdbook, path: pathlib.Path) -> tuple[int, int, pathlib.Path]:
+def write_inverse(book: Book, program: Herdbook, path: pathlib.Path, force: bool) -> tuple[int, int, pathlib.Path]:
     """Writes the matrix and, beside it, the ids of its rows, one a line. Answers how many rows and elements there
     are."""
     order, elements = summed(book, program)
@@ -46,8 +46,6 @@ def write_inverse(book: Book, program: Herdbook, path: pathlib.Path) -> tuple[in
     ]
     lines += [f"{(at >> 16) + 1} {(at & 0xFFFF) + 1} {elements[at] / unit!r}\n" for at in sorted(elements)]
     ids = path.with_name(path.name + ".ids")
-    write_all(
-        path.parent,
-        {path.name: "".join(lines).encode(), ids.name: "".join(names[number].id + "\n" for number in order).encode()},
-    )
+    rows = "".join(names[number].id + "\n" for number in order)
+    write_outs(book, {path: "".join(lines).encode(), ids: rows.encode()}, force)
     return len(order), len(elements), ids

@@ -3,48 +3,19 @@ from __future__ import annotations
 
 import csv
 import io
-from fractions import Fraction
 from typing import Iterable, NamedTuple
 
 from society.book.book import Book
+from society.book.cells import for_spreadsheets
+from society.book.coefficients import Coefficient, kept_coefficients
 from society.book.known import Known
 from society.herdbook import Herdbook
 from society.mistake import Mistake
 from society.refusals import MatingFault
 
 TITLES = ["id", "name", "number", "birth", "coefficient", "decimal", "percent"]
-PLACES = 10
 # so many sires are asked for at once: a command line has an end
 SIRES_AT_ONCE = 5_000
-
-
-class Coefficient(NamedTuple):
-    """A coefficient of inbreeding as the program prints it: a fraction in lowest terms, and hundredths of a percent."""
-
-    fraction: str
-    percent: str
-
-    @property
-    def value(self) -> Fraction:
-        return Fraction(self.fraction)
-
-    @property
-    def is_inbred(self) -> bool:
-        return self.fraction != "0"
-
-    def decimal(self) -> str:
-        """Rounded to ten places."""
-        scaled = (self.value * 10**PLACES * 2 + 1) // 2
-        return f"{scaled // 10**PLACES}.{scaled % 10**PLACES:0{PLACES}}".rstrip("0").rstrip(".")
-
-
-def coefficients(book: Book, program: Herdbook) -> dict[str, Coefficient]:
-    """The coefficient of each number, in age order."""
-    found = {}
-    for line in program.lines(["inbreeding"], book.path):
-        number, fraction, percent = line.split(",")
-        found[number] = Coefficient(fraction, percent)
-    return found
 
 
 def rows_of(book: Book, listed: Iterable[tuple[str, Coefficient]]) -> list[list[str]]:
@@ -65,12 +36,13 @@ def list_text(rows: list[list[str]], semicolons: bool) -> str:
     writer = csv.writer(text, delimiter=";" if semicolons else ",", lineterminator="\n")
     writer.writerow(TITLES)
     for row in rows:
-        writer.writerow(row[:-2] + [number.replace(".", ",") for number in row[-2:]] if semicolons else row)
+        cells = row[:-2] + [number.replace(".", ",") for number in row[-2:]] if semicolons else row
+        writer.writerow(for_spreadsheets(cell) for cell in cells)
     return text.getvalue()
 
 
-def list_all(book: Book, program: Herdbook) -> list[list[str]]:
-    return rows_of(book, coefficients(book, program).items())
+def list_all(book: Book) -> list[list[str]]:
+    return rows_of(book, kept_coefficients(book).items())
 
 
 class Advice(NamedTuple):
@@ -99,12 +71,12 @@ def advise(book: Book, program: Herdbook, dam: Known, sires: list[Known], also_l
             raise Mistake(f"the book has no {what}{': ' * bool(hints)}{', and '.join(hints)}")
     numbers = list(dict.fromkeys(known.number for known in sires))
     names = book.by_number()
-    book_text = book.path.read_bytes()
+    book_text = book.command_file()
     found: list[tuple[str, Coefficient]] = []
     refused: list[tuple[str, MatingFault]] = []
     for first in range(0, len(numbers), SIRES_AT_ONCE):
         words = ["mating", "--dam", dam.number, *numbers[first : first + SIRES_AT_ONCE]]
-        for line in program.run(words, book_text).splitlines():
+        for line in program.lines(words, book_text):
             number, fraction, percent = line.split(",")
             if fraction == "refused":
                 refused.append((names[number].id, MatingFault(int(percent))))

@@ -1,120 +1,134 @@
-"""The folder of a book: the command file, the ids and owners that its numbers stand for, and the report."""
+"""A society's book, as it is in its folder after its last change."""
 from __future__ import annotations
 
-import csv
+import functools
 import pathlib
-import shlex
-from dataclasses import replace
+import sqlite3
+from typing import Mapping
 
-from society.alike import closest
-from society.book.commands import Command, Record, read_commands, replay, text_of
-from society.book.files import table, write_all
+from society.book.changes import Change
+from society.book.commands import Record
+from society.book.database import path_of
+from society.book.history import last_change
+from society.book.journal import NO_JOURNAL, Journal, Step, command_file, steps_of
 from society.book.kinds import Standing
 from society.book.known import Known
-from society.book.old_words import STANDING_OF, STANDINGS, read_birth, read_exit, read_sex
-from society.herdbook import Herdbook
-from society.mistake import CALLED, Mistake
-from society.taking.report import Entry
+from society.book.lazy import Lazy
+from society.book.rows import Row, known_of, record_of
+from society.book.state import CELLS, Meaning, Values, read_remembered, rows_now, select_rows
 
-COMMANDS, IDS, OWNERS, REPORT = "commands.csv", "ids.csv", "owners.csv", "report.csv"
-# what the sheet writes of parents otherwise than the book has them, and the options that a later taking uses again
-PARENTS, OPTIONS = "parents.csv", "options.csv"
 NO_OWNER = 99_999_999
-PARENT_TITLES, OPTION_TITLES = ["id", "role", "written"], ["option", "word"]
-ID_TITLES = ["number", "id", "name", "row", "birth", "exit", "sex"]
+# animals of the book, in place of those that were dropped from it
+IN_BOOK = "standing <> 'dropped'"
 
 
 class Book:
-    """A book as its folder has it."""
+    """A book as a connection sees it, within a transaction; an empty one where there is no connection. Animals are read
+    as they are asked for."""
 
-    def __init__(self, folder: pathlib.Path) -> None:
-        self.folder = folder
-        self.commands: list[Command] = []
-        self.records: dict[str, Record] = {}
-        self.known: dict[str, Known] = {}
-        self.dropped: dict[str, Known] = {}
-        self.owners: dict[str, int] = {}
+    def __init__(self, folder: pathlib.Path, connection: sqlite3.Connection | None) -> None:
+        self.folder, self.connection = folder, connection
+        self.change: Change | None = last_change(connection) if connection else None
         self.names_of_herds: dict[int, str] = {}
-        self.options: list[tuple[str, str]] = []
         # what is told behind an answer
         self.notes: list[str] = []
+        # by an animal's id
+        self.known: Mapping[str, Known] = Lazy(self.read_known, self.read_all_known)
+        # by its number
+        self.names: Mapping[str, Known] = Lazy(self.read_numbered, self.read_all_numbered)
+        self.records: Mapping[str, Record] = Lazy(self.read_record, self.read_all_records)
 
     @property
     def path(self) -> pathlib.Path:
-        return self.folder / COMMANDS
+        return path_of(self.folder)
 
-    def load(self, program: Herdbook) -> None:
-        """Reads the folder, where there is a book in it."""
-        if not self.path.exists():
-            return
-        self.commands = read_commands(self.path)
-        refused = program.file(self.commands)
-        if refused:
-            place, refusal = next(iter(refused.items()))
-            raise Mistake(
-                f"{self.path}: command {place + 1} is refused: {refusal.words()} (refusal {refusal}). "
-                "Somebody has changed this file: restore it, or take the sheet into another folder"
-            )
-        self.records = replay(self.commands)
-        for row in self.read_table(IDS, ID_TITLES):
-            known = self.known_of(row)
-            if known.number in self.records:
-                self.known[known.id] = known
-            elif known.standing is Standing.DROPPED:
-                self.dropped[known.id] = known
-        named = {known.number for known in self.known.values()}
-        self.known |= {number: Known(number, number) for number in self.records if number not in named}
-        owners = self.read_table(OWNERS, ["herd", "owner"])
-        if not all(herd.isdecimal() for herd, _ in owners):
-            raise changed(self.folder / OWNERS)
-        self.owners = {owner: int(herd) for herd, owner in owners}
-        for id, role, text in self.read_table(PARENTS, PARENT_TITLES, needed=False):
-            if id in self.known:
-                known = self.known[id]
-                is_sire = role == "sire"
-                self.known[id] = replace(known, written_sire=text) if is_sire else replace(known, written_dam=text)
-        self.options = [(option, word) for option, word in self.read_table(OPTIONS, OPTION_TITLES, needed=False)]
+    @property
+    def journal(self) -> Journal:
+        return Journal(self.change.edition, self.change.length) if self.change else NO_JOURNAL
 
-    def known_of(self, row: list[str]) -> Known:
-        number, id, name, standing, *words = row
-        birth, exit, sex = read_birth(words[0]), read_exit(words[1]), read_sex(words[2])
-        if standing not in STANDING_OF or birth is None or exit is None or sex is None:
-            raise changed(self.folder / IDS)
-        return Known(number, id, name, STANDING_OF[standing], birth, exit, sex)
+    def command_file(self) -> bytes:
+        """The journal, as the program reads it."""
+        if self.connection is None:
+            raise ValueError("an empty book has no journal")
+        return command_file(self.connection, self.journal)
 
-    def read_table(self, name: str, titles: list[str], needed: bool = True) -> list[list[str]]:
-        path = self.folder / name
-        if not needed and not path.exists():
-            return []
-        try:
-            with open(path, newline="", encoding="utf-8-sig") as file:
-                found, *rows = csv.reader(file)
-        except (OSError, ValueError):
-            found = []
-        if found != titles or any(len(row) != len(titles) for row in rows):
-            raise changed(path)
-        return rows
+    @functools.cached_property
+    def steps(self) -> list[Step]:
+        """The journal's commands with their replies."""
+        return steps_of(self.connection, self.journal) if self.connection else []
 
-    def save(self, entries: list[Entry], semicolons: bool) -> None:
-        """Writes all files beside the old ones first, and then puts each in its place, the command file last."""
-        all_known = sorted((*self.known.values(), *self.dropped.values()), key=lambda known: known.number[7:])
-        ids = [
-            (known.number, known.id, known.name, STANDINGS[known.standing], known.birth.words(), known.exit.words(),
-             known.sex.words())
-            for known in all_known
-        ]  # fmt: skip
-        written = [(known.id, role, known.written(role)) for known in all_known for role in ("sire", "dam")]
-        owners = [(herd, owner) for owner, herd in self.owners.items()]
-        report = [(entry.line or "", entry.id, entry.what, entry.why) for entry in entries]
-        texts = {
-            IDS: table(ID_TITLES, ids),
-            OWNERS: table(["herd", "owner"], owners),
-            PARENTS: table(PARENT_TITLES, [row for row in written if row[2]]),
-            OPTIONS: table(OPTION_TITLES, self.options),
-            REPORT: table(["line", "id", "what", "why"], report, semicolons),
-            COMMANDS: text_of(self.commands),
-        }
-        write_all(self.folder, texts)
+    # -- animals
+
+    def rows(self, where: str, *values: object) -> list[Row]:
+        """The animals for which a condition holds."""
+        return select_rows(self.connection, f"{IN_BOOK} AND {where}", *values) if self.connection else []
+
+    def read_known(self, id: str) -> Known | None:
+        return next((known_of(row) for row in self.rows("id = ?", id)), None)
+
+    def read_numbered(self, number: str) -> Known | None:
+        return next((known_of(row) for row in self.rows("number = ?", number)), None)
+
+    def read_record(self, number: str) -> Record | None:
+        return next((record_of(row) for row in self.rows("number = ?", number)), None)
+
+    @functools.cached_property
+    def every_row(self) -> list[Row]:
+        """The rows of all animals, with those that were dropped."""
+        return select_rows(self.connection, "true ORDER BY substr(number, 8)") if self.connection else []
+
+    @functools.cached_property
+    def all_rows(self) -> list[Row]:
+        return [row for row in self.every_row if row.standing != Standing.DROPPED.value]
+
+    def read_all_known(self) -> dict[str, Known]:
+        return {row.id: known_of(row) for row in self.all_rows}
+
+    def read_all_numbered(self) -> dict[str, Known]:
+        return {known.number: known for known in self.known.values()}
+
+    def read_all_records(self) -> dict[str, Record]:
+        return {row.number: record_of(row) for row in self.all_rows}
+
+    @functools.cached_property
+    def dropped(self) -> dict[str, Known]:
+        """The animals that aren't in the book any more, by their ids."""
+        return {row.id: known_of(row) for row in self.every_row if row.standing == Standing.DROPPED.value}
+
+    def former_numbers(self) -> dict[str, str]:
+        """The last number of each animal that was in the book once, as before an undo, and isn't named there now."""
+        if self.connection is None:
+            return {}
+        former = """
+            SELECT id, number FROM animal AS one WHERE until IS NOT NULL
+            AND NOT EXISTS (SELECT 1 FROM animal WHERE id = one.id AND until IS NULL) ORDER BY since
+        """
+        return dict(self.connection.execute(former))
+
+    def greatest_digits(self) -> int:
+        """The greatest twelve digits that an animal has or had as its number."""
+        if self.connection is None:
+            return 0
+        greatest = "SELECT max(substr(number, 8)) FROM animal WHERE substr(number, 8) NOT GLOB '*[A-Z]*'"
+        return int(self.connection.execute(greatest).fetchone()[0] or 0)
+
+    def by_number(self) -> Mapping[str, Known]:
+        return self.names
+
+    def has_left(self, known: Known) -> bool:
+        return self.records[known.number].left is not None or known.exit.day_is_unknown
+
+    def without_row(self) -> list[str]:
+        """The ids of the added parents, and of those that are gone."""
+        return sorted(row.id for row in self.rows("standing IN ('gone', 'parent')"))
+
+    # -- owners, and what is remembered
+
+    @functools.cached_property
+    def owners(self) -> dict[str, int]:
+        """The owners' herds, by their names."""
+        found = self.connection.execute("SELECT name, herd FROM owner ORDER BY herd") if self.connection else ()
+        return dict(found)
 
     def owner_of(self, herd: int) -> str:
         """The owner's name; a herd that has none stands for itself."""
@@ -124,55 +138,12 @@ class Book:
             self.names_of_herds = {number: owner for owner, number in self.owners.items()}
         return self.names_of_herds.get(herd, str(herd))
 
-    def has_left(self, known: Known) -> bool:
-        return self.records[known.number].left is not None or known.exit.day_is_unknown
+    @functools.cached_property
+    def cells(self) -> dict[Values, Values]:
+        """The last cells of each animal that had a row, by its id."""
+        return rows_now(self.connection, CELLS) if self.connection else {}
 
-    def without_row(self) -> list[Known]:
-        """The added parents, and those that are gone."""
-        return [known for known in self.known.values() if not known.standing.is_listed()]
-
-    def by_number(self) -> dict[str, Known]:
-        return {known.number: known for known in self.known.values()}
-
-    def find(self, word: str) -> Known:
-        """The animal of an id, a number or a name; a mistake where there is none, or several of a name."""
-        word = " ".join(word.split())
-        if word in self.known:
-            others = sorted(
-                one.id for one in self.known.values() if one.name.casefold() == word.casefold() and one.id != word
-            )
-            if others:
-                self.notes.append(
-                    f"'{word}' is taken for the animal with this id; others have this name: {', '.join(others[:9])}"
-                )
-            return self.known[word]
-        named = [known for known in self.known.values() if word in (known.number, known.name)]
-        if not named:
-            folded = word.casefold()
-            named = [known for known in self.known.values() if folded in (known.id.casefold(), known.name.casefold())]
-        if len(named) == 1:
-            return named[0]
-        if named:
-            ids = ", ".join(sorted(one.id for one in named)[:9])
-            raise Mistake(f"{len(named)} animals have the name '{word}': name one by its id: {ids}")
-        names = [*self.known, *(known.name for known in self.known.values() if known.name)]
-        if any(name.startswith(f"{word} ") for name in names):
-            raise Mistake(f"the book has no animal '{word}': put an id or a name with blanks between quotation marks")
-        close = closest(word, names)
-        hint = f": is {' or '.join(close)} meant?" if close else f": {self.folder / IDS} has the ids"
-        raise Mistake(f"the book has no animal '{word}'{hint}")
-
-
-def open_book(folder: pathlib.Path, program: Herdbook) -> Book:
-    """The book of a folder, which has to be there."""
-    book = Book(folder)
-    if not book.path.exists():
-        how = f"{CALLED} take SHEET --book {shlex.quote(str(folder))}"
-        there = "" if folder.is_absolute() else ", or go to the folder where you took one, by cd FOLDER"
-        raise Mistake(f"there is no book in the folder {folder}: take a sheet first, as {how}{there}")
-    book.load(program)
-    return book
-
-
-def changed(path: pathlib.Path) -> Mistake:
-    return Mistake(f"{path} is missing or was changed: restore it, or take the sheet into another folder")
+    @functools.cached_property
+    def remembered(self) -> list[Meaning]:
+        """What the book remembers of how its sheets are read. A taking that sets it anew keeps it with its change."""
+        return read_remembered(self.connection) if self.connection else []

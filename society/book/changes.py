@@ -19,7 +19,7 @@ class Source:
 @dataclass(frozen=True, slots=True)
 class Told:
     """What a change told: its kind and part, the line of the sheet (0 for none), the animal's id, and what else it
-    says, word by word."""
+    says, each with its name."""
 
     kind: str
     part: str
@@ -38,7 +38,7 @@ class Option:
 
 @dataclass(frozen=True, slots=True)
 class Made:
-    """How a change is made: what goes into its history beside the state."""
+    """How a change is made: what is kept of it beside the state."""
 
     kind: ChangeKind
     source: Source | None = None
@@ -47,6 +47,8 @@ class Made:
     told: tuple[Told, ...] = ()
     # for an undo the change whose state it brings back
     undone_to: int | None = None
+    # who makes it, empty for whom the system names
+    login: str = ""
 
 
 @dataclass(frozen=True, slots=True)
@@ -63,3 +65,8 @@ class Change:
     options: tuple[Option, ...] = ()
     counts: dict[str, int] = field(default_factory=dict)
     undone_to: int | None = None
+
+    @property
+    def moment(self) -> int:
+        """Its time in nanoseconds since 1970 began, which its exports have as the time when they were changed."""
+        return round(self.time.timestamp() * 1_000_000) * 1000

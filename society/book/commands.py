@@ -4,7 +4,7 @@ from __future__ import annotations
 import csv
 import datetime
 import pathlib
-from dataclasses import dataclass, field
+from dataclasses import dataclass, replace
 from typing import Iterable, NamedTuple
 
 from society.book.role import Role
@@ -42,20 +42,20 @@ def leave(number: str, day: datetime.date) -> Command:
     return Command("exit", number, day.isoformat())
 
 
-@dataclass(slots=True)
+@dataclass(frozen=True, slots=True)
 class Record:
-    """What the book has of an animal."""
+    """What the register has of an animal. `giver` is the herd from which its owner has it, 0 where that is the first
+    one."""
 
     number: str
     born: datetime.date
     sire: str
     dam: str
     embryo: bool
-    first_herd: int
     herd: int
     since: datetime.date
     left: datetime.date | None = None
-    transfers: list[Command] = field(default_factory=list)
+    giver: int = 0
 
     def parent(self, role: Role) -> str:
         return self.sire if role is Role.SIRE else self.dam
@@ -65,30 +65,50 @@ def known(parent: str) -> str:
     return "" if parent == "0" else parent
 
 
+def record_after(record: Record | None, command: Command) -> Record:
+    """The record after a command that is accepted; a birth is the first."""
+    if record is None:
+        day = datetime.date.fromisoformat(command.day)
+        sire, dam = known(command.sire), known(command.dam)
+        return Record(command.animal, day, sire, dam, command.embryo == "1", int(command.taker), day)
+    if command.kind == "parents":
+        return replace(record, sire=known(command.sire), dam=known(command.dam))
+    day = datetime.date.fromisoformat(command.day)
+    if command.kind == "transfer":
+        return replace(record, herd=int(command.taker), since=day, giver=int(command.giver))
+    return replace(record, left=day)
+
+
 def replay(commands: Iterable[Command]) -> dict[str, Record]:
     """The records after commands of which none is refused."""
     records: dict[str, Record] = {}
     for command in commands:
-        if command.kind == "birth":
-            day = datetime.date.fromisoformat(command.day)
-            herd = int(command.taker)
-            sire, dam = known(command.sire), known(command.dam)
-            records[command.animal] = Record(command.animal, day, sire, dam, command.embryo == "1", herd, herd, day)
-            continue
-        record = records[command.animal]
-        if command.kind == "parents":
-            record.sire, record.dam = known(command.sire), known(command.dam)
-        elif command.kind == "transfer":
-            record.herd, record.since = int(command.taker), datetime.date.fromisoformat(command.day)
-            record.transfers.append(command)
-        else:
-            record.left = datetime.date.fromisoformat(command.day)
+        records[command.animal] = record_after(records.get(command.animal), command)
     return records
+
+
+def transfers_of(commands: Iterable[Command]) -> dict[str, list[Command]]:
+    """The transfers of each animal that had one."""
+    found: dict[str, list[Command]] = {}
+    for command in commands:
+        if command.kind == "transfer":
+            found.setdefault(command.animal, []).append(command)
+    return found
+
+
+def first_herds(commands: Iterable[Command]) -> dict[str, int]:
+    """The herd in which each animal was born."""
+    return {command.animal: int(command.taker) for command in commands if command.kind == "birth"}
+
+
+def lines_of(commands: Iterable[Command]) -> bytes:
+    """The records of a command file."""
+    return "".join(",".join(fields) + "\n" for fields in commands).encode()
 
 
 def text_of(commands: Iterable[Command]) -> bytes:
     """The command file."""
-    return "".join(",".join(fields) + "\n" for fields in (COLUMNS, *commands)).encode()
+    return ",".join(COLUMNS).encode() + b"\n" + lines_of(commands)
 
 
 def read_commands(path: pathlib.Path) -> list[Command]:

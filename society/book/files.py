@@ -1,42 +1,70 @@
-"""Writes tables and files, all of them or none."""
+"""Writes files, each whole or not at all, and none that is wanted for something else."""
 from __future__ import annotations
 
+import contextlib
 import csv
+import hashlib
 import io
 import os
 import pathlib
-from typing import Sequence
+import secrets
+from typing import Iterable, Sequence
 
+from society.book.cells import for_spreadsheets
+from society.book.changes import Source
 from society.mistake import Mistake
 
 
-def table(titles: list[str], rows: Sequence[tuple[object, ...]], semicolons: bool = False) -> bytes:
+def table(titles: list[str], rows: Iterable[Sequence[object]], semicolons: bool = False) -> bytes:
     """A file of rows below their titles; spreadsheets that want semicolons tell UTF-8 by a byte-order mark."""
     text = io.StringIO()
     writer = csv.writer(text, delimiter=";" if semicolons else ",", lineterminator="\n")
     writer.writerow(titles)
-    writer.writerows(rows)
+    writer.writerows([for_spreadsheets(str(cell)) for cell in row] for row in rows)
     return text.getvalue().encode("utf-8-sig" if semicolons else "utf-8")
 
 
-def write_all(folder: pathlib.Path, texts: dict[str, bytes]) -> None:
-    """Writes files so that on any fault none of them is changed."""
-    written: list[pathlib.Path] = []
+def put(path: pathlib.Path, text: bytes, changed: int | None = None, replaces: bool = True) -> None:
+    """Writes a file beside its place, under a name that nobody knows before, and then puts it there. `changed` is the
+    time at which it was changed. Where it doesn't replace another, one that is there is a `FileExistsError`."""
+    beside = path.with_name(f".{path.name[:100]}.{secrets.token_hex(8)}")
     try:
-        folder.mkdir(parents=True, exist_ok=True)
-        for name, text in texts.items():
-            if (folder / name).is_dir():
-                raise IsADirectoryError(f"{name} is a folder")
-            beside = folder / f"{name}.new"
-            beside.write_bytes(text)
-            written.append(beside)
-        for name in texts:
-            os.replace(folder / f"{name}.new", folder / name)
-    except OSError as error:
-        for beside in written:
-            beside.unlink(missing_ok=True)
-        raise Mistake(f"the folder {folder} can't be written ({error.strerror or error}): nothing is changed") from None
+        descriptor = os.open(beside, os.O_WRONLY | os.O_CREAT | os.O_EXCL | os.O_NOFOLLOW | os.O_CLOEXEC, 0o666)
+        with open(descriptor, "wb") as file:
+            file.write(text)
+            file.flush()
+            if changed is not None:
+                os.utime(descriptor, ns=(changed, changed))
+            os.fsync(descriptor)
+        if replaces:
+            os.replace(beside, path)
+        else:
+            os.link(beside, path)
+            beside.unlink()
+    except OSError:
+        with contextlib.suppress(OSError):
+            beside.unlink()
+        raise
+    sync_folder(path.parent)
 
 
-def write_file(path: pathlib.Path, text: bytes) -> None:
-    write_all(path.parent, {path.name: text})
+def sync_folder(folder: pathlib.Path) -> None:
+    """What was put into a folder stays there, whatever happens to the machine."""
+    descriptor = os.open(folder, os.O_RDONLY | os.O_DIRECTORY)
+    try:
+        os.fsync(descriptor)
+    finally:
+        os.close(descriptor)
+
+
+def digest_of(text: bytes) -> str:
+    return hashlib.sha256(text).hexdigest()
+
+
+def source_of(path: pathlib.Path, text: bytes) -> Source:
+    """What is kept of a file that was read."""
+    return Source(path.name, str(path.resolve()), digest_of(text))
+
+
+def cant_be_written(path: pathlib.Path, error: OSError) -> Mistake:
+    return Mistake(f"{path} can't be written ({error.strerror or error}): nothing is changed")

@@ -1,37 +1,130 @@
 """The journal of commands, which is what the book is: each command with the reply that the program gave to it."""
 from __future__ import annotations
 
-from dataclasses import dataclass
-from typing import NamedTuple
+import sqlite3
+from typing import Iterable, Iterator, NamedTuple
 
-from society.book.commands import Command
+from society.book.commands import COLUMNS, Command
+from society.refusals import Refusal
 
-
-class Reply(NamedTuple):
-    """The program's reply to a command: the number of the refusal, or 0 where it is accepted."""
-
-    refusal: int = 0
-
-    @property
-    def is_accepted(self) -> bool:
-        return self.refusal == 0
-
-
-ACCEPTED = Reply()
+# a command as the command file has it
+TEXT = """
+    kind || ',' || animal || ',' || ifnull(day, '') || ',' || iif(kind IN ('birth', 'parents'), ifnull(sire, '0'), '')
+    || ',' || iif(kind IN ('birth', 'parents'), ifnull(dam, '0'), '') || ',' || ifnull(giver, '') || ','
+    || ifnull(taker, '') || ',' || iif(embryo, '1', '')
+"""
+WITHIN = "FROM command WHERE edition = ? AND place BETWEEN ? AND ? ORDER BY place"
 
 
 class Step(NamedTuple):
-    """A command with its reply."""
+    """A command with the program's reply: the number of the refusal, or 0 where it is accepted."""
 
     command: Command
-    reply: Reply = ACCEPTED
+    refusal: int = 0
 
 
-@dataclass(frozen=True, slots=True)
-class Edition:
+class Edition(NamedTuple):
     """A journal's edition: it keeps so many commands of its predecessor, and goes on from there. The first has
     none."""
 
     number: int
-    predecessor: int | None = None
-    keeps: int = 0
+    predecessor: int | None
+    keeps: int
+
+
+class Journal(NamedTuple):
+    """The journal after a change: an edition up to a length."""
+
+    edition: int
+    length: int
+
+
+NO_JOURNAL = Journal(0, 0)
+
+
+class Part(NamedTuple):
+    """The part of a journal that is written in one edition, by the first and last places."""
+
+    edition: int
+    first: int
+    last: int
+
+
+def edition_of(connection: sqlite3.Connection, number: int) -> Edition:
+    return Edition(*connection.execute("SELECT * FROM edition WHERE edition = ?", (number,)).fetchone())
+
+
+def parts_of(connection: sqlite3.Connection, journal: Journal) -> list[Part]:
+    """The parts of a journal, from its beginning on."""
+    parts: list[Part] = []
+    number, length = journal
+    while length:
+        edition = edition_of(connection, number)
+        if length > edition.keeps:
+            parts.append(Part(number, edition.keeps + 1, length))
+        number, length = edition.predecessor or 0, min(length, edition.keeps)
+    return parts[::-1]
+
+
+def lines_of(connection: sqlite3.Connection, journal: Journal) -> Iterator[str]:
+    """The journal's commands as lines of a command file."""
+    for part in parts_of(connection, journal):
+        for (line,) in connection.execute(f"SELECT {TEXT} {WITHIN}", part):
+            yield line
+
+
+def command_file(connection: sqlite3.Connection, journal: Journal) -> bytes:
+    """The journal as a command file."""
+    return ("\n".join([",".join(COLUMNS), *lines_of(connection, journal)]) + "\n").encode()
+
+
+def refusals_of(connection: sqlite3.Connection, journal: Journal) -> dict[int, Refusal]:
+    """The stored replies that refuse: for each its place, from 0 on, and the refusal."""
+    found: dict[int, Refusal] = {}
+    for part in parts_of(connection, journal):
+        refused = "SELECT place - 1, refusal FROM command WHERE edition = ? AND place BETWEEN ? AND ? AND refusal > 0"
+        found |= {place: Refusal(refusal) for place, refusal in connection.execute(refused, part)}
+    return found
+
+
+def steps_of(connection: sqlite3.Connection, journal: Journal) -> list[Step]:
+    """The journal's commands with their replies."""
+    return [
+        Step(Command(*line.split(",")), refusal)
+        for part in parts_of(connection, journal)
+        for line, refusal in connection.execute(f"SELECT {TEXT}, refusal {WITHIN}", part)
+    ]
+
+
+def accepted_commands(steps: Iterable[Step]) -> list[Command]:
+    return [step.command for step in steps if not step.refusal]
+
+
+def alike(before: list[Step], after: list[Step]) -> int:
+    """With how many steps that are the same two journals begin."""
+    pairs = enumerate(zip(before, after))
+    return next((at for at, (one, other) in pairs if one != other), min(len(before), len(after)))
+
+
+def begin_edition(connection: sqlite3.Connection, predecessor: Journal) -> Journal:
+    """A new edition that keeps a journal, with nothing behind it yet."""
+    number = connection.execute("SELECT ifnull(max(edition), 0) + 1 FROM edition").fetchone()[0]
+    kept = (number, predecessor.edition or None, predecessor.length)
+    connection.execute("INSERT INTO edition VALUES (?, ?, ?)", kept)
+    return Journal(number, predecessor.length)
+
+
+def append(connection: sqlite3.Connection, journal: Journal, steps: Iterable[Step]) -> Journal:
+    """Writes steps behind a journal that nothing stands behind."""
+    rows = [
+        (journal.edition, place, *row_of(step.command), step.refusal)
+        for place, step in enumerate(steps, journal.length + 1)
+    ]
+    connection.executemany("INSERT INTO command VALUES (?, ?, ?, ?, ?, ?, ?, ?, ?, ?, ?)", rows)
+    return Journal(journal.edition, journal.length + len(rows))
+
+
+def row_of(command: Command) -> tuple[str, str, str | None, str | None, str | None, int | None, int | None, int]:
+    giver, taker = (int(herd) if herd else None for herd in (command.giver, command.taker))
+    sire, dam = (parent if parent not in ("", "0") else None for parent in (command.sire, command.dam))
+    return command.kind, command.animal, command.day or None, sire, dam, giver, taker, int(command.embryo == "1")

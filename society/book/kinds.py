@@ -66,11 +66,13 @@ class ChangeKind(enum.Enum):
 class Remembered(enum.Enum):
     """What a book remembers of how its sheets are read: for each a word, and what it stands for."""
 
+    # words of the options --columns, --unknown and --sexes, as they were given
+    COLUMNS = "columns"
+    UNKNOWN = "unknown"
+    SEXES = "sexes"
+    # that days with / have the month first
+    MONTH_FIRST = "month-first"
     # a field, and the title of its column, empty where there is none
     COLUMN = "column"
-    # a word for an unknown parent
-    UNKNOWN = "unknown"
-    # a word for a sex, and the sex
-    SEX = "sex"
     # what was told and needn't be told again, and the answer to it
     TOLD = "told"

@@ -21,6 +21,8 @@ class Known:
     birth: BirthBasis = GIVEN_BIRTH
     exit: ExitBasis = GIVEN_EXIT
     sex: SexSource = SexSource.GIVEN
+    # a male that can't be a sire any more
+    castrated: bool = False
     # what the sheet writes of a parent that was left out, or that is written by its name
     written_sire: str = ""
     written_dam: str = ""

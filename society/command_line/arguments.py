@@ -26,13 +26,30 @@ def days(text: str) -> int:
     return int(text)
 
 
+def sex(text: str) -> str:
+    if text.casefold() not in ("m", "f"):
+        raise argparse.ArgumentTypeError(f"'{text}' is neither m nor f")
+    return text.upper()
+
+
 def file(text: str) -> pathlib.Path:
     if pathlib.Path(text).is_dir():
         raise argparse.ArgumentTypeError(f"'{text}' is a folder: name a file")
     return pathlib.Path(text)
 
 
+def whole_number(text: str) -> int:
+    if not text.isdecimal():
+        raise argparse.ArgumentTypeError(f"'{text}' isn't a whole number")
+    return int(text)
+
+
 def generations(text: str) -> int:
     if not text.isdigit() or not 1 <= int(text) <= 10:
         raise argparse.ArgumentTypeError(f"'{text}' isn't 1 to 10")
     return int(text)
+
+
+def add_force(word: argparse.ArgumentParser) -> None:
+    """The option for words that write a file."""
+    word.add_argument("--force", action="store_true", help="write over a file that is there, if it isn't the book's")

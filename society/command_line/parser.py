@@ -6,7 +6,8 @@ import pathlib
 import re
 from typing import Callable, NoReturn
 
-from society.book.book import Book, open_book
+from society.book.book import Book
+from society.book.opening import opened
 from society.command_line.output import tell
 from society.herdbook import Herdbook
 from society.mistake import CALLED, Mistake
@@ -75,16 +76,16 @@ class Words:
         """A word for a book that is there, with the packages that it needs; the book's notes are told behind what it
         does."""
 
-        def opened(asked: argparse.Namespace) -> None:
+        def does_with_book(asked: argparse.Namespace) -> None:
             if group:
                 need(group)
             program = Herdbook()
-            book = open_book(asked.book, program)
-            does(asked, book, program)
+            with opened(asked.book, program) as book:
+                does(asked, book, program)
             for note in book.notes:
                 tell(note)
 
-        return self.add(name, opened, help, more)
+        return self.add(name, does_with_book, help, more)
 
 
 def joined(words: list[str]) -> list[str]:

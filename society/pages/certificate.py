@@ -2,9 +2,10 @@
 from __future__ import annotations
 
 from dataclasses import dataclass
+from typing import Mapping
 
-from society.answers.listing import Coefficient
 from society.book.book import NO_OWNER, Book
+from society.book.coefficients import Coefficient
 from society.book.known import Known
 from society.book.role import Role
 from society.herdbook import Herdbook
@@ -62,12 +63,12 @@ class Certificate:
     """What a certificate is made of: what the program tells of an animal, the book and the coefficients."""
 
     def __init__(
-        self, book: Book, program: Herdbook, known: Known, coefficients: dict[str, Coefficient], language: Language
+        self, book: Book, program: Herdbook, known: Known, coefficients: Mapping[str, Coefficient], language: Language
     ) -> None:
         self.book, self.known, self.coefficients = book, known, coefficients
         self.language, self.texts = language, language.texts
         self.names = book.by_number()
-        self.told = read_certificate(program.run(["certificate", known.number], book.path.read_bytes()))
+        self.told = read_certificate(program.run(["certificate", known.number], book.command_file()))
 
     def page(self, title: str) -> str:
         fraction, percent = self.told["inbreeding"].split(" ")
@@ -132,7 +133,7 @@ class Certificate:
 
 
 def certificate_page(
-    book: Book, program: Herdbook, known: Known, coefficients: dict[str, Coefficient], language: str, title: str
+    book: Book, program: Herdbook, known: Known, coefficients: Mapping[str, Coefficient], language: str, title: str
 ) -> str:
     return Certificate(book, program, known, coefficients, Language(language)).page(title)
 
@@ -149,5 +150,4 @@ def role_of(letters: str) -> Role:
 def owner_day_known(book: Book, known: Known) -> bool:
     """Is the day known since which the owner has it? A sheet gives the owner of today: only a change of owners has a
     day."""
-    transfers = book.records[known.number].transfers
-    return bool(transfers) and transfers[-1].giver != str(NO_OWNER)
+    return book.records[known.number].giver not in (0, NO_OWNER)

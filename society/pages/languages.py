@@ -1,7 +1,7 @@
 """The words of pages and pictures in English, German and French. Numbers and ids are the same in all of them."""
 from __future__ import annotations
 
-from society.answers.listing import Coefficient
+from society.book.coefficients import Coefficient
 from society.pages.marks import Mark
 
 LANGUAGES = ("en", "de", "fr")

@@ -3,8 +3,9 @@ from __future__ import annotations
 
 import collections
 from dataclasses import dataclass, field
+from typing import Mapping
 
-from society.answers.listing import Coefficient
+from society.book.coefficients import Coefficient
 from society.book.book import Book
 from society.book.known import Known
 from society.pages.languages import Language
@@ -66,7 +67,7 @@ def nodes_of(node: Node) -> list[Node]:
 
 
 def tree_picture(
-    book: Book, known: Known, coefficients: dict[str, Coefficient], generations: int, language: Language
+    book: Book, known: Known, coefficients: Mapping[str, Coefficient], generations: int, language: Language
 ) -> str:
     names = book.by_number()
     root, rows = grow(book, known.number, 0, generations, 0.0)

@@ -1,6 +1,7 @@
 """What pages and pictures share: escaping, colours, and the facts that they show of an animal."""
 from __future__ import annotations
 
+import hashlib
 import html
 
 from society.book.book import Book
@@ -11,6 +12,8 @@ from society.pages.marks import mark_of
 FONT = "'Helvetica Neue', Arial, 'Liberation Sans', 'DejaVu Sans', sans-serif"
 INK, GREY, LINE, PAPER = "#1d2733", "#66717e", "#98a2ad", "#ffffff"
 SIRE, DAM = "#e8f0f8", "#fbeef0"
+# so long a file's name may be, but for what stands before and behind the id
+MOST_BYTES = 200
 INBRED, INBRED_INK = "#fff3cf", "#b4560c"
 
 
@@ -55,5 +58,13 @@ def year_of(book: Book, known: Known, language: Language) -> str:
 
 
 def file_name(kind: str, id: str, suffix: str) -> str:
-    """A file name for an animal's page."""
-    return f"{kind}-{''.join(one if one.isalnum() or one in '._-' else '-' for one in id)}{suffix}"
+    """A file name for an animal's page, which no other animal has."""
+    written = "".join(one if one.isalnum() or one in "._-" else quoted(one) for one in id)
+    if len(written.encode()) > MOST_BYTES:
+        written = f"{written[:40]}~x{hashlib.sha256(id.encode()).hexdigest()}"
+    return f"{kind}-{written}{suffix}"
+
+
+def quoted(character: str) -> str:
+    """What stands for a character that a file's name shouldn't have: no two are alike."""
+    return f"~u{ord(character):x}~" if ord(character) > 0xFF else f"~{ord(character):02x}"

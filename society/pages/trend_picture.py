@@ -4,9 +4,9 @@ from __future__ import annotations
 import collections
 import math
 from fractions import Fraction
-from typing import Callable, NamedTuple
+from typing import Callable, Mapping, NamedTuple
 
-from society.answers.listing import Coefficient
+from society.book.coefficients import Coefficient
 from society.book.book import Book
 from society.mistake import Mistake
 from society.pages.languages import Language
@@ -23,7 +23,7 @@ class Year(NamedTuple):
     mean: Fraction
 
 
-def years_of(book: Book, coefficients: dict[str, Coefficient]) -> tuple[list[Year], int]:
+def years_of(book: Book, coefficients: Mapping[str, Coefficient]) -> tuple[list[Year], int]:
     """The years that have animals, and how many animals have no known year."""
     names = book.by_number()
     values: dict[int, list[Fraction]] = collections.defaultdict(list)
@@ -44,7 +44,7 @@ def scale_for(value: float, least: float, steps: tuple[float, ...]) -> float:
     return 4 * next(part * unit for part in steps if part * unit >= step * 0.999999)
 
 
-def trend_picture(book: Book, coefficients: dict[str, Coefficient], language: Language) -> str:
+def trend_picture(book: Book, coefficients: Mapping[str, Coefficient], language: Language) -> str:
     years, without = years_of(book, coefficients)
     if not years:
         raise Mistake(

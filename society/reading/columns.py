@@ -50,9 +50,9 @@ class Columns:
         unread = [f"'{title}'" for at, title in enumerate(self.sheet.titles) if title and self.is_free(at)]
         return f"columns: {', '.join(used)}" + (f"; not read: {', '.join(unread)}" if unread else "")
 
-    def titles_found(self) -> list[str]:
+    def titles_found(self) -> list[tuple[str, str]]:
         """The fields with their titles, as the book remembers them."""
-        return [f"{name}={self.title(at)}" for name, at in self.in_order().items()]
+        return [(name, self.title(at)) for name, at in self.in_order().items()]
 
 
 def find_columns(

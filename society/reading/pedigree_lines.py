@@ -2,6 +2,7 @@
 from __future__ import annotations
 
 import csv
+import functools
 import pathlib
 import re
 import sys
@@ -44,9 +45,15 @@ def read_lines(path: pathlib.Path) -> list[Line]:
 
 def read_bytes(path: pathlib.Path) -> bytes:
     try:
-        return sys.stdin.buffer.read() if path == STANDARD_INPUT else path.read_bytes()
+        return standard_input() if path == STANDARD_INPUT else path.read_bytes()
     except OSError as error:
         raise Mistake(f"{path} can't be read: {error.strerror or error}. Is the name right?") from None
+
+
+@functools.cache
+def standard_input() -> bytes:
+    """It comes only once."""
+    return sys.stdin.buffer.read()
 
 
 def check_blanks(number: int, part: str) -> None:

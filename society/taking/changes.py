@@ -4,9 +4,21 @@ from __future__ import annotations
 import datetime
 
 from society.book.book import NO_OWNER
-from society.book.commands import Command, Record, birth, leave, transfer
+from society.book.commands import (
+    Command,
+    Record,
+    birth,
+    first_herds,
+    leave,
+    lines_of,
+    text_of,
+    transfer,
+    transfers_of,
+)
 from society.book.inferred import NO_DAY, ExitBasis
+from society.book.journal import Step, accepted_commands, alike
 from society.book.known import Known
+from society.book.writing import Filed
 from society.herdbook import Herdbook
 from society.mistake import Mistake
 from society.reading.animal import Animal
@@ -20,30 +32,35 @@ class Filing:
     def __init__(self, next_book: NextBook, today: datetime.date) -> None:
         self.next_book, self.book, self.today = next_book, next_book.book, today
 
-    def filed(self, program: Herdbook) -> tuple[list[Command], bool]:
-        """The book's commands, none of which is refused, and whether they were written anew; else a mistake with each
-        refusal in words."""
-        appended = self.appended()
-        if appended is not None and not program.file(appended):
-            return appended, False
+    def filed(self, program: Herdbook) -> Filed:
+        """The commands, none of which is refused; else a mistake with each refusal in words."""
+        more = self.more()
+        if more is not None and not self.refused_behind(program, more):
+            return Filed([Step(command) for command in more])
         commands = self.anew()
         refused = program.file(commands)
         if not refused:
-            return commands, True
+            steps = [Step(command) for command in commands]
+            keeps = alike(self.book.steps, steps)
+            return Filed(steps[keeps:], keeps)
         by_number = {animal.number: animal for animal in self.next_book.animals.values()}
         sentences = []
         for place, refusal in refused.items():
             kind, number, day = commands[place][:3]
             on = f" on {day}" if day else ""
-            sentences.append(
-                f"{by_number[number].where()}{kind}{on} is refused: {refusal.words()} (refusal {refusal})"
-            )
+            sentences.append(f"{by_number[number].where()}{kind}{on} is refused: {refusal.words()} (refusal {refusal})")
         raise Mistake(
             *sentences, f"nothing is taken (refused: {len(refused)}): mend these rows, and take the sheet again"
         )
 
-    def appended(self) -> list[Command] | None:
-        """The book's commands and those that it lacks, or none where what stands in it has to be corrected."""
+    def refused_behind(self, program: Herdbook, more: list[Command]) -> bool:
+        """Is any command refused behind the journal?"""
+        length = self.book.journal.length
+        text = self.book.command_file() + lines_of(more) if length else text_of(more)
+        return any(place >= length for place in program.file_text(text, length + len(more)))
+
+    def more(self) -> list[Command] | None:
+        """The commands that the book lacks, or none where what stands in it has to be corrected."""
         if self.book.known.keys() - self.next_book.animals.keys():
             return None
         births, corrections, transfers, exits = [], [], [], []
@@ -61,16 +78,21 @@ class Filing:
             transfers += self.transfer_of(animal, record)
             if animal.left and not record.left:
                 exits.append(leave(animal.number, animal.left))
-        return self.book.commands + births + corrections + transfers + exits
+        return births + corrections + transfers + exits
 
     def anew(self) -> list[Command]:
         """The whole book: each birth with the parents of today, then the transfers, and then the exits."""
-        births, transfers, exits = [], [], []
+        births: list[Command] = []
+        transfers: list[Command] = []
+        exits: list[Command] = []
+        accepted = accepted_commands(self.book.steps)
+        first_herd, transfers_before = first_herds(accepted), transfers_of(accepted)
         for animal in self.next_book.by_birth():
             record = self.next_book.record(animal.id)
-            births.append(self.birth_of(animal, record.first_herd if record else self.herd_of(animal.owner)))
+            births.append(self.birth_of(animal, first_herd[record.number] if record else self.herd_of(animal.owner)))
             if record:
-                transfers += [one._replace(animal=animal.number) for one in record.transfers]
+                before = transfers_before.get(record.number, ())
+                transfers += [one._replace(animal=animal.number) for one in before]
                 transfers += self.transfer_of(animal, record)
             exits += [leave(animal.number, animal.left)] if animal.left else []
         return births + transfers + exits
@@ -92,7 +114,8 @@ class Filing:
         herd = self.herd_of(animal.owner)
         if not animal.owner or herd == record.herd:
             return []
-        day = max(min(self.today, animal.left or self.today), record.since)
+        today = animal.since.first if animal.since and animal.since.is_day else self.today
+        day = max(min(today, animal.left or today), record.since)
         return [transfer(animal.number, day, record.herd, herd)]
 
     # -- what is told

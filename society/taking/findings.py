@@ -5,7 +5,8 @@ import datetime
 from dataclasses import dataclass
 
 from society.book.inferred import BirthBasis, SexSource
-from society.book.kinds import Field
+from society.book.kinds import ChangeKind, Field
+from society.refusals import Refusal
 from society.taking.report import Finding, LeftOut, Part, What
 
 SEXES = {"M": "male", "F": "female"}
@@ -44,6 +45,19 @@ class KeptFromBook(Finding):
         # a word such as `sold` gives no day, nor does a text that can't be read
         unread = "gives no day" if self.field is Field.EXIT else "can't be read"
         return f"{value}, as in the book, since its cell {unread if self.cell_is_unread else 'gives none'}"
+
+
+@dataclass(frozen=True, slots=True)
+class KeptByHand(Finding):
+    """What was filed by hand stays, since the cell is as it was in the last sheet."""
+
+    field: Field
+    value: str
+
+    what = What.INFERRED
+
+    def words(self) -> str:
+        return f"{self.field.value} {self.value or 'none'}, as filed by hand, since its cell is as in the last sheet"
 
 
 @dataclass(frozen=True, slots=True)
@@ -115,3 +129,18 @@ class ValueChanged(Finding):
 
     def words(self) -> str:
         return f"{self.name}: {self.after or 'none'}, before {self.before or 'none'}"
+
+
+@dataclass(frozen=True, slots=True)
+class CommandRefused(Finding):
+    """A command that was filed by hand is refused."""
+
+    command: ChangeKind
+    day: str
+    refusal: Refusal
+
+    what = What.LEFT_OUT
+
+    def words(self) -> str:
+        on = f" on {self.day}" if self.day else ""
+        return f"the {self.command.value}{on} is refused: {self.refusal.words()} (refusal {self.refusal})"

@@ -1,7 +1,9 @@
 """The end of a taking: the book is filed, saved where nothing is refused, and told."""
 from __future__ import annotations
 
-from society.book.book import REPORT
+from society.book.changes import Source
+from society.book.exports import COMMANDS, REPORT
+from society.book.opening import export
 from society.herdbook import Herdbook
 from society.mistake import Mistake, counted
 from society.taking.changes import Filing
@@ -10,11 +12,14 @@ from society.taking.lost_links import refuse_lost_links
 from society.taking.looks import Looks
 from society.taking.next_book import NextBook
 from society.taking.report import What
+from society.taking.saving import save
 from society.taking.shown_report import show
 from society.taking.wishes import Wishes
 
 
-def finish(next_book: NextBook, program: Herdbook, wishes: Wishes, about: list[str], invented: int) -> None:
+def finish(
+    next_book: NextBook, program: Herdbook, wishes: Wishes, source: Source, about: list[str], invented: int
+) -> None:
     """Files the book, and writes it only where nothing is refused. What is told comes last, first of all what it is
     about."""
     book, report = next_book.book, next_book.report
@@ -30,15 +35,15 @@ def finish(next_book: NextBook, program: Herdbook, wishes: Wishes, about: list[s
         raise Mistake(*told, f"{report.left_out()}: with --strict nothing is taken")
     before = len(book.records)
     filing = Filing(next_book, wishes.day)
-    commands, is_anew = filing.filed(program)
+    filed = filing.filed(program)
     filing.tell_changes()
     new = sum(1 for animal in next_book.animals.values() if animal.line and animal.id not in book.known)
-    book.commands, book.known, book.dropped = commands, next_book.known_animals(), next_book.dropped_animals()
-    book.save(report.in_order(), wishes.semicolons)
+    save(next_book, filed, program, wishes, source, new)
+    book.notes += export(book.folder)
     print("\n".join(about))
     show(report, book.folder / REPORT)
-    if before and is_anew:
-        print(f"{book.path} is written anew, since something in it was corrected or dropped")
+    if before and filed.keeps is not None:
+        print(f"{book.folder / COMMANDS} is written anew, since something in it was corrected or dropped")
     counts = report.counts()
     if counts[What.GONE] and not wishes.drop_gone:
         print(

@@ -4,11 +4,13 @@ from __future__ import annotations
 import pathlib
 
 from society.book.book import Book
+from society.book.files import source_of
 from society.book.kinds import Field
+from society.book.opening import to_change
 from society.herdbook import Herdbook
 from society.mistake import Mistake, counted
 from society.reading.options import read_given
-from society.reading.pedigree_lines import STANDARD_INPUT
+from society.reading.pedigree_lines import STANDARD_INPUT, read_bytes
 from society.reading.pedigree_titles import READ
 from society.reading.triples import Triples, read_triples
 from society.reading.unknown import UnknownParents
@@ -24,16 +26,22 @@ from society.taking.report import Report
 from society.taking.wishes import Wishes
 
 
-def take_pedigree(path: pathlib.Path, wishes: Wishes) -> None:
+def take_pedigree(path: pathlib.Path, wishes: Wishes) -> list[str]:
+    """Takes a pedigree; answers what is to be told besides."""
+    program = Herdbook()
+    with to_change(wishes.book, program) as book:
+        take_into(book, path, wishes, program)
+    return book.notes
+
+
+def take_into(book: Book, path: pathlib.Path, wishes: Wishes, program: Herdbook) -> None:
     report = Report()
+    source = source_of(path, read_bytes(path))
     triples = read_triples(path, given_columns(wishes.columns), UnknownParents(wishes.unknown), report)
     animals, about = triples.animals, [*triples.told]
     if wishes.keep:
         about.append(keep_with_ancestors(animals, wishes.keep))
         report.entries = [entry for entry in report.entries if entry.id in animals]
-    program = Herdbook()
-    book = Book(wishes.book)
-    book.load(program)
     given = {field.value for field in triples.columns if field is not Field.ID}
     next_book = NextBook(book, animals, given, report, is_pedigree=True)
     next_book.complete(wishes.drop_gone)
@@ -48,7 +56,7 @@ def take_pedigree(path: pathlib.Path, wishes: Wishes) -> None:
     missing = [field for field in (Field.SEX, Field.BIRTH) if field not in triples.columns]
     what = "standard input" if path == STANDARD_INPUT else str(path)
     about += [invented(what, len(animals), missing)] * bool(missing)
-    finish(next_book, program, wishes, about, len(animals) if missing else 0)
+    finish(next_book, program, wishes, source, about, len(animals) if missing else 0)
 
 
 def given_columns(words: list[str]) -> dict[Field, str]:

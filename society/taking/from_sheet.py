@@ -4,15 +4,18 @@ from __future__ import annotations
 import pathlib
 from dataclasses import dataclass
 
-from society.book.book import OPTIONS, Book
-from society.book.kinds import Field
+from society.book.book import Book
+from society.book.files import source_of
+from society.book.kinds import Field, Remembered
+from society.book.opening import to_change
+from society.book.state import Meaning
 from society.herdbook import Herdbook
 from society.mistake import Mistake, counted
 from society.reading.animal import Animal
 from society.reading.columns import Columns, find_columns
 from society.reading.options import read_given, read_sexes
 from society.reading.rows import Rows
-from society.reading.sheet import Sheet, read_sheet
+from society.reading.sheet import Sheet, read_bytes, read_sheet
 from society.reading.titles import known_titles
 from society.reading.unknown import UnknownParents
 from society.taking.completing import complete
@@ -21,14 +24,22 @@ from society.taking.next_book import NextBook
 from society.taking.report import Report
 from society.taking.wishes import Wishes
 
-# the options that a later taking uses again, and under which name the titles of all columns are remembered
-COLUMNS, UNKNOWN, SEXES, MONTH_FIRST, FOUND = "columns", "unknown", "sexes", "month-first", "found"
+COLUMNS, UNKNOWN, SEXES, MONTH_FIRST = (
+    Remembered.COLUMNS, Remembered.UNKNOWN, Remembered.SEXES, Remembered.MONTH_FIRST
+)  # fmt: skip
+Words = dict[Remembered, list[str]]
 
 
-def take_sheet(path: pathlib.Path, wishes: Wishes) -> None:
+def take_sheet(path: pathlib.Path, wishes: Wishes) -> list[str]:
+    """Takes a sheet; answers what is to be told besides."""
     program = Herdbook()
-    book = Book(wishes.book)
-    book.load(program)
+    with to_change(wishes.book, program) as book:
+        take_into(book, path, wishes, program)
+    return book.notes
+
+
+def take_into(book: Book, path: pathlib.Path, wishes: Wishes, program: Herdbook) -> None:
+    source = source_of(path, read_bytes(path))
     words = remember(book, wishes)
     read = read_animals(path, wishes, book, words)
     next_book = NextBook(book, read.animals, set(read.columns.found), read.report)
@@ -36,14 +47,14 @@ def take_sheet(path: pathlib.Path, wishes: Wishes) -> None:
     about = [
         f"{path}: {counted(len(read.sheet.rows), 'row')} below the titles in line {read.sheet.line}, {read.sheet.how}",
         read.columns.words(),
-        *again(words, wishes, book),
+        *again(words, wishes),
         *read.columns.notes,
         *read.rows.sexes.told(),
         *read.rows.unread.summaries(),
         *read.rows.notes,
     ]
-    book.options += [(FOUND, title) for title in read.columns.titles_found()]
-    finish(next_book, program, wishes, about, 0)
+    book.remembered += [Meaning(Remembered.COLUMN, *pair) for pair in read.columns.titles_found()]
+    finish(next_book, program, wishes, source, about, 0)
 
 
 @dataclass
@@ -57,7 +68,7 @@ class ReadSheet:
     report: Report
 
 
-def read_animals(path: pathlib.Path, wishes: Wishes, book: Book, words: dict[str, list[str]]) -> ReadSheet:
+def read_animals(path: pathlib.Path, wishes: Wishes, book: Book, words: Words) -> ReadSheet:
     """The animals of a sheet; else a mistake with all that keeps it from being read."""
     now = read_given(wishes.columns)
     before = titles_before(book) | read_given(words[COLUMNS])
@@ -79,22 +90,21 @@ def read_animals(path: pathlib.Path, wishes: Wishes, book: Book, words: dict[str
 
 def titles_before(book: Book) -> dict[str, str]:
     """The titles of all columns of the last sheet, by field."""
-    found = (word.partition("=") for option, word in book.options if option == FOUND)
-    return {name: title for name, _, title in found}
+    return {one.word: one.meaning for one in book.remembered if one.what is Remembered.COLUMN}
 
 
-def remember(book: Book, wishes: Wishes) -> dict[str, list[str]]:
+def remember(book: Book, wishes: Wishes) -> Words:
     """The words of the options that say how cells are read: those that the book remembers, and then those that are
     given now, which stay in the book."""
     now = given_now(wishes)
-    before = {option: [word for one, word in book.options if one == option] for option in now}
-    both = {option: [word for word in before[option] if word not in now[option]] + now[option] for option in now}
-    found = [(option, word) for option, word in book.options if option == FOUND]
-    book.options = [(option, word) for option, words in both.items() for word in words] + found
+    before = {kind: [one.word for one in book.remembered if one.what is kind] for kind in now}
+    both = {kind: [word for word in before[kind] if word not in now[kind]] + now[kind] for kind in now}
+    others = [one for one in book.remembered if one.what not in now]
+    book.remembered = others + [Meaning(kind, word) for kind, words in both.items() for word in words]
     return both
 
 
-def given_now(wishes: Wishes) -> dict[str, list[str]]:
+def given_now(wishes: Wishes) -> Words:
     return {
         COLUMNS: wishes.columns,
         UNKNOWN: wishes.unknown,
@@ -103,9 +113,9 @@ def given_now(wishes: Wishes) -> dict[str, list[str]]:
     }
 
 
-def again(words: dict[str, list[str]], wishes: Wishes, book: Book) -> list[str]:
+def again(words: Words, wishes: Wishes) -> list[str]:
     """Which options are used that weren't given, in a sentence."""
     now = given_now(wishes)
-    used = [(option, word) for option, those in words.items() for word in those if word not in now[option]]
-    shown = ", ".join(f"--{option}" if option == MONTH_FIRST else f"--{option} {word}" for option, word in used)
-    return [f"as at the last time: {shown} ({book.folder / OPTIONS} has these)"] if used else []
+    used = [(kind, word) for kind, those in words.items() for word in those if word not in now[kind]]
+    shown = ", ".join(f"--{kind.value}" if kind is MONTH_FIRST else f"--{kind.value} {word}" for kind, word in used)
+    return [f"as at the last time: {shown} (the book remembers these)"] if used else []

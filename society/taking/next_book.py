@@ -8,14 +8,15 @@ from society.book.book import Book
 from society.book.commands import Command, Record, parents
 from society.book.inferred import SexSource
 from society.book.kinds import Field, Standing
-from society.book.known import Known
+from society.book.known import NO_FIELDS, Known
 from society.book.role import Role
+from society.book.state import CELL_FIELDS
 from society.mistake import Mistake
 from society.reading.animal import Animal
 from society.reading.days import ANY_DAY, Span
 from society.taking.birth_days import Days
 from society.taking.cycles import cut_cycles
-from society.taking.findings import KeptFromBook, SexInferred, SexNotKnown
+from society.taking.findings import KeptByHand, KeptFromBook, SexInferred, SexNotKnown
 from society.taking.near_ids import NearIds
 from society.taking.parent_names import Names
 from society.taking.report import Report
@@ -39,6 +40,8 @@ class NextBook:
         self.used_again: set[str] = set()
         # the parents as the sheet writes them, by an animal's id and `sire` or `dam`
         self.texts: dict[tuple[str, Role], str] = {}
+        # the fields that were filed by hand and that the sheet says otherwise now than before
+        self.overridden: dict[str, frozenset[Field]] = {}
 
     def record(self, id: str) -> Record | None:
         known = self.book.known.get(id)
@@ -86,6 +89,8 @@ class NextBook:
         known, record = self.book.known.get(animal.id), self.record(animal.id)
         if known is None or record is None:
             return
+        if known.by_hand:
+            self.keep_by_hand(animal, known, record)
         if "name" not in self.given or Field.NAME in animal.unread:
             animal.name = known.name
         for role in Role:
@@ -106,6 +111,40 @@ class NextBook:
         if not animal.sex and not known.sex.is_inferred:
             animal.sex = record.number[6]
             self.tell_kept(animal, Field.SEX, animal.sex)
+
+    def keep_by_hand(self, animal: Animal, known: Known, record: Record) -> None:
+        """What was filed by hand stays where the cell is as it was in the last sheet; an animal that no sheet had
+        before had empty ones."""
+        before = self.book.cells.get((animal.id,))
+        cells: dict[Field, object] = dict(zip(CELL_FIELDS, before[1:])) if before else {}
+        given = frozenset(one for one in known.by_hand if one in self.given)
+        stays = {one for one in given if (cells.get(one) or "") == animal.cells.get(one, "")}
+        self.overridden[animal.id] = given - stays
+        values = self.values_of(animal)
+        for role in Role:
+            if Field(role.value) in stays:
+                animal.set_parent(role, self.id_of(record.parent(role)))
+        if Field.OWNER in stays:
+            animal.owner = self.book.owner_of(record.herd)
+        if Field.EXIT in stays:
+            animal.left, animal.exit_basis = record.left, known.exit
+        if Field.EMBRYO in stays:
+            animal.embryo = record.embryo
+        if Field.NAME in stays:
+            animal.name = known.name
+        for one, value in self.values_of(animal).items():
+            if value != values[one]:
+                self.report.add(animal.line, animal.id, KeptByHand(one, value))
+
+    def values_of(self, animal: Animal) -> dict[Field, str]:
+        return {
+            Field.NAME: animal.name,
+            Field.SIRE: animal.sire,
+            Field.DAM: animal.dam,
+            Field.OWNER: animal.owner,
+            Field.EXIT: str(animal.left or ""),
+            Field.EMBRYO: "yes" if animal.embryo else "",
+        }
 
     def tell_kept(self, animal: Animal, field: Field, value: str) -> None:
         if field.value in self.given:
@@ -164,22 +203,24 @@ class NextBook:
         return {(id, self.id_of(parent)) for id, record in pairs for parent in (record.sire, record.dam) if parent}
 
     def give_numbers(self, breed: str, country: str) -> None:
-        """An animal that is or was in the book keeps its twelve digits; new ones go on from the greatest, by birth day
-        and id. No number of a dropped animal is given to another."""
-        last = 0
-        for id, known in (self.book.dropped | self.book.known).items():
+        """An animal that is or was in the book keeps its twelve digits; new ones go on from the greatest that there
+        ever was, by birth day and id, so that no number is given to another animal."""
+        for id, known in (self.book.dropped | dict(self.book.known)).items():
             animal = self.animals.get(id)
             if animal:
                 animal.number = known.number[:6] + animal.sex + known.number[7:]
-            if known.number[7:].isdigit():
-                last = max(last, int(known.number[7:]))
             breed, country = breed or known.number[:3], country or known.number[3:6]
+        for id, number in self.book.former_numbers().items():
+            animal = self.animals.get(id)
+            if animal:
+                animal.number = (breed or number[:3]) + (country or number[3:6]) + animal.sex + number[7:]
+        last = self.book.greatest_digits()
         new = [animal for animal in self.animals.values() if not animal.number]
         for digits, animal in enumerate(sorted(new, key=lambda one: (one.born, one.id)), last + 1):
             animal.number = f"{breed or 'HOL'}{country or 'GBR'}{animal.sex}{digits:012}"
 
     def dropped_animals(self) -> dict[str, Known]:
-        before = self.book.dropped | self.book.known
+        before = self.book.dropped | dict(self.book.known)
         return {id: replace(known, standing=Standing.DROPPED) for id, known in before.items() if id not in self.animals}
 
     def written_parents(self) -> dict[tuple[str, Role], str]:
@@ -206,10 +247,17 @@ class NextBook:
         for id, animal in self.animals.items():
             before = self.book.known.get(id)
             had_row = before is not None and before.standing.had_row()
-            standing = Standing.ROW if animal.line or id in self.used_again else Standing.GONE if had_row else Standing.PARENT
+            standing = Standing.GONE if had_row else Standing.PARENT
+            if animal.line or id in self.used_again:
+                standing = Standing.ROW
+            elif before and before.standing is Standing.FILED:
+                standing = Standing.FILED
             inferred = animal.birth_basis, animal.exit_basis, animal.sex_source
+            is_said = animal.line and Field.SEX in self.given
+            castrated = animal.castrated if is_said else before is not None and before.castrated
             texts = written.get((id, Role.SIRE), ""), written.get((id, Role.DAM), "")
-            kept[id] = Known(animal.number, id, animal.name, standing, *inferred, *texts)
+            by_hand = before.by_hand - self.overridden.get(id, NO_FIELDS) if before else NO_FIELDS
+            kept[id] = Known(animal.number, id, animal.name, standing, *inferred, castrated, *texts, by_hand)
         return kept
 
     # -- what commands name

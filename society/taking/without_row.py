@@ -2,6 +2,7 @@
 from __future__ import annotations
 
 from society.book.book import Book
+from society.book.kinds import Standing
 from society.pedigree_order import ancestors
 from society.reading.animal import Animal
 from society.reading.days import ANY_DAY, Span
@@ -32,11 +33,15 @@ def add_gone(animals: dict[str, Animal], gone: dict[str, Animal], book: Book, dr
     def gone_parents(id: str) -> list[str]:
         return [parent for parent in (animals.get(id) or gone[id]).parent_ids() if parent in gone]
 
-    kept = ancestors(animals, gone_parents) if drop else gone.keys()
+    # those that were filed by hand had no row in any sheet yet
+    filed = {id for id in gone if book.known[id].standing is Standing.FILED}
+    kept = filed | ancestors([*animals, *filed], gone_parents) if drop else set(gone)
     parents = {parent for animal in (*animals.values(), *gone.values()) for _, parent in animal.parents()}
     for id, animal in gone.items():
         if id in kept:
             animals[id] = animal
+        if id in filed:
+            continue
         had_row = book.known[id].standing.had_row()
         if id not in kept or had_row or id not in parents:
             report.add(0, id, RowIsGone(had_row, is_dropped=id not in kept))

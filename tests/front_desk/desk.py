@@ -1,6 +1,7 @@
 """Runs of the front desk in a folder of its own. Each tells by an assertion what every run has to keep."""
 from __future__ import annotations
 
+import contextlib
 import csv
 import dataclasses
 import io
@@ -8,6 +9,7 @@ import os
 import pathlib
 import shlex
 import shutil
+import sqlite3
 import subprocess
 import textwrap
 import xml.etree.ElementTree as xml
@@ -98,6 +100,15 @@ class Desk:
 
     def numbers(self) -> dict[str, str]:
         return {row["id"]: row["number"] for row in self.table("book/ids.csv") if row["row"] != "dropped"}
+
+    def ids(self) -> list[dict[str, str]]:
+        """What `ids.csv` has, but for the number of the change."""
+        return [{title: cell for title, cell in row.items() if title != "change"} for row in self.table("book/ids.csv")]
+
+    def owners(self) -> list[tuple[int, str]]:
+        """The herds and the owners that they stand for."""
+        with contextlib.closing(sqlite3.connect(self.room / "book/book.sqlite")) as connection:
+            return connection.execute("SELECT herd, name FROM owner ORDER BY herd").fetchall()
 
     def born(self) -> dict[str, str]:
         days = {line.split(",")[1]: line.split(",")[2] for line in self.commands() if line.startswith("birth")}

@@ -108,7 +108,7 @@ def test_escaped_list(odd_desk: Desk) -> None:
 @pytest.mark.parametrize("id", ODD_IDS)
 def test_escaped(odd_desk: Desk, id: str) -> None:
     """Whatever a sheet has in its cells, pages and pictures are well-formed and show it."""
-    odd_desk.good("certificate", id, "--out", "page.html", "--title", "<&>")
+    odd_desk.good("certificate", id, "--force", "--out", "page.html", "--title", "<&>")
     assert id in words_of(odd_desk, "page.html")
     odd_desk.good("pedigree", id, "--out", "page.svg")
     assert id in words_of(odd_desk, "page.svg")
@@ -142,7 +142,7 @@ FORMS = {
 
 def certificate_in(desk: Desk, id: str, language: str) -> tuple[str, str]:
     """All words of a certificate, and those of its body."""
-    desk.good("certificate", id, "--language", language, "--out", "page.html")
+    desk.good("certificate", id, "--language", language, "--force", "--out", "page.html")
     page = desk.page("page.html")
     assert page.get("lang") == language
     body = next(part for part in page if part.tag.endswith("body"))
@@ -181,7 +181,7 @@ def test_numbers_in_all_languages(secretary: Secretary, secretary_desk: Desk) ->
 
 def test_title_and_another_language(secretary: Secretary, secretary_desk: Desk) -> None:
     desk, calf = secretary_desk, undated_calf(secretary)
-    desk.good("certificate", calf, "--language", "de", "--title", "Zuchtbescheinigung", "--out", "page.html")
+    desk.good("certificate", calf, "--language", "de", "--title", "Zuchtbescheinigung", "--force", "--out", "page.html")
     assert "Zuchtbescheinigung" in desk.text("page.html")
     desk.wrong("argument --language: invalid choice: 'it'", "certificate", calf, "--language", "it")
 

@@ -104,8 +104,8 @@ def test_her_certificate(her: Secretary, secretary_desk: Desk, whose: str) -> No
 def test_file_and_name_of_her_certificate(her: Secretary, secretary_desk: Desk) -> None:
     """An id is escaped in the file's name and on the page, and a name may stand for it."""
     secretary_desk.good("certificate", her.imported)
-    assert "<Zürich>" not in secretary_desk.text("book/certificate-IMP-7--Zürich-.html")
-    secretary_desk.good("certificate", her.rows[0]["Name"], "--out", "page.html")
+    assert "<Zürich>" not in secretary_desk.text("book/certificate-IMP~207~20~3cZürich~3e.html")
+    secretary_desk.good("certificate", her.rows[0]["Name"], "--force", "--out", "page.html")
     assert her.rows[0]["Ohrmarke"] in secretary_desk.text("page.html")
 
 

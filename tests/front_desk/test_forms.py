@@ -45,11 +45,11 @@ SHEETS: dict[str, bytes] = {
 }
 
 # commands, ids and owners
-Book = tuple[list[str], list[dict[str, str]], list[dict[str, str]]]
+Book = tuple[list[str], list[dict[str, str]], list[tuple[int, str]]]
 
 
 def book_of(desk: Desk) -> Book:
-    return desk.commands(), desk.table("book/ids.csv"), desk.table("book/owners.csv")
+    return desk.commands(), desk.ids(), desk.owners()
 
 
 @pytest.fixture
@@ -71,7 +71,7 @@ def test_forms(desk: Desk, first_book: Book, form: str) -> None:
 def test_book_of_the_forms(first_book: Book) -> None:
     commands, _, owners = first_book
     assert commands[-1].startswith("exit,HOLGBRF000000000003,2004-05-31")
-    assert [row["owner"] for row in owners] == ["Groß", "Weiß"]
+    assert [row[1] for row in owners] == ["Groß", "Weiß"]
 
 
 def test_days_beside_words(desk: Desk) -> None:

@@ -30,7 +30,7 @@ def without_day(word: str) -> str:
 
 
 def certificate(desk: Desk, id: str, *words: str) -> str:
-    desk.good("certificate", id, "--out", "page.html", *words)
+    desk.good("certificate", id, "--force", "--out", "page.html", *words)
     body = next(part for part in desk.page("page.html") if part.tag.endswith("body"))
     return " ".join(" ".join(body.itertext()).split())
 
@@ -221,9 +221,9 @@ def test_exits_in_words(desk: Desk) -> None:
         ),
     )
     # what a sheet without the column says changes nothing
-    before = desk.files()["book/ids.csv"]
+    before = desk.ids()
     desk.take("id;sex;born;sire;dam\n" + "".join(f"a{at};M;2001-01-01;;\n" for at in range(len(cells))))
-    assert desk.files()["book/ids.csv"] == before
+    assert desk.ids() == before
 
 
 def test_exits_in_words_alone(desk: Desk) -> None:
@@ -258,7 +258,7 @@ def test_remembered(desk: Desk) -> None:
     before = desk.commands()
     done = desk.take(sheet)
     done.tells(
-        "as at the last time: --columns id=Tag,sex=S, --unknown fremd, --sexes Bk=m,Schf=f (book/options.csv "
+        "as at the last time: --columns id=Tag,sex=S, --unknown fremd, --sexes Bk=m,Schf=f (the book "
         "has these)"
     )
     assert desk.commands() == before
@@ -281,7 +281,7 @@ def test_many_lines(desk: Desk) -> None:
         "line 42: mate: its sire dam (line 43) is left out: it isn't male (refusal 5)",
     )
     text = (desk.room / "book/report.csv").read_bytes()
-    assert text.startswith(b"\xef\xbb\xbfline;id;what;why\n2;0;left out;")
+    assert text.startswith(b"\xef\xbb\xbfline;id;what;why;change\n2;0;left out;")
     assert text.count(b";left out;") == 41
     shown = "id;name;sex;born;sire;dam\n1;Max;M;2001-01-01;;\n2;Max;M;2001-01-01;;\n3;;F;2005-01-01;Max;\n"
     desk.take(shown, "--book", "names")

@@ -138,7 +138,7 @@ def test_invented_days(desk: Desk) -> None:
         f"line 3: y: inferred: birth day 1900-01-02, {in_book}",
         "line 3: y: its dam x (line 2) is left out: it isn't female (refusal 6)",
     )
-    desk.good("certificate", "y", "--out", "page.html")
+    desk.good("certificate", "y", "--force", "--out", "page.html")
     words = " ".join("".join(desk.page("page.html").itertext()).split())
     assert "unknown (in the sheet: x)" in words
     assert "(in sheet)" not in words

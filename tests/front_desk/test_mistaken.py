@@ -109,7 +109,7 @@ WORDS_WITH_A_BOOK: list[tuple[list[str], str]] = [
     (["inverse", "--matrix-market", "."], "'.' is a folder: name a file"),
     (["pedigree", "a", "--generations", "11"], "'11' isn't 1 to 10"),
     (["inverse"], "the following arguments are required: --matrix-market"),
-    (["certificate", "a", "--out", "file/x.html"], "the folder file can't be written"),
+    (["certificate", "a", "--out", "file/x.html"], "file/x.html can't be written: there is no folder file"),
 ]  # fmt: skip
 
 
@@ -140,13 +140,13 @@ def test_no_program(book_desk: Desk, path: str, told: str) -> None:
 
 def test_program_that_cannot_be_run(book_desk: Desk) -> None:
     copied = book_desk.room / book_desk.write("copied here", "not to be run")
-    done = book_desk.run("list", program=str(copied))
+    done = book_desk.run("verify", program=str(copied))
     assert done.status == 1
     assert done.err == f"society: {copied} can't be run (Permission denied): allow it, as chmod u+x '{copied}'\n"
 
 
 def test_another_program(book_desk: Desk) -> None:
-    done = book_desk.run("list", program="/bin/true")
+    done = book_desk.run("verify", program="/bin/true")
     assert done.status == 1
     assert "the program answered 0 of 1 command:" in done.err
     done = book_desk.run("take", "good.csv", program="/bin/false")
@@ -162,37 +162,9 @@ def test_closed_pipe(book_desk: Desk) -> None:
     assert not done.stderr
 
 
-def test_book_that_cannot_be_written(book_desk: Desk) -> None:
-    sheet = book_desk.write("bull.csv", "id,sex,born,sire,dam\nbull,M,2001,,\nson,M,2005,bull,\n")
-    (book_desk.room / "book/commands.csv.new").mkdir()
-    book_desk.wrong("the folder book can't be written", "take", sheet)
-
-
 def test_bull_as_a_dam(desk: Desk) -> None:
     desk.good("take", desk.write("bull.csv", "id,sex,born,sire,dam\nbull,M,2001,,\nson,M,2005,bull,\n"))
     desk.wrong("bull: the dam isn't female (fault 4): name a female as the dam", "mating", "--dam", "bull")
-
-
-@pytest.mark.parametrize(("command", "told"), [
-    ("exit,HOLGBRF000000000009,2001-01-01,,,,,",
-     "book/commands.csv: command 2 is refused: it isn't in the book (refusal 11). Somebody has changed this file"),
-    ("exit,HOLGBRF000000000001,2001-02-30,,,,,",
-     "the program `herdbook file` can't do it: record 2: fault 5 Day. Somebody has changed the command file:"
-     " restore it"),
-])  # fmt: skip
-def test_commands_that_somebody_added(book_desk: Desk, command: str, told: str) -> None:
-    with open(book_desk.room / "book/commands.csv", "a", encoding="utf-8") as commands:
-        commands.write(f"{command}\n")
-    book_desk.wrong(told, "list")
-
-
-def test_files_that_somebody_changed(book_desk: Desk) -> None:
-    kept = book_desk.text("book/commands.csv")
-    book_desk.write("book/commands.csv", "birth\n")
-    book_desk.wrong("book/commands.csv: line 1 isn't the header of a command file", "take", "good.csv")
-    book_desk.write("book/commands.csv", kept)
-    (book_desk.room / "book/ids.csv").unlink()
-    book_desk.wrong("book/ids.csv is missing or was changed", "take", "good.csv")
 
 
 def test_limits(desk: Desk) -> None:

@@ -5,7 +5,7 @@ import argparse
 
 from society.answers.inverse import write_inverse
 from society.book.book import Book
-from society.command_line.arguments import file
+from society.command_line.arguments import add_force, file
 from society.command_line.parser import Words
 from society.herdbook import Herdbook
 from society.mistake import counted
@@ -19,10 +19,11 @@ def add_words(words: Words) -> None:
         "--matrix-market", type=file, required=True, metavar="FILE",
         help="its lower triangle; the ids of the rows go to FILE.ids",
     )  # fmt: skip
+    add_force(inverse)
 
 
 def do_inverse(asked: argparse.Namespace, book: Book, program: Herdbook) -> None:
-    rows, elements, ids = write_inverse(book, program, asked.matrix_market)
+    rows, elements, ids = write_inverse(book, program, asked.matrix_market, asked.force)
     print(
         f"{asked.matrix_market}: {counted(rows, 'row')}, {counted(elements, 'element')} of the lower triangle; "
         f"{ids} has the ids of the rows"

@@ -3,10 +3,11 @@ from __future__ import annotations
 
 import argparse
 
-from society.answers.listing import coefficients
 from society.book.book import Book
-from society.book.files import write_file
-from society.command_line.arguments import file, generations
+from society.book.coefficients import kept_coefficients
+from society.book.out import write_outs, write_page
+from society.book.search import find
+from society.command_line.arguments import add_force, file, generations
 from society.command_line.parser import Words
 from society.herdbook import Herdbook
 from society.packages import Group
@@ -36,28 +37,32 @@ def add_words(words: Words) -> None:
     for one in certificate, pedigree, trend:
         one.add_argument("--language", choices=LANGUAGES, default="en", help="the language, en, de or fr [en]")
         one.add_argument("--out", type=file, metavar="FILE", help="write to this file [one in the book's folder]")
+        add_force(one)
 
 
 def do_certificate(asked: argparse.Namespace, book: Book, program: Herdbook) -> None:
     from society.pages.certificate import certificate_page
 
-    known = book.find(asked.id)
-    page = certificate_page(book, program, known, coefficients(book, program), asked.language, asked.title)
-    give(asked, page, file_name("certificate", known.id, ".html"))
+    known = find(book, asked.id)
+    page = certificate_page(book, program, known, kept_coefficients(book), asked.language, asked.title)
+    give(asked, book, page, file_name("certificate", known.id, ".html"))
 
 
 def do_pedigree(asked: argparse.Namespace, book: Book, program: Herdbook) -> None:
-    known = book.find(asked.id)
-    picture = tree_picture(book, known, coefficients(book, program), asked.generations, Language(asked.language))
-    give(asked, picture, file_name("pedigree", known.id, ".svg"))
+    known = find(book, asked.id)
+    picture = tree_picture(book, known, kept_coefficients(book), asked.generations, Language(asked.language))
+    give(asked, book, picture, file_name("pedigree", known.id, ".svg"))
 
 
 def do_trend(asked: argparse.Namespace, book: Book, program: Herdbook) -> None:
-    give(asked, trend_picture(book, coefficients(book, program), Language(asked.language)), "trend.svg")
+    give(asked, book, trend_picture(book, kept_coefficients(book), Language(asked.language)), "trend.svg")
 
 
-def give(asked: argparse.Namespace, text: str, name: str) -> None:
+def give(asked: argparse.Namespace, book: Book, text: str, name: str) -> None:
     """Writes a page or picture, where no file is named to one in the book's folder."""
     path = asked.out or asked.book / name
-    write_file(path, text.encode())
+    if asked.out:
+        write_outs(book, {path: text.encode()}, asked.force)
+    else:
+        write_page(book, path, text.encode())
     print(f"{path} is written: open it in a browser, and print it there")

@@ -5,7 +5,9 @@ import argparse
 import datetime
 import pathlib
 
+from society.book.database import anew_where_a_book_came
 from society.command_line.arguments import day, days, three_letters
+from society.command_line.output import tell
 from society.command_line.parser import Words
 from society.mistake import Mistake
 from society.packages import Group, need
@@ -94,10 +96,12 @@ def do_take(asked: argparse.Namespace) -> None:
     )  # fmt: skip
     if asked.sheet and is_workbook(asked.sheet):
         need(Group.WORKBOOKS, ": or save the sheet as CSV, and take that")
-    if asked.sheet:
-        take_sheet(asked.sheet, wishes)
-    else:
-        take_pedigree(asked.pedigree, wishes)
+    for note in anew_where_a_book_came(lambda: taken(asked, wishes)):
+        tell(note)
+
+
+def taken(asked: argparse.Namespace, wishes: Wishes) -> list[str]:
+    return take_sheet(asked.sheet, wishes) if asked.sheet else take_pedigree(asked.pedigree, wishes)
 
 
 def is_workbook(path: pathlib.Path) -> bool:

@@ -1,0 +1,166 @@
+"""Copies a book as a whole, and brings it back from a copy."""
+from __future__ import annotations
+
+import contextlib
+import pathlib
+import secrets
+import sqlite3
+import tempfile
+import time
+
+from society.book.book import Book
+from society.book.changes import Change, Made
+from society.book.database import (
+    DAMAGED,
+    companions,
+    connect,
+    migrate,
+    opened_to_read,
+    path_of,
+    primary,
+    told,
+    version_of,
+)
+from society.book.files import cant_be_written, put, source_of, sync_folder
+from society.book.history import last_change, next_number, now, write_change
+from society.book.kinds import ChangeKind
+from society.book.old_folder import OLD
+from society.book.out import check
+from society.book.schema import VERSION
+from society.book.verify import verify
+from society.herdbook import Herdbook
+from society.mistake import Mistake
+
+
+def backup(book: Book, path: pathlib.Path, force: bool) -> None:
+    """Writes a copy of the book as it is now, whoever changes it meanwhile: one file, which is whole or isn't there."""
+    assert book.connection is not None
+    check(book, path, force)
+    text = bytes_of(book.connection)
+    try:
+        put(path, text, replaces=force)
+    except FileExistsError:
+        raise Mistake(f"{path} is there already: name another file, or write over it with --force") from None
+    except OSError as error:
+        raise cant_be_written(path, error) from None
+
+
+def bytes_of(connection: sqlite3.Connection) -> bytes:
+    """A database as one file, with nothing beside it."""
+    with tempfile.TemporaryDirectory(prefix="society-") as room:
+        path = pathlib.Path(room) / "book.sqlite"
+        with contextlib.closing(sqlite3.connect(path, isolation_level=None)) as copy:
+            connection.backup(copy)
+            copy.execute("PRAGMA journal_mode = DELETE")
+        return path.read_bytes()
+
+
+def restore(folder: pathlib.Path, path: pathlib.Path, program: Herdbook, anyway: bool) -> Change:
+    """Makes the book of a copy that of a folder. A book that is there goes to the folder `old` before."""
+    if path_of(folder).exists() and path.exists() and path.samefile(path_of(folder)):
+        raise Mistake(f"{path} is the book itself: name a backup")
+    with tempfile.TemporaryDirectory(prefix="society-") as room:
+        copy = pathlib.Path(room) / "book.sqlite"
+        change = prepare(path, copy, program)
+        if has_file(folder) and not anyway:
+            raise Mistake(
+                f"there is a book in the folder {folder}: to restore {path} in its place say --anyway; the one that is "
+                f"there goes to {folder / OLD} then"
+            )
+        put_in_place(folder, copy)
+    return change
+
+
+def has_file(folder: pathlib.Path) -> bool:
+    """Is there a book, or a file in its place, though it may be damaged?"""
+    path = path_of(folder)
+    if not path.exists():
+        return False
+    try:
+        with opened_to_read(path) as connection:
+            return version_of(connection, path) > 0
+    except (sqlite3.Error, Mistake):
+        return True
+
+
+def prepare(path: pathlib.Path, copy: pathlib.Path, program: Herdbook) -> Change:
+    """A copy of a backup that is whole, with a change behind its others that tells of the restoring."""
+    try:
+        source = source_of(path, path.read_bytes())
+        with opened_to_read(path) as connection:
+            version = version_of(connection, path)
+            if not version:
+                raise Mistake(f"{path} has no book: name a backup, as the word backup writes them")
+            copy.write_bytes(bytes_of(connection))
+    except OSError as error:
+        raise Mistake(f"{path} can't be read: {error.strerror or error}. Is the name right?") from None
+    except sqlite3.Error as error:
+        raise Mistake(f"{path} is damaged, or isn't a backup ({error}): nothing is changed") from None
+    try:
+        with contextlib.closing(connect(copy, "rw")) as connection:
+            connection.execute("BEGIN IMMEDIATE")
+            if version < VERSION:
+                migrate(connection, version)
+            book = Book(copy.parent, connection)
+            verify(book, program, path)
+            write_change(connection, next_number(connection), now(), book.journal, Made(ChangeKind.RESTORE, source))
+            change = last_change(connection)
+            assert change is not None
+            connection.execute("COMMIT")
+            return change
+    except sqlite3.Error as error:
+        raise Mistake(f"{path} can't be restored ({error}): nothing is changed") from None
+
+
+def put_in_place(folder: pathlib.Path, copy: pathlib.Path) -> None:
+    """Makes a copy the book of a folder. Whoever asks it meanwhile is answered from the one or the other."""
+    path = path_of(folder)
+    with contextlib.closing(connect(copy, "rw")) as source:
+        if not path.exists():
+            with contextlib.suppress(FileExistsError):
+                folder.mkdir()
+        try:
+            keep_old(folder)
+            with contextlib.closing(connect(path, "rwc")) as target:
+                version_of(target, path)
+                source.backup(target)
+                return
+        except sqlite3.Error as error:
+            if primary(error) not in DAMAGED:
+                raise told(error, path) from None
+        except FileNotFoundError:
+            raise Mistake(f"the folder {folder.parent} isn't there: make it, or name another folder by --book") from None
+        except OSError as error:
+            raise Mistake(f"the folder {folder} can't be written ({error.strerror or error}): nothing is changed") from None
+    replace_damaged(path, copy)
+
+
+def keep_old(folder: pathlib.Path) -> None:
+    """Copies the files of the book that is there to the folder `old`, where they have names that nothing has."""
+    path = path_of(folder)
+    if not has_file(folder):
+        return
+    old = folder / OLD
+    old.mkdir(exist_ok=True)
+    name = f"book-{time.strftime('%Y%m%d-%H%M%S')}-{secrets.token_hex(3)}.sqlite"
+    try:
+        with opened_to_read(path) as connection:
+            put(old / name, bytes_of(connection))
+            return
+    except (sqlite3.Error, Mistake):
+        # a damaged one is kept as it is
+        for one in companions(path)[:2]:
+            if one.exists():
+                put(old / one.name.replace(path.name, name), one.read_bytes())
+
+
+def replace_damaged(path: pathlib.Path, copy: pathlib.Path) -> None:
+    """Puts a copy in the place of a file that isn't a database any more. What stands beside that would be taken for a
+    part of the copy, and goes first."""
+    try:
+        for one in companions(path)[1:]:
+            one.unlink(missing_ok=True)
+        sync_folder(path.parent)
+        put(path, copy.read_bytes())
+    except OSError as error:
+        raise Mistake(f"{path} can't be written ({error.strerror or error}): it is damaged as before") from None

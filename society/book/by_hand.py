@@ -1,0 +1,159 @@
+"""Commands that somebody files one by one, by the society's ids. A refused one is kept too, with its reply."""
+from __future__ import annotations
+
+import datetime
+from dataclasses import dataclass, field, replace
+
+from society.book.book import NO_OWNER, Book
+from society.book.changes import Change, Made, Option, Told
+from society.book.commands import Command, Record, birth, leave, lines_of, parents, record_after, transfer
+from society.book.inferred import GIVEN_EXIT
+from society.book.journal import Step
+from society.book.kinds import ChangeKind, Field, Standing
+from society.book.known import Known
+from society.book.rows import row_of
+from society.book.state import select_rows
+from society.book.writing import Filed, Rows, State, write
+from society.herdbook import Herdbook
+from society.mistake import Mistake
+from society.refusals import Refusal
+from society.taking.findings import CommandRefused, NewAnimal, ValueChanged
+from society.taking.report import Entry, Finding
+from society.taking.stored_findings import told_of
+
+BREED, COUNTRY = "HOL", "GBR"
+
+
+@dataclass(frozen=True)
+class ByHand:
+    """A command, the animal as the society knows it afterwards, and what is told where it is accepted."""
+
+    kind: ChangeKind
+    command: Command
+    known: Known
+    findings: tuple[Finding, ...]
+    new_owners: dict[str, int] = field(default_factory=dict)
+    options: tuple[Option, ...] = ()
+
+
+@dataclass(frozen=True)
+class Calf:
+    """What is said of a birth."""
+
+    id: str
+    sex: str
+    day: datetime.date
+    name: str = ""
+    sire: Known | None = None
+    dam: Known | None = None
+    owner: str = ""
+    embryo: bool = False
+    breed: str = ""
+    country: str = ""
+
+
+def born(book: Book, calf: Calf) -> ByHand:
+    """A birth; one of an animal that is in the book is filed with its number, and the program refuses it."""
+    if not calf.id:
+        raise Mistake("an animal needs an id: write one")
+    before = book.known.get(calf.id)
+    number = before.number if before else number_for(book, calf)
+    herd, new_owners = herd_of(book, calf.owner)
+    sire, dam = (parent.number if parent else "" for parent in (calf.sire, calf.dam))
+    said = {
+        Field.SEX: True, Field.BIRTH: True, Field.NAME: calf.name, Field.SIRE: sire, Field.DAM: dam,
+        Field.OWNER: calf.owner, Field.EMBRYO: calf.embryo,
+    }  # fmt: skip
+    by_hand = frozenset(one for one, value in said.items() if value)
+    known = Known(number, calf.id, calf.name, Standing.FILED, by_hand=by_hand)
+    command = birth(number, calf.day, sire, dam, herd, calf.embryo)
+    return ByHand(ChangeKind.BIRTH, command, known, (NewAnimal(number),), new_owners)
+
+
+def number_for(book: Book, calf: Calf) -> str:
+    """The number that it had before, or else the next one."""
+    dropped = book.dropped.get(calf.id)
+    former = dropped.number if dropped else book.former_numbers().get(calf.id, "")
+    if former:
+        return former[:6] + calf.sex + former[7:]
+    row = book.connection and book.connection.execute("SELECT number FROM animal ORDER BY animal DESC LIMIT 1").fetchone()
+    last = row[0] if row else BREED + COUNTRY
+    return f"{calf.breed or last[:3]}{calf.country or last[3:6]}{calf.sex}{book.greatest_digits() + 1:012}"
+
+
+def herd_of(book: Book, owner: str) -> tuple[int, dict[str, int]]:
+    """The herd of an owner, and the owner if it is a new one."""
+    if not owner:
+        return NO_OWNER, {}
+    if owner in book.owners:
+        return book.owners[owner], {}
+    herd = max(book.owners.values(), default=0) + 1
+    return herd, {owner: herd}
+
+
+def with_parents(book: Book, known: Known, sire: Known | str | None, dam: Known | str | None) -> ByHand:
+    """Other parents: an animal, an empty text for an unknown one, or none for the one that the book has."""
+    record = book.records[known.number]
+    numbers, findings, by_hand = [], [], set(known.by_hand)
+    for one, given, before in ((Field.SIRE, sire, record.sire), (Field.DAM, dam, record.dam)):
+        number = before if given is None else given.number if isinstance(given, Known) else ""
+        numbers.append(number)
+        if given is not None:
+            by_hand.add(one)
+        if number != before:
+            findings.append(ValueChanged(one.value, id_of(book, number), id_of(book, before)))
+    after = replace(
+        known, by_hand=frozenset(by_hand), written_sire=known.written_sire if sire is None else "",
+        written_dam=known.written_dam if dam is None else "",
+    )  # fmt: skip
+    return ByHand(ChangeKind.PARENTS, parents(known.number, *numbers), after, tuple(findings))
+
+
+def transferred(book: Book, known: Known, day: datetime.date, taker: str, giver: str | None) -> ByHand:
+    """Another owner; the giver is the owner that the book has where none is named."""
+    record = book.records[known.number]
+    herd, new_owners = herd_of(book, taker)
+    if giver is not None and giver not in book.owners:
+        raise Mistake(f"the book has no owner '{giver}': write one as the book has it, or leave out --from")
+    herd_before = record.herd if giver is None else book.owners[giver]
+    found = ValueChanged("owner", taker, book.owner_of(record.herd))
+    after = replace(known, by_hand=known.by_hand | {Field.OWNER})
+    command = transfer(known.number, day, herd_before, herd)
+    return ByHand(ChangeKind.TRANSFER, command, after, (found,), new_owners)
+
+
+def departed(book: Book, known: Known, day: datetime.date) -> ByHand:
+    """An exit."""
+    record = book.records[known.number]
+    after = replace(known, exit=GIVEN_EXIT, by_hand=known.by_hand | {Field.EXIT})
+    found = ValueChanged("exit", day.isoformat(), str(record.left or ""))
+    return ByHand(ChangeKind.EXIT, leave(known.number, day), after, (found,))
+
+
+def id_of(book: Book, number: str) -> str:
+    return book.by_number()[number].id if number else ""
+
+
+def file(book: Book, program: Herdbook, one: ByHand) -> tuple[Change, Refusal | None]:
+    """Files a command as a change of its own, with the program's reply: why it is refused, or none."""
+    length = book.journal.length
+    refusal = program.file_text(book.command_file() + lines_of([one.command]), length + 1).get(length)
+    rows = Rows({}, {}) if refusal else rows_of(book, one)
+    findings = (CommandRefused(one.kind, one.command.day, refusal),) if refusal else one.findings
+    state = State(rows, new_owners={} if refusal else one.new_owners)
+    made = Made(one.kind, options=one.options, told=told_by(one, findings))
+    made = replace(made, counts=(("refused", 1),) if refusal else (("filed", 1),))
+    return write(book, program, Filed([Step(one.command, refusal or 0)]), state, made), refusal
+
+
+def told_by(one: ByHand, findings: tuple[Finding, ...]) -> tuple[Told, ...]:
+    return tuple(told_of(Entry(0, one.known.id, found)) for found in findings)
+
+
+def rows_of(book: Book, one: ByHand) -> Rows:
+    """The animal's row before and after."""
+    assert book.connection is not None
+    before = select_rows(book.connection, "id = ?", one.known.id)
+    record: Record | None = None if one.kind is ChangeKind.BIRTH else book.records[one.known.number]
+    after = row_of(one.known, record_after(record, one.command))
+    return Rows({(row.id,): row for row in before}, {(after.id,): after})

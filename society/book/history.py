@@ -1,0 +1,94 @@
+"""The history of a book: its changes, as they are kept and read."""
+from __future__ import annotations
+
+import datetime
+import json
+import os
+import pwd
+import sqlite3
+import time
+
+from society.book.changes import Change, Made, Option, Source, Told
+from society.book.journal import Journal
+from society.book.kinds import ChangeKind
+
+COLUMNS = "change, kind, time, login, edition, length, file, path, digest, undone_to"
+EPOCH = datetime.datetime(1970, 1, 1, tzinfo=datetime.timezone.utc)
+
+
+def login() -> str:
+    """Who works here, by the name that the system has."""
+    try:
+        return pwd.getpwuid(os.getuid()).pw_name
+    except KeyError:
+        return f"user {os.getuid()}"
+
+
+def now() -> int:
+    """The time, in microseconds since 1970 began."""
+    return time.time_ns() // 1000
+
+
+def next_number(connection: sqlite3.Connection) -> int:
+    return int(connection.execute("SELECT ifnull(max(change), 0) + 1 FROM change").fetchone()[0])
+
+
+def write_change(connection: sqlite3.Connection, number: int, moment: int, journal: Journal, made: Made) -> None:
+    """Writes a change with all that is kept of it beside the state."""
+    source = made.source
+    of_file = (source.name, source.path, source.digest) if source else (None, None, None)
+    row = (number, made.kind.value, moment, made.login or login(), *journal, *of_file, made.undone_to)
+    connection.execute(f"INSERT INTO change ({COLUMNS}) VALUES (?, ?, ?, ?, ?, ?, ?, ?, ?, ?)", row)
+    options = [(number, place, one.option, one.word) for place, one in enumerate(made.options)]
+    connection.executemany("INSERT INTO given_option VALUES (?, ?, ?, ?)", options)
+    connection.executemany("INSERT INTO counted VALUES (?, ?, ?)", [(number, *one) for one in made.counts])
+    told = [
+        (number, place, one.kind, one.part, one.line, one.id, json.dumps(dict(one.fields), ensure_ascii=False))
+        for place, one in enumerate(made.told)
+    ]
+    connection.executemany("INSERT INTO told VALUES (?, ?, ?, ?, ?, ?, ?)", told)
+
+
+def change_of(connection: sqlite3.Connection, row: tuple[object, ...]) -> Change:
+    number, kind, moment, who, edition, length, file, path, digest, undone_to = row
+    assert isinstance(number, int) and isinstance(moment, int)
+    assert isinstance(edition, int) and isinstance(length, int)
+    options = connection.execute("SELECT option, word FROM given_option WHERE change = ? ORDER BY place", (number,))
+    counts = connection.execute("SELECT what, count FROM counted WHERE change = ?", (number,))
+    return Change(
+        number,
+        ChangeKind(kind),
+        EPOCH + datetime.timedelta(microseconds=moment),
+        str(who),
+        edition,
+        length,
+        Source(str(file), str(path), str(digest)) if file is not None else None,
+        tuple(Option(*option) for option in options),
+        dict(counts),
+        undone_to if isinstance(undone_to, int) else None,
+    )
+
+
+def last_change(connection: sqlite3.Connection) -> Change | None:
+    row = connection.execute(f"SELECT {COLUMNS} FROM change ORDER BY change DESC LIMIT 1").fetchone()
+    return change_of(connection, row) if row else None
+
+
+def change_numbered(connection: sqlite3.Connection, number: int) -> Change | None:
+    row = connection.execute(f"SELECT {COLUMNS} FROM change WHERE change = ?", (number,)).fetchone()
+    return change_of(connection, row) if row else None
+
+
+def all_changes(connection: sqlite3.Connection) -> list[Change]:
+    rows = connection.execute(f"SELECT {COLUMNS} FROM change ORDER BY change").fetchall()
+    return [change_of(connection, row) for row in rows]
+
+
+def told_by(connection: sqlite3.Connection, number: int) -> list[Told]:
+    """What a change told, in its order."""
+    rows = connection.execute(
+        "SELECT kind, part, line, id, fields FROM told WHERE change = ? ORDER BY place", (number,)
+    )
+    return [
+        Told(kind, part, line, id, tuple(json.loads(fields).items())) for kind, part, line, id, fields in rows
+    ]

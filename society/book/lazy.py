@@ -1,0 +1,33 @@
+"""A mapping that reads what is asked for: one value, or all of them where it is gone through."""
+from __future__ import annotations
+
+from typing import Callable, Iterator, Mapping, TypeVar
+
+Value = TypeVar("Value")
+
+
+class Lazy(Mapping[str, Value]):
+    """Values by a key. `one` reads the value of a key, `all` those of all keys."""
+
+    def __init__(self, one: Callable[[str], Value | None], all: Callable[[], dict[str, Value]]) -> None:
+        self.one, self.all = one, all
+        self.kept: dict[str, Value] = {}
+        self.is_whole = False
+
+    def __getitem__(self, key: str) -> Value:
+        if key not in self.kept and not self.is_whole:
+            found = self.one(key)
+            if found is not None:
+                self.kept[key] = found
+        return self.kept[key]
+
+    def whole(self) -> dict[str, Value]:
+        if not self.is_whole:
+            self.kept, self.is_whole = self.all(), True
+        return self.kept
+
+    def __iter__(self) -> Iterator[str]:
+        return iter(self.whole())
+
+    def __len__(self) -> int:
+        return len(self.whole())

@@ -1,0 +1,173 @@
+"""The folder of a book of version 0.11, whose files were the book: it is taken over, and the files stay in `old`."""
+from __future__ import annotations
+
+import contextlib
+import csv
+import pathlib
+from dataclasses import dataclass, replace
+
+from society.book.book import Book
+from society.book.changes import Made, Source
+from society.book.commands import Command, read_commands, replay
+from society.book.database import changing, path_of
+from society.book.files import digest_of, put
+from society.book.journal import Step
+from society.book.kinds import ChangeKind, Remembered, Standing
+from society.book.known import Known
+from society.book.old_words import STANDING_OF, read_birth, read_exit, read_sex
+from society.book.state import Meaning
+from society.book.writing import Filed, Rows, State, animal_rows, write
+from society.herdbook import Herdbook
+from society.mistake import Mistake
+
+OLD = "old"
+COMMANDS, IDS, REPORT, OWNERS, PARENTS, OPTIONS = (
+    "commands.csv", "ids.csv", "report.csv", "owners.csv", "parents.csv", "options.csv"
+)  # fmt: skip
+# those that a later version doesn't write
+OLD_NAMES = (OWNERS, PARENTS, OPTIONS)
+ALL_NAMES = (COMMANDS, IDS, REPORT, *OLD_NAMES)
+ID_TITLES = ["number", "id", "name", "row", "birth", "exit", "sex"]
+
+
+@dataclass(frozen=True)
+class OldBook:
+    """What the files say."""
+
+    commands: list[Command]
+    known: dict[str, Known]
+    owners: dict[str, int]
+    remembered: list[Meaning]
+
+
+def take_over(folder: pathlib.Path, program: Herdbook) -> None:
+    """Makes of a folder of version 0.11 one of this version, where it is one and there is no book yet. The files are
+    copied to `old` before, so that they are there whenever this ends."""
+    if not is_old(folder):
+        return
+    with changing(folder) as connection:
+        if connection is not None:
+            clear(folder)
+            return
+        old = read(folder, program)
+        keep_files(folder)
+        write_old(Book(folder, None), program, old, (folder / COMMANDS).read_bytes())
+    clear(folder)
+
+
+def is_old(folder: pathlib.Path) -> bool:
+    """Has the folder a file that only version 0.11 writes, or a command file and no database?"""
+    if any((folder / name).exists() for name in OLD_NAMES):
+        return True
+    return (folder / COMMANDS).exists() and not path_of(folder).exists()
+
+
+def keep_files(folder: pathlib.Path) -> None:
+    """Copies the files to the folder `old`."""
+    old = folder / OLD
+    try:
+        old.mkdir(exist_ok=True)
+        for name in ALL_NAMES:
+            if not (folder / name).exists():
+                continue
+            text = (folder / name).read_bytes()
+            if (old / name).exists() and (old / name).read_bytes() != text:
+                raise Mistake(f"{old / name} isn't what {folder / name} is: move the folder {old} away, and call again")
+            put(old / name, text)
+    except OSError as error:
+        raise Mistake(
+            f"the folder {folder} is of version 0.11, and can't be taken over ({error.strerror or error}): nothing is "
+            "changed. Allow it to be written, or call this once as somebody who may"
+        ) from None
+
+
+def clear(folder: pathlib.Path) -> None:
+    """Removes files of version 0.11 that stand in `old` as they are; later ones of the same names are exports."""
+    for name in OLD_NAMES:
+        with contextlib.suppress(OSError):
+            if (folder / OLD / name).read_bytes() == (folder / name).read_bytes():
+                (folder / name).unlink()
+
+
+def write_old(book: Book, program: Herdbook, old: OldBook, text: bytes) -> None:
+    place = (book.folder / OLD / COMMANDS).resolve()
+    made = Made(ChangeKind.FOLDER, Source(COMMANDS, str(place), digest_of(text)))
+    in_book = {id: known for id, known in old.known.items() if known.standing is not Standing.DROPPED}
+    made = replace(made, counts=(("animals", len(in_book)), ("commands", len(old.commands))))
+    rows = Rows({}, animal_rows(old.known, replay(old.commands)))
+    state = State(rows, remembered=old.remembered, new_owners=old.owners)
+    write(book, program, Filed([Step(command) for command in old.commands]), state, made)
+
+
+def read(folder: pathlib.Path, program: Herdbook) -> OldBook:
+    path = folder / COMMANDS
+    if not path.exists():
+        raise Mistake(f"the folder {folder} has files of version 0.11, and no {COMMANDS}: restore it")
+    commands = read_commands(path)
+    refused = program.file(commands)
+    if refused:
+        place, refusal = next(iter(refused.items()))
+        raise Mistake(
+            f"{path}: command {place + 1} is refused: {refusal.words()} (refusal {refusal}). "
+            "Somebody has changed this file: restore it, or take the sheet into another folder"
+        )
+    owners = read_table(folder, OWNERS, ["herd", "owner"])
+    if not all(herd.isdecimal() for herd, _ in owners):
+        raise changed(folder / OWNERS)
+    options = read_table(folder, OPTIONS, ["option", "word"], needed=False)
+    if not all(option in (one.value for one in Remembered) for option, _ in options):
+        raise changed(folder / OPTIONS)
+    remembered = [Meaning(Remembered(option), word) for option, word in options]
+    known = read_known(folder, set(replay(commands)))
+    return OldBook(commands, known, {owner: int(herd) for herd, owner in owners}, remembered)
+
+
+def read_known(folder: pathlib.Path, numbers: set[str]) -> dict[str, Known]:
+    """The animals that are in the book, and those that were dropped."""
+    rows = read_table(folder, IDS, ID_TITLES)
+    all_known = [known_of(folder, row) for row in rows]
+    found = {known.id: known for known in all_known if known.standing is Standing.DROPPED}
+    in_book = [replace(known, standing=listed(known.standing)) for known in all_known if known.number in numbers]
+    found |= {known.id: known for known in in_book}
+    named = {known.number for known in in_book}
+    found |= {number: Known(number, number) for number in numbers - named}
+    for id, role, text in read_table(folder, PARENTS, ["id", "role", "written"], needed=False):
+        if id in found:
+            known = found[id]
+            found[id] = replace(known, written_sire=text) if role == "sire" else replace(known, written_dam=text)
+    return found
+
+
+def listed(standing: Standing) -> Standing:
+    return Standing.GONE if standing is Standing.DROPPED else standing
+
+
+def known_of(folder: pathlib.Path, row: list[str]) -> Known:
+    number, id, name, standing, *words = row
+    birth, exit, sex = read_birth(words[0]), read_exit(words[1]), read_sex(words[2])
+    if standing not in STANDING_OF or birth is None or exit is None or sex is None:
+        raise changed(folder / IDS)
+    return Known(number, id, name, STANDING_OF[standing], birth, exit, sex)
+
+
+def read_table(folder: pathlib.Path, name: str, titles: list[str], needed: bool = True) -> list[list[str]]:
+    path = folder / name
+    if not needed and not path.exists():
+        return []
+    try:
+        with open(path, newline="", encoding="utf-8-sig") as file:
+            found, *rows = csv.reader(file)
+    except (OSError, ValueError):
+        found = []
+    if found == [*titles, "change"]:
+        raise Mistake(
+            f"{path_of(folder)}, the book, is missing: {path} was only written from it. Restore a backup, by the word "
+            "restore, or take the sheet into another folder"
+        )
+    if found != titles or any(len(row) != len(titles) for row in rows):
+        raise changed(path)
+    return rows
+
+
+def changed(path: pathlib.Path) -> Mistake:
+    return Mistake(f"{path} is missing or was changed: restore it, or take the sheet into another folder")

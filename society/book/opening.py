@@ -1,0 +1,66 @@
+"""Opens the book of a folder, to ask it or to change it."""
+from __future__ import annotations
+
+import contextlib
+import pathlib
+import shlex
+from typing import Iterator
+
+from society.book.book import Book
+from society.book.database import changing, reading, up_to_date
+from society.book.exports import are_fresh, refresh
+from society.book.old_folder import take_over
+from society.book.verify import verify
+from society.herdbook import Herdbook
+from society.mistake import CALLED, Mistake
+
+# so long exports wait for somebody who changes the book, after a change of one's own
+SECONDS_FOR_EXPORTS = 600
+
+
+@contextlib.contextmanager
+def opened(folder: pathlib.Path, program: Herdbook) -> Iterator[Book]:
+    """The book as it is now, whoever changes it meanwhile; it has to be there."""
+    take_over(folder, program)
+    up_to_date(folder)
+    with reading(folder) as connection:
+        if connection is None:
+            raise no_book(folder)
+        book = Book(folder, connection)
+        is_stale = book.change is not None and not are_fresh(folder, book.change)
+        yield book
+    if is_stale:
+        # somebody who changes the book writes them too, and in a folder without rights they stay as they are
+        refresh(folder, 0)
+
+
+def no_book(folder: pathlib.Path) -> Mistake:
+    how = f"{CALLED} take SHEET --book {shlex.quote(str(folder))}"
+    there = "" if folder.is_absolute() else ", or go to the folder where you took one, by cd FOLDER"
+    return Mistake(f"there is no book in the folder {folder}: take a sheet first, as {how}{there}")
+
+
+@contextlib.contextmanager
+def to_change(folder: pathlib.Path, program: Herdbook) -> Iterator[Book]:
+    """The book to be changed, an empty one where there is none. Others who change it are waited for, and then it is
+    seen that it is whole."""
+    take_over(folder, program)
+    with changing(folder) as connection:
+        book = Book(folder, connection)
+        verify(book, program)
+        yield book
+
+
+@contextlib.contextmanager
+def there_to_change(folder: pathlib.Path, program: Herdbook) -> Iterator[Book]:
+    """The same, of a book that has to be there."""
+    with to_change(folder, program) as book:
+        if book.connection is None:
+            raise no_book(folder)
+        yield book
+
+
+def export(folder: pathlib.Path) -> list[str]:
+    """Writes the exports after a change; answers why it couldn't, in a sentence."""
+    told = refresh(folder, SECONDS_FOR_EXPORTS)
+    return [f"the change is made, but {told}: a later call writes them"] if told else []

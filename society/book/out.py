@@ -1,0 +1,86 @@
+"""Writes the files that somebody asks for: never onto a sheet that was taken or a file of the book, and onto another one
+only where that is wished."""
+from __future__ import annotations
+
+import contextlib
+import pathlib
+
+from society.book.book import Book
+from society.book.database import companions
+from society.book.exports import NAMES
+from society.book.files import cant_be_written, digest_of, put
+from society.book.old_folder import OLD, OLD_NAMES
+from society.mistake import Mistake
+
+
+def write_outs(book: Book, texts: dict[pathlib.Path, bytes], force: bool) -> None:
+    """Writes all of these files or, on a mistake, none of them."""
+    for path in texts:
+        check(book, path, force)
+    written: list[pathlib.Path] = []
+    for path, text in texts.items():
+        is_new = not path.exists()
+        try:
+            put(path, text, replaces=force)
+        except FileExistsError:
+            raise is_there(path) from None
+        except OSError as error:
+            for one in written:
+                with contextlib.suppress(OSError):
+                    one.unlink()
+            raise cant_be_written(path, error) from None
+        written += [path] * is_new
+
+
+def write_page(book: Book, path: pathlib.Path, text: bytes) -> None:
+    """Writes a page that has a name of its own in the book's folder, in place of an earlier one."""
+    try:
+        put(path, text)
+    except OSError as error:
+        raise cant_be_written(path, error) from None
+
+
+def check(book: Book, path: pathlib.Path, force: bool) -> None:
+    """A mistake where a file mustn't be written."""
+    if not path.parent.is_dir():
+        raise Mistake(f"{path} can't be written: there is no folder {path.parent}: make it, or name another file")
+    if path.is_dir():
+        raise Mistake(f"{path} can't be written: it is a folder: name a file")
+    if is_of_book(book, path):
+        raise Mistake(f"{path} is a file of the book, and is never written over: name another file")
+    if not path.exists():
+        # a link to nothing is there too
+        if path.is_symlink() and not force:
+            raise is_there(path)
+        return
+    if is_taken_sheet(book, path):
+        raise Mistake(f"{path} is a sheet that was taken, and is never written over: name another file")
+    if not force:
+        raise is_there(path)
+
+
+def is_there(path: pathlib.Path) -> Mistake:
+    return Mistake(f"{path} is there already: name another file, or write over it with --force")
+
+
+def is_of_book(book: Book, path: pathlib.Path) -> bool:
+    """Is it, by its name or by a link, one of the book's own files, or one that stays of an earlier version?"""
+    folder = book.folder
+    of_book = [*companions(book.path), *(folder / name for name in (*NAMES, *OLD_NAMES))]
+    of_book += list((folder / OLD).iterdir()) if (folder / OLD).is_dir() else []
+    place = path.resolve()
+    if place == (folder / OLD).resolve() or (folder / OLD).resolve() in place.parents:
+        return True
+    return any(place == one.resolve() or (path.exists() and one.exists() and path.samefile(one)) for one in of_book)
+
+
+def is_taken_sheet(book: Book, path: pathlib.Path) -> bool:
+    """Was it taken: by its place, or by what stands in it?"""
+    if book.connection is None:
+        return False
+    taken = book.connection.execute("SELECT path, digest FROM change WHERE digest IS NOT NULL").fetchall()
+    paths, digests = {place for place, _ in taken}, {digest for _, digest in taken}
+    try:
+        return str(path.resolve()) in paths or digest_of(path.read_bytes()) in digests
+    except OSError as error:
+        raise cant_be_written(path, error) from None

@@ -1,0 +1,97 @@
+"""The state of a book after a change: its animals, the last cells of each, and what it remembers of its sheets."""
+from __future__ import annotations
+
+import sqlite3
+from typing import Callable, Iterable, NamedTuple
+
+from society.book.kinds import Field, Remembered
+from society.book.rows import COLUMNS, Row
+
+NOW = "until IS NULL"
+# the state after a change
+THEN = "since <= :change AND (until IS NULL OR until > :change)"
+CELL_FIELDS = tuple(field for field in Field if field is not Field.ID)
+CELL_COLUMNS = "id, " + ", ".join(f"cell_{field.value}" for field in CELL_FIELDS)
+
+# a row of a table without the changes between which it holds; its first values are its key
+Values = tuple[object, ...]
+
+
+class Table(NamedTuple):
+    """A table of the state: its columns but for the two of changes, and how many of the first ones are its key."""
+
+    name: str
+    columns: str
+    keys: int
+
+
+ANIMALS = Table("animal", COLUMNS, 1)
+CELLS = Table("cell", CELL_COLUMNS, 1)
+REMEMBERED = Table("remembered", "what, word, place, meaning", 2)
+TABLES = (ANIMALS, CELLS, REMEMBERED)
+
+
+class Meaning(NamedTuple):
+    """What a book remembers: of a kind a word, and what it stands for."""
+
+    what: Remembered
+    word: str
+    meaning: str = ""
+
+
+def rows_now(connection: sqlite3.Connection, table: Table) -> dict[Values, Values]:
+    """The rows of the last state, by their keys."""
+    return keyed(table, connection.execute(f"SELECT {table.columns} FROM {table.name} WHERE {NOW}"))
+
+
+def rows_then(connection: sqlite3.Connection, table: Table, change: int) -> dict[Values, Values]:
+    """The rows of the state after a change."""
+    found = connection.execute(f"SELECT {table.columns} FROM {table.name} WHERE {THEN}", {"change": change})
+    return keyed(table, found)
+
+
+def keyed(table: Table, rows: Iterable[Values]) -> dict[Values, Values]:
+    return {row[: table.keys]: row for row in rows}
+
+
+def write_rows(
+    connection: sqlite3.Connection,
+    table: Table,
+    change: int,
+    before: dict[Values, Values],
+    after: dict[Values, Values],
+) -> None:
+    """Makes of rows that held before a change those that hold after it. What stays as it is isn't touched."""
+    ended = [key for key, row in before.items() if after.get(key) != row]
+    begun = [row for key, row in after.items() if before.get(key) != row]
+    names = [name.strip() for name in table.columns.split(",")]
+    where = " AND ".join(f"{name} = ?" for name in names[: table.keys])
+    connection.executemany(
+        f"UPDATE {table.name} SET until = ? WHERE {where} AND {NOW}", [(change, *key) for key in ended]
+    )
+    marks = ", ".join("?" * (len(names) + 1))
+    connection.executemany(
+        f"INSERT INTO {table.name} (since, {table.columns}) VALUES ({marks})", [(change, *row) for row in begun]
+    )
+
+
+def bring_back(connection: sqlite3.Connection, change: int, earlier: int) -> None:
+    """Makes the state after an earlier change, or the empty one before the first, that of a change."""
+    for table in TABLES:
+        write_rows(connection, table, change, rows_now(connection, table), rows_then(connection, table, earlier))
+
+
+def read_remembered(connection: sqlite3.Connection) -> list[Meaning]:
+    found = connection.execute(f"SELECT what, word, meaning FROM remembered WHERE {NOW} ORDER BY what, place")
+    return [Meaning(Remembered(what), word, meaning) for what, word, meaning in found]
+
+
+def remembered_rows(meanings: Iterable[Meaning]) -> dict[Values, Values]:
+    """The rows of what is remembered; of a word that is given twice the last meaning holds."""
+    rows = ((one.what.value, one.word, place, one.meaning) for place, one in enumerate(meanings))
+    return keyed(REMEMBERED, rows)
+
+
+def select_rows(connection: sqlite3.Connection, where: str, *values: object) -> list[Row]:
+    """The animals of the last state for which a condition holds."""
+    return [Row(*row) for row in connection.execute(f"SELECT {COLUMNS} FROM animal WHERE {NOW} AND {where}", values)]

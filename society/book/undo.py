@@ -1,0 +1,32 @@
+"""Brings back an earlier state of a book, as a new change. Nothing that was is lost by it."""
+from __future__ import annotations
+
+from society.book.book import Book
+from society.book.changes import Change, Made
+from society.book.history import change_numbered, next_number, now, write_change
+from society.book.journal import NO_JOURNAL, Journal, begin_edition
+from society.book.kinds import ChangeKind
+from society.book.state import bring_back
+from society.book.writing import end
+from society.herdbook import Herdbook
+from society.mistake import CALLED, Mistake
+
+
+def undo(book: Book, program: Herdbook, to: int | None) -> Change:
+    """The state after a change, or where none is named that before the last one; 0 is the empty book. The journal is a
+    new edition that keeps as much of the one of then as there was."""
+    assert book.connection is not None and book.change is not None
+    last = book.change.number
+    target = last - 1 if to is None else to
+    if target >= last:
+        raise Mistake(
+            f"the book has {last} changes, and its state is that after the last one: --to takes 0 to {last - 1}, as "
+            f"{CALLED} history shows them"
+        )
+    then = change_numbered(book.connection, target)
+    journal = Journal(then.edition, then.length) if then else NO_JOURNAL
+    number, moment = next_number(book.connection), now()
+    edition = begin_edition(book.connection, journal)
+    write_change(book.connection, number, moment, edition, Made(ChangeKind.UNDO, undone_to=target))
+    bring_back(book.connection, number, target)
+    return end(book, book.connection, program, edition, number, moment)

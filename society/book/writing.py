@@ -1,0 +1,100 @@
+"""Writes a change of a book: its commands with their replies, and the state after them."""
+from __future__ import annotations
+
+import signal
+import sqlite3
+import threading
+from dataclasses import dataclass, field
+
+from society.book.book import Book
+from society.book.changes import Change, Made
+from society.book.coefficients import computed, write_coefficients
+from society.book.commands import Record
+from society.book.database import commit, creating
+from society.book.history import last_change, next_number, now, write_change
+from society.book.journal import Journal, Step, append, begin_edition, command_file
+from society.book.known import Known
+from society.book.rows import row_of
+from society.book.state import ANIMALS, CELLS, REMEMBERED, Meaning, Values, remembered_rows, rows_now, write_rows
+from society.herdbook import Herdbook
+
+
+@dataclass(frozen=True)
+class Filed:
+    """The commands of a change. They go on from the journal, or from as many of its commands as a new edition keeps."""
+
+    steps: list[Step]
+    keeps: int | None = None
+
+
+@dataclass(frozen=True)
+class Rows:
+    """Rows of the state before and after a change. Those that aren't named stay."""
+
+    before: dict[Values, Values]
+    after: dict[Values, Values]
+
+
+@dataclass(frozen=True)
+class State:
+    """What a change makes of the state; what it doesn't give stays as it is."""
+
+    animals: Rows
+    cells: Rows | None = None
+    remembered: list[Meaning] | None = None
+    new_owners: dict[str, int] = field(default_factory=dict)
+
+
+def animal_rows(known: dict[str, Known], records: dict[str, Record]) -> dict[Values, Values]:
+    """The rows of animals, by their ids; one that was dropped has no record."""
+    return {(id,): row_of(one, records.get(one.number)) for id, one in known.items()}
+
+
+def write(book: Book, program: Herdbook, filed: Filed, state: State, made: Made) -> Change:
+    """Makes a change, after which the book can't be used any more. A book that isn't there yet is made."""
+    if book.connection is not None:
+        return write_within(book, book.connection, program, filed, state, made)
+    with creating(book.folder) as connection:
+        return write_within(book, connection, program, filed, state, made)
+
+
+def write_within(
+    book: Book, connection: sqlite3.Connection, program: Herdbook, filed: Filed, state: State, made: Made
+) -> Change:
+    number, moment = next_number(connection), now()
+    journal = written_journal(connection, book.journal, filed)
+    write_change(connection, number, moment, journal, made)
+    connection.executemany("INSERT INTO owner (name, herd) VALUES (?, ?)", state.new_owners.items())
+    write_rows(connection, ANIMALS, number, state.animals.before, state.animals.after)
+    if state.cells is not None:
+        write_rows(connection, CELLS, number, state.cells.before, state.cells.after)
+    if state.remembered is not None:
+        before = rows_now(connection, REMEMBERED)
+        write_rows(connection, REMEMBERED, number, before, remembered_rows(state.remembered))
+    return end(book, connection, program, journal, number, moment)
+
+
+def written_journal(connection: sqlite3.Connection, journal: Journal, filed: Filed) -> Journal:
+    """The journal with the commands of a change."""
+    if filed.keeps is not None or not journal.edition:
+        journal = begin_edition(connection, Journal(journal.edition, filed.keeps or 0))
+    return append(connection, journal, filed.steps)
+
+
+def end(
+    book: Book, connection: sqlite3.Connection, program: Herdbook, journal: Journal, number: int, moment: int
+) -> Change:
+    """Computes what is kept of the new state, and ends the change."""
+    lines = program.lines(["inbreeding"], command_file(connection, journal))
+    write_coefficients(connection, computed(lines))
+    change = last_change(connection)
+    assert change is not None and change.number == number
+    stop_no_more()
+    commit(connection, book.folder, number, moment)
+    return change
+
+
+def stop_no_more() -> None:
+    """From here on a change is made, and somebody who stops it now would be told something else."""
+    if threading.current_thread() is threading.main_thread():
+        signal.signal(signal.SIGINT, signal.SIG_IGN)

@@ -1,0 +1,117 @@
+"""The words that file one command: `birth`, `parents`, `transfer` and `exit`."""
+from __future__ import annotations
+
+import argparse
+from dataclasses import replace
+from typing import Callable
+
+from society.book.book import Book
+from society.book.by_hand import ByHand, Calf, born, departed, file, transferred, with_parents
+from society.book.changes import Option
+from society.book.known import Known
+from society.book.opening import export, there_to_change
+from society.book.search import find
+from society.command_line.arguments import day, sex, three_letters
+from society.command_line.output import tell
+from society.command_line.parser import Parser, Words
+from society.herdbook import Herdbook
+from society.mistake import Mistake
+from society.reading.unknown import unknown_words
+
+# the command that somebody wishes, given the book
+Wished = Callable[[argparse.Namespace, Book], ByHand]
+# what isn't an option of a command
+NO_OPTIONS = ("word", "book", "does", "id")
+
+
+def add_words(words: Words) -> None:
+    kept = "A refused one is kept in the book's history too, with the program's reply."
+    birth = words.add("birth", does(wished_birth), "file a birth", kept)
+    birth.add_argument("id", metavar="ID", help="the calf's id")
+    birth.add_argument("--sex", type=sex, required=True, metavar="SEX", help="m or f")
+    birth.add_argument("--name", default="", help="its name")
+    add_parents(birth, "[unknown]")
+    birth.add_argument("--owner", default="", metavar="NAME", help="its owner [not known]")
+    birth.add_argument("--embryo", action="store_true", help="it comes from a stored embryo")
+    for option in "--breed", "--country":
+        birth.add_argument(
+            option, type=three_letters, metavar="ABC", help=f"the number's {option[2:]} [as in the book]"
+        )
+    parents = words.add("parents", does(wished_parents), "file other parents of an animal", kept)
+    add_parents(parents, "or 0 for an unknown one [as in the book]")
+    transfer = words.add("transfer", does(wished_transfer), "file another owner of an animal", kept)
+    transfer.add_argument("--to", required=True, metavar="OWNER", help="the new owner")
+    transfer.add_argument("--from", dest="giver", metavar="OWNER", help="who gives it [its owner in the book]")
+    exit = words.add("exit", does(wished_exit), "file that an animal left, by death or sale", kept)
+    for one in parents, transfer, exit:
+        one.add_argument("id", metavar="ID", help="the animal, by id, name or number")
+    for one in birth, transfer, exit:
+        one.add_argument("--day", type=day, required=True, metavar="DAY", help="the day, as 2001-03-01")
+
+
+def add_parents(word: Parser, otherwise: str) -> None:
+    for role in "sire", "dam":
+        word.add_argument(f"--{role}", metavar="ID", help=f"the {role}, by id, name or number {otherwise}")
+
+
+def does(wished: Wished) -> Callable[[argparse.Namespace], None]:
+    def filed(asked: argparse.Namespace) -> None:
+        program = Herdbook()
+        with there_to_change(asked.book, program) as book:
+            one = replace(wished(asked, book), options=options_of(asked))
+            change, refusal = file(book, program, one)
+            notes = book.notes + export(book.folder)
+        for note in notes:
+            tell(note)
+        if refusal:
+            on = f" on {one.command.day}" if one.command.day else ""
+            raise Mistake(
+                f"{one.known.id}: the {one.kind.value}{on} is refused: {refusal.words()} (refusal {refusal}). "
+                f"The animals are as before; change {change.number} of the history tells of it"
+            )
+        on = f" on {one.command.day}" if one.command.day else ""
+        print(f"{one.known.id} ({one.known.number}): the {one.kind.value}{on} is accepted: change {change.number}")
+
+    return filed
+
+
+def options_of(asked: argparse.Namespace) -> tuple[Option, ...]:
+    """The options as they were given."""
+    names = {"giver": "from"}
+    given = ((name, value) for name, value in vars(asked).items() if name not in NO_OPTIONS)
+    return tuple(
+        Option(f"--{names.get(name, name)}", "" if value is True else str(value)) for name, value in given if value
+    )
+
+
+def parent(book: Book, word: str | None) -> Known | None:
+    """The animal that is named; none where none is, or a word for an unknown one."""
+    return None if word is None or word.casefold() in unknown_words([]) else find(book, word)
+
+
+def squeezed(text: str) -> str:
+    return " ".join(text.split())
+
+
+def wished_birth(asked: argparse.Namespace, book: Book) -> ByHand:
+    calf = Calf(
+        squeezed(asked.id), asked.sex, asked.day, squeezed(asked.name), parent(book, asked.sire),
+        parent(book, asked.dam), squeezed(asked.owner), asked.embryo, asked.breed or "", asked.country or "",
+    )  # fmt: skip
+    return born(book, calf)
+
+
+def wished_parents(asked: argparse.Namespace, book: Book) -> ByHand:
+    if asked.sire is None and asked.dam is None:
+        raise Mistake("parents needs one parent or both: name them by --sire and --dam, 0 for an unknown one")
+    sire, dam = (None if word is None else parent(book, word) or "" for word in (asked.sire, asked.dam))
+    return with_parents(book, find(book, asked.id), sire, dam)
+
+
+def wished_transfer(asked: argparse.Namespace, book: Book) -> ByHand:
+    giver = None if asked.giver is None else squeezed(asked.giver)
+    return transferred(book, find(book, asked.id), asked.day, squeezed(asked.to), giver)
+
+
+def wished_exit(asked: argparse.Namespace, book: Book) -> ByHand:
+    return departed(book, find(book, asked.id), asked.day)

@@ -1,0 +1,87 @@
+"""The words about the book as a whole: `history`, `undo`, `verify`, `backup` and `restore`."""
+from __future__ import annotations
+
+import argparse
+import pathlib
+
+from society.book.backup import backup, restore
+from society.book.book import Book
+from society.book.history import all_changes, change_numbered
+from society.book.history_words import details, heading
+from society.book.opening import export, there_to_change
+from society.book.undo import undo
+from society.book.verify import verify
+from society.command_line.arguments import add_force, file, whole_number
+from society.command_line.output import tell
+from society.command_line.parser import Words
+from society.herdbook import Herdbook
+from society.mistake import Mistake, counted
+
+
+def add_words(words: Words) -> None:
+    history = words.add_for_book("history", do_history, "write what was changed, when and by whom")
+    history.add_argument(
+        "number", nargs="?", type=whole_number, metavar="N", help="what this change did, animal by animal [all changes]"
+    )
+    back = words.add(
+        "undo", do_undo, "bring back the state before the last change, as a new change", "Nothing is lost by it."
+    )
+    back.add_argument("--to", type=whole_number, metavar="N", help="the state after this change, 0 for the empty book")
+    words.add_for_book(
+        "verify", do_verify, "see whether the book is whole, and its replies and coefficients are the program's"
+    )
+    copy = words.add_for_book("backup", do_backup, "write the whole book with its history to a file, while others work")
+    copy.add_argument("file", type=file, metavar="FILE", help="the file")
+    add_force(copy)
+    again = words.add("restore", do_restore, "make the book of a backup that of the folder")
+    again.add_argument("file", type=pathlib.Path, metavar="FILE", help="the backup")
+    again.add_argument(
+        "--anyway", action="store_true", help="where there is a book too, which goes to the folder `old` of it"
+    )
+
+
+def do_history(asked: argparse.Namespace, book: Book, program: Herdbook) -> None:
+    assert book.connection is not None
+    if asked.number is None:
+        for change in all_changes(book.connection):
+            print(heading(change))
+        return
+    found = change_numbered(book.connection, asked.number)
+    if not found:
+        last = book.change.number if book.change else 0
+        raise Mistake(f"the book has no change {asked.number}: its changes are 1 to {last}")
+    for line in details(book.connection, found):
+        print(line)
+
+
+def do_undo(asked: argparse.Namespace) -> None:
+    program = Herdbook()
+    with there_to_change(asked.book, program) as book:
+        change = undo(book, program, asked.to)
+        notes = export(book.folder)
+    print(heading(change))
+    for note in notes:
+        tell(note)
+
+
+def do_verify(asked: argparse.Namespace, book: Book, program: Herdbook) -> None:
+    verify(book, program)
+    changes = book.change.number if book.change else 0
+    print(
+        f"{book.path} is whole: {counted(changes, 'change')}, {counted(book.journal.length, 'command')}, "
+        f"{counted(len(book.known), 'animal')}; the program's replies and coefficients are the stored ones"
+    )
+
+
+def do_backup(asked: argparse.Namespace, book: Book, program: Herdbook) -> None:
+    backup(book, asked.file, asked.force)
+    changes = book.change.number if book.change else 0
+    print(f"{asked.file} has the book with its {counted(changes, 'change')}")
+
+
+def do_restore(asked: argparse.Namespace) -> None:
+    change = restore(asked.book, asked.file, Herdbook(), asked.anyway)
+    notes = export(asked.book)
+    print(heading(change))
+    for note in notes:
+        tell(note)

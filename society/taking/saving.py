@@ -1,0 +1,77 @@
+"""Saves the book that a taking makes, as a change."""
+from __future__ import annotations
+
+from typing import Iterable
+
+from society.book.book import Book
+from society.book.changes import Change, Made, Option, Source
+from society.book.commands import Record, record_after, replay
+from society.book.exports import SEMICOLONS
+from society.book.journal import accepted_commands
+from society.book.kinds import ChangeKind
+from society.book.state import CELL_FIELDS, Values
+from society.book.writing import Filed, Rows, State, animal_rows, write
+from society.herdbook import Herdbook
+from society.taking.next_book import NextBook
+from society.taking.report import What
+from society.taking.stored_findings import told_of
+from society.taking.wishes import Wishes
+
+
+def save(next_book: NextBook, filed: Filed, program: Herdbook, wishes: Wishes, source: Source, new: int) -> Change:
+    """The change, after which the book can't be used any more."""
+    book, report = next_book.book, next_book.report
+    known = next_book.known_animals() | next_book.dropped_animals()
+    before: dict[Values, Values] = {(row.id,): row for row in book.every_row}
+    herds = set() if book.connection is None else {herd for (herd,) in book.connection.execute("SELECT herd FROM owner")}
+    counts = report.counts()
+    made = Made(
+        ChangeKind.PEDIGREE if next_book.is_pedigree else ChangeKind.TAKE,
+        source,
+        tuple(options_of(wishes)),
+        (("animals", len(next_book.animals)), ("new", new), *((what.value, counts[what]) for what in What if what is not What.NEW)),
+        tuple(told_of(entry) for entry in report.in_order()),
+    )
+    state = State(
+        Rows(before, animal_rows(known, records_after(book, filed))),
+        Rows(book.cells, cell_rows(next_book)),
+        book.remembered,
+        {owner: herd for owner, herd in book.owners.items() if herd not in herds},
+    )
+    return write(book, program, filed, state, made)
+
+
+def records_after(book: Book, filed: Filed) -> dict[str, Record]:
+    """What the register has after the commands."""
+    if filed.keeps is not None:
+        return replay(accepted_commands([*book.steps[: filed.keeps], *filed.steps]))
+    records = dict(book.records)
+    for step in filed.steps:
+        records[step.command.animal] = record_after(records.get(step.command.animal), step.command)
+    return records
+
+
+def cell_rows(next_book: NextBook) -> dict[Values, Values]:
+    """The last cells of each animal; those of a column that the sheet doesn't have stay."""
+    kept = dict(next_book.book.cells)
+    nothing = (None,) * (1 + len(CELL_FIELDS))
+    for id, animal in next_book.animals.items():
+        if animal.line:
+            before = kept.get((id,), nothing)[1:]
+            cells = (animal.cells.get(one.value, cell) for one, cell in zip(CELL_FIELDS, before))
+            kept[id,] = (id, *cells)
+    return kept
+
+
+def options_of(wishes: Wishes) -> Iterable[Option]:
+    """The options that were given."""
+    for name, words in ("--columns", wishes.columns), ("--unknown", wishes.unknown), ("--sexes", wishes.sexes):
+        for word in words:
+            yield Option(name, word)
+    for name, text in ("--breed", wishes.breed), ("--country", wishes.country), ("--day", wishes.day.isoformat()):
+        if text:
+            yield Option(name, text)
+    flags = ("--strict", wishes.strict), ("--drop-gone", wishes.drop_gone), (SEMICOLONS, wishes.semicolons)
+    for name, is_given in flags:
+        if is_given:
+            yield Option(name)
