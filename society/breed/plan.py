@@ -44,10 +44,11 @@ class Mating:
 
 @dataclass(frozen=True)
 class Plan:
-    """The matings in the order of the dams, who has no sire, and the mean of all pairs that are allowed."""
+    """The matings in the order of the dams, who has no sire, how many pairs are allowed, and their mean."""
 
     matings: list[Mating]
     unmated: dict[str, Unmated]
+    allowed: int
     mean_of_allowed: Fraction | None
 
     @property
@@ -75,7 +76,8 @@ def plan_of(
     chosen = cheapest_flow(Flow(dams, sires, costs, most))
     matings = [Mating(dam, chosen[dam], allowed[dam, chosen[dam]]) for dam in dams if dam in chosen]
     mean = sum(allowed.values(), Fraction(0)) / len(allowed) if allowed else None
-    return Plan(matings, why_unmated([dam for dam in dams if dam not in chosen], coefficients, allowed), mean)
+    unmated = why_unmated([dam for dam in dams if dam not in chosen], coefficients, allowed)
+    return Plan(matings, unmated, len(allowed), mean)
 
 
 def whole_costs(

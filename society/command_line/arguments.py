@@ -5,6 +5,9 @@ import argparse
 import datetime
 import pathlib
 import re
+from fractions import Fraction
+
+from society.reading.days import FIRST_DAY, LAST_DAY, Unreadable, read_span
 
 
 def three_letters(text: str) -> str:
@@ -30,6 +33,34 @@ def sex(text: str) -> str:
     if text.casefold() not in ("m", "f"):
         raise argparse.ArgumentTypeError(f"'{text}' is neither m nor f")
     return text.upper()
+
+
+def birth_days(text: str) -> tuple[datetime.date, datetime.date]:
+    """The first and the last day of `FROM..TO`: each a year, a month or a day, or nothing where there is no bound."""
+    first, dots, last = text.partition("..")
+    try:
+        begin = read_span(first).first if first else FIRST_DAY
+        end = read_span(last or (first if not dots else "")).last if last or not dots else LAST_DAY
+    except Unreadable:
+        forms = "2010..2019, 2010.. or 2010-03-01..2010-08-31"
+        raise argparse.ArgumentTypeError(f"'{text}' isn't written as {forms}") from None
+    return begin, end
+
+
+def coefficient(text: str) -> Fraction:
+    try:
+        found = Fraction(text.replace(",", "."))
+    except (ValueError, ZeroDivisionError):
+        found = Fraction(-1)
+    if not 0 <= found <= 1:
+        raise argparse.ArgumentTypeError(f"'{text}' isn't a fraction or a decimal from 0 to 1, as 1/16 or 0.0625")
+    return found
+
+
+def positive(text: str) -> int:
+    if not text.isdecimal() or not 1 <= int(text) <= 1_000_000:
+        raise argparse.ArgumentTypeError(f"'{text}' isn't a whole number from 1 on")
+    return int(text)
 
 
 def file(text: str) -> pathlib.Path:

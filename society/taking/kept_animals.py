@@ -5,22 +5,15 @@ import pathlib
 
 from society.mistake import Mistake, counted, some_of
 from society.reading.animal import Animal
-from society.reading.pedigree_lines import read_lines
-
-
-def read_ids(path: pathlib.Path) -> list[str]:
-    """The ids of a file, the first cell of each line."""
-    return list(dict.fromkeys(line.cells[0] for line in read_lines(path)))
+from society.reading.id_lists import read_ids
 
 
 def keep_with_ancestors(animals: dict[str, Animal], path: pathlib.Path) -> str:
     """Takes out all but the animals that a file names and their ancestors, and tells how many those are."""
-    wanted = read_ids(path)
+    wanted = read_ids(path, animals.__contains__)
     missing = [id for id in wanted if id not in animals]
     if missing:
         raise Mistake(f"{path} names animals that have no line in the pedigree: {some_of(missing)}")
-    if not wanted:
-        raise Mistake(f"{path} names no animal: write the ids of those that are to be kept, one a line")
     kept = dict.fromkeys(wanted)
     reached = list(wanted)
     for id in reached:

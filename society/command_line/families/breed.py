@@ -1,0 +1,139 @@
+"""The words on the breed as a whole: `breed`, its state, and `plan`, its matings."""
+from __future__ import annotations
+
+import argparse
+import datetime
+import pathlib
+from collections.abc import Callable
+from fractions import Fraction
+from typing import TYPE_CHECKING
+
+from society.book.book import Book
+from society.book.known import Known
+from society.book.out import write_outs, write_page
+from society.book.search import find
+from society.command_line.arguments import add_force, birth_days, coefficient, days, file, positive
+from society.command_line.output import tell
+from society.command_line.parser import Words
+from society.herdbook import Herdbook
+from society.mistake import Mistake, counted
+from society.packages import Group
+from society.reading.id_lists import read_ids
+
+if TYPE_CHECKING:
+    from society.breed.from_book import Breed
+
+# populations of so many animals are told how far the work is
+LARGE = 5_000
+
+
+def add_words(words: Words) -> None:
+    breed = words.add_for_book(
+        "breed",
+        do_breed,
+        "write a page on the state of the breed: inbreeding, kinship, founders, effective size",
+        "The measures are of a reference population, the living animals by default.",
+        Group.BREED,
+    )
+    add_population(breed)
+    breed.add_argument("--csv", type=pathlib.Path, metavar="FOLDER", help="write the tables into this folder too")
+    breed.add_argument("--language", choices=("en", "de", "fr"), default="en", help="the language, en, de or fr [en]")
+    breed.add_argument("--out", type=file, metavar="FILE", help="write to this file [breed.html in the book's folder]")
+    add_force(breed)
+    plan = words.add_for_book(
+        "plan",
+        do_plan,
+        "write for each dam the sire so that the mean coefficient of the calves is least",
+        "No age is asked but by --minimum-age.",
+        Group.BREED,
+    )
+    for role in "dams", "sires":
+        plan.add_argument(
+            f"--{role}", type=pathlib.Path, metavar="FILE", help=f"the {role}, one id a line [all living ones]"
+        )
+    plan.add_argument("--most-for-a-sire", type=positive, metavar="N", help="no sire has more dams than these [any]")
+    plan.add_argument("--at-most", type=coefficient, metavar="F", help="no calf is above this, as 1/16 or 0.0625 [any]")
+    plan.add_argument("--minimum-age", type=days, metavar="DAYS", help="leave out younger animals [none]")
+    plan.add_argument(
+        "--kinship-weight", type=coefficient, default=Fraction(0), metavar="W",
+        help="count a sire's mean kinship with the living so much of a coefficient [0]",
+    )  # fmt: skip
+    plan.add_argument("--table", action="store_true", help="write all pairs with their coefficients")
+    plan.add_argument("--semicolons", action="store_true", help="semicolons between cells, and commas in decimals")
+    plan.add_argument("--out", type=file, metavar="FILE", help="write to this file, not to the screen")
+    add_force(plan)
+
+
+def add_population(word: argparse.ArgumentParser) -> None:
+    which = word.add_mutually_exclusive_group()
+    which.add_argument("--living", action="store_true", help="the living animals, as where nothing is said")
+    which.add_argument("--born", type=birth_days, metavar="FROM..TO", help="the animals born so, as 2010..2019")
+    which.add_argument("--owner", metavar="NAME", help="the living animals of an owner")
+    which.add_argument("--among", type=pathlib.Path, metavar="FILE", help="the animals of a file, one id a line")
+
+
+def do_breed(asked: argparse.Namespace, book: Book, program: Herdbook) -> None:
+    from society.breed.from_book import breed_of
+    from society.breed.page import breed_page
+    from society.breed.state import state_of
+    from society.breed.tables import files_of
+
+    if asked.csv and not asked.csv.is_dir():
+        raise Mistake(f"there is no folder {asked.csv}: make it first, or name another one for --csv")
+    breed = breed_of(book)
+    population, of_whom = population_of(asked, breed)
+    if not population:
+        raise Mistake(f"the book has none of {of_whom}: name others by --born, --owner or --among")
+    report: Callable[[str], None] = tell if len(breed.pedigree) > LARGE else lambda what: None
+    state = state_of(breed.pedigree, population, lambda what: report(f"{what} .."))
+    page = breed_page(state, breed, asked.language, of_whom).encode()
+    if asked.csv:
+        files = files_of(state, breed)
+        write_outs(book, {asked.csv / name: text for name, text in files.items()}, asked.force)
+        print(f"{asked.csv}: {', '.join(files)}")
+    path = asked.out or asked.book / "breed.html"
+    if asked.out:
+        write_outs(book, {path: page}, asked.force)
+    else:
+        write_page(book, path, page)
+    print(f"{path} is written, of {counted(len(population), 'animal')}: open it in a browser")
+
+
+def population_of(asked: argparse.Namespace, breed: Breed) -> tuple[list[int], str]:
+    """The ranks of the reference population, and who it is in the language of the page."""
+    from society.breed import from_book
+    from society.breed.page import Words as PageWords
+
+    words = PageWords(asked.language)
+    if asked.born:
+        first, last = asked.born
+        whom = words.word("born").format(f"{words.language.day(first)} – {words.language.day(last)}")
+        return from_book.born_between(breed, first, last), whom
+    if asked.owner:
+        return from_book.owned_by(breed, asked.owner), words.word("owner").format(asked.owner)
+    if asked.among:
+        ranks = from_book.among(breed, named(asked.among, breed.book) or [])
+        return ranks, words.word("among").format(asked.among.name)
+    return from_book.living(breed), words.word("living")
+
+
+def do_plan(asked: argparse.Namespace, book: Book, program: Herdbook) -> None:
+    from society.breed.from_book import breed_of
+    from society.breed.mated import best_plan, candidates_of, table_of, told_of
+
+    breed = breed_of(book)
+    youngest = datetime.date.today() - datetime.timedelta(days=asked.minimum_age or 0)
+    candidates = candidates_of(breed, named(asked.dams, book), named(asked.sires, book), youngest)
+    found = best_plan(breed, program, candidates, asked.most_for_a_sire, asked.at_most, asked.kinship_weight)
+    text = table_of(breed, found, asked.table, asked.semicolons)
+    if asked.out:
+        write_outs(book, {asked.out: text.encode("utf-8-sig" if asked.semicolons else "utf-8")}, asked.force)
+        print(f"{asked.out}: {counted(len(found.plan.matings), 'mating')}")
+    else:
+        print(text, end="")
+    for sentence in told_of(breed, found):
+        tell(sentence)
+
+
+def named(path: pathlib.Path | None, book: Book) -> list[Known] | None:
+    return None if path is None else [find(book, id) for id in read_ids(path, book.known.__contains__)]

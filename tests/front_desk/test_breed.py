@@ -1,0 +1,89 @@
+"""The words on the breed as a whole: the page and the tables of its state, and plans of matings."""
+from __future__ import annotations
+
+import itertools
+from fractions import Fraction
+
+import pytest
+
+import reference
+from front_desk.desk import Desk
+from society.breed.measures import Name
+
+TITLES = {
+    "years.csv": "year,animals,sires,",
+    "completeness.csv": "generation,known,exact",
+    "intervals.csv": "path,pairs,years,exact",
+    "founders.csv": "id,is,contribution,exact,contribution_so_far",
+    "ancestors.csv": "id,is,contribution,exact,contribution_so_far",
+    "animals.csv": "id,name,number,sex,birth,coefficient,mean_kinship,",
+}
+
+
+def measured(desk: Desk, *words: str) -> dict[str, str]:
+    """The exact values of the measures."""
+    (desk.room / "tables").mkdir(exist_ok=True)
+    desk.good("breed", *words, "--csv", "tables", "--force")
+    return {row["measure"]: row["exact"] for row in desk.table("tables/measures.csv")}
+
+
+def test_tables(secretary_desk: Desk) -> None:
+    """The measures beside the list, and beside the relationships of all pairs by the reference."""
+    desk = secretary_desk
+    found = measured(desk)
+    assert set(found) <= {name.value for name in Name}
+    numbers = {row["number"]: Fraction(row["coefficient"]) for row in desk.table("tables/animals.csv")}
+    assert found["animals"] == str(len(numbers))
+    assert Fraction(found["mean_inbreeding"]) == sum(numbers.values()) / len(numbers)
+    assert int(found["inbred_animals"]) == sum(coefficient > 0 for coefficient in numbers.values())
+    entry = reference.filed(desk.text("book/commands.csv"))[0].relationships()
+    total = sum((entry(one, other) for one, other in itertools.product(numbers, repeat=2)), Fraction(0))
+    assert Fraction(found["mean_kinship"]) == total / 2 / len(numbers) ** 2
+    for name, titles in TITLES.items():
+        assert desk.text(f"tables/{name}").startswith(titles)
+    kinships = [Fraction(row["mean_kinship_exact"]) for row in desk.table("tables/animals.csv")]
+    assert kinships == sorted(kinships)
+    assert float(desk.table("tables/founders.csv")[-1]["contribution_so_far"]) == pytest.approx(1)
+
+
+def test_populations(secretary_desk: Desk) -> None:
+    desk = secretary_desk
+    all_animals = desk.listed("list")
+    born = [row["id"] for row in all_animals if "2005" <= row["birth"][:4] <= "2007" and "(" not in row["birth"]]
+    assert measured(desk, "--born", "2005..2007")["animals"] == str(len(born))
+    assert int(measured(desk, "--born", "..2007-12-31")["animals"]) > len(born)
+    kept = desk.write("some.txt", "id\n" + "\n".join(born[:7]))
+    assert measured(desk, "--among", kept)["animals"] == "7"
+    owner = desk.owners()[0][1]
+    assert 0 < int(measured(desk, "--owner", owner)["animals"]) < len(all_animals)
+
+
+@pytest.mark.parametrize(("words", "told"), [
+    (["--owner", "nobody"], "the book has no owner 'nobody'"),
+    (["--born", "1900..1901"], "the book has none of the animals born 1900-01-01 – 1901-12-31"),
+    (["--born", "lately"], "'lately' isn't written as 2010..2019"),
+    (["--csv", "absent"], "there is no folder absent"),
+    (["--among", "none.txt"], "none.txt can't be read"),
+])  # fmt: skip
+def test_mistakes(secretary_desk: Desk, words: list[str], told: str) -> None:
+    secretary_desk.wrong(told, "breed", *words)
+
+
+@pytest.mark.parametrize(("language", "title"), [
+    ("en", "The state of the breed"), ("de", "Der Zustand der Rasse"), ("fr", "L'état de la race"),
+])  # fmt: skip
+def test_page(desk: Desk, language: str, title: str) -> None:
+    """Ids of any letters are escaped; of founders alone no rate can be had, and the page says why."""
+    desk.take('id,sex,birth,sire,dam\n<b>&,m,2001,,\n"a ""b""",f,2001,,\n')
+    done = desk.good("breed", "--language", language)
+    assert done.out == "book/breed.html is written, of 2 animals: open it in a browser\n"
+    page = " ".join(desk.page("book/breed.html").itertext())
+    assert title in page and "<b>&" in page and "– (" in page
+
+
+def test_tables_of_a_pedigree_without_days(desk: Desk) -> None:
+    """What needs birth days can't be had, and the other measures can."""
+    desk.good("take", "--pedigree", desk.write("pedigree.txt", "a 0 0\nb 0 0\nc a b\nd a b\ne c d\n"))
+    found = measured(desk)
+    assert found["mean_inbreeding"] == "1/20" and found["generation_interval"] == ""
+    assert desk.table("tables/years.csv") == []
