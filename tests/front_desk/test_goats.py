@@ -259,7 +259,7 @@ def test_remembered(desk: Desk) -> None:
     done = desk.take(sheet)
     done.tells(
         "as at the last time: --columns id=Tag,sex=S, --unknown fremd, --sexes Bk=m,Schf=f (the book "
-        "has these)"
+        "remembers these)"
     )
     assert desk.commands() == before
     assert " 0 left out, 0 added" in done.last

@@ -51,6 +51,7 @@ def add_words(words: Words) -> None:
         plan.add_argument(
             f"--{role}", type=pathlib.Path, metavar="FILE", help=f"the {role}, one id a line [all living ones]"
         )
+    plan.add_argument("--living", action="store_true", help="all living animals, as where no file is named")
     plan.add_argument("--most-for-a-sire", type=positive, metavar="N", help="no sire has more dams than these [any]")
     plan.add_argument("--at-most", type=coefficient, metavar="F", help="no calf is above this, as 1/16 or 0.0625 [any]")
     plan.add_argument("--minimum-age", type=days, metavar="DAYS", help="leave out younger animals [none]")
