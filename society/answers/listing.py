@@ -62,8 +62,9 @@ def advise(book: Book, program: Herdbook, dam: Known, sires: list[Known], also_l
         males = [known for known in book.known.values() if known.is_male]
         without_row = sorted(known.id for known in males if not known.standing.is_listed())
         males = [known for known in males if known.standing.is_listed()]
-        sires = [known for known in males if also_left or not book.has_left(known)]
-        left = len(males) - len(sires)
+        here = [known for known in males if also_left or not book.has_left(known)]
+        left = len(males) - len(here)
+        sires = [known for known in here if not known.castrated]
         if not sires:
             what = "living male with a row" if males else "male with a row" if without_row else "male"
             hints = ["--left asks for those that left too"] * bool(left)

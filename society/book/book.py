@@ -11,7 +11,7 @@ from society.book.commands import Record
 from society.book.database import path_of
 from society.book.history import last_change
 from society.book.journal import NO_JOURNAL, Journal, Step, command_file, steps_of
-from society.book.kinds import Standing
+from society.book.kinds import Remembered, Standing
 from society.book.known import Known
 from society.book.lazy import Lazy
 from society.book.rows import Row, known_of, record_of
@@ -126,9 +126,13 @@ class Book:
 
     @functools.cached_property
     def owners(self) -> dict[str, int]:
-        """The owners' herds, by their names."""
+        """The owners' herds, by their names as they are written now."""
         found = self.connection.execute("SELECT name, herd FROM owner ORDER BY herd") if self.connection else ()
-        return dict(found)
+        owners: dict[str, int] = dict(found)
+        for one in self.remembered:
+            if one.what is Remembered.OWNER and one.word in owners:
+                owners[one.meaning] = owners.pop(one.word)
+        return owners
 
     def owner_of(self, herd: int) -> str:
         """The owner's name; a herd that has none stands for itself."""

@@ -136,6 +136,21 @@ SEX_WORDS = {
 }
 
 
+class OwnerDay(enum.Enum):
+    """What the day comes from since which the owner has an animal."""
+
+    GIVEN = "given"
+    # no sheet said it, so that of the taking stands for it
+    INFERRED = "inferred"
+
+    @property
+    def is_inferred(self) -> bool:
+        return self is OwnerDay.INFERRED
+
+    def mark(self) -> str:
+        return mark(self.is_inferred)
+
+
 def mark(is_inferred: bool, is_invented: bool = False) -> str:
     """What stands behind a day or a sex that the sheet doesn't give."""
     return " (invented)" if is_invented else " (inferred)" if is_inferred else ""

@@ -72,6 +72,13 @@ class Remembered(enum.Enum):
     SEXES = "sexes"
     # that days with / have the month first
     MONTH_FIRST = "month-first"
+    # words that stand for animals, though they are usual words for an unknown parent
+    KNOWN = "known"
+    # how old parents are at least, and how far births of one dam are from one another, in days
+    YOUNGEST = "youngest"
+    APART = "apart"
+    # an owner's name, and how it is written now
+    OWNER = "owner"
     # a field, and the title of its column, empty where there is none
     COLUMN = "column"
     # what was told and needn't be told again, and the answer to it

@@ -3,7 +3,7 @@ from __future__ import annotations
 
 from dataclasses import dataclass
 
-from society.book.inferred import GIVEN_BIRTH, GIVEN_EXIT, BirthBasis, ExitBasis, SexSource
+from society.book.inferred import GIVEN_BIRTH, GIVEN_EXIT, BirthBasis, ExitBasis, OwnerDay, SexSource
 from society.book.kinds import Field, Standing
 
 # no field was changed by hand
@@ -28,6 +28,7 @@ class Known:
     written_dam: str = ""
     # what was filed by hand since the last sheet
     by_hand: frozenset[Field] = NO_FIELDS
+    owner_day: OwnerDay = OwnerDay.GIVEN
 
     @property
     def is_male(self) -> bool:

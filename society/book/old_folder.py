@@ -12,6 +12,7 @@ from society.book.commands import Command, read_commands, replay
 from society.book.database import changing, path_of
 from society.book.files import digest_of, put
 from society.book.journal import Step
+from society.book.inferred import OwnerDay
 from society.book.kinds import ChangeKind, Remembered, Standing
 from society.book.known import Known
 from society.book.old_words import STANDING_OF, read_birth, read_exit, read_sex
@@ -147,7 +148,8 @@ def known_of(folder: pathlib.Path, row: list[str]) -> Known:
     birth, exit, sex = read_birth(words[0]), read_exit(words[1]), read_sex(words[2])
     if standing not in STANDING_OF or birth is None or exit is None or sex is None:
         raise changed(folder / IDS)
-    return Known(number, id, name, STANDING_OF[standing], birth, exit, sex)
+    # such a folder has the days of takings as those on which owners changed
+    return Known(number, id, name, STANDING_OF[standing], birth, exit, sex, owner_day=OwnerDay.INFERRED)
 
 
 def read_table(folder: pathlib.Path, name: str, titles: list[str], needed: bool = True) -> list[list[str]]:

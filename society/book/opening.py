@@ -41,6 +41,14 @@ def no_book(folder: pathlib.Path) -> Mistake:
 
 
 @contextlib.contextmanager
+def to_look_at(folder: pathlib.Path, program: Herdbook) -> Iterator[Book]:
+    """The book for a preview of a change, an empty one where there is none. Nobody waits for it."""
+    take_over(folder, program)
+    with reading(folder) as connection:
+        yield Book(folder, connection)
+
+
+@contextlib.contextmanager
 def to_change(folder: pathlib.Path, program: Herdbook) -> Iterator[Book]:
     """The book to be changed, an empty one where there is none. Others who change it are waited for, and then it is
     seen that it is whole."""

@@ -6,14 +6,14 @@ import functools
 from typing import NamedTuple
 
 from society.book.commands import Record
-from society.book.inferred import BirthBasis, BirthSource, ExitBasis, ExitSource, Period, SexSource
+from society.book.inferred import BirthBasis, BirthSource, ExitBasis, ExitSource, OwnerDay, Period, SexSource
 from society.book.kinds import Field, Standing
 from society.book.known import NO_FIELDS, Known
 
 COLUMNS = (
     "id, number, name, folded_id, folded_name, standing, birth_source, birth_period, birth_no_such_day, exit_source, "
-    "exit_period, exit_no_such_day, exit_text, sex_source, castrated, written_sire, written_dam, by_hand, born, sire, dam, embryo, "
-    "herd, owned_since, giver, departed"
+    "exit_period, exit_no_such_day, exit_text, sex_source, castrated, written_sire, written_dam, by_hand, "
+    "owner_day, born, sire, dam, embryo, herd, owned_since, giver, departed"
 )
 
 
@@ -38,6 +38,7 @@ class Row(NamedTuple):
     written_sire: str
     written_dam: str
     by_hand: str
+    owner_day: str
     born: str | None
     sire: str | None
     dam: str | None
@@ -49,6 +50,7 @@ class Row(NamedTuple):
 
 
 STANDINGS = {standing.value: standing for standing in Standing}
+OWNER_DAYS = {day.value: day for day in OwnerDay}
 SEX_SOURCES = {source.value: source for source in SexSource}
 
 
@@ -81,6 +83,7 @@ def known_of(row: Row) -> Known:
         row.written_sire,
         row.written_dam,
         fields_of(row.by_hand),
+        OWNER_DAYS[row.owner_day],
     )
 
 
@@ -123,6 +126,7 @@ def row_of(known: Known, record: Record | None) -> Row:
         known.written_sire,
         known.written_dam,
         " ".join(sorted(one.value for one in known.by_hand)),
+        known.owner_day.value,
         *register,
     )
 

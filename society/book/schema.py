@@ -3,7 +3,7 @@ from __future__ import annotations
 
 import enum
 
-from society.book.inferred import BirthSource, ExitSource, SexSource
+from society.book.inferred import BirthSource, ExitSource, OwnerDay, SexSource
 from society.book.kinds import ChangeKind, CommandKind, Remembered, Standing
 
 # what tells a herd book from other databases: HERD
@@ -122,6 +122,7 @@ CREATE TABLE animal (
     written_sire TEXT NOT NULL,
     written_dam TEXT NOT NULL,
     by_hand TEXT NOT NULL,
+    owner_day TEXT NOT NULL CHECK (owner_day IN ({words(OwnerDay)})),
     -- what the register has, none of it for one that was dropped
     born TEXT CHECK (born {DAY}),
     sire TEXT CHECK (length(sire) = 19 AND sire {NUMBER}),

@@ -93,8 +93,10 @@ class Certificate:
             "born": self.day(told["born"], mark_of(self.known.birth)),
             "left": left,
             "owner": self.book.owner_of(int(told["herd"])) or texts["no owner"],
-            "since": self.day(told["since"]) if owner_day_known(self.book, self.known) else texts["no owner"],
+            "since": texts["no owner"],
         }
+        if owner_day_known(self.book, self.known):
+            pairs["since"] = self.day(told["since"], mark_of(self.known.owner_day))
         return [(texts[what], fact) for what, fact in pairs.items()]
 
     def day(self, day: object, mark: Mark | None = None) -> str:
@@ -127,6 +129,7 @@ class Certificate:
         ancestors = [self.names[self.told[letters]] for letters in DRAWN if self.told[letters] != "0"]
         marks = {mark_of(one.birth) for one in (self.known, *ancestors)}
         marks |= {mark_of(self.known.exit), mark_of(self.known.sex)}
+        marks |= {mark_of(self.known.owner_day)} if owner_day_known(self.book, self.known) else set()
         written = [letters for letters in DRAWN if self.written(letters)]
         marks |= {Mark.IN_SHEET if self.told[letters] == "0" else Mark.INFERRED for letters in written}
         return [self.texts["note"], *(self.texts[f"{mark.value} note"] for mark in Mark if mark in marks)]
@@ -149,5 +152,6 @@ def role_of(letters: str) -> Role:
 
 def owner_day_known(book: Book, known: Known) -> bool:
     """Is the day known since which the owner has it? A sheet gives the owner of today: only a change of owners has a
-    day."""
-    return book.records[known.number].giver not in (0, NO_OWNER)
+    day, which may be inferred where there is one before."""
+    giver = book.records[known.number].giver
+    return bool(giver) and (giver != NO_OWNER or not known.owner_day.is_inferred)

@@ -3,7 +3,7 @@ from __future__ import annotations
 
 import enum
 
-from society.book.inferred import BirthBasis, ExitBasis, SexSource
+from society.book.inferred import BirthBasis, ExitBasis, OwnerDay, SexSource
 
 
 class Mark(enum.Enum):
@@ -15,7 +15,7 @@ class Mark(enum.Enum):
     INVENTED = "invented"
 
 
-def mark_of(basis: BirthBasis | ExitBasis | SexSource) -> Mark | None:
-    """The mark of a birth day, an exit or a sex, or none where the sheet gives it."""
+def mark_of(basis: BirthBasis | ExitBasis | OwnerDay | SexSource) -> Mark | None:
+    """The mark of a birth day, an exit, an owner's first day or a sex, or none where the sheet gives it."""
     is_invented = basis.is_invented if isinstance(basis, BirthBasis) else basis is SexSource.INVENTED
     return Mark.INVENTED if is_invented else Mark.INFERRED if basis.is_inferred else None

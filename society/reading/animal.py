@@ -4,7 +4,7 @@ from __future__ import annotations
 import datetime
 from dataclasses import dataclass, field
 
-from society.book.inferred import GIVEN_BIRTH, GIVEN_EXIT, BirthBasis, ExitBasis, SexSource
+from society.book.inferred import GIVEN_BIRTH, GIVEN_EXIT, BirthBasis, ExitBasis, OwnerDay, SexSource
 from society.book.role import Role
 from society.reading.days import ANY_DAY, Span
 
@@ -27,6 +27,7 @@ class Animal:
     since: Span | None = None
     left: datetime.date | None = None
     embryo: bool = False
+    owner_day: OwnerDay = OwnerDay.GIVEN
     # a male that is castrated, as the sheet's word for its sex says
     castrated: bool = False
     # what is found for it later: its birth day, its number, and what was inferred and from what

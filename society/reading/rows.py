@@ -4,7 +4,7 @@ from __future__ import annotations
 import collections
 import datetime
 import re
-from typing import Container
+from typing import Container, Mapping
 
 from society.book.inferred import GIVEN_EXIT, ExitBasis, ExitSource
 from society.book.kinds import Field
@@ -35,7 +35,8 @@ FORMULA = re.compile(r"=.+", re.DOTALL)
 
 
 class Rows:
-    """Reads the rows of a sheet. `today` is the last day on which an animal can be born or leave."""
+    """Reads the rows of a sheet. `born` are the birth days that animals of the book have by their ids: of two rows with
+    one id the one that agrees with the book is taken."""
 
     def __init__(
         self,
@@ -45,10 +46,11 @@ class Rows:
         sexes: dict[str, str],
         report: Report,
         month_first: bool = False,
-        today: datetime.date | None = None,
+        born: Mapping[str, datetime.date] | None = None,
     ) -> None:
         self.sheet, self.columns, self.unknown, self.report = sheet, columns, unknown, report
-        self.month_first, self.today = month_first, today or datetime.date.today()
+        self.month_first, self.today = month_first, datetime.date.today()
+        self.born = born or {}
         self.errors = ErrorValues(sheet, columns)
         self.sexes = Sexes(self.texts(Field.SEX), sexes)
         self.unread = Unread({name: sheet.titles[at] for name, at in columns.items()})
@@ -74,6 +76,10 @@ class Rows:
                 self.report.add(line, id, TooManyCells(len(cells), titles))
             elif id in self.unknown:
                 self.report.add(line, id, NoId(id))
+            elif id in found and self.is_of_book(id, cells) and not self.is_of_book(id, first[id]):
+                former, cells_before = found[id], first[id]
+                found[id], first[id] = self.animal(line, id, cells), cells
+                self.report.add(former.line, id, self.id_again(found[id], cells, cells_before))
             elif id in found:
                 self.report.add(line, id, self.id_again(found[id], first[id], cells))
             else:
@@ -101,6 +107,14 @@ class Rows:
         at = self.columns.get(name)
         text = cells[at] if at is not None and at < len(cells) else ""
         return "" if text[:1] in "#E" and self.errors.is_one(text) else text
+
+    def is_of_book(self, id: str, cells: list[str]) -> bool:
+        """Has the row the birth day that the book has of this id?"""
+        try:
+            span = read_span(self.cell(cells, Field.BIRTH), self.month_first)
+        except Unreadable:
+            return False
+        return span.is_day and self.born.get(id) == span.first
 
     def id_again(self, animal: Animal, first: list[str], cells: list[str]) -> IdAgain:
         """What a second row of an id says otherwise than the first."""

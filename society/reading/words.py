@@ -39,7 +39,7 @@ STAYS = (
 EXITS = (
     "ja, yes, oui, x, verkauft, verk, Verkauf, geschlachtet, Schlachtung, geschl, gestorben, verstorben, verendet, "
     "tot, Tod, abgegangen, Abgang, ausgeschieden, exportiert, gekeult, euthanasiert, notgetötet, gerissen, weg, "
-    "inaktiv, sold, sale, slaughtered, slaughter, dead, died, death, deceased, culled, exported, gone, left, lost, inactive, "
+    "inaktiv, sold, sale, slaughtered, slaughter, dead, died, death, deceased, culled, exported, gone, left, lost, "
     "vendu, vendue, vente, abattu, abattue, abattage, mort, morte, décédé, décédée, réformé, réformée, réforme, sorti, "
     "sortie, exporté, exportée, inactif, inactive"
 )

@@ -3,55 +3,61 @@ from __future__ import annotations
 
 import datetime
 
-from society.book.book import NO_OWNER
-from society.book.commands import (
-    Command,
-    Record,
-    birth,
-    first_herds,
-    leave,
-    lines_of,
-    text_of,
-    transfer,
-    transfers_of,
-)
+from society.book.commands import Command, Record, birth, leave, lines_of, text_of
 from society.book.inferred import NO_DAY, ExitBasis
-from society.book.journal import Step, accepted_commands, alike
+from society.book.journal import Step, alike
+from society.book.kinds import CommandKind
 from society.book.known import Known
 from society.book.writing import Filed
 from society.herdbook import Herdbook
 from society.mistake import Mistake
 from society.reading.animal import Animal
+from society.refusals import Refusal
+from society.taking.early_exits import leave_out_exit
 from society.taking.findings import NewAnimal, ValueChanged
 from society.taking.next_book import NextBook
+from society.taking.owner_days import OwnerDays
+from society.taking.row_findings import CommandLeftOut
 
 
 class Filing:
-    """The commands of a taking. `today` is the day on which owners change."""
+    """The commands of a taking."""
 
-    def __init__(self, next_book: NextBook, today: datetime.date) -> None:
-        self.next_book, self.book, self.today = next_book, next_book.book, today
+    def __init__(self, next_book: NextBook, owners: OwnerDays) -> None:
+        self.next_book, self.book, self.owners = next_book, next_book.book, owners
 
     def filed(self, program: Herdbook) -> Filed:
-        """The commands, none of which is refused; else a mistake with each refusal in words."""
-        more = self.more()
-        if more is not None and not self.refused_behind(program, more):
-            return Filed([Step(command) for command in more])
-        commands = self.anew()
-        refused = program.file(commands)
-        if not refused:
-            steps = [Step(command) for command in commands]
-            keeps = alike(self.book.steps, steps)
-            return Filed(steps[keeps:], keeps)
+        """The commands, none of which is refused: an exit or a transfer that is refused is left out before, and told;
+        a mistake where a birth is."""
+        while True:
+            more = self.more()
+            if more is not None and not self.refused_behind(program, more):
+                return Filed([Step(command) for command in more])
+            commands = self.anew()
+            refused = program.file(commands)
+            if not refused:
+                steps = [Step(command) for command in commands]
+                keeps = alike(self.book.steps, steps)
+                return Filed(steps[keeps:], keeps)
+            self.leave_out(commands, refused)
+
+    def leave_out(self, commands: list[Command], refused: dict[int, Refusal]) -> None:
         by_number = {animal.number: animal for animal in self.next_book.animals.values()}
         sentences = []
         for place, refusal in refused.items():
             kind, number, day = commands[place][:3]
-            on = f" on {day}" if day else ""
-            sentences.append(f"{by_number[number].where()}{kind}{on} is refused: {refusal.words()} (refusal {refusal})")
-        raise Mistake(
-            *sentences, f"nothing is taken (refused: {len(refused)}): mend these rows, and take the sheet again"
-        )
+            animal = by_number[number]
+            if kind == "exit":
+                leave_out_exit(self.next_book, animal, refusal, [])
+            elif kind == "transfer":
+                self.owners.leave_out(animal, CommandLeftOut(CommandKind.TRANSFER, day, refusal, "", 0))
+            else:
+                on = f" on {day}" if day else ""
+                sentences.append(f"{animal.where()}{kind}{on} is refused: {refusal.words()} (refusal {refusal})")
+        if sentences:
+            raise Mistake(
+                *sentences, f"nothing is taken (refused: {len(sentences)}): mend these rows, and take the sheet again"
+            )
 
     def refused_behind(self, program: Herdbook, more: list[Command]) -> bool:
         """Is any command refused behind the journal?"""
@@ -65,17 +71,18 @@ class Filing:
             return None
         births, corrections, transfers, exits = [], [], [], []
         for animal in self.next_book.by_birth():
-            record = self.next_book.record(animal.id)
+            record, owners = self.next_book.record(animal.id), self.owners.of(animal)
             if record is None:
-                births.append(self.birth_of(animal, self.herd_of(animal.owner)))
+                births.append(self.birth_of(animal, owners.first_herd))
+                transfers += owners.transfers
                 exits += [leave(animal.number, animal.left)] if animal.left else []
                 continue
-            if is_corrected(animal, record):
+            if owners.is_corrected or is_corrected(animal, record):
                 return None
             wanted = self.next_book.parents_of(animal)
             if (wanted.sire, wanted.dam) != (record.sire or "0", record.dam or "0"):
                 corrections.append(wanted)
-            transfers += self.transfer_of(animal, record)
+            transfers += owners.new
             if animal.left and not record.left:
                 exits.append(leave(animal.number, animal.left))
         return births + corrections + transfers + exits
@@ -85,38 +92,16 @@ class Filing:
         births: list[Command] = []
         transfers: list[Command] = []
         exits: list[Command] = []
-        accepted = accepted_commands(self.book.steps)
-        first_herd, transfers_before = first_herds(accepted), transfers_of(accepted)
         for animal in self.next_book.by_birth():
-            record = self.next_book.record(animal.id)
-            births.append(self.birth_of(animal, first_herd[record.number] if record else self.herd_of(animal.owner)))
-            if record:
-                before = transfers_before.get(record.number, ())
-                transfers += [one._replace(animal=animal.number) for one in before]
-                transfers += self.transfer_of(animal, record)
+            owners = self.owners.of(animal)
+            births.append(self.birth_of(animal, owners.first_herd))
+            transfers += owners.transfers
             exits += [leave(animal.number, animal.left)] if animal.left else []
         return births + transfers + exits
-
-    def herd_of(self, owner: str) -> int:
-        """The owner's herd; a new owner gets the next number."""
-        if not owner:
-            return NO_OWNER
-        owners = self.book.owners
-        return owners.setdefault(owner, len(owners) + 1)
 
     def birth_of(self, animal: Animal, herd: int) -> Command:
         sire, dam = (self.next_book.number_of(parent) for parent in (animal.sire, animal.dam))
         return birth(animal.number, animal.born, sire, dam, herd, animal.embryo)
-
-    def transfer_of(self, animal: Animal, record: Record) -> list[Command]:
-        """The transfer to another owner, on the day of the taking, or on that of the animal's exit where it left
-        before."""
-        herd = self.herd_of(animal.owner)
-        if not animal.owner or herd == record.herd:
-            return []
-        today = animal.since.first if animal.since and animal.since.is_day else self.today
-        day = max(min(today, animal.left or today), record.since)
-        return [transfer(animal.number, day, record.herd, herd)]
 
     # -- what is told
 

@@ -9,6 +9,9 @@ from society.taking.used_tags import leave_out_used_tags
 from society.taking.wishes import Wishes
 
 
+NOT_TAKEN = "nothing is taken: where it is right all the same, take this again with --anyway"
+
+
 def complete(next_book: NextBook, columns: Columns, wishes: Wishes) -> None:
     """Adds what the book and the parents' cells have besides, and finds sexes and days; a mistake where the sheet
     looks like another one, and it isn't wished anyway."""
@@ -19,9 +22,8 @@ def complete(next_book: NextBook, columns: Columns, wishes: Wishes) -> None:
     next_book.complete(wishes.drop_gone)
     found += guards.behind(next_book.animals)
     if found and not wishes.anyway:
-        raise Mistake(
-            *(guard.words() for guard in found),
-            "nothing is taken: where it is right all the same, take this again with --anyway",
-        )
+        next_book.guards = [*(guard.words() for guard in found), NOT_TAKEN]
+        if not wishes.preview:
+            raise Mistake(*next_book.guards)
     next_book.find_sexes()
     next_book.find_days()

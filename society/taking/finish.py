@@ -1,60 +1,75 @@
 """The end of a taking: the book is filed, saved where nothing is refused, and told."""
 from __future__ import annotations
 
+from dataclasses import dataclass
+
 from society.book.changes import Source
-from society.book.exports import COMMANDS, REPORT
 from society.book.opening import export
+from society.book.writing import Filed
 from society.herdbook import Herdbook
-from society.mistake import Mistake, counted
+from society.mistake import Mistake
+from society.taking.causes import sentences_of
 from society.taking.changes import Filing
+from society.taking.early_exits import leave_out_early_exits
 from society.taking.faulty_parents import leave_out_faulty_parents
 from society.taking.lost_links import refuse_lost_links
-from society.taking.looks import Looks
-from society.taking.next_book import NextBook
+from society.taking.looks import Limits, Looks
+from society.taking.next_book import BREED, COUNTRY, NextBook
+from society.taking.outcome import Outcome
+from society.taking.owner_days import OwnerDays
 from society.taking.report import What
 from society.taking.saving import save
-from society.taking.shown_report import show
 from society.taking.wishes import Wishes
 
 
-def finish(
-    next_book: NextBook, program: Herdbook, wishes: Wishes, source: Source, about: list[str], invented: int
-) -> None:
-    """Files the book, and writes it only where nothing is refused. What is told comes last, first of all what it is
-    about."""
+@dataclass(frozen=True)
+class About:
+    """What is told of a file as a whole: how it was read, and what may be wrong of it; and how many sexes and days are
+    invented."""
+
+    read: list[str]
+    notes: list[str]
+    invented: int = 0
+    limits: Limits = Limits()
+
+
+def finish(next_book: NextBook, program: Herdbook, wishes: Wishes, source: Source, about: About) -> Outcome:
+    """Files the book, and writes it where nothing keeps it from being taken, and no preview is wished."""
+    filed, outcome = file(next_book, program, wishes, about)
+    if not wishes.preview:
+        save(next_book, filed, program, wishes, source, outcome.new)
+        next_book.book.notes += export(next_book.book.folder)
+    return outcome
+
+
+def file(next_book: NextBook, program: Herdbook, wishes: Wishes, about: About) -> tuple[Filed, Outcome]:
+    """The commands by which the book becomes what is wished, and what that makes of it. Nothing is written."""
     book, report = next_book.book, next_book.report
     next_book.give_numbers(wishes.breed, wishes.country)
+    leave_out_early_exits(next_book)
     leave_out_faulty_parents(next_book, program)
     if next_book.is_pedigree and not wishes.leave_out:
         refuse_lost_links(report)
     if not next_book.is_pedigree:
-        Looks(next_book.animals, wishes.limits(), report).tell("exit" in next_book.given)
+        Looks(next_book.animals, about.limits, report).tell("exit" in next_book.given)
+    before = len(book.records)
+    filing = Filing(next_book, OwnerDays(book, report, wishes.day))
+    filed = filing.filed(program)
     left_out = [entry for entry in report.in_order() if entry.what is What.LEFT_OUT]
     if wishes.strict and left_out:
-        told = [entry.sentence() for entry in left_out] + report.advice
-        raise Mistake(*told, f"{report.left_out()}: with --strict nothing is taken")
-    before = len(book.records)
-    filing = Filing(next_book, wishes.day)
-    filed = filing.filed(program)
+        raise Mistake(
+            *sentences_of(left_out), *report.advice, f"{report.left_out()}: with --strict nothing is taken"
+        )
     filing.tell_changes()
     new = sum(1 for animal in next_book.animals.values() if animal.line and animal.id not in book.known)
-    save(next_book, filed, program, wishes, source, new)
-    book.notes += export(book.folder)
-    print("\n".join(about))
-    show(report, book.folder / REPORT)
-    if before and filed.keeps is not None:
-        print(f"{book.folder / COMMANDS} is written anew, since something in it was corrected or dropped")
-    counts = report.counts()
-    if counts[What.GONE] and not wishes.drop_gone:
-        print(
-            "those that are gone stay: with --drop-gone they are dropped, but for the ancestors of animals that have "
-            "a row"
-        )
-    print("".join(f"{sentence}\n" for sentence in report.advice), end="")
-    inferred = [f"{invented} invented"] * bool(invented)
-    inferred += [f"{counts[What.INFERRED]} inferred"] * bool(counts[What.INFERRED] or not invented)
-    each = f": {book.folder / REPORT} has each" if report.entries else ""
-    print(
-        f"{book.folder}: {counted(len(next_book.animals), 'animal')}, {new} new, {counts[What.CHANGED]} changed, "
-        f"{', '.join(inferred)}, {report.left_out()}, {counts[What.ADDED]} added, {counts[What.GONE]} gone{each}"
-    )
+    is_first = not before and not next_book.is_pedigree and not (wishes.breed and wishes.country)
+    begin = (wishes.breed or BREED) + (wishes.country or COUNTRY)
+    return filed, Outcome(
+        book.folder, about.read, about.notes, next_book.guards, report, len(next_book.animals), new, about.invented,
+        bool(before and filed.keeps is not None), begin * is_first, wishes.drop_gone,
+    )  # fmt: skip
+
+
+def tell(outcome: Outcome, wishes: Wishes) -> None:
+    """Prints what a taking made, or would make."""
+    print("\n".join(outcome.preview() if wishes.preview else [*outcome.lines(), outcome.summary()]))

@@ -6,7 +6,7 @@ import pathlib
 from society.book.book import Book
 from society.book.files import source_of
 from society.book.kinds import Field
-from society.book.opening import to_change
+from society.book.opening import to_change, to_look_at
 from society.herdbook import Herdbook
 from society.mistake import Mistake, counted
 from society.reading.options import read_given
@@ -16,7 +16,7 @@ from society.reading.triples import Triples, read_triples
 from society.reading.unknown import UnknownParents
 from society.taking.both_parents import leave_out_same_parent, refuse_both
 from society.taking.cycles import cut_cycles
-from society.taking.finish import finish
+from society.taking.finish import About, finish, tell
 from society.taking.invented_days import invent_days
 from society.taking.invented_sexes import invent_sexes
 from society.taking.kept_animals import keep_with_ancestors
@@ -29,7 +29,7 @@ from society.taking.wishes import Wishes
 def take_pedigree(path: pathlib.Path, wishes: Wishes) -> list[str]:
     """Takes a pedigree; answers what is to be told besides."""
     program = Herdbook()
-    with to_change(wishes.book, program) as book:
+    with to_look_at(wishes.book, program) if wishes.preview else to_change(wishes.book, program) as book:
         take_into(book, path, wishes, program)
     return book.notes
 
@@ -56,7 +56,7 @@ def take_into(book: Book, path: pathlib.Path, wishes: Wishes, program: Herdbook)
     missing = [field for field in (Field.SEX, Field.BIRTH) if field not in triples.columns]
     what = "standard input" if path == STANDARD_INPUT else str(path)
     about += [invented(what, len(animals), missing)] * bool(missing)
-    finish(next_book, program, wishes, source, about, len(animals) if missing else 0)
+    tell(finish(next_book, program, wishes, source, About(about, [], len(animals) if missing else 0)), wishes)
 
 
 def given_columns(words: list[str]) -> dict[Field, str]:

@@ -2,12 +2,12 @@
 from __future__ import annotations
 
 import pathlib
-from dataclasses import dataclass
+from dataclasses import dataclass, replace
 
 from society.book.book import Book
 from society.book.files import source_of
 from society.book.kinds import Field, Remembered
-from society.book.opening import to_change
+from society.book.opening import to_change, to_look_at
 from society.book.state import Meaning
 from society.herdbook import Herdbook
 from society.mistake import Mistake, counted
@@ -19,42 +19,46 @@ from society.reading.sheet import Sheet, read_bytes, read_sheet
 from society.reading.titles import known_titles
 from society.reading.unknown import UnknownParents
 from society.taking.completing import complete
-from society.taking.finish import finish
+from society.taking.finish import About, finish, tell
 from society.taking.next_book import NextBook
+from society.taking.outcome import Outcome
+from society.taking.remembering import Words, again, limits_of, remember, rename_owners
 from society.taking.report import Report
 from society.taking.wishes import Wishes
 
-COLUMNS, UNKNOWN, SEXES, MONTH_FIRST = (
-    Remembered.COLUMNS, Remembered.UNKNOWN, Remembered.SEXES, Remembered.MONTH_FIRST
-)  # fmt: skip
-Words = dict[Remembered, list[str]]
 
 
 def take_sheet(path: pathlib.Path, wishes: Wishes) -> list[str]:
-    """Takes a sheet; answers what is to be told besides."""
+    """Takes a sheet, or tells what would be taken; answers what is to be told besides."""
     program = Herdbook()
-    with to_change(wishes.book, program) as book:
-        take_into(book, path, wishes, program)
+    with to_look_at(wishes.book, program) if wishes.preview else to_change(wishes.book, program) as book:
+        tell(take_into(book, path, wishes, program), wishes)
     return book.notes
 
 
-def take_into(book: Book, path: pathlib.Path, wishes: Wishes, program: Herdbook) -> None:
+def preview_sheet(path: pathlib.Path, wishes: Wishes) -> Outcome:
+    """What a sheet would change, and what may be wrong of it. Nothing is written."""
+    program = Herdbook()
+    with to_look_at(wishes.book, program) as book:
+        return take_into(book, path, replace(wishes, preview=True), program)
+
+
+def take_into(book: Book, path: pathlib.Path, wishes: Wishes, program: Herdbook) -> Outcome:
     source = source_of(path, read_bytes(path))
     words = remember(book, wishes)
+    rename_owners(book, wishes)
     read = read_animals(path, wishes, book, words)
     next_book = NextBook(book, read.animals, set(read.columns.found), read.report)
     complete(next_book, read.columns, wishes)
-    about = [
-        f"{path}: {counted(len(read.sheet.rows), 'row')} below the titles in line {read.sheet.line}, {read.sheet.how}",
+    rows = counted(len(read.sheet.rows), "row")
+    how = [
+        f"{path}: {rows} below the titles in line {read.sheet.line}, {read.sheet.how}",
         read.columns.words(),
         *again(words, wishes),
-        *read.columns.notes,
-        *read.rows.sexes.told(),
-        *read.rows.unread.summaries(),
-        *read.rows.notes,
     ]
+    notes = [*read.rows.notes, *read.columns.notes, *read.rows.unread.summaries(), *read.rows.sexes.told()]
     book.remembered += [Meaning(Remembered.COLUMN, *pair) for pair in read.columns.titles_found()]
-    finish(next_book, program, wishes, source, about, 0)
+    return finish(next_book, program, wishes, source, About(how, notes, limits=limits_of(words)))
 
 
 @dataclass
@@ -71,14 +75,15 @@ class ReadSheet:
 def read_animals(path: pathlib.Path, wishes: Wishes, book: Book, words: Words) -> ReadSheet:
     """The animals of a sheet; else a mistake with all that keeps it from being read."""
     now = read_given(wishes.columns)
-    before = titles_before(book) | read_given(words[COLUMNS])
+    before = titles_before(book) | read_given(words[Remembered.COLUMNS])
     titles = {*before.values(), *now.values()}
     sheet = read_sheet(path, lambda row: known_titles(row) + sum(title in titles for title in row), wishes.worksheet)
-    unknown, report = UnknownParents(words[UNKNOWN]), Report()
+    unknown, report = UnknownParents(words[Remembered.UNKNOWN], words[Remembered.KNOWN]), Report()
     columns = find_columns(sheet, now, {name: title for name, title in before.items() if name not in now}, unknown,
                            [known.id for known in book.known.values() if known.standing.had_row()])  # fmt: skip
-    month_first = wishes.month_first or bool(words[MONTH_FIRST])
-    rows = Rows(sheet, columns.found, unknown, read_sexes(words[SEXES]), report, month_first)
+    month_first = bool(words[Remembered.MONTH_FIRST])
+    born = {id: book.records[known.number].born for id, known in book.known.items() if not known.birth.is_inferred}
+    rows = Rows(sheet, columns.found, unknown, read_sexes(words[Remembered.SEXES]), report, month_first, born)
     animals = rows.animals() if Field.ID in columns.found else {}
     faults = [*sheet.faults, *columns.faults, *rows.faults]
     if faults:
@@ -91,31 +96,3 @@ def read_animals(path: pathlib.Path, wishes: Wishes, book: Book, words: Words) -
 def titles_before(book: Book) -> dict[str, str]:
     """The titles of all columns of the last sheet, by field."""
     return {one.word: one.meaning for one in book.remembered if one.what is Remembered.COLUMN}
-
-
-def remember(book: Book, wishes: Wishes) -> Words:
-    """The words of the options that say how cells are read: those that the book remembers, and then those that are
-    given now, which stay in the book."""
-    now = given_now(wishes)
-    before = {kind: [one.word for one in book.remembered if one.what is kind] for kind in now}
-    both = {kind: [word for word in before[kind] if word not in now[kind]] + now[kind] for kind in now}
-    others = [one for one in book.remembered if one.what not in now]
-    book.remembered = others + [Meaning(kind, word) for kind, words in both.items() for word in words]
-    return both
-
-
-def given_now(wishes: Wishes) -> Words:
-    return {
-        COLUMNS: wishes.columns,
-        UNKNOWN: wishes.unknown,
-        SEXES: wishes.sexes,
-        MONTH_FIRST: ["yes"] * wishes.month_first,
-    }
-
-
-def again(words: Words, wishes: Wishes) -> list[str]:
-    """Which options are used that weren't given, in a sentence."""
-    now = given_now(wishes)
-    used = [(kind, word) for kind, those in words.items() for word in those if word not in now[kind]]
-    shown = ", ".join(f"--{kind.value}" if kind is MONTH_FIRST else f"--{kind.value} {word}" for kind, word in used)
-    return [f"as at the last time: {shown} (the book remembers these)"] if used else []

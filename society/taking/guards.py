@@ -86,7 +86,8 @@ class Guards:
         gone = [id for id in had_row if id not in self.rows]
         if len(gone) < LEAST_GONE or len(gone) * TENTH <= len(had_row):
             return None
-        why = f"{len(gone)} of the {counted(len(had_row), 'animal')} that had a row in the last sheet have none in this one"
+        count = counted(len(had_row), "animal")
+        why = f"{len(gone)} of the {count} that had a row in the last sheet have none in this one"
         return Guard(why, self.like())
 
     def like(self) -> LooksLike:
@@ -125,7 +126,8 @@ class Guards:
             return None
         lines = ", ".join(f"{row.id} (line {row.line})" for row in changed[:3])
         names = "names and birth days" if any(row.name for row in changed) else "birth days"
-        why = f"{len(changed)} of {counted(len(both), 'animal')} have other {names} than in the book, the first are {lines}"
+        count = counted(len(both), "animal")
+        why = f"{len(changed)} of {count} have other {names} than in the book, the first are {lines}"
         return Guard(why, LooksLike.ANOTHER_FLOCK)
 
     def behind(self, animals: dict[str, Animal]) -> list[Guard]:

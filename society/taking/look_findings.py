@@ -101,8 +101,8 @@ class OldAsLiving(Look):
 
     def words(self) -> str:
         return (
-            f"born {self.born}, it counts as living, {self.years} years older than half of those that do ({self.median}): "
-            "has it left?"
+            f"born {self.born}, it counts as living, {self.years} years older than half of those that do "
+            f"({self.median}): has it left?"
         )
 
 
@@ -111,7 +111,9 @@ class LikeASum(Look):
     """A row that seems to count or to sum up."""
 
     def words(self) -> str:
-        return "is this row an animal? It is taken as one: leave out rows that count or sum up, and take the sheet again"
+        return (
+            "is this row an animal? It is taken as one: leave out rows that count or sum up, and take the sheet again"
+        )
 
 
 @dataclass(frozen=True, slots=True)
@@ -124,6 +126,7 @@ class OwnerRespelt(Look):
 
     def words(self) -> str:
         return (
-            f"the {counted(self.animals, 'animal')} of '{self.before}' are now of '{self.now}', whom the book didn't have: "
-            f"if the name is only written otherwise, undo this, and take the sheet with --owner '{self.before}={self.now}'"
+            f"the {counted(self.animals, 'animal')} of '{self.before}' are now of '{self.now}', whom the book didn't "
+            "have: if the name is only written otherwise, undo this, and take the sheet with --owner "
+            f"'{self.before}={self.now}'"
         )

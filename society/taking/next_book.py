@@ -6,7 +6,7 @@ from dataclasses import replace
 
 from society.book.book import Book
 from society.book.commands import Command, Record, parents
-from society.book.inferred import SexSource
+from society.book.inferred import OwnerDay, SexSource
 from society.book.kinds import Field, Standing
 from society.book.known import NO_FIELDS, Known
 from society.book.role import Role
@@ -23,6 +23,8 @@ from society.taking.report import Report
 from society.taking.without_row import add_gone, animals_of_book
 
 MOST_ANIMALS = 60_000
+# the breed and the country of numbers where none is given
+BREED, COUNTRY = "HOL", "GBR"
 
 
 class NextBook:
@@ -38,6 +40,8 @@ class NextBook:
         self.roles: dict[str, Role] = {}
         # the ids of rows that are left out, since the book has them for other animals, which stay
         self.used_again: set[str] = set()
+        # why it isn't taken but by --anyway
+        self.guards: list[str] = []
         # the parents as the sheet writes them, by an animal's id and `sire` or `dam`
         self.texts: dict[tuple[str, Role], str] = {}
         # the fields that were filed by hand and that the sheet says otherwise now than before
@@ -204,20 +208,19 @@ class NextBook:
 
     def give_numbers(self, breed: str, country: str) -> None:
         """An animal that is or was in the book keeps its twelve digits; new ones go on from the greatest that there
-        ever was, by birth day and id, so that no number is given to another animal."""
-        for id, known in (self.book.dropped | dict(self.book.known)).items():
-            animal = self.animals.get(id)
-            if animal:
-                animal.number = known.number[:6] + animal.sex + known.number[7:]
-            breed, country = breed or known.number[:3], country or known.number[3:6]
-        for id, number in self.book.former_numbers().items():
+        ever was, by birth day and id, so that no number is given to another animal. Breed and country stay those of the
+        book, or become those that are given."""
+        former = self.book.former_numbers() | {id: known.number for id, known in self.book.dropped.items()}
+        numbers = {id: known.number for id, known in self.book.known.items()}
+        for id, number in (former | numbers).items():
             animal = self.animals.get(id)
             if animal:
                 animal.number = (breed or number[:3]) + (country or number[3:6]) + animal.sex + number[7:]
+        first = next(iter((numbers or former).values()), BREED + COUNTRY)
         last = self.book.greatest_digits()
         new = [animal for animal in self.animals.values() if not animal.number]
         for digits, animal in enumerate(sorted(new, key=lambda one: (one.born, one.id)), last + 1):
-            animal.number = f"{breed or 'HOL'}{country or 'GBR'}{animal.sex}{digits:012}"
+            animal.number = f"{breed or first[:3]}{country or first[3:6]}{animal.sex}{digits:012}"
 
     def dropped_animals(self) -> dict[str, Known]:
         before = self.book.dropped | dict(self.book.known)
@@ -257,8 +260,11 @@ class NextBook:
             castrated = animal.castrated if is_said else before is not None and before.castrated
             texts = written.get((id, Role.SIRE), ""), written.get((id, Role.DAM), "")
             by_hand = before.by_hand - self.overridden.get(id, NO_FIELDS) if before else NO_FIELDS
-            kept[id] = Known(animal.number, id, animal.name, standing, *inferred, castrated, *texts, by_hand)
+            kept[id] = Known(animal.number, id, animal.name, standing, *inferred, castrated, *texts, by_hand, self.owner_day_of(animal, before))
         return kept
+
+    def owner_day_of(self, animal: Animal, before: Known | None) -> OwnerDay:
+        return animal.owner_day if animal.line or before is None else before.owner_day
 
     # -- what commands name
 

@@ -39,8 +39,8 @@ class FoundByNearId(Finding):
 
     def words(self) -> str:
         return (
-            f"its {self.role} '{self.written}' is {self.id}, whose id differs in case, blanks or zeros alone: if another "
-            "is meant, give that one a row"
+            f"its {self.role} '{self.written}' is {self.id}, whose id differs in case, blanks or zeros alone: if "
+            "another is meant, give that one a row"
         )
 
 

@@ -4,7 +4,9 @@ from __future__ import annotations
 import datetime
 from dataclasses import dataclass
 
-from society.taking.report import LeftOut, Part
+from society.book.kinds import CommandKind
+from society.refusals import Refusal
+from society.taking.report import Finding, LeftOut, Part, What
 
 
 @dataclass(frozen=True, slots=True)
@@ -29,6 +31,44 @@ class IdUsedAgain(LeftOut):
         means = f"; as a parent in line {lines} it means the first" if self.named_in else ""
         return (
             f"the book has this id for another animal ({there}born {self.born_there}; here {here}born {self.born_here})"
-            f"{means}: if the tag was used again, give this one another id; if it is the same animal, take this again with "
-            "--anyway"
+            f"{means}: if the tag was used again, give this one another id; if it is the same animal, take this again "
+            "with --anyway"
+        )
+
+
+@dataclass(frozen=True, slots=True)
+class CommandLeftOut(LeftOut):
+    """An exit or a transfer that the program refuses, and the offspring for which an exit is."""
+
+    command: CommandKind
+    day: str
+    refusal: Refusal
+    offspring: str
+    line: int
+
+    part = Part.CELL
+
+    def thing(self) -> str:
+        return f"its {self.command.value} on {self.day}"
+
+    def why(self) -> str:
+        named = f" ({self.offspring}{f' in line {self.line}' if self.line else ''})" if self.offspring else ""
+        gone = "; the animal counts as gone" if self.command is CommandKind.EXIT else ""
+        return f"{self.refusal.words()}{named} (refusal {self.refusal}){gone}"
+
+
+@dataclass(frozen=True, slots=True)
+class OwnerDayMoved(Finding):
+    """The day since which an owner has an animal can't be that of the book or of the sheet."""
+
+    owner: str
+    before: datetime.date
+    now: datetime.date
+
+    what = What.LOOK
+
+    def words(self) -> str:
+        return (
+            f"it has been of '{self.owner}' since {self.now}, and not since {self.before}, which can't be with its birth, "
+            "its exit or its owner before"
         )

@@ -68,7 +68,7 @@ def options_of(wishes: Wishes) -> Iterable[Option]:
     for name, words in ("--columns", wishes.columns), ("--unknown", wishes.unknown), ("--sexes", wishes.sexes):
         for word in words:
             yield Option(name, word)
-    for name, text in ("--breed", wishes.breed), ("--country", wishes.country), ("--day", wishes.day.isoformat()):
+    for name, text in ("--breed", wishes.breed), ("--country", wishes.country), ("--day", wishes.day and str(wishes.day)):
         if text:
             yield Option(name, text)
     flags = ("--strict", wishes.strict), ("--drop-gone", wishes.drop_gone), (SEMICOLONS, wishes.semicolons)

@@ -3,6 +3,7 @@ from __future__ import annotations
 
 import pathlib
 
+from society.taking.causes import sentences_of
 from society.taking.report import MOST_SHOWN, Entry, Part, Report, What
 
 # what may be wrong comes first; new animals aren't shown, since they are as the sheet has them
@@ -18,13 +19,14 @@ def show(report: Report, path: pathlib.Path) -> None:
 def lines_of(report: Report, path: pathlib.Path) -> list[str]:
     """The first entries of each kind, and of what is left out the first rows, cells and parents."""
     groups = groups_of(report)
-    counts = shown_of([len(entries) for entries in groups.values()])
+    told = [sentences_of(entries) for entries in groups.values()]
+    counts = shown_of([len(sentences) for sentences in told])
     lines = []
-    for ((what, part), entries), count in zip(groups.items(), counts):
-        lines += [entry.sentence() for entry in entries[:count]]
-        if len(entries) > count:
+    for ((what, part), entries), sentences, count in zip(groups.items(), told, counts):
+        lines += sentences[:count]
+        if len(sentences) > count:
             parts = f" ({part}s)" if part else ""
-            lines.append(f"and {len(entries) - count} more {what}{parts}: {path} has all {len(entries)}")
+            lines.append(f"and {len(sentences) - count} more {what}{parts}: {path} has all {len(entries)}")
     return lines
 
 

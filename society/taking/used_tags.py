@@ -19,8 +19,8 @@ def leave_out_used_tags(animals: dict[str, Animal], book: Book, report: Report) 
         known = book.known.get(id)
         if known and is_another(animal, known, book, calves.get(known.number)):
             record = book.records[known.number]
-            named = [one for one in animals.values() if id in (one.sire, one.dam) and one.birth.last > animal.birth.first]
-            lines = tuple(one.line for one in named)
+            calves_of_id = [one for one in animals.values() if id in (one.sire, one.dam)]
+            lines = tuple(one.line for one in calves_of_id if one.birth.last > animal.birth.first)
             report.add(animal.line, id, IdUsedAgain(record.born, known.name, animal.birth.first, animal.name, lines))
             del animals[id]
             found.add(id)

@@ -5,8 +5,6 @@ import datetime
 import pathlib
 from dataclasses import dataclass, field
 
-from society.taking.looks import APART, YOUNGEST, Limits
-
 
 @dataclass
 class Wishes:
@@ -18,7 +16,8 @@ class Wishes:
     sexes: list[str] = field(default_factory=list)
     breed: str = ""
     country: str = ""
-    day: datetime.date = field(default_factory=datetime.date.today)
+    # the day on which owners changed, if it isn't inferred
+    day: datetime.date | None = None
     strict: bool = False
     drop_gone: bool = False
     semicolons: bool = False
@@ -29,11 +28,9 @@ class Wishes:
     month_first: bool = False
     # take also what looks like another sheet than the book's
     anyway: bool = False
+    # tell what would change, and write nothing
+    preview: bool = False
     youngest: int | None = None
     apart: int | None = None
     known: list[str] = field(default_factory=list)
     owners: list[str] = field(default_factory=list)
-
-    def limits(self) -> Limits:
-        """What parents' ages and births of one dam are looked at for."""
-        return Limits(YOUNGEST if self.youngest is None else self.youngest, APART if self.apart is None else self.apart)

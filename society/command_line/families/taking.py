@@ -49,16 +49,26 @@ def add_words(words: Words) -> None:
         help="more words for an unknown parent",
     )  # fmt: skip
     take.add_argument(
+        "--known", action="append", default=[], metavar="WORD,..",
+        help="words that are no words for an unknown parent: takes back one of --unknown",
+    )  # fmt: skip
+    take.add_argument(
+        "--owner", action="append", default=[], metavar="OLD=NEW",
+        help="an owner of the book is written otherwise, as 'Meier=Meyer'",
+    )  # fmt: skip
+    take.add_argument(
         "--sexes", action="append", default=[], metavar="WORD=m,..",
         help="more words for the sexes, as Aue=f,Bk=m",
     )  # fmt: skip
-    take.add_argument("--worksheet", default="", metavar="NAME", help="the worksheet of an .xlsx file [whose titles fit]")
+    take.add_argument(
+        "--worksheet", default="", metavar="NAME", help="the worksheet of an .xlsx file [the one whose titles fit]"
+    )
     take.add_argument(
         "--month-first", action="store_true", help="days such as 03/25/2001 have the month first [the day], also later"
     )
     take.add_argument(
         "--anyway", action="store_true",
-        help="take the sheet though it looks like another one than the book's: another flock, another id, an older sheet",
+        help="take the sheet though it looks like another one than the book's: another flock, another id, an older one",
     )  # fmt: skip
     take.add_argument(
         "--youngest", type=days, metavar="DAYS", help="tell parents that were younger at a birth, also later [180]"
@@ -71,7 +81,10 @@ def add_words(words: Words) -> None:
         "--country", type=three_letters, metavar="ABC",
         help="the numbers' country [GBR, or as in the book]",
     )  # fmt: skip
-    take.add_argument("--day", type=day, default=datetime.date.today(), help="the day on which owners changed [today]")
+    take.add_argument("--day", type=day, help="the day on which owners changed [today, which is inferred]")
+    take.add_argument(
+        "--preview", action="store_true", help="tell what would change and what may be wrong, and write nothing"
+    )
     take.add_argument("--strict", action="store_true", help="take nothing where anything would be left out")
     take.add_argument(
         "--semicolons", action="store_true", help="write report.csv with semicolons, as some spreadsheets want it"
@@ -92,7 +105,7 @@ def do_take(asked: argparse.Namespace) -> None:
     wishes = Wishes(
         asked.book, asked.columns, asked.unknown, asked.sexes, asked.breed or "", asked.country or "", asked.day,
         asked.strict, asked.drop_gone, asked.semicolons, asked.keep, asked.leave_out, asked.worksheet,
-        asked.month_first, asked.anyway, asked.youngest, asked.apart,
+        asked.month_first, asked.anyway, asked.preview, asked.youngest, asked.apart, asked.known, asked.owner,
     )  # fmt: skip
     if asked.sheet and is_workbook(asked.sheet):
         need(Group.WORKBOOKS, ": or save the sheet as CSV, and take that")

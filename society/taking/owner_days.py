@@ -1,0 +1,156 @@
+"""The owners of an animal, one after the other: the transfers that the book has, those that a sheet adds, and their
+days."""
+from __future__ import annotations
+
+import datetime
+import functools
+from dataclasses import dataclass
+
+from society.book.book import NO_OWNER, Book
+from society.book.commands import Command, Record, first_herds, transfer, transfers_of
+from society.book.inferred import OwnerDay
+from society.book.journal import accepted_commands
+from society.book.kinds import Field
+from society.reading.animal import Animal
+from society.reading.days import DayFault
+from society.reading.findings import DayLeftOut
+from society.taking.report import Finding, Report
+from society.taking.row_findings import OwnerDayMoved
+
+
+@dataclass(frozen=True, slots=True)
+class Owners:
+    """The herd in which an animal was born, and its transfers, of which the book has as many as `known`."""
+
+    first_herd: int
+    transfers: list[Command]
+    known: int
+    is_corrected: bool
+
+    @property
+    def new(self) -> list[Command]:
+        return self.transfers[self.known :]
+
+
+class OwnerDays:
+    """The days on which owners change. `day` is that of the taking, if one is named: else it is today, which is
+    inferred, and gives way to what a later sheet says."""
+
+    def __init__(self, book: Book, report: Report, day: datetime.date | None) -> None:
+        self.book, self.report = book, report
+        self.today = datetime.date.today()
+        self.day, self.source = day or self.today, OwnerDay.GIVEN if day else OwnerDay.INFERRED
+        self.told: set[tuple[str, Finding]] = set()
+        # the animals whose last transfer is refused
+        self.refused: set[str] = set()
+
+    @functools.cached_property
+    def before(self) -> tuple[dict[str, int], dict[str, list[Command]]]:
+        """The herd in which each animal of the book was born, and its transfers."""
+        accepted = accepted_commands(self.book.steps)
+        return first_herds(accepted), transfers_of(accepted)
+
+    def tell(self, animal: Animal, found: Finding) -> None:
+        """Once, though the commands are asked for again where one is refused."""
+        if (animal.id, found) not in self.told:
+            self.told.add((animal.id, found))
+            self.report.add(animal.line, animal.id, found)
+
+    def leave_out(self, animal: Animal, found: Finding) -> None:
+        self.tell(animal, found)
+        self.refused.add(animal.id)
+
+    def herd_of(self, owner: str) -> int:
+        """The owner's herd; a new owner gets the next number."""
+        if not owner:
+            return NO_OWNER
+        owners = self.book.owners
+        return owners.setdefault(owner, max(owners.values(), default=0) + 1)
+
+    def of(self, animal: Animal) -> Owners:
+        known = self.book.known.get(animal.id)
+        if known is None:
+            return self.of_new(animal)
+        record = self.book.records[known.number]
+        first, before = record.herd, list[Command]()
+        if record.giver:
+            first, before = self.before[0][record.number], self.before[1].get(record.number, [])
+        animal.owner_day = known.owner_day
+        first_herd, transfers = first, [one._replace(animal=animal.number) for one in before]
+        if self.has_other_owner(animal, record):
+            if animal.id not in self.refused:
+                transfers.append(self.change(animal, record))
+        elif self.has_other_day(animal, record):
+            assert animal.since is not None
+            animal.owner_day = OwnerDay.GIVEN
+            if transfers:
+                transfers[-1] = transfers[-1]._replace(day=animal.since.first.isoformat())
+            elif first != NO_OWNER:
+                first_herd = NO_OWNER
+                transfers = [transfer(animal.number, animal.since.first, NO_OWNER, first)]
+        transfers = self.in_order(animal, transfers)
+        is_kept = [one[1:] for one in transfers[: len(before)]] == [one._replace(animal=animal.number)[1:] for one in before]
+        return Owners(first_herd, transfers, len(before), not is_kept or first_herd != first)
+
+    def of_new(self, animal: Animal) -> Owners:
+        """A new animal has its owner from its birth on, but where the sheet says since when."""
+        herd = self.herd_of(animal.owner)
+        if herd == NO_OWNER or not self.is_day(animal) or animal.since is None or animal.since.first <= animal.born:
+            return Owners(herd, [], 0, False)
+        only = [transfer(animal.number, animal.since.first, NO_OWNER, herd)]
+        return Owners(NO_OWNER, self.in_order(animal, only), 0, False)
+
+    def has_other_owner(self, animal: Animal, record: Record) -> bool:
+        if not animal.owner or self.herd_of(animal.owner) == record.herd:
+            return False
+        if self.is_later(animal):
+            # it isn't one yet
+            animal.owner = self.book.owner_of(record.herd)
+            return False
+        return True
+
+    def has_other_day(self, animal: Animal, record: Record) -> bool:
+        """Does the sheet say since when the owner that the book has has it?"""
+        if not animal.line or not self.is_day(animal) or animal.since is None or animal.since.first == record.since:
+            return False
+        return self.herd_of(animal.owner) == record.herd and (bool(record.giver) or animal.since.first > animal.born)
+
+    def is_day(self, animal: Animal) -> bool:
+        return animal.since is not None and animal.since.is_day and not self.is_later(animal)
+
+    def is_later(self, animal: Animal) -> bool:
+        if animal.since is None or animal.since.first <= self.today:
+            return False
+        text = animal.cells.get(Field.SINCE, str(animal.since.first))
+        self.tell(animal, DayLeftOut(Field.SINCE, DayFault.AFTER_TODAY, text))
+        return True
+
+    def change(self, animal: Animal, record: Record) -> Command:
+        """The transfer to another owner: on the day that the sheet says, on the last one of its month or year, or on
+        that of the taking."""
+        day, animal.owner_day = self.day, self.source
+        if animal.since:
+            day = min(animal.since.last, self.today)
+            animal.owner_day = OwnerDay.GIVEN if animal.since.is_day else OwnerDay.INFERRED
+        return transfer(animal.number, day, record.herd, self.herd_of(animal.owner))
+
+    def in_order(self, animal: Animal, transfers: list[Command]) -> list[Command]:
+        """The transfers with no day before the birth, before that of the owner before, or after the exit. Days that
+        were inferred give way; where a day that was given does, it is told."""
+        low, high = animal.born, animal.left or datetime.date.max
+        days = [datetime.date.fromisoformat(command.day) for command in transfers]
+        if days and not animal.owner_day.is_inferred:
+            # what was before the last owner's day gives way to it
+            high = min(high, max(days[-1], low))
+        found = []
+        for place, (command, day) in enumerate(zip(transfers, days)):
+            moved = min(max(day, low), high) if low <= high else low
+            if moved != day:
+                is_last = place == len(transfers) - 1
+                if not is_last or not animal.owner_day.is_inferred:
+                    owner = self.book.owner_of(int(command.taker))
+                    self.tell(animal, OwnerDayMoved(owner, day, moved))
+                animal.owner_day = OwnerDay.INFERRED if is_last else animal.owner_day
+            found.append(command._replace(day=moved.isoformat()))
+            low = moved
+        return found

@@ -1,0 +1,85 @@
+"""What a book remembers of how its sheets are read: options that needn't be given again, and how owners are written."""
+from __future__ import annotations
+
+from society.book.book import Book
+from society.book.kinds import Remembered
+from society.book.state import Meaning
+from society.mistake import Mistake
+from society.reading.words import clean, listed
+from society.taking.looks import APART, YOUNGEST, Limits
+from society.taking.wishes import Wishes
+
+Words = dict[Remembered, list[str]]
+# of these options the last word holds
+LAST_HOLDS = (Remembered.MONTH_FIRST, Remembered.YOUNGEST, Remembered.APART)
+
+
+def remember(book: Book, wishes: Wishes) -> Words:
+    """The words of the options that say how cells are read: those that the book remembers, and then those that are
+    given now, which stay in the book."""
+    now = given_now(wishes)
+    before = {kind: [one.word for one in book.remembered if one.what is kind] for kind in now}
+    both = {kind: [word for word in before[kind] if word not in now[kind]] + now[kind] for kind in now}
+    for kind in LAST_HOLDS:
+        both[kind] = both[kind][-1:]
+    # a word is known or unknown, as it is said now
+    both[Remembered.UNKNOWN] = without(both[Remembered.UNKNOWN], wishes.known)
+    both[Remembered.KNOWN] = without(both[Remembered.KNOWN], wishes.unknown)
+    others = [one for one in book.remembered if one.what not in now]
+    book.remembered = others + [Meaning(kind, word) for kind, words in both.items() for word in words]
+    return both
+
+
+def without(words: list[str], taken_back: list[str]) -> list[str]:
+    """The words of an option, each of which may be several, without those that another option names."""
+    taken = {word.casefold() for one in taken_back for word in listed(one)}
+    left = [",".join(word for word in listed(one) if word.casefold() not in taken) for one in words]
+    return [one for one in left if one]
+
+
+def given_now(wishes: Wishes) -> Words:
+    return {
+        Remembered.COLUMNS: wishes.columns,
+        Remembered.UNKNOWN: wishes.unknown,
+        Remembered.KNOWN: wishes.known,
+        Remembered.SEXES: wishes.sexes,
+        Remembered.MONTH_FIRST: ["yes"] * wishes.month_first,
+        Remembered.YOUNGEST: [] if wishes.youngest is None else [str(wishes.youngest)],
+        Remembered.APART: [] if wishes.apart is None else [str(wishes.apart)],
+    }
+
+
+def again(words: Words, wishes: Wishes) -> list[str]:
+    """Which options are used that weren't given, in a sentence."""
+    now = given_now(wishes)
+    used = [(kind, word) for kind, those in words.items() for word in those if word not in now[kind]]
+    shown = ", ".join(f"--{kind.value}" + f" {word}" * (kind is not Remembered.MONTH_FIRST) for kind, word in used)
+    return [f"as at the last time: {shown} (the book remembers these)"] if used else []
+
+
+def limits_of(words: Words) -> Limits:
+    """What parents' ages and births of one dam are looked at for."""
+    youngest, apart = words[Remembered.YOUNGEST], words[Remembered.APART]
+    return Limits(int(youngest[0]) if youngest else YOUNGEST, int(apart[0]) if apart else APART)
+
+
+def rename_owners(book: Book, wishes: Wishes) -> None:
+    """Owners are written otherwise from now on, as `--owner 'Meier=Meyer'` says."""
+    for word in wishes.owners:
+        before, equals, now = (clean(piece) for piece in word.partition("="))
+        if not equals or not before or not now:
+            raise Mistake(f"--owner {word}: write OLD=NEW, as --owner 'Meier=Meyer'")
+        if before not in book.owners:
+            raise Mistake(f"--owner {word}: the book has no owner '{before}': its owners are {names(book)}")
+        if now in book.owners:
+            raise Mistake(
+                f"--owner {word}: the book has '{now}' too, as another owner: undo the taking that brought it, and then "
+                "say this again"
+            )
+        book.owners[now] = book.owners.pop(before)
+        book.names_of_herds = {}
+        book.remembered = [*book.remembered, Meaning(Remembered.OWNER, before, now)]
+
+
+def names(book: Book) -> str:
+    return ", ".join(f"'{owner}'" for owner in sorted(book.owners)[:9]) or "none"

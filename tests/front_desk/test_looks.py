@@ -1,0 +1,71 @@
+"""What is taken as it stands, and told for somebody to look at."""
+from __future__ import annotations
+
+from front_desk.desk import Desk
+
+TITLES = "id;sex;birth;sire;dam;exit\n"
+PARENTS = "s;M;2001-03-01;;;\nd;F;2001-03-02;;;\n"
+
+
+def test_young_parents(desk: Desk) -> None:
+    rows = PARENTS + "c;M;2001-07-29;s;d;\n"
+    done = desk.take(TITLES + rows)
+    done.tells(
+        "line 4: c: to look at: its sire s (line 2) was 150 days old at its birth: less than 180 (--youngest 180)",
+        "line 4: c: to look at: its dam d (line 3) was 149 days old at its birth: less than 180 (--youngest 180)",
+    )
+    assert desk.parents()["c"] == ("s", "d")
+    assert "to look at" not in desk.take(TITLES + rows, "--youngest", "149").out
+    # the limit stays with the book
+    assert "to look at" not in desk.take(TITLES + rows).out
+    assert "less than 300 (--youngest 300)" in desk.take(TITLES + rows, "--youngest", "300").out
+
+
+def test_births_of_one_dam(desk: Desk) -> None:
+    """Twins are born on one day or nearly; other births are months apart."""
+    rows = PARENTS + "c1;M;2003-03-01;s;d;\nc2;F;2003-03-02;s;d;\nc3;F;2003-05-30;s;d;\n"
+    done = desk.take(TITLES + rows)
+    told = "line 6: c3: to look at: its dam d bore c2 (line 5) 89 days before: less than 100 (--apart 100)"
+    done.tells(told)
+    assert done.out.count("to look at") == 1
+    assert "to look at" not in desk.take(TITLES + rows, "--apart", "60").out
+
+
+def test_sire_that_left(desk: Desk) -> None:
+    done = desk.take(TITLES + "s;M;2001-03-01;;;2005-01-01\nc1;F;2005-12-31;s;;\nc2;F;2006-01-02;s;;\n")
+    done.tells(
+        "line 4: c2: to look at: its sire s (line 2) left on 2005-01-01, more than a year before its birth on 2006-01-02: "
+        "is it another sire, or frozen semen?"
+    )
+    assert done.out.count("to look at") == 1
+
+
+def test_castrated_sire(desk: Desk) -> None:
+    """It is told, and advice passes it over, also where a later sheet has no column for the sex."""
+    rows = "w;Hammel;2001-03-01;;;\nr;ram;2001-03-01;;;\nd;ewe;2001-03-02;;;\nc1;ram;2003-03-01;w;d;\nc2;ewe;2003-03-01;w;d;\n"
+    done = desk.take(TITLES + rows)
+    done.tells("line 2: w: to look at: it is the sire of c1 (line 5) and of 1 more, and its sex is 'Hammel'")
+    for _ in range(2):
+        assert [row["id"] for row in desk.listed("mating", "--dam", "d")] == ["r", "c1"]
+        desk.take("id;birth;sire;dam\nw;2001-03-01;;\nr;2001-03-01;;\nd;2001-03-02;;\nc1;2003-03-01;w;d\nc2;2003-03-01;w;d\n")
+
+
+def test_old_animal_as_living(desk: Desk) -> None:
+    rows = "old;F;1981-03-01;;;\n" + "".join(f"a{at};F;20{at:02}-03-01;;;\n" for at in range(15))
+    done = desk.take(TITLES + rows)
+    done.tells(
+        "line 2: old: to look at: born 1981-03-01, it counts as living, 25 years older than half of those that do (2006): "
+        "has it left?"
+    )
+    assert done.out.count("to look at") == 1
+
+
+def test_what_may_be_wrong_comes_first(desk: Desk) -> None:
+    """No more than a screen is printed; the rest is in the report."""
+    rows = "".join(f"a{at};F;20{at % 20:02};;;sold\n" for at in range(60)) + PARENTS + "c;M;2001-07-29;s;d;\n"
+    done = desk.take(TITLES + rows)
+    lines = done.out.splitlines()
+    assert "to look at" in next(line for line in lines if line.startswith("line "))
+    assert len(lines) < 50
+    assert any(line.endswith(" more inferred: book/report.csv has all 60") for line in lines)
+    assert len(desk.table("book/report.csv")) == 122

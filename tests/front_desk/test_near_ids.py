@@ -1,0 +1,91 @@
+"""Ids that are written otherwise, words for parents without a row, and tags that are used again."""
+from __future__ import annotations
+
+from front_desk.desk import Desk
+
+TITLES = "id;name;sex;birth;sire;dam\n"
+FLOCK = "DE 007;Max;M;2001-03-01;;\nDE 8;Eva;F;2001-03-02;;\n"
+
+
+def test_parent_written_otherwise(desk: Desk) -> None:
+    """A parent's cell that differs from just one id in case, blanks or leading zeros is that animal, and is told."""
+    calves = "c1;;F;2004-01-01;de007;DE  08\nc2;;F;2004-01-02;DE 7;de 8\nc3;;F;2004-01-03;DE 8;DE 007\n"
+    done = desk.take(TITLES + FLOCK + calves)
+    done.tells(
+        "line 4: c1: inferred: its sire 'de007' is DE 007, whose id differs in case, blanks or zeros alone: if another is "
+        "meant, give that one a row"
+    )
+    assert desk.parents()["c1"] == desk.parents()["c2"] == ("DE 007", "DE 8")
+    assert " 0 added" in done.last
+
+
+def test_more_than_one_is_meant(desk: Desk) -> None:
+    done = desk.take(TITLES + FLOCK + "de7;Leo;M;2001-04-01;;\nc;;F;2004-01-01;DE 7;\n")
+    assert desk.parents()["c"] == ("DE 7", "")
+    assert " 1 added" in done.last
+
+
+def test_rows_that_are_alike(desk: Desk) -> None:
+    """They are told at each taking."""
+    told = "line 4: de 08: to look at: its id differs from DE 8 (line 3) in case, blanks or zeros alone: are they one animal?"
+    for _ in range(2):
+        desk.take(TITLES + FLOCK + "de 08;Eva;F;2001-03-02;;\n").tells(told)
+
+
+def test_words_for_parents(desk: Desk) -> None:
+    """A word that is no id and stands for parents of several animals is told at each taking, with the option."""
+    rows = FLOCK + "c1;;F;2004-01-01;Fremdbock;DE 8\nc2;;F;2004-01-02;Fremdbock;\nc3;;F;2004-01-02;X1;\n"
+    told = (
+        "Fremdbock has no row, and is the sire of 2: if it means an unknown parent, take this again with "
+        "--unknown=Fremdbock --drop-gone"
+    )
+    for _ in range(2):
+        desk.take(TITLES + rows).tells(told)
+    done = desk.take(TITLES + rows, "--unknown=Fremdbock", "--drop-gone")
+    assert "Fremdbock has no row" not in done.out
+    assert desk.parents()["c1"] == ("", "DE 8")
+    done = desk.take(TITLES + rows, "--known", "Fremdbock")
+    assert desk.parents()["c1"] == ("Fremdbock", "DE 8")
+    assert desk.take(TITLES + rows).last.startswith("book: 7 animals, 0 new, 0 changed")
+
+
+def test_tag_used_again(desk: Desk) -> None:
+    """It is told, and doesn't erase the first."""
+    desk.take(TITLES + FLOCK + "c1;;F;2004-01-01;DE 007;DE 8\n")
+    later = FLOCK.replace("DE 8;Eva;F;2001-03-02", "DE 8;Ida;F;2012-03-02")
+    sheet = TITLES + later + "c1;;F;2004-01-01;DE 007;DE 8\nc2;;F;2015-01-01;;DE 8\n"
+    for words in ("--semicolons",), ("--drop-gone",):
+        done = desk.take(sheet, *words)
+        done.tells(
+            "line 3: DE 8: the row is left out: the book has this id for another animal ('Eva', born 2001-03-02; here "
+            "'Ida', born 2012-03-02); as a parent in line 5 it means the first: if the tag was used again, give this one "
+            "another id; if it is the same animal, take this again with --anyway"
+        )
+        assert desk.parents()["c1"] == ("DE 007", "DE 8")
+        assert desk.born()["DE 8"] == "2001-03-02"
+        assert " 0 gone" in done.last
+    desk.take(sheet, "--anyway")
+    assert desk.born()["DE 8"] == "2012-03-02"
+
+
+def test_tag_twice_in_a_sheet(desk: Desk) -> None:
+    done = desk.take(TITLES + FLOCK + "DE 8;Ida;F;2012-03-02;;\n")
+    done.tells(
+        "line 4: DE 8: the row is left out: line 3 has this id too (name 'Ida', there 'Eva'; birth '2012-03-02', there "
+        "'2001-03-02'): if the tag was used again, give one of them another id"
+    )
+    assert desk.born()["DE 8"] == "2001-03-02"
+
+
+def test_sheet_that_is_sorted_again(desk: Desk) -> None:
+    """It gives the same book, also where sexes and links have to be inferred."""
+    rows = [
+        "a;;;2001-01-01;;", "b;;;2003-01-01;a;", "c;;;2003-02-01;;a", "x;;;;y;", "y;;;;z;", "z;;;;x;", "m;;;;;n",
+        "c;;;2003-02-02;;",
+    ]  # fmt: skip
+    desk.take(TITLES + "\n".join(rows) + "\n")
+    before = desk.parents(), desk.born(), desk.numbers()
+    for sheet in (rows[::-1], rows[3:] + rows[:3], sorted(rows, reverse=True)):
+        done = desk.take(TITLES + "\n".join(sheet) + "\n")
+        assert (desk.parents(), desk.born(), desk.numbers()) == before, done
+        assert " 0 new, 0 changed" in done.last

@@ -1,0 +1,169 @@
+"""Owners, their days and how they are written, exits that are refused, and the numbers of a first taking."""
+from __future__ import annotations
+
+import datetime
+
+from front_desk.desk import Desk
+
+TITLES = "id;sex;birth;sire;dam;owner;exit\n"
+PARENTS = "s;M;2001-03-01;;;Meier;\nd;F;2001-03-02;;;Meier;\n"
+TODAY = datetime.date.today()
+LAST_WEEK = TODAY - datetime.timedelta(7)
+
+
+def transfers(desk: Desk) -> list[str]:
+    """The days of the transfers of the book, in order."""
+    return [line.split(",")[2] for line in desk.commands() if line.startswith("transfer")]
+
+
+def since(desk: Desk, id: str) -> str:
+    """What a certificate says of the owner's first day."""
+    desk.good("certificate", id, "--out", "page.html", "--force")
+    words = "".join(desk.page("page.html").itertext()).split("Owner since")
+    return words[1].split("Pedigree")[0].strip()
+
+
+def test_owner_changed_and_then_an_exit_before(desk: Desk) -> None:
+    """The day of a change is inferred, and gives way to an exit of last week."""
+    desk.take(TITLES + PARENTS)
+    desk.take(TITLES + PARENTS.replace("d;F;2001-03-02;;;Meier", "d;F;2001-03-02;;;Groß"))
+    assert transfers(desk) == [str(TODAY)]
+    assert since(desk, "d") == f"{TODAY} (inferred)"
+    done = desk.take(TITLES + PARENTS.replace("d;F;2001-03-02;;;Meier;", f"d;F;2001-03-02;;;Groß;{LAST_WEEK}"))
+    assert " 0 left out" in done.last
+    assert transfers(desk) == [str(LAST_WEEK)]
+    assert desk.commands()[-1].startswith(f"exit,HOLGBRF000000000002,{LAST_WEEK}")
+
+
+def test_birth_corrected_past_a_transfer(desk: Desk) -> None:
+    desk.take(TITLES + PARENTS)
+    desk.take(TITLES + PARENTS.replace("d;F;2001-03-02;;;Meier", "d;F;2001-03-02;;;Groß"), "--day", "2005-01-01")
+    done = desk.take(TITLES + PARENTS.replace("d;F;2001-03-02;;;Meier", "d;F;2006-03-02;;;Groß"))
+    done.tells(
+        "line 3: d: to look at: it has been of 'Groß' since 2006-03-02, and not since 2005-01-01, which can't be with its "
+        "birth, its exit or its owner before",
+        "line 3: d: changed: birth day: 2006-03-02, before 2001-03-02",
+    )
+    assert transfers(desk) == ["2006-03-02"]
+
+
+def test_day_of_a_change_has_a_column(desk: Desk) -> None:
+    """It is that of the sheet; an inferred one gives way to it, and one after today isn't yet."""
+    titles = TITLES.replace("owner", "Besitzer seit;owner")
+
+    def sheet(day: str, owner: str) -> str:
+        return titles + f"s;M;2001-03-01;;;;Meier;\nd;F;2001-03-02;;;{day};{owner};\n"
+
+    desk.take(TITLES + PARENTS)
+    desk.take(TITLES + PARENTS.replace("d;F;2001-03-02;;;Meier", "d;F;2001-03-02;;;Groß"))
+    assert transfers(desk) == [str(TODAY)]
+    done = desk.take(sheet("03.04.2010", "Groß"))
+    assert transfers(desk) == ["2010-04-03"]
+    assert since(desk, "d") == "2010-04-03"
+    desk.take(sheet("01.05.2012", "Weiß"))
+    assert transfers(desk) == ["2010-04-03", "2012-05-01"]
+    done = desk.take(sheet(f"{TODAY + datetime.timedelta(9)}", "Löw"))
+    assert "its first day with its owner is left out" in done.out
+    assert len(transfers(desk)) == 2
+    assert " 0 changed" in done.last
+
+
+def test_first_owner_since_a_day(desk: Desk) -> None:
+    desk.take("id;birth;sire;dam;owner;owner since\na;2001-03-02;;;Groß;2004-05-06\nb;2001-03-02;;;Groß;\n")
+    assert since(desk, "a") == "2004-05-06"
+    assert since(desk, "b") == "not known"
+
+
+def test_owner_is_written_otherwise(desk: Desk) -> None:
+    desk.take(TITLES + PARENTS)
+    desk.wrong("--owner Maier=Meyer: the book has no owner 'Maier': its owners are 'Meier'", "take", "sheet.csv",
+               "--owner", "Maier=Meyer")  # fmt: skip
+    renamed = TITLES + PARENTS.replace("Meier", "Meyer")
+    done = desk.take(renamed, "--owner", "Meier=Meyer")
+    assert " 0 changed" in done.last
+    assert transfers(desk) == []
+    assert " 0 changed" in desk.take(renamed).last
+    desk.good("certificate", "s", "--out", "page.html")
+    assert "Meyer" in "".join(desk.page("page.html").itertext())
+
+
+def test_exit_that_is_refused(desk: Desk) -> None:
+    """It costs that cell, and the rest is taken; `--strict` takes nothing."""
+    calves = "b;F;2004-01-01;s;d;Meier;\nc;F;2005-01-01;s;d;Meier;\n"
+    rows = PARENTS.replace("d;F;2001-03-02;;;Meier;", "d;F;2001-03-02;;;Meier;{}") + calves
+    told = (
+        "line 3: d: its exit on 2003-01-01 is left out: it has offspring born after the day (c in line 5) (refusal 16); "
+        "the animal counts as gone"
+    )
+    for cell in "2003-01-01", "sold 01.01.2003":
+        desk.wrong("1 left out (1 cell): with --strict nothing is taken", "take",
+                   desk.write("strict.csv", TITLES + rows.format(cell)), "--strict", "--book", cell)  # fmt: skip
+        done = desk.good("take", desk.write("sheet.csv", TITLES + rows.format(cell)), "--book", f"book of {cell}")
+        done.tells(told)
+        assert "4 animals, 4 new, " in done.last
+
+
+def test_exit_against_the_book(desk: Desk) -> None:
+    """An exit that contradicts what the book has costs no link; a new calf after an exit costs its own."""
+    rows = PARENTS + "c;F;2004-01-01;s;d;Meier;\n"
+    desk.take(TITLES + rows)
+    done = desk.take(TITLES + rows.replace("d;F;2001-03-02;;;Meier;", "d;F;2001-03-02;;;Meier;2003-01-01"))
+    assert "(c in line 4) (refusal 16)" in done.out
+    assert desk.parents()["c"] == ("s", "d")
+    left = rows.replace("d;F;2001-03-02;;;Meier;", "d;F;2001-03-02;;;Meier;2004-02-01")
+    done = desk.take(TITLES + left + "e;F;2005-01-01;s;d;Meier;\n")
+    assert desk.parents()["e"] == ("s", "")
+
+
+def test_many_refusals_of_one_cause(desk: Desk) -> None:
+    """One ram of the wrong sex is told in one sentence, with its line first; the report has each."""
+    rows = "s;F;2001-03-01;;;;\n" + "".join(f"c{at};F;2004-01-01;s;;;\n" for at in range(10))
+    done = desk.take(TITLES + rows)
+    done.tells(
+        "line 2: s: it isn't male (refusal 5): it is left out as the sire of 10 animals (lines 3, 4, 5, 6, 7, 8, 9, 10, 11 "
+        "and 1 more): if it is, mend its sex"
+    )
+    assert done.out.count("refusal 5") == 1
+    assert sum(row["what"] == "left out" for row in desk.table("book/report.csv")) == 10
+
+
+def test_numbers_of_a_first_taking(desk: Desk) -> None:
+    """The first taking says which breed and country the numbers get; giving them later begins an edition."""
+    done = desk.take(TITLES + PARENTS)
+    assert "the numbers begin with HOLGBR, since --breed and --country aren't both given" in done.out
+    assert "the numbers begin" not in desk.take(TITLES + PARENTS).out
+    done = desk.take(TITLES + PARENTS, "--breed", "SKU", "--country", "DEU")
+    assert list(desk.numbers().values()) == ["SKUDEUM000000000001", "SKUDEUF000000000002"]
+    assert "written anew" in done.out
+    assert "edition 2" in desk.good("history", "3").out
+    assert list(desk.numbers().values()) == ["SKUDEUM000000000001", "SKUDEUF000000000002"]
+    assert "the numbers begin" not in desk.take(TITLES + PARENTS, "--breed", "A" * 3, "--country", "B" * 3, "--book", "o").out
+
+
+def test_preview(desk: Desk) -> None:
+    """It tells what would change, by kind, and what may be wrong, and writes nothing."""
+    sheet = desk.write("sheet.csv", TITLES + PARENTS)
+    before = desk.files()
+    assert "a preview, nothing is written: book: 2 animals, 2 new" in desk.good("take", sheet, "--preview").last
+    assert desk.files() == before
+    desk.good("take", sheet)
+    history = desk.good("history").out
+    changed = desk.write("sheet.csv", TITLES + PARENTS.replace("d;F;2001-03-02", "d;F;2002-03-02") + "c;F;2002-05-01;s;d;;\n")
+    commands = desk.commands()
+    done = desk.good("take", changed, "--preview")
+    done.tells(
+        "line 4: c: to look at: its dam d (line 3) was 60 days old at its birth: less than 180 (--youngest 180)",
+        "line 3: d: changed: birth day: 2002-03-02, before 2001-03-02",
+    )
+    assert "a preview, nothing is written: book: 3 animals, 1 new, 1 changed" in done.last
+    assert (desk.commands(), desk.good("history").out) == (commands, history)
+
+
+def test_preview_of_another_flock(desk: Desk) -> None:
+    rows = "".join(f"a{at};F;2001-01-01;;;;\n" for at in range(20))
+    desk.take(TITLES + rows)
+    other = rows.replace("a", "b").replace("2001", "2002")
+    done = desk.good("take", desk.write("other.csv", TITLES + other), "--preview")
+    assert "it looks like the sheet of another flock" in done.out
+    assert "nothing is taken: where it is right all the same" in done.out
+    assert "a preview, nothing is written: book: 40 animals, 20 new, " in done.last
