@@ -93,8 +93,8 @@ class IdColumn:
         more = [self.fit(at, -len(usual)) for at in others if self.are_different(at)]
         other = max(more, default=None, key=lambda fit: fit[:3])
         if other and 2 * other.found > self.links(other) and other.found > 9 * (best.found if best else 0):
-            return other
-        if best and len(fits) > 1 and best.at != usual[0]:
+            best = other
+        if best and usual and best.at != usual[0]:
             columns.notes.append(
                 f"the ids are read from '{columns.title(best.at)}', since {best.found} of the parents' cells are found "
                 f"there, and not from '{columns.title(usual[0])}': if these are the ids, take this again with "

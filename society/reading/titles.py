@@ -16,7 +16,7 @@ TITLES = {
     "identification, ident, Ohrmarke, Ohrmarkennummer, Ohrmarken-Nr, Ohrm, Lebensnummer, Lebens-Nr, Lebensohrmarke, "
     "Herdbuchnummer, Herdbuch-Nr, Zuchtbuchnummer, Zuchtbuch-Nr, ZB-Nr, Chipnummer, Chip-Nr, Tiernummer, Tier-Nr, "
     "Tier-ID, LOM, HB-Nr, Kennzeichen, Stallnummer, numéro national, n° national, numéro d'identification, "
-    "identifiant, n° d'identification, LOF, n° LOF, tatouage, puce, "
+    "identifiant, n° d'identification, n° SIRE, numéro SIRE, LOF, n° LOF, tatouage, puce, "
     "boucle, matricule, animal, Tier, number, no, nr, Nummer, numéro, n°",
     Field.NAME: "name, registered name, animal name, full name, Tiername, Rufname, call name, Zuchtname, "
     "Name des Tieres, nom, nom de l'animal, nom du chien, nom du cheval, dog name, name of dog, horse name, "
@@ -57,6 +57,12 @@ DOUBTFUL_EXITS = "Verbleib, fate, whereabouts, disposal, devenir, status, Tierst
 NEEDED = (Field.ID, Field.BIRTH, Field.SIRE, Field.DAM)
 
 
+# letters for a parent that stand before a word for the id, as `V-Ohrmarke`
+SHORT = {Field.SIRE: "v", Field.DAM: "m"}
+# the number that French horses have is no sire's
+KNOWN_OTHERS = {plain("n° SIRE"), plain("numéro SIRE")}
+
+
 def usual_titles(field: Field) -> list[str]:
     """The titles of a field as they are compared: for a parent those with a word for the id come first."""
     alone = [plain(title) for title in listed(TITLES[field])]
@@ -64,8 +70,8 @@ def usual_titles(field: Field) -> list[str]:
         return list(dict.fromkeys(alone))
     ids = [plain(title) for title in listed(TITLES[Field.ID])]
     pairs = [plain(title) for title in listed(PAIRS[field])]
-    both = [both for id in ids for one in alone for both in (one + id, id + one)]
-    return list(dict.fromkeys(both + alone + pairs))
+    both = [both for id in ids for one in [*alone, SHORT[field]] for both in (one + id, id + one)]
+    return [one for one in dict.fromkeys(both + alone + pairs) if one not in KNOWN_OTHERS]
 
 
 KNOWN_TITLES: dict[str, list[str]] = {field: usual_titles(field) for field in TITLES}

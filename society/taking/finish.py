@@ -18,6 +18,7 @@ from society.taking.next_book import BREED, COUNTRY, NextBook
 from society.taking.outcome import Outcome
 from society.taking.owner_days import OwnerDays
 from society.taking.report import What
+from society.taking.respelt_owners import tell_respelt_owners
 from society.taking.saving import save
 from society.taking.wishes import Wishes
 
@@ -53,8 +54,10 @@ def file(next_book: NextBook, program: Herdbook, wishes: Wishes, about: About) -
     if not next_book.is_pedigree:
         Looks(next_book.animals, about.limits, report).tell("exit" in next_book.given)
     before = len(book.records)
+    owners_before = set(book.owners)
     filing = Filing(next_book, OwnerDays(book, report, wishes.day))
     filed = filing.filed(program)
+    tell_respelt_owners(next_book, owners_before)
     left_out = [entry for entry in report.in_order() if entry.what is What.LEFT_OUT]
     if wishes.strict and left_out:
         raise Mistake(

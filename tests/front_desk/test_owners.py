@@ -79,6 +79,8 @@ def test_owner_is_written_otherwise(desk: Desk) -> None:
     desk.wrong("--owner Maier=Meyer: the book has no owner 'Maier': its owners are 'Meier'", "take", "sheet.csv",
                "--owner", "Maier=Meyer")  # fmt: skip
     renamed = TITLES + PARENTS.replace("Meier", "Meyer")
+    done = desk.good("take", desk.write("sheet.csv", renamed), "--preview")
+    assert "the 2 animals of 'Meier' are now of 'Meyer', whom the book didn't have: if the name is only" in done.out
     done = desk.take(renamed, "--owner", "Meier=Meyer")
     assert " 0 changed" in done.last
     assert transfers(desk) == []
