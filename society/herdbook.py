@@ -3,7 +3,9 @@ from __future__ import annotations
 
 import os
 import pathlib
+import resource
 import shlex
+import signal
 import subprocess
 import sys
 
@@ -14,6 +16,16 @@ from society.refusals import Refusal
 TOP = pathlib.Path(__file__).resolve().parent.parent
 # how it is said where the built program is
 SAY = "say where it is, as export HERDBOOK=/home/me/herdbook"
+
+
+# so much memory and time a run may use
+MOST_BYTES, MOST_SECONDS = 4 << 30, 1200
+
+
+def limit() -> None:
+    """Limits what the program uses, in its process."""
+    resource.setrlimit(resource.RLIMIT_AS, (MOST_BYTES, MOST_BYTES))
+    resource.setrlimit(resource.RLIMIT_CPU, (MOST_SECONDS, MOST_SECONDS + 1))
 
 
 class Herdbook:
@@ -48,7 +60,10 @@ class Herdbook:
 
     def start(self, words: list[str], given: int, errors: int | None) -> subprocess.Popen[bytes]:
         try:
-            return subprocess.Popen([str(self.path), *words], stdin=given, stdout=subprocess.PIPE, stderr=errors)
+            return subprocess.Popen(
+                [str(self.path), *words], stdin=given, stdout=subprocess.PIPE, stderr=errors,
+                preexec_fn=None if words == ["--version"] else limit,
+            )  # fmt: skip
         except OSError as error:
             allow = f"allow it, as chmod u+x {shlex.quote(str(self.path))}"
             hint = allow if isinstance(error, PermissionError) else SAY
@@ -57,9 +72,22 @@ class Herdbook:
     def run(self, words: list[str], book: bytes) -> str:
         """What it writes of a command file."""
         running = self.start(words, subprocess.PIPE, subprocess.PIPE)
-        out, err = running.communicate(book)
+        try:
+            out, err = running.communicate(book, MOST_SECONDS)
+        except subprocess.TimeoutExpired:
+            running.kill()
+            running.communicate()
+            raise self.took_too_long(words) from None
+        if running.returncode == -signal.SIGXCPU:
+            raise self.took_too_long(words)
         self.ended(running.returncode, err, words)
         return out.decode()
+
+    def took_too_long(self, words: list[str]) -> Mistake:
+        return Mistake(
+            f"the program `herdbook {words[0]}` was ended, since it wasn't done after {MOST_SECONDS // 60} minutes: is "
+            f"{self.path} the right one, and has the machine nothing else to do? Nothing is changed"
+        )
 
     def lines(self, words: list[str], book: bytes) -> list[str]:
         """The lines that it writes of a command file."""
@@ -69,6 +97,8 @@ class Herdbook:
         if status:
             told = err.decode(errors="replace").strip().removeprefix("herdbook: ") or f"it ended with status {status}"
             hint = ". Somebody has changed the command file: restore it" if told.startswith("record ") else ""
+            if told == "no memory" or status < 0:
+                hint = f" (it may use {MOST_BYTES >> 30} GB of memory). Nothing is changed"
             raise Mistake(f"the program `herdbook {words[0]}` can't do it: {told}{hint}")
 
     def file(self, commands: list[Command]) -> dict[int, Refusal]:

@@ -7,8 +7,9 @@ from typing import Iterable, NamedTuple
 
 from society.book.book import Book
 from society.book.cells import for_spreadsheets
-from society.book.coefficients import Coefficient, kept_coefficients
+from society.book.coefficients import Coefficient
 from society.book.known import Known
+from society.book.rows import birth_basis, known_of
 from society.herdbook import Herdbook
 from society.mistake import Mistake
 from society.refusals import MatingFault
@@ -42,7 +43,20 @@ def list_text(rows: list[list[str]], semicolons: bool) -> str:
 
 
 def list_all(book: Book) -> list[list[str]]:
-    return rows_of(book, kept_coefficients(book).items())
+    """All animals, as `rows_of` has them, in age order."""
+    if book.connection is None:
+        return []
+    found = book.connection.execute(
+        """
+        SELECT id, name, animal.number, born, birth_source, birth_period, birth_no_such_day, fraction, percent
+        FROM coefficient JOIN animal ON animal.number = coefficient.number AND until IS NULL ORDER BY place
+        """
+    )
+    rows = []
+    for id, name, number, born, *basis, fraction, percent in found:
+        day = f"{born}{birth_basis(*basis).mark()}"
+        rows.append([id, name, number, day, fraction, Coefficient(fraction, percent).decimal(), percent])
+    return rows
 
 
 class Advice(NamedTuple):
@@ -59,10 +73,10 @@ def advise(book: Book, program: Herdbook, dam: Known, sires: list[Known], also_l
     """Advice on given sires, or else on all living males that have a row, or on those that left too."""
     left, without_row = 0, []
     if not sires:
-        males = [known for known in book.known.values() if known.is_male]
-        without_row = sorted(known.id for known in males if not known.standing.is_listed())
-        males = [known for known in males if known.standing.is_listed()]
-        here = [known for known in males if also_left or not book.has_left(known)]
+        all_males = [(known_of(row), row) for row in book.rows("substr(number, 7, 1) = 'M' ORDER BY substr(number, 8)")]
+        without_row = sorted(known.id for known, _ in all_males if not known.standing.is_listed())
+        males = [(known, row) for known, row in all_males if known.standing.is_listed()]
+        here = [known for known, row in males if also_left or not (row.departed or known.exit.day_is_unknown)]
         left = len(males) - len(here)
         sires = [known for known in here if not known.castrated]
         if not sires:

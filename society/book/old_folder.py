@@ -3,8 +3,11 @@ from __future__ import annotations
 
 import contextlib
 import csv
+import fcntl
+import os
 import pathlib
 from dataclasses import dataclass, replace
+from typing import Iterator
 
 from society.book.book import Book
 from society.book.changes import Made, Source
@@ -46,14 +49,24 @@ def take_over(folder: pathlib.Path, program: Herdbook) -> None:
     copied to `old` before, so that they are there whenever this ends."""
     if not is_old(folder):
         return
-    with changing(folder) as connection:
-        if connection is not None:
-            clear(folder)
-            return
-        old = read(folder, program)
-        keep_files(folder)
-        write_old(Book(folder, None), program, old, (folder / COMMANDS).read_bytes())
-    clear(folder)
+    with alone(folder):
+        with changing(folder) as connection:
+            if connection is None and is_old(folder):
+                old = read(folder, program)
+                keep_files(folder)
+                write_old(Book(folder, None), program, old, (folder / COMMANDS).read_bytes())
+        clear(folder)
+
+
+@contextlib.contextmanager
+def alone(folder: pathlib.Path) -> Iterator[None]:
+    """While this lasts nobody else takes the folder over."""
+    descriptor = os.open(folder, os.O_RDONLY | os.O_DIRECTORY)
+    try:
+        fcntl.flock(descriptor, fcntl.LOCK_EX)
+        yield
+    finally:
+        os.close(descriptor)
 
 
 def is_old(folder: pathlib.Path) -> bool:
@@ -112,6 +125,7 @@ def read(folder: pathlib.Path, program: Herdbook) -> OldBook:
             f"{path}: command {place + 1} is refused: {refusal.words()} (refusal {refusal}). "
             "Somebody has changed this file: restore it, or take the sheet into another folder"
         )
+    known = read_known(folder, set(replay(commands)))
     owners = read_table(folder, OWNERS, ["herd", "owner"])
     if not all(herd.isdecimal() for herd, _ in owners):
         raise changed(folder / OWNERS)
@@ -119,7 +133,6 @@ def read(folder: pathlib.Path, program: Herdbook) -> OldBook:
     if not all(option in (one.value for one in Remembered) for option, _ in options):
         raise changed(folder / OPTIONS)
     remembered = [Meaning(Remembered(option), word) for option, word in options]
-    known = read_known(folder, set(replay(commands)))
     return OldBook(commands, known, {owner: int(herd) for herd, owner in owners}, remembered)
 
 

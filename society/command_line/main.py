@@ -4,9 +4,11 @@ from __future__ import annotations
 import io
 import os
 import sys
+from typing import TextIO, cast
 
 from society.command_line.families import all_words
 from society.command_line.parser import joined
+from society.command_line.output import Harmless
 from society.mistake import Mistake
 
 
@@ -14,6 +16,7 @@ def main(words: list[str]) -> int:
     for stream in sys.stdout, sys.stderr:
         if isinstance(stream, io.TextIOWrapper):
             stream.reconfigure(encoding="utf-8", errors="backslashreplace")
+    sys.stdout, sys.stderr = cast(TextIO, Harmless(sys.stdout)), cast(TextIO, Harmless(sys.stderr))
     try:
         asked = all_words().parser.read(joined(words))
         asked.does(asked)

@@ -5,10 +5,10 @@ from dataclasses import dataclass
 from typing import Mapping
 
 from society.book.book import NO_OWNER, Book
+from society.book.certificate_facts import certificate_facts
 from society.book.coefficients import Coefficient
 from society.book.known import Known
 from society.book.role import Role
-from society.herdbook import Herdbook
 from society.pages.languages import Language
 from society.pages.marks import Mark, mark_of
 from society.pages.page import rendered
@@ -60,15 +60,15 @@ class Cell:
 
 
 class Certificate:
-    """What a certificate is made of: what the program tells of an animal, the book and the coefficients."""
+    """What a certificate is made of: what the book has of an animal and its ancestors, and the coefficients."""
 
     def __init__(
-        self, book: Book, program: Herdbook, known: Known, coefficients: Mapping[str, Coefficient], language: Language
+        self, book: Book, known: Known, coefficients: Mapping[str, Coefficient], language: Language
     ) -> None:
         self.book, self.known, self.coefficients = book, known, coefficients
         self.language, self.texts = language, language.texts
         self.names = book.by_number()
-        self.told = read_certificate(program.run(["certificate", known.number], book.command_file()))
+        self.told = certificate_facts(book, known.number, coefficients)
 
     def page(self, title: str) -> str:
         fraction, percent = self.told["inbreeding"].split(" ")
@@ -136,16 +136,9 @@ class Certificate:
 
 
 def certificate_page(
-    book: Book, program: Herdbook, known: Known, coefficients: Mapping[str, Coefficient], language: str, title: str
+    book: Book, known: Known, coefficients: Mapping[str, Coefficient], language: str, title: str
 ) -> str:
-    return Certificate(book, program, known, coefficients, Language(language)).page(title)
-
-
-def read_certificate(text: str) -> dict[str, str]:
-    """The lines of the program's certificate: a word, and what follows it."""
-    return {word: rest for word, _, rest in (line.partition(" ") for line in text.splitlines())}
-
-
+    return Certificate(book, known, coefficients, Language(language)).page(title)
 def role_of(letters: str) -> Role:
     return Role.SIRE if letters[-1] == "S" else Role.DAM
 

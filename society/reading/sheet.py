@@ -12,6 +12,8 @@ from society.reading.words import clean
 from society.reading.workbook import read_workbook
 
 SEPARATORS = ";\t,"
+# so large a sheet may be: bytes of the file, rows, and letters of a cell
+MOST_BYTES, MOST_ROWS, MOST_LETTERS = 50_000_000, 200_000, 10_000
 # the titles stand in one of so many rows
 BEGINNING = 5
 Score = Callable[[list[str]], int]
@@ -55,11 +57,28 @@ def read_sheet(path: pathlib.Path, score: Score, worksheet: str = "") -> Sheet:
         raise Mistake(f"{path} is empty: its first row has to have the titles of the columns")
     at = title_row([row.cells for row in rows[:BEGINNING]], score)
     line, titles = rows[at]
+    check_bounds(path, rows)
     return Sheet(line, titles, rows[at + 1 :], how, faults)
+
+
+def check_bounds(path: pathlib.Path, rows: list[Row]) -> None:
+    """A mistake where there is more than a sheet of a society has."""
+    if len(rows) > MOST_ROWS:
+        raise Mistake(f"{path} has {len(rows):,} rows, and {MOST_ROWS:,} are taken at most: leave out the oldest")
+    for line, cells in rows:
+        if any(len(cell) > MOST_LETTERS for cell in cells):
+            raise Mistake(
+                f"line {line}: a cell has more than {MOST_LETTERS:,} letters: shorten it. Is a quotation mark missing?"
+            )
 
 
 def read_bytes(path: pathlib.Path) -> bytes:
     try:
+        if path.is_file() and path.stat().st_size > MOST_BYTES:
+            raise Mistake(
+                f"{path} has {path.stat().st_size / 1e6:,.0f} MB, and {MOST_BYTES / 1e6:,.0f} MB are read at most: is "
+                "it the right file?"
+            )
         return path.read_bytes()
     except IsADirectoryError:
         raise Mistake(f"{path} is a folder: name the sheet's file") from None

@@ -8,6 +8,7 @@ from typing import Callable
 from society.book.book import Book
 from society.book.by_hand import ByHand, Calf, born, departed, file, transferred, with_parents
 from society.book.changes import Option
+from society.book.kinds import ChangeKind
 from society.book.known import Known
 from society.book.opening import export, there_to_change
 from society.book.search import find
@@ -64,15 +65,20 @@ def does(wished: Wished) -> Callable[[argparse.Namespace], None]:
         for note in notes:
             tell(note)
         if refusal:
-            on = f" on {one.command.day}" if one.command.day else ""
             raise Mistake(
-                f"{one.known.id}: the {one.kind.value}{on} is refused: {refusal.words()} (refusal {refusal}). "
-                f"The animals are as before; change {change.number} of the history tells of it"
+                f"{one.known.id}: {what(one)} refused: {refusal.words()} (refusal {refusal}). The animals are as "
+                f"before; change {change.number} of the history tells of it"
             )
-        on = f" on {one.command.day}" if one.command.day else ""
-        print(f"{one.known.id} ({one.known.number}): the {one.kind.value}{on} is accepted: change {change.number}")
+        print(f"{one.known.id} ({one.known.number}): {what(one)} accepted: change {change.number}")
 
     return filed
+
+
+def what(one: ByHand) -> str:
+    """What is refused or accepted."""
+    if one.kind is ChangeKind.PARENTS:
+        return "the parents are"
+    return f"the {one.kind.value} on {one.command.day} is"
 
 
 def options_of(asked: argparse.Namespace) -> tuple[Option, ...]:

@@ -44,7 +44,7 @@ def do_certificate(asked: argparse.Namespace, book: Book, program: Herdbook) -> 
     from society.pages.certificate import certificate_page
 
     known = find(book, asked.id)
-    page = certificate_page(book, program, known, kept_coefficients(book), asked.language, asked.title)
+    page = certificate_page(book, known, kept_coefficients(book), asked.language, asked.title)
     give(asked, book, page, file_name("certificate", known.id, ".html"))
 
 
