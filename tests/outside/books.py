@@ -1,6 +1,8 @@
 """Command files for the program to read."""
 from __future__ import annotations
 
+import random
+
 from outside.runs import TOP
 
 SAMPLES = [TOP / "examples" / name for name in ("first.csv", "ayrshire.csv")]
@@ -32,6 +34,26 @@ def full_sibs(generations: int) -> str:
         for number in animal("M", 2 * one + 1), animal("F", 2 * one + 2):
             lines.append(birth(number, f"{2000 + one}-01-01", sire, dam))
     return "".join(lines)
+
+
+def drawn(seed: int) -> str:
+    """Some forty births, whose parents are drawn among older animals or are unknown, and then a few corrections."""
+    draw = random.Random(seed)
+    days: dict[str, str] = {}
+    text = HEADER
+
+    def parent(sex: str, born: str) -> str:
+        older = [it for it in days if it[6] == sex and days[it] < born]
+        return draw.choice(older[-6:]) if older and draw.random() < 0.8 else "0"
+
+    for one in range(1, 41):
+        number = animal(draw.choice("MF"), one)
+        born = f"{2000 + one // 4}-{draw.randint(1, 12):02}-01"
+        text += birth(number, born, parent("M", born), parent("F", born))
+        days[number] = born
+    for number in draw.sample(list(days), 4):
+        text += f"parents,{number},,{parent('M', days[number])},{parent('F', days[number])},,\n"
+    return text
 
 
 def couples(count: int, first: int, calves: int = 1) -> str:

@@ -16,14 +16,17 @@ def each_order() -> list[list[str]]:
         ["certificate", animal("M", 7)],
         ["mating", "--dam", animal("F", 6), animal("M", 5), animal("F", 8), animal("M", 7)],
         ["inverse"],
+        ["relationships", animal("M", 7), animal("F", 8), animal("M", 999)],
+        ["relationships", animal("M", 7), animal("F", 6), "--with", animal("M", 21), animal("F", 8), animal("F", 999)],
         ONE_CLERK,
         ["clerks", "--desks", "3", "--base", "44"],
     ]
 
 
 def long_orders(dam: str, sires: list[str]) -> list[list[str]]:
-    """The orders whose texts have a line for each command, animal or sire."""
-    return [["file"], ["inbreeding"], ["inverse"], ["mating", "--dam", dam, *sires]]
+    """The orders whose texts have a line for each command, animal, sire or pair."""
+    pairs = ["relationships", dam, "--with", *sires]
+    return [["file"], ["inbreeding"], ["inverse"], ["mating", "--dam", dam, *sires], pairs]
 
 
 def order_names() -> list[str]:

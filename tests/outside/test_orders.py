@@ -5,7 +5,7 @@ import itertools
 from fractions import Fraction
 
 import reference
-from outside.books import HEADER, SAMPLES, animal, full_sibs
+from outside.books import HEADER, SAMPLES, animal, drawn, full_sibs
 from outside.runs import Checks, wrote
 
 MOST_COMMANDS = 1_000_000
@@ -29,6 +29,7 @@ class TestOrders(Checks):
         for number in numbers:
             self.expect(name, wrote(reference.certificate(text, number)), ["certificate", number], text)
         self.matings_of(name, text, numbers)
+        self.relationships_of(name, text, numbers)
         everything = ["--base", str(MOST_COMMANDS)]
         for desks in 1, 2, 16:
             wanted = wrote(reference.clerks(text, desks, MOST_COMMANDS))
@@ -42,6 +43,21 @@ class TestOrders(Checks):
         sires = [*numbers, absent]
         for dam in numbers[:: max(1, len(numbers) // 8)] + [absent]:
             self.expect(name, wrote(reference.mating(text, dam, sires)), ["mating", "--dam", dam, *sires], text)
+
+    def test_relationships_in_drawn_books(self) -> None:
+        for seed in range(40):
+            text = drawn(seed)
+            numbers = sorted(reference.filed(text)[0].animals)
+            self.relationships_of(f"drawn by {seed}", text, numbers)
+
+    def relationships_of(self, name: str, text: str, numbers: list[str]) -> None:
+        """Some of the animals with one another and with all, one that isn't there too, and one of them twice."""
+        absent = animal("M", 999)
+        some = [*numbers[:: max(1, len(numbers) // 8)], absent, *numbers[-1:]]
+        self.expect(name, wrote(reference.relationships(text, some)), ["relationships", *some], text)
+        everyone = [absent, *numbers]
+        wanted = wrote(reference.relationships(text, some, everyone))
+        self.expect(name, wanted, ["relationships", *some, "--with", *everyone], text)
 
     def inverse_by_table(self, text: str) -> None:
         """What animals add, summed up by row and column and mirrored, times the relationships is the identity."""

@@ -21,6 +21,8 @@ NO_COMMAND_LINES: list[tuple[list[str], str]] = [
     (["mating", "--dam", animal("F", 1)], "<SIRE>"),
     (["mating", animal("M", 1)], "--dam <NUMBER>"),
     (["inverse", "--desks", "1"], "'--desks'"),
+    (["relationships"], "<NUMBER>"),
+    (["relationships", animal("M", 1), "--with"], "--with"),
     (["clerks", "--desks", "0"], "'0'"),
     (["clerks", "--desks", "17"], "'17'"),
     (["clerks", "--base", "1000001"], "'1000001'"),
@@ -76,6 +78,8 @@ class TestStatuses(Checks):
             self.expect("number", wanted, ["certificate", number], "not read")
             self.expect("number", wanted, ["mating", "--dam", right, animal("M", 1), number, "HOLGBRX000000000001"])
             self.expect("number", wanted, ["mating", "--dam", number, "HOLGBRM1"])
+            self.expect("number", wanted, ["relationships", right, number, "--with", "HOLGBRX000000000001"])
+            self.expect("number", wanted, ["relationships", right, "--with", right, number, "HOLGBRX000000000001"])
 
     def test_line_faults(self) -> None:
         for text, record, told in FAULTY_FILES:

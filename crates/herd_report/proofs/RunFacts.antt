@@ -32,6 +32,7 @@ use Rattle.herd_report.specs.declared.orders.Order.{Order}
 use Rattle.herd_report.specs.declared.orders.Order.TheVariants.{File, Inbreeding, Certificate}
 use Rattle.herd_report.specs.declared.run_fault.RunFault.{RunFault}
 use Rattle.herd_report.specs.declared.run_fault.RunFault.TheVariants.{Line, NotRegistered, NoThread, Memory, Write}
+use Rattle.herd_report.proofs.lemmas.Exits.{ends_report}
 use Rattle.herd_report.proofs.lemmas.writing.TextFacts.{passes_before, some_before}
 
 -- ---- commands that are filed one after the other
@@ -208,11 +209,6 @@ pub there-frozen : (book : Book) (rows : List Row) (number : List ℕ) → IsFro
     is_there (book_of rows) number ≡ is_there book number
 there-frozen book rows number frozen =
     sym (ap is_some (record_of-permuted (book_of rows) book frozen.frozen.lawful.once (IsPermutation-sym book (book_of rows) frozen.same) number))
-
--- where a front of a report was written, that is how it ended early
-ends_report : (old new : Option (List ℕ)) (text : List ℕ) (fault : ReportFault) → AppendsFront old new text → EndsReport old new text fault
-ends_report old new text report.Write front = front
-ends_report old new text report.Memory front = inr front
 
 -- a run for a certificate that ends early
 pub stops_certifying : (limits : Limits) (number : List ℕ) (file : CommandFile) (rows : List Row) (old new : Option (List ℕ)) (fault : CertificateFault) →

@@ -18,11 +18,12 @@ use Rattle.herd_report.specs.reading.CommandFile.{CommandFile, IsRead, commands}
 use Rattle.herd_report.specs.writing.InbreedingList.{inbreeding_text}
 use Rattle.herd_report.specs.writing.InverseList.{inverse_text}
 use Rattle.herd_report.specs.writing.MatingList.{mating_text}
+use Rattle.herd_report.specs.writing.RelationshipList.{relationships_text}
 use Rattle.herd_report.specs.writing.Text.{AppendsFront}
 use Rattle.herd_report.specs.writing.Replies.{replies_text}
 use Rattle.herd_report.specs.declared.reading.line_fault.LineFault.{LineFault}
 use Rattle.herd_report.specs.declared.orders.Order.{Order}
-use Rattle.herd_report.specs.declared.orders.Order.TheVariants.{File, Inbreeding, Certificate, Mating, Inverse}
+use Rattle.herd_report.specs.declared.orders.Order.TheVariants.{File, Inbreeding, Certificate, Mating, Inverse, Relationships}
 use Rattle.herd_report.specs.declared.run_fault.RunFault.{RunFault}
 use Rattle.herd_report.specs.declared.run_fault.RunFault.TheVariants.{Line, NotRegistered, NoThread, Memory, Write}
 
@@ -54,6 +55,7 @@ wanted (Inbreeding workers block) limits commands rows =
 wanted (Certificate number) limits commands rows = certificate_of rows number
 wanted (Mating dam sires) limits commands rows = mating_text (book_of rows) dam sires.now
 wanted Inverse limits commands rows = inverse_text rows
+wanted (Relationships numbers others) limits commands rows = relationships_text (book_of rows) numbers.now others.now
 
 -- the file has no fault, and its book has these frozen rows
 pub record IsFrozenFile (limits : Limits) (file : CommandFile) (rows : List Row) : Type 0 where

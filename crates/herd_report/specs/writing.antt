@@ -8,3 +8,4 @@ pub mod Ancestors
 pub mod Certificate
 pub mod MatingList
 pub mod InverseList
+pub mod RelationshipList

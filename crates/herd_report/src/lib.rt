@@ -33,6 +33,7 @@
 //! | certificates | `Certificate`, `Ancestors` | `certificate`, `ancestors` | `CertificateFacts`, `AncestorFacts` |
 //! | mating advice | `MatingList` | `mating_list` | `MatingFacts` |
 //! | the inverse of A | `InverseList` | `inverse_list` | `ContributionFacts` |
+//! | entries of A | `RelationshipList` | `relationship_list` | `RelationshipFacts` |
 //! | what a run writes, and how it may end | `Run`, `RunFault` | `orders`, `run_fault` | `RunFacts` |
 //! | how a text of its own may end | | `report_fault`, `certificate_fault` | `Exits` |
 #![tactic(auto)]
@@ -54,6 +55,7 @@ pub use writing::certificate_fault::CertificateFault;
 pub use writing::inbreeding_list::write_inbreeding;
 pub use writing::inverse_list::write_inverse;
 pub use writing::mating_list::write_mating;
+pub use writing::relationship_list::write_relationships;
 pub use writing::replies::write_replies;
 pub use writing::report_fault::ReportFault;
 pub use writing::text::write_all;

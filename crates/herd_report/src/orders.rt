@@ -9,6 +9,7 @@ ghost use Rattle.herd_report.specs.reading.CommandFile.{commands};
 ghost use Rattle.herd_report.specs.writing.InbreedingList.{inbreeding_text};
 ghost use Rattle.herd_report.specs.writing.InverseList.{inverse_text};
 ghost use Rattle.herd_report.specs.writing.MatingList.{mating_text};
+ghost use Rattle.herd_report.specs.writing.RelationshipList.{relationships_text};
 ghost use Rattle.herd_report.specs.Run.{AnswersIfKnown, CanEndBy, EndsIfKnown, IsFrozenFile, IsOrder};
 ghost use Rattle.herd_report.specs.RunFault.{CanEndFreezing, EndsFreezing, EndsListing, EndsReport};
 
@@ -18,6 +19,7 @@ use crate::writing::certificate::certify;
 use crate::writing::inbreeding_list::write_inbreeding;
 use crate::writing::inverse_list::write_inverse;
 use crate::writing::mating_list::write_mating;
+use crate::writing::relationship_list::write_relationships;
 use crate::writing::replies::write_replies;
 use crate::writing::report_fault::ReportFault;
 use herd_animal::AnimalNumber;
@@ -50,6 +52,11 @@ pub enum Order<'a> {
     },
     /// What each animal contributes to the inverse of A, the numerator relationship matrix.
     Inverse,
+    /// The entries of A of some animals with others, or where there are no others with one another.
+    Relationships {
+        numbers: &'a [AnimalNumber],
+        others: &'a [AnimalNumber],
+    },
 }
 
 /// Reads a command file, files its commands one after the other, and writes what is asked for.
@@ -79,6 +86,9 @@ pub fn run<H: Threads + Wait + Sync, R: Read + Drop, W: Write>(
         Order::Certificate(number) => certificate_in_file(alloc, limits, number, reader, writer),
         Order::Mating { dam, sires } => advice_on_file(alloc, limits, dam, sires, reader, writer),
         Order::Inverse => inverse_of_file(alloc, limits, reader, writer),
+        Order::Relationships { numbers, others } => {
+            relationships_in_file(alloc, limits, numbers, others, reader, writer)
+        }
     }
 }
 
@@ -158,6 +168,25 @@ fn inverse_of_file<R: Read + Drop, W: Write>(
     Ok(list_inverse(alloc, &frozen, writer)?)
 }
 
+// Writes relationships of animals of a file.
+fn relationships_in_file<R: Read + Drop, W: Write>(
+    alloc: Global,
+    limits: Limits,
+    numbers: &[AnimalNumber],
+    others: &[AnimalNumber],
+    reader: R,
+    writer: &mut W,
+) -> Result<(), RunFault>
+    ensures ok { OnOk result (AnswersIfKnown limits (Order.Relationships numbers.entry others.entry)
+        (R.remaining reader) (W.contents writer.old) (W.contents writer.new)) }
+    ensures err { IfErr result (EndsIfKnown limits (Order.Relationships numbers.entry others.entry)
+        (R.remaining reader) (W.contents writer.old) (W.contents writer.new)) }
+    ensures fault { IfErr result (CanEndBy (Order.Relationships numbers.entry others.entry)) }
+{
+    let frozen = frozen_book(alloc, limits, reader)?;
+    Ok(list_relationships(alloc, &frozen, numbers, others, writer)?)
+}
+
 // Writes the coefficients of a book's animals.
 fn list_inbreeding<H: Threads + Wait + Sync, W: Write>(
     rt: &H,
@@ -224,6 +253,23 @@ fn list_inverse<W: Write>(
 {
     let coefficients = coefficients_plain(alloc, frozen)?;
     write_inverse(alloc, frozen, &coefficients, writer)
+}
+
+// Writes relationships of a book's animals.
+fn list_relationships<W: Write>(
+    alloc: Global,
+    frozen: &Frozen<Global>,
+    numbers: &[AnimalNumber],
+    others: &[AnimalNumber],
+    writer: &mut W,
+) -> Result<(), ReportFault>
+    ensures ok { OnOk result (Appends (W.contents writer.old) (W.contents writer.new)
+        (relationships_text (book_of frozen.now) numbers.now others.now)) }
+    ensures err { IfErr result (EndsReport (W.contents writer.old) (W.contents writer.new)
+        (relationships_text (book_of frozen.now) numbers.now others.now)) }
+{
+    let coefficients = coefficients_plain(alloc, frozen)?;
+    write_relationships(alloc, frozen, &coefficients, numbers, others, writer)
 }
 
 // The frozen book of a file without a fault.

@@ -9,6 +9,7 @@ pub(crate) mod inverse_list;
 pub(crate) mod line_end;
 pub(crate) mod mating_list;
 pub(crate) mod refused_text;
+pub(crate) mod relationship_list;
 pub(crate) mod replies;
 pub(crate) mod report_fault;
 pub(crate) mod text;

@@ -52,15 +52,33 @@ dam_rule = record (new_rule (codes "dam")) {
   required = true;
 }
 
-abbrev pub sires_rule : Rule
-sires_rule = record (new_rule (codes "SIRE")) {
+-- an argument of at least one number
+abbrev pub several_rule : Text → Rule
+several_rule name = record (new_rule name) {
   action = Some Append;
   range = Some (record { start_inclusive = 1; end_inclusive = usize_max });
   required = true;
 }
 
+abbrev pub sires_rule : Rule
+sires_rule = several_rule (codes "SIRE")
+
 unfoldable pub mating_line : App
 mating_line = with_rule (with_rule (new_app (codes "mating")) dam_rule) sires_rule
+
+abbrev pub numbers_rule : Rule
+numbers_rule = several_rule (codes "NUMBER")
+
+abbrev pub partners_rule : Rule
+partners_rule = record (new_rule (codes "with")) {
+  long = Some (codes "with");
+  value_names = 1;
+  action = Some Append;
+  range = Some (record { start_inclusive = 1; end_inclusive = usize_max });
+}
+
+unfoldable pub relationships_line : App
+relationships_line = with_rule (with_rule (new_app (codes "relationships")) numbers_rule) partners_rule
 
 abbrev pub desks_rule : Rule
 desks_rule = number_option (codes "desks") 1 MOST_DESKS (codes "2")
@@ -93,8 +111,10 @@ line_with line part = with_subcommand line part.top
 unfoldable pub runs_line : App
 runs_line =
     line_with
+    (line_with
     (line_with (line_with (line_with (line_with program file_line) inbreeding_line) certificate_line) mating_line)
-    inverse_line
+    inverse_line)
+    relationships_line
 
 unfoldable pub command_line : App
 command_line = line_with runs_line clerks_line

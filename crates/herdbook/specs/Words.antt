@@ -1,5 +1,5 @@
 -- What the words of the command line ask for, or why they ask for nothing.
-use Rattle.std.specs.Prelude.{◌≡◌, ◌≢◌, ℕ, ◌<◌, ◌≤◌, ◌⊎◌, List, [], Option, Some, None, unwrap_or, option_map, codes, slice_get}
+use Rattle.std.specs.Prelude.{◌≡◌, ◌≢◌, ℕ, ◌<◌, ◌≤◌, ◌⊎◌, All, List, [], Option, Some, None, unwrap_or, option_map, codes, slice_get}
 use Rattle.std.specs.Str.Parse.{IsNumeral, digits_value, without_leading_plus}
 use Rattle.clap.specs.Words.{HasKind, Row, Text, all_of, fault_of, first_of, kind_of, one_of, subcommand_of}
 use Rattle.clap.specs.declared.error.kind.ErrorKind.TheVariants.{OutOfMemory}
@@ -9,7 +9,7 @@ use Rattle.herd_animal.specs.declared.number.NumberFault.{NumberFault}
 use Rattle.herd_office.specs.declared.limits.TheConstants.{MOST_DESKS}
 use Rattle.herd_pool.specs.declared.limits.TheConstants.{DEFAULT_BLOCK, MOST_WORKERS}
 use Rattle.herd_report.specs.declared.orders.Order.{Order}
-use Rattle.herd_report.specs.declared.orders.Order.TheVariants.{File, Inbreeding, Certificate, Mating, Inverse}
+use Rattle.herd_report.specs.declared.orders.Order.TheVariants.{File, Inbreeding, Certificate, Mating, Inverse, Relationships}
 use Rattle.herdbook.specs.CommandLine.{command_line}
 use Rattle.herdbook.specs.declared.arguments.OwnedOrder.{OwnedOrder}
 use Rattle.herdbook.specs.declared.arguments.OwnedOrder.TheVariants as asked
@@ -67,7 +67,7 @@ abbrev pub IsAskedOfRun : Found → OwnedOrder → Type 0
 IsAskedOfRun found asked.File =
     (name_in found ≢ Some (codes "inbreeding")) × (name_in found ≢ Some (codes "certificate"))
     × (name_in found ≢ Some (codes "mating")) × (name_in found ≢ Some (codes "inverse"))
-    × (name_in found ≢ Some (codes "clerks"))
+    × (name_in found ≢ Some (codes "relationships")) × (name_in found ≢ Some (codes "clerks"))
 IsAskedOfRun found (asked.Inbreeding plan) =
     (name_in found ≡ Some (codes "inbreeding")) × IsWorkPlanOf (rows_in found) plan
 IsAskedOfRun found (asked.Certificate number) =
@@ -77,6 +77,10 @@ IsAskedOfRun found (asked.Mating dam sires) =
     × (text_of (codes "dam") (rows_in found) ≡ dam)
     × (texts_of (codes "SIRE") (rows_in found) ≡ sires.items)
 IsAskedOfRun found asked.Inverse = name_in found ≡ Some (codes "inverse")
+IsAskedOfRun found (asked.Relationships numbers others) =
+    (name_in found ≡ Some (codes "relationships"))
+    × (texts_of (codes "NUMBER") (rows_in found) ≡ numbers.items)
+    × (texts_of (codes "with") (rows_in found) ≡ others.items)
 
 abbrev pub IsAsked : Found → Request → Type 0
 IsAsked found (Run order) = IsAskedOfRun found order
@@ -87,13 +91,19 @@ abbrev pub IsAdvice : List ℕ → List (List ℕ) → Order → Type 0
 IsAdvice dam sires (Mating d s) = (d ≡ dam) × (s.now ≡ sires)
 IsAdvice dam sires order = ⊥
 
--- the order that is lent for one that owns its sires
+-- relationships are ordered of these animals with these others
+abbrev pub IsOfPairs : List (List ℕ) → List (List ℕ) → Order → Type 0
+IsOfPairs numbers others (Relationships n o) = (n.now ≡ numbers) × (o.now ≡ others)
+IsOfPairs numbers others order = ⊥
+
+-- the order that is lent for one that owns its numbers
 abbrev pub IsOrderFor : OwnedOrder → Order → Type 0
 IsOrderFor asked.File order = order ≡ File
 IsOrderFor (asked.Inbreeding plan) order = order ≡ Inbreeding plan.workers plan.block
 IsOrderFor (asked.Certificate number) order = order ≡ Certificate number
 IsOrderFor (asked.Mating dam sires) order = IsAdvice dam sires.items order
 IsOrderFor asked.Inverse order = order ≡ Inverse
+IsOrderFor (asked.Relationships numbers others) order = IsOfPairs numbers.items others.items order
 
 -- the fault is that of the first text that is no animal number
 pub record IsFirstFault (texts : List Text) (fault : NumberFault) : Type 0 where
@@ -110,10 +120,17 @@ IsMatingFault rows fault =
     IsNumberFault (text_of (codes "dam") rows) fault
     ⊎ (IsAnimalNumber (text_of (codes "dam") rows) × IsFirstFault (texts_of (codes "SIRE") rows) fault)
 
+-- the fault of the first of some animals and then of the others that is no animal number
+abbrev pub IsPairsFault : List Row → NumberFault → Type 0
+IsPairsFault rows fault =
+    IsFirstFault (texts_of (codes "NUMBER") rows) fault
+    ⊎ (All IsAnimalNumber (texts_of (codes "NUMBER") rows) × IsFirstFault (texts_of (codes "with") rows) fault)
+
 abbrev pub IsWrongNumber : Found → NumberFault → Type 0
 IsWrongNumber found fault =
     ((name_in found ≡ Some (codes "certificate")) × IsNumberFault (text_of (codes "NUMBER") (rows_in found)) fault)
     ⊎ ((name_in found ≡ Some (codes "mating")) × IsMatingFault (rows_in found) fault)
+    ⊎ ((name_in found ≡ Some (codes "relationships")) × IsPairsFault (rows_in found) fault)
 
 -- memory ran out, or a number is none
 abbrev pub IsUnread : (NumberFault → Type 0) → WordsFault → Type 0

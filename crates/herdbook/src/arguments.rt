@@ -1,12 +1,12 @@
 //! The words of the command line.
 
-ghost use Rattle.std.specs.Prelude.{◌≡◌, ◌≤◌, [], IfErr, IfOk, codes, map, string_bytes};
+ghost use Rattle.std.specs.Prelude.{◌≡◌, ◌≤◌, [], All, IfErr, IfOk, codes, map, string_bytes};
 ghost use Rattle.clap.specs.Words.{App, Rule, app_of, fault_of, found_of, new_app, one_of, rows_of, subcommand_of, subcommand_rows_of, with_rule};
 ghost use Rattle.herd_animal.specs.AnimalNumber.{IsAnimalNumber};
 ghost use Rattle.herd_animal.specs.NumberFault.{IsNumberFault};
-ghost use Rattle.herdbook.specs.CommandLine.{IsArgumentOf, IsCommandOf, certificate_line, clerks_line, command_line, dam_rule, file_line, inbreeding_line, inverse_line, line_with, mating_line, number_option, program, runs_line, sires_rule};
+ghost use Rattle.herdbook.specs.CommandLine.{IsArgumentOf, IsCommandOf, certificate_line, clerks_line, command_line, dam_rule, file_line, inbreeding_line, inverse_line, line_with, mating_line, number_option, partners_rule, program, relationships_line, runs_line, several_rule};
 ghost use Rattle.herd_report.specs.Run.{IsOrder};
-ghost use Rattle.herdbook.specs.Words.{IsAsked, IsDeskPlanOf, IsFirstFault, IsMatingFault, IsNumberOr, IsOrderFor, IsRefused, IsUnread, IsWorkPlanOf, IsWrongNumber, text_of, texts_of};
+ghost use Rattle.herdbook.specs.Words.{IsAsked, IsDeskPlanOf, IsFirstFault, IsMatingFault, IsNumberOr, IsOrderFor, IsPairsFault, IsRefused, IsUnread, IsWorkPlanOf, IsWrongNumber, text_of, texts_of};
 
 use crate::help;
 use crate::plans::{DeskPlan, WorkPlan};
@@ -43,6 +43,11 @@ pub enum OwnedOrder {
     },
     /// What each animal adds to the inverse relationship matrix.
     Inverse,
+    /// The relationship of each of some animals with each of others, or where there are none with one another.
+    Relationships {
+        numbers: Vec<AnimalNumber>,
+        others: Vec<AnimalNumber>,
+    },
 }
 
 /// Why the words ask for nothing.
@@ -104,6 +109,10 @@ impl OwnedOrder {
                 sires: sires.as_slice(),
             },
             OwnedOrder::Inverse => Order::Inverse,
+            OwnedOrder::Relationships { numbers, others } => Order::Relationships {
+                numbers: numbers.as_slice(),
+                others: others.as_slice(),
+            },
         }
     }
 }
@@ -136,6 +145,10 @@ fn request_of(alloc: Global, matches: &ArgMatches<'_>) -> Result<Request, WordsF
             Ok(Request::Run(OwnedOrder::Mating { dam, sires }))
         }
         Some(("inverse", _)) => Ok(Request::Run(OwnedOrder::Inverse)),
+        Some(("relationships", given)) => {
+            let (numbers, others) = animals_of(alloc, given)?;
+            Ok(Request::Run(OwnedOrder::Relationships { numbers, others }))
+        }
         Some(("clerks", given)) => Ok(Request::Clerks(desk_plan_of(given))),
         _ => Ok(Request::Run(OwnedOrder::File)),
     }
@@ -151,8 +164,22 @@ fn candidates_of(
     ensures unread { IfErr result (IsUnread (IsMatingFault (rows_of (found_of given.now)))) }
 {
     let dam = number_argument(given, "dam")?;
-    let sires = sires_of(alloc, given)?;
+    let sires = numbers_under(alloc, given, "SIRE")?;
     Ok((dam, sires))
+}
+
+// The animals whose relationships are asked for, and those with which.
+fn animals_of(
+    alloc: Global,
+    given: &ArgMatches<'_>,
+) -> Result<(Vec<AnimalNumber>, Vec<AnimalNumber>), WordsFault>
+    ensures numbers { IfOk result (λ read. texts_of (codes "NUMBER") (rows_of (found_of given.now)) ≡ read.0.items) }
+    ensures others { IfOk result (λ read. texts_of (codes "with") (rows_of (found_of given.now)) ≡ read.1.items) }
+    ensures unread { IfErr result (IsUnread (IsPairsFault (rows_of (found_of given.now)))) }
+{
+    let numbers = numbers_under(alloc, given, "NUMBER")?;
+    let others = numbers_under(alloc, given, "with")?;
+    Ok((numbers, others))
 }
 
 fn work_plan_of(given: &ArgMatches<'_>) -> WorkPlan
@@ -185,15 +212,22 @@ fn option_or(given: &ArgMatches<'_>, id: &str, least: u32, most: u32, other: u32
     }
 }
 
-fn sires_of(alloc: Global, given: &ArgMatches<'_>) -> Result<Vec<AnimalNumber>, WordsFault>
-    ensures read { IfOk result (λ sires. texts_of (codes "SIRE") (rows_of (found_of given.now)) ≡ sires.items) }
-    ensures unread { IfErr result (IsUnread (IsFirstFault (texts_of (codes "SIRE") (rows_of (found_of given.now))))) }
+// The numbers under an argument that takes several.
+fn numbers_under(
+    alloc: Global,
+    given: &ArgMatches<'_>,
+    id: &str,
+) -> Result<Vec<AnimalNumber>, WordsFault>
+    ensures read { IfOk result (λ numbers. texts_of id.now (rows_of (found_of given.now)) ≡ numbers.items) }
+    ensures right { IfOk result (λ _. All IsAnimalNumber (texts_of id.now (rows_of (found_of given.now)))) }
+    ensures unread { IfErr result (IsUnread (IsFirstFault (texts_of id.now (rows_of (found_of given.now))))) }
 {
-    numbers_of(alloc, given.get_strs("SIRE").unwrap_or(&[]))
+    numbers_of(alloc, given.get_strs(id).unwrap_or(&[]))
 }
 
 fn numbers_of(alloc: Global, texts: &[&str]) -> Result<Vec<AnimalNumber>, WordsFault>
     ensures read { IfOk result (λ numbers. map (λ text. text.now) texts.now ≡ numbers.items) }
+    ensures right { IfOk result (λ _. All IsAnimalNumber (map (λ text. text.now) texts.now)) }
     ensures unread { IfErr result (IsUnread (IsFirstFault (map (λ text. text.now) texts.now))) }
 {
     let mut numbers = Vec::new(alloc);
@@ -227,7 +261,8 @@ fn runs<'a>(alloc: Global) -> Result<Command<'a>, AllocError>
     let lists = with_subcommand(replies, inbreeding(alloc));
     let certificates = with_subcommand(lists, certificate(alloc));
     let advice = with_subcommand(certificates, mating(alloc));
-    with_subcommand(advice, Ok(inverse(alloc)))
+    let inverses = with_subcommand(advice, Ok(inverse(alloc)));
+    with_subcommand(inverses, relationships(alloc))
 }
 
 // A command with one subcommand more. Memory that was refused for either is refused.
@@ -358,7 +393,7 @@ fn mating<'a>(alloc: Global) -> Result<Command<'a>, AllocError>
     );
     with_argument(
         with_argument(Ok(bare), dam_option(alloc)),
-        sires_argument(alloc),
+        several_argument(alloc, "SIRE", "The numbers of the sires"),
     )
 }
 
@@ -372,14 +407,44 @@ fn dam_option<'a>(alloc: Global) -> Arg<'a>
         .help("The dam's number")
 }
 
-fn sires_argument<'a>(alloc: Global) -> Arg<'a>
-    ensures { IsArgumentOf sires_rule result }
+// An argument of at least one number: its name, and its help.
+fn several_argument<'a>(alloc: Global, name: &'a str, help: &'a str) -> Arg<'a>
+    ensures { IsArgumentOf (several_rule name.entry.now) result }
 {
-    Arg::new(alloc, "SIRE")
+    Arg::new(alloc, name)
         .required(true)
         .action(ArgAction::Append)
         .num_args(1..)
-        .help("The numbers of the sires")
+        .help(help)
+}
+
+fn relationships<'a>(alloc: Global) -> Result<Command<'a>, AllocError>
+    ensures { IfOk result (IsCommandOf relationships_line) }
+{
+    let bare = named(
+        alloc,
+        "relationships",
+        "Writes the relationship of each two of some animals",
+        help::RELATIONSHIPS,
+    );
+    with_argument(
+        with_argument(
+            Ok(bare),
+            several_argument(alloc, "NUMBER", "The numbers of the animals"),
+        ),
+        with_option(alloc),
+    )
+}
+
+fn with_option<'a>(alloc: Global) -> Arg<'a>
+    ensures { IsArgumentOf partners_rule result }
+{
+    Arg::new(alloc, "with")
+        .long("with")
+        .value_name("NUMBER")
+        .action(ArgAction::Append)
+        .num_args(1..)
+        .help("Pairs each with these, not with one another")
 }
 
 fn clerks<'a>(alloc: Global) -> Result<Command<'a>, AllocError>

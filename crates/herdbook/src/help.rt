@@ -2,7 +2,7 @@
 //! is longer than 80 columns.
 
 /// The version of the program, the newest of `CHANGELOG.md`.
-pub const VERSION: &str = "0.11.0";
+pub const VERSION: &str = "0.12.0";
 
 /// The end of the help of the program: what all subcommands read, and the statuses.
 pub const PROGRAM: &str = "\
@@ -92,6 +92,22 @@ Status:
   0  the entries are written
   1  a record is faulty (nothing is written), or memory or a write was refused
   2  the words aren't a command line";
+
+/// The end of the help of `relationships`.
+pub const RELATIONSHIPS: &str = "\
+Reads a command file from standard input. Writes a line for each pair of the
+animals, one with itself too, or with `--with` for each of the first with each
+of the others: NUMBER,NUMBER,VALUE with the entry of the numerator relationship
+matrix as a fraction; twice the coefficient of a calf of the two. First comes
+NUMBER,refused,1 for each number that isn't in the book.
+
+Example:
+  herdbook relationships HOLGBRM000000000001 HOLGBRF000000000002 < book.csv
+
+Status:
+  0  there is a line for each pair, also where numbers are refused
+  1  a record is faulty (nothing is written), or memory or a write was refused
+  2  the words aren't a command line, or one is no animal number";
 
 /// The end of the help of `clerks`. Its K and M stand for the numbers of `--desks` and `--base`.
 pub const CLERKS: &str = "\

@@ -7,3 +7,4 @@ pub mod AncestorFacts
 pub mod CertificateFacts
 pub mod MatingFacts
 pub mod ContributionFacts
+pub mod RelationshipFacts

@@ -115,8 +115,8 @@ fn push_number_at<A: Allocator, F: Allocator>(
     text.push(&with_comma(frozen.number(rank)))
 }
 
-// A number and a comma.
-fn with_comma(number: AnimalNumber) -> [u8; 20]
+/// A number and a comma.
+pub(crate) fn with_comma(number: AnimalNumber) -> [u8; 20]
     ensures { result ≡ number ++ codes "," }
 {
     let mut text = [b','; 20];

@@ -9,4 +9,4 @@ unfolding mating_line
 returns c =
     let bare = new_app (codes "mating") in
     let first = c.with_argument.ensures bare dam_rule c.named-bare.ensures c.dam_option.ensures in
-    c.with_argument-2.ensures (with_rule bare dam_rule) sires_rule first c.sires_argument.ensures
+    c.with_argument-2.ensures (with_rule bare dam_rule) sires_rule first c.several_argument.ensures

@@ -1,5 +1,7 @@
 -- The first text that is none ends the loop.
-use Rattle.std.proofs.Common.{◌≡◌, Some, refl, arith, map, slice_get}
+use Rattle.std.proofs.Common.{◌≡◌, ◌<◌, ℕ, Bor, List, Some, refl, arith, get_or, map, slice_get}
+use Rattle.std.proofs.lemmas.List.{length-map}
+use Rattle.std.proofs.lemmas.Option.{slice_get-get_or}
 use Rattle.std.proofs.lemmas.Grind.{common_steps}
 use Rattle.herdbook.proofs.WordsFacts.{IsUnread-number, right_more, text_at}
 use Rattle.herdbook.proofs.arguments.numbers_of.Goals as goal
@@ -21,3 +23,9 @@ returns-in_err-number-clause-unread c =
       wrong = c.in_err-number.ensures.fault;
       before = c.loop-text.invariant.1;
     })
+
+pub returns-clause-right : goal.returns-clause-right
+returns-clause-right c = λ k other within.
+    let texts = map (λ (text : Bor (List ℕ)). text.now) c.args.texts.now in
+    let all : k < c.loop-text.text-index = omega (arith, length-map c.args.texts.now (λ (text : Bor (List ℕ)). text.now)) in
+    c.loop-text.invariant.1 k (get_or texts k other) all (slice_get-get_or texts k other within)

@@ -5,7 +5,7 @@ use Rattle.clap.specs.Words.{Rule}
 use Rattle.clap.specs.declared.builder.action.ArgAction.TheVariants.{Append}
 use Rattle.clap.specs.declared.builder.arg.Arg.{Arg}
 use Rattle.herdbook.proofs.WordsFacts.{IsSomeAnd-is}
-use Rattle.herdbook.proofs.arguments.sires_argument.Goals as goal
+use Rattle.herdbook.proofs.arguments.several_argument.Goals as goal
 
 pub returns : goal.returns
 returns c =
