@@ -1,6 +1,8 @@
 """The words on the breed as a whole: the page and the tables of its state, and plans of matings."""
 from __future__ import annotations
 
+import csv
+import io
 import itertools
 from fractions import Fraction
 
@@ -87,3 +89,38 @@ def test_tables_of_a_pedigree_without_days(desk: Desk) -> None:
     found = measured(desk)
     assert found["mean_inbreeding"] == "1/20" and found["generation_interval"] == ""
     assert desk.table("tables/years.csv") == []
+def planned(desk: Desk, *words: str) -> list[dict[str, str]]:
+    return list(csv.DictReader(io.StringIO(desk.good("plan", *words).out)))
+
+
+def test_plan(secretary_desk: Desk) -> None:
+    """Each dam has a sire, no sire has too many, the coefficients are those of `mating`, and the sum is least."""
+    desk = secretary_desk
+    ids = {sex: [row["id"] for row in desk.listed("list") if row["number"][6] == sex][-12:] for sex in "MF"}
+    dams, sires = desk.write("dams.txt", "\n".join(ids["F"])), desk.write("sires.txt", "\n".join(ids["M"][-3:]))
+    words = ["--dams", dams, "--sires", sires]
+    pairs = planned(desk, *words, "--table")
+    assert len(pairs) == 36
+    for dam in ids["F"][:3]:
+        advised = {row["id"]: row["coefficient"] for row in desk.listed("mating", "--dam", dam, *ids["M"][-3:])}
+        assert {row["sire"]: row["coefficient"] for row in pairs if row["dam"] == dam} == advised
+    plan = planned(desk, *words, "--most-for-a-sire", "5")
+    assert [row["dam"] for row in plan] == [dam for dam in dict.fromkeys(row["dam"] for row in pairs)]
+    used = [row["sire"] for row in plan]
+    assert max(map(used.count, used)) <= 5
+    free = planned(desk, *words)
+    least = {dam: min(Fraction(row["coefficient"]) for row in pairs if row["dam"] == dam) for dam in ids["F"]}
+    assert sum(Fraction(row["coefficient"]) for row in free) == sum(least.values())
+
+
+def test_plan_with_bounds(secretary_desk: Desk) -> None:
+    desk = secretary_desk
+    done = desk.good("plan", "--at-most", "0", "--most-for-a-sire", "1")
+    assert all(row["coefficient"] == "0" for row in csv.DictReader(io.StringIO(done.out)))
+    assert "society: not mated, since " in done.err
+    assert " matings: the mean coefficient of the calves is 0.00%" in done.err
+    old = {row["id"] for row in desk.listed("list") if row["birth"] < "1999"}
+    assert {row["dam"] for row in planned(desk, "--minimum-age", "9999")} <= old
+    desk.wrong("'2' isn't a fraction or a decimal from 0 to 1", "plan", "--at-most", "2")
+    males = desk.write("males.txt", next(row["id"] for row in desk.listed("list") if row["number"][6] == "M"))
+    desk.wrong("no dam can be male", "plan", "--dams", males)
