@@ -2,6 +2,7 @@
 from __future__ import annotations
 
 import datetime
+import shlex
 from dataclasses import dataclass
 
 from society.book.inferred import ExitBasis
@@ -85,7 +86,8 @@ class SexUnread(CellLeftOut):
         return "its sex"
 
     def why(self) -> str:
-        return f"'{self.text}' isn't known: write M or F, or name it as --sexes {self.text}=m or {self.text}=f"
+        words = [shlex.quote(f"{self.text}={sex}") for sex in "mf"]
+        return f"'{self.text}' isn't known: write M or F, or name it as --sexes {' or '.join(words)}"
 
 
 @dataclass(frozen=True, slots=True)

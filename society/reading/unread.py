@@ -2,13 +2,14 @@
 from __future__ import annotations
 
 import collections
+import shlex
 
 from society.mistake import counted
 from society.reading.exits import exit_word
 
 # what to do where cells of a column can't be read
 ADVICE = {
-    "sex": "write M or F, or say which sex each word is, as --sexes {word}=m or {word}=f",
+    "sex": "write M or F, or say which sex each word is, as --sexes {m} or {f}",
     "birth": (
         "write days as 2001-03-01 or 01.03.2001, or 03.2001 or 2001 alone; or name another column, as --columns "
         "birth=TITLE"
@@ -52,7 +53,8 @@ class Unread:
 
     def summary(self, field: str, cells: list[Cell]) -> str:
         word = texts_of(cells)[0][0]
-        return f"{self.place(field, cells)} can't be read, {shown(cells)}: {ADVICE[field].format(word=word)}"
+        sexes = {sex: shlex.quote(f"{word}={sex}") for sex in "mf"}
+        return f"{self.place(field, cells)} can't be read, {shown(cells)}: {ADVICE[field].format(**sexes)}"
 
     def exits_without_day(self) -> str:
         word = exit_word(texts_of(self.exits)[0][0])

@@ -2,6 +2,7 @@
 from __future__ import annotations
 
 import datetime
+import shlex
 from dataclasses import dataclass
 
 from society.book.role import Role
@@ -41,8 +42,8 @@ class YoungParent(Look):
 
     def words(self) -> str:
         return (
-            f"its {self.role} {at_line(self.parent, self.line)} was {counted(self.days, 'day')} old at its birth: less "
-            f"than {self.limit} (--youngest {self.limit})"
+            f"its {self.role} {at_line(self.parent, self.line)} was {counted(self.days, 'day')} old at its birth, less "
+            f"than {self.limit}: if that can be, say --youngest {max(self.days, 0)}"
         )
 
 
@@ -58,8 +59,8 @@ class BirthsTooNear(Look):
 
     def words(self) -> str:
         return (
-            f"its dam {self.dam} bore {at_line(self.other, self.line)} {counted(self.days, 'day')} before: less than "
-            f"{self.limit} (--apart {self.limit})"
+            f"its dam {self.dam} bore {at_line(self.other, self.line)} {counted(self.days, 'day')} before, less than "
+            f"{self.limit}: if that can be, say --apart {self.days}"
         )
 
 
@@ -128,5 +129,5 @@ class OwnerRespelt(Look):
         return (
             f"the {counted(self.animals, 'animal')} of '{self.before}' are now of '{self.now}', whom the book didn't "
             "have: if the name is only written otherwise, undo this, and take the sheet with --owner "
-            f"'{self.before}={self.now}'"
+            f"{shlex.quote(f'{self.before}={self.now}')}"
         )

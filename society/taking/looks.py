@@ -18,6 +18,8 @@ LITTER = 3
 YEAR = 365
 # an animal that is so many years older than half of the living ones has probably left
 DECADES = 20
+# more than so many, and than one of fifty, are no odd ones
+FEW_OLD = 3
 # of fewer living animals the median says little
 FEW = 10
 
@@ -87,7 +89,13 @@ class Looks:
         if len(dated) < FEW:
             return
         median = int(statistics.median(one.born.year for one in dated))
-        for animal in dated:
-            if animal.born.year <= median - DECADES:
-                found = OldAsLiving(animal.born, median - animal.born.year, median)
-                self.report.add(animal.line, animal.id, found)
+        old = [animal for animal in dated if animal.born.year <= median - DECADES]
+        if len(old) > max(FEW_OLD, len(dated) // 50):
+            self.report.advice.append(
+                f"{len(old)} animals count as living that were born {DECADES} years and more before half of the others that "
+                "do: does the column of exits lack theirs?"
+            )
+            return
+        for animal in old:
+            found = OldAsLiving(animal.born, median - animal.born.year, median)
+            self.report.add(animal.line, animal.id, found)

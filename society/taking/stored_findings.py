@@ -4,6 +4,7 @@ from __future__ import annotations
 import dataclasses
 import datetime
 import enum
+import functools
 import typing
 from collections.abc import Iterator
 from typing import Any
@@ -41,12 +42,17 @@ def texts_of(name: str, value: object) -> Iterator[tuple[str, str]]:
         yield name, str(value.value if isinstance(value, enum.Enum) else value)
 
 
+@functools.cache
+def kinds_of(kind: Any) -> dict[str, Any]:
+    """The types of the fields of a dataclass, by their names and in order."""
+    kinds = typing.get_type_hints(kind)
+    return {field.name: kinds[field.name] for field in dataclasses.fields(kind)}
+
+
 def value_of(kind: Any, name: str, texts: dict[str, str]) -> Any:
     """The value of a type from its texts."""
     if dataclasses.is_dataclass(kind):
-        kinds = typing.get_type_hints(kind)
-        parts = [field.name for field in dataclasses.fields(kind)]
-        return kind(*(value_of(kinds[part], within(name, part), texts) for part in parts))
+        return kind(*(value_of(part_kind, within(name, part), texts) for part, part_kind in kinds_of(kind).items()))
     parameters = typing.get_args(kind)
     if typing.get_origin(kind) is tuple:
         return tuple(value_of(parameters[0], within(name, place), texts) for place in places(name, texts))

@@ -11,21 +11,21 @@ def test_young_parents(desk: Desk) -> None:
     rows = PARENTS + "c;M;2001-07-29;s;d;\n"
     done = desk.take(TITLES + rows)
     done.tells(
-        "line 4: c: to look at: its sire s (line 2) was 150 days old at its birth: less than 180 (--youngest 180)",
-        "line 4: c: to look at: its dam d (line 3) was 149 days old at its birth: less than 180 (--youngest 180)",
+        "line 4: c: to look at: its sire s (line 2) was 150 days old at its birth, less than 180: if that can be, say --youngest 150",
+        "line 4: c: to look at: its dam d (line 3) was 149 days old at its birth, less than 180: if that can be, say --youngest 149",
     )
     assert desk.parents()["c"] == ("s", "d")
     assert "to look at" not in desk.take(TITLES + rows, "--youngest", "149").out
     # the limit stays with the book
     assert "to look at" not in desk.take(TITLES + rows).out
-    assert "less than 300 (--youngest 300)" in desk.take(TITLES + rows, "--youngest", "300").out
+    assert "less than 300: if that can be, say --youngest 149" in desk.take(TITLES + rows, "--youngest", "300").out
 
 
 def test_births_of_one_dam(desk: Desk) -> None:
     """Twins are born on one day or nearly; other births are months apart."""
     rows = PARENTS + "c1;M;2003-03-01;s;d;\nc2;F;2003-03-02;s;d;\nc3;F;2003-05-30;s;d;\n"
     done = desk.take(TITLES + rows)
-    told = "line 6: c3: to look at: its dam d bore c2 (line 5) 89 days before: less than 100 (--apart 100)"
+    told = "line 6: c3: to look at: its dam d bore c2 (line 5) 89 days before, less than 100: if that can be, say --apart 89"
     done.tells(told)
     assert done.out.count("to look at") == 1
     assert "to look at" not in desk.take(TITLES + rows, "--apart", "60").out

@@ -154,7 +154,7 @@ def test_preview(desk: Desk) -> None:
     commands = desk.commands()
     done = desk.good("take", changed, "--preview")
     done.tells(
-        "line 4: c: to look at: its dam d (line 3) was 60 days old at its birth: less than 180 (--youngest 180)",
+        "line 4: c: to look at: its dam d (line 3) was 60 days old at its birth, less than 180: if that can be, say --youngest 60",
         "line 3: d: changed: birth day: 2002-03-02, before 2001-03-02",
     )
     assert "a preview, nothing is written: book: 3 animals, 1 new, 1 changed" in done.last
