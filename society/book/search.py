@@ -9,6 +9,8 @@ from society.mistake import Mistake
 
 # so many ids are named
 MOST_NAMED = 9
+# by its name in small letters; only names that aren't empty have an index
+NAMED = "folded_name = ? AND folded_name <> ''"
 
 
 def find(book: Book, word: str) -> Known:
@@ -17,13 +19,13 @@ def find(book: Book, word: str) -> Known:
     folded = word.casefold()
     known = book.known.get(word)
     if known:
-        others = sorted(row.id for row in book.rows("folded_name = ? AND id <> ?", folded, word))
+        others = sorted(row.id for row in book.rows(f"{NAMED} AND id <> ?", folded, word))
         if others:
             shown = ", ".join(others[:MOST_NAMED])
             book.notes.append(f"'{word}' is taken for the animal with this id; others have this name: {shown}")
         return known
-    named = book.rows("number = ?", word) or book.rows("folded_name = ? AND name = ?", folded, word)
-    named = named or book.rows("(folded_id = ? OR folded_name = ?)", folded, folded)
+    named = book.rows("number = ?", word) or book.rows(f"{NAMED} AND name = ?", folded, word)
+    named = named or book.rows(f"(folded_id = ? OR {NAMED})", folded, folded)
     if len(named) == 1:
         return known_of(named[0])
     if named:

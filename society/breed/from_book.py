@@ -24,7 +24,7 @@ class Breed:
 
 
 def breed_of(book: Book) -> Breed:
-    names, records = book.by_number(), book.records
+    names, records = dict(book.by_number()), dict(book.records)
     inbred = kept_coefficients(book)
     ranks = {number: rank for rank, number in enumerate(inbred)}
     animals = [names[number] for number in ranks]
