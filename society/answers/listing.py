@@ -1,69 +1,34 @@
-"""The list of coefficients and mating advice, by the society's own ids."""
+"""Lists of animals, and mating advice, by the society's own ids."""
 from __future__ import annotations
 
-import csv
-import io
-from typing import Iterable, NamedTuple
+from collections.abc import Sequence
+from typing import NamedTuple
 
+from society.answers.choice import Choice, chosen
+from society.answers.columns import USUAL, Column, animals_table
+from society.answers.table import Cell, Decimal, Table
 from society.book.book import Book
-from society.book.cells import for_spreadsheets
 from society.book.coefficients import Coefficient
 from society.book.known import Known
-from society.book.rows import birth_basis, known_of
+from society.book.rows import known_of
 from society.herdbook import Herdbook
 from society.mistake import Mistake
 from society.refusals import MatingFault
 
-TITLES = ["id", "name", "number", "birth", "coefficient", "decimal", "percent"]
 # so many sires are asked for at once: a command line has an end
 SIRES_AT_ONCE = 5_000
 
 
-def rows_of(book: Book, listed: Iterable[tuple[str, Coefficient]]) -> list[list[str]]:
-    names = book.by_number()
-    rows = []
-    for number, coefficient in listed:
-        known = names[number]
-        day = f"{book.records[number].born}{known.birth.mark()}"
-        rows.append(
-            [known.id, known.name, number, day, coefficient.fraction, coefficient.decimal(), coefficient.percent]
-        )
-    return rows
-
-
-def list_text(rows: list[list[str]], semicolons: bool) -> str:
-    """The rows below their titles. With semicolons decimals have a comma, as such spreadsheets want them."""
-    text = io.StringIO()
-    writer = csv.writer(text, delimiter=";" if semicolons else ",", lineterminator="\n")
-    writer.writerow(TITLES)
-    for row in rows:
-        cells = row[:-2] + [number.replace(".", ",") for number in row[-2:]] if semicolons else row
-        writer.writerow(for_spreadsheets(cell) for cell in cells)
-    return text.getvalue()
-
-
-def list_all(book: Book) -> list[list[str]]:
-    """All animals, as `rows_of` has them, in age order."""
-    if book.connection is None:
-        return []
-    found = book.connection.execute(
-        """
-        SELECT id, name, animal.number, born, birth_source, birth_period, birth_no_such_day, fraction, percent
-        FROM coefficient JOIN animal ON animal.number = coefficient.number AND until IS NULL ORDER BY place
-        """
-    )
-    rows = []
-    for id, name, number, born, *basis, fraction, percent in found:
-        day = f"{born}{birth_basis(*basis).mark()}"
-        rows.append([id, name, number, day, fraction, Coefficient(fraction, percent).decimal(), percent])
-    return rows
+def animals_listed(book: Book, choice: Choice = Choice(), columns: Sequence[Column] = USUAL) -> Table:
+    """The animals of a choice with these columns, in age order."""
+    return animals_table(book, chosen(book, choice), columns)
 
 
 class Advice(NamedTuple):
     """The coefficient that offspring of each sire would have, the least first, why others have none, and how many males
     were passed over since they left or have no row."""
 
-    rows: list[list[str]]
+    table: Table
     refused: list[str]
     left: int
     without_row: list[str]
@@ -102,4 +67,16 @@ def advise(book: Book, program: Herdbook, dam: Known, sires: list[Known], also_l
         raise Mistake(f"{dam.id}: {of_dam[0].words()} (fault {of_dam[0]}): name a female as the dam")
     found.sort(key=lambda pair: (pair[1].value, names[pair[0]].id))
     told = [f"{id}: refused: {fault.words()} (fault {fault})" for id, fault in refused]
-    return Advice(rows_of(book, found), told, left, without_row)
+    return Advice(advice_table(book, found), told, left, without_row)
+
+
+def advice_table(book: Book, found: list[tuple[str, Coefficient]]) -> Table:
+    """The sires, each with the coefficient that its offspring would have."""
+    names = book.by_number()
+    rows: list[list[Cell]] = []
+    for number, coefficient in found:
+        known = names[number]
+        day = f"{book.records[number].born}{known.birth.mark()}"
+        decimals = Decimal(coefficient.decimal()), Decimal(coefficient.percent)
+        rows.append([known.id, known.name, number, day, coefficient.fraction, *decimals])
+    return Table([column.value for column in USUAL], rows)

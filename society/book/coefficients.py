@@ -28,9 +28,19 @@ class Coefficient(NamedTuple):
     def decimal(self) -> str:
         """Rounded to ten places."""
         numerator, _, denominator = self.fraction.partition("/")
-        below = int(denominator or 1)
-        scaled = (int(numerator) * 10**PLACES * 2 + below) // (2 * below)
-        return f"{scaled // 10**PLACES}.{scaled % 10**PLACES:0{PLACES}}".rstrip("0").rstrip(".")
+        return decimal(int(numerator), int(denominator or 1))
+
+
+def decimal(numerator: int, denominator: int) -> str:
+    """A fraction that isn't negative, rounded to ten places."""
+    scaled = (numerator * 10**PLACES * 2 + denominator) // (2 * denominator)
+    return f"{scaled // 10**PLACES}.{scaled % 10**PLACES:0{PLACES}}".rstrip("0").rstrip(".")
+
+
+def percent(value: Fraction) -> str:
+    """Hundredths of a percent, halves rounded up, as the program writes them."""
+    hundredths = (value.numerator * 20_000 + value.denominator) // (2 * value.denominator)
+    return f"{hundredths // 100}.{hundredths % 100:02}"
 
 
 def kept_coefficients(book: Book) -> Mapping[str, Coefficient]:

@@ -7,6 +7,7 @@ import pathlib
 import re
 from fractions import Fraction
 
+from society.answers.columns import USUAL, Column
 from society.reading.days import FIRST_DAY, LAST_DAY, Unreadable, read_span
 
 
@@ -45,6 +46,15 @@ def birth_days(text: str) -> tuple[datetime.date, datetime.date]:
         forms = "2010..2019, 2010.. or 2010-03-01..2010-08-31"
         raise argparse.ArgumentTypeError(f"'{text}' isn't written as {forms}") from None
     return begin, end
+
+
+def columns(text: str) -> list[Column]:
+    """The columns of a list; with + in front those of a usual one and these."""
+    words = ["_".join(word.casefold().replace("-", " ").replace("_", " ").split()) for word in text.lstrip("+").split(",")]
+    wrong = [word for word in words if word not in list(Column)]
+    if wrong:
+        raise argparse.ArgumentTypeError(f"there is no column '{wrong[0]}': there are {', '.join(Column)}")
+    return list(dict.fromkeys([*USUAL * text.startswith("+"), *map(Column, words)]))
 
 
 def coefficient(text: str) -> Fraction:

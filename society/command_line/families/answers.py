@@ -2,47 +2,79 @@
 from __future__ import annotations
 
 import argparse
-import sys
+import pathlib
 
-from society.answers.listing import advise, list_all, list_text
+from society.answers.choice import Choice
+from society.answers.columns import USUAL, Column
+from society.answers.listing import advise, animals_listed
 from society.book.book import Book
-from society.book.out import write_outs
+from society.book.role import Role
 from society.book.search import find
-from society.command_line.arguments import add_force, file
+from society.command_line.arguments import add_force, birth_days, columns, file, sex
+from society.command_line.giving import give_table, named_in
 from society.command_line.output import some, tell
-from society.command_line.parser import Words
+from society.command_line.parser import Parser, Words
 from society.herdbook import Herdbook
-from society.mistake import Mistake, counted
+from society.mistake import Mistake
 
 
 def add_words(words: Words) -> None:
-    listing = words.add_for_book("list", do_list, "write all animals with their coefficients, in age order")
+    listing = words.add_for_book("list", do_list, "write animals with their coefficients, in age order")
+    add_choice(listing)
+    listing.add_argument("--sex", type=sex, metavar="SEX", help="only males or females, m or f")
+    listing.add_argument("--born", type=birth_days, metavar="FROM..TO", help="only animals born so, as 2010..2019")
+    listing.add_argument(
+        "--columns", type=columns, metavar="COLUMN,..",
+        help=f"these columns, or behind the usual ones with + in front: {', '.join(Column)} [{', '.join(USUAL)}]",
+    )  # fmt: skip
     mating = words.add_for_book(
-        "mating", do_mating, "write the coefficient that offspring of each sire would have, the least first"
-    )
-    mating.add_argument("--dam", required=True, metavar="ID", help="the dam, by id, name or number")
+        "mating", do_mating, "write the coefficient that offspring of each sire would have, the least first",
+        "For many dams it is a table of all pairs.",
+    )  # fmt: skip
+    mating.add_argument("--dam", metavar="ID", help="the dam, by id, name or number")
     mating.add_argument("sires", nargs="*", metavar="SIRE", help="sires, by id, name or number [all living males]")
     mating.add_argument("--all", action="store_true", help="all living males, as where no sire is named")
     mating.add_argument("--left", action="store_true", help="with the males that left too")
+    mating.add_argument(
+        "--dams", type=pathlib.Path, metavar="FILE", help="the dams that a file names, one id a line [all living females]"
+    )
+    mating.add_argument(
+        "--sires", dest="sires_in", type=pathlib.Path, metavar="FILE", help="the sires that a file names [all living males]"
+    )
+    mating.add_argument("--matrix", action="store_true", help="a line for each dam, and a column of percentages for each sire")
     for one in listing, mating:
         one.add_argument("--semicolons", action="store_true", help="semicolons between cells, and commas in decimals")
         one.add_argument("--out", type=file, metavar="FILE", help="write to this file, not to the screen")
         add_force(one)
 
 
+def add_choice(word: Parser) -> None:
+    """The options that choose animals by what they are."""
+    word.add_argument("--living", action="store_true", help="only living animals that have a row")
+    word.add_argument("--owner", default="", metavar="NAME", help="only the animals of an owner")
+
+
 def do_list(asked: argparse.Namespace, book: Book, program: Herdbook) -> None:
-    give(asked, book, list_all(book))
-    without_row = book.without_row()
+    choice = Choice(asked.living, asked.sex or "", asked.owner, asked.born)
+    give_table(asked, book, animals_listed(book, choice, asked.columns or USUAL))
+    without_row = [] if asked.living else book.without_row()
     if without_row:
         tell(f"animals without a row in the sheet: {some(without_row)}: added as parents, or gone")
 
 
 def do_mating(asked: argparse.Namespace, book: Book, program: Herdbook) -> None:
+    if asked.dams or asked.sires_in:
+        do_many_matings(asked, book, program)
+        return
+    if not asked.dam:
+        raise Mistake("mating needs a dam: name one by --dam, or many in a file by --dams")
+    if asked.matrix:
+        raise Mistake("--matrix is for many dams: name a file by --dams")
     if asked.sires and (asked.all or asked.left):
         raise Mistake("mating takes sires that are named, or all of them, not both: leave out --all and --left")
     dam, sires = find(book, asked.dam), [find(book, sire) for sire in asked.sires]
     advice = advise(book, program, dam, sires, asked.left)
-    give(asked, book, advice.rows)
+    give_table(asked, book, advice.table)
     for sentence in advice.refused:
         tell(sentence)
     if advice.left:
@@ -51,12 +83,20 @@ def do_mating(asked: argparse.Namespace, book: Book, program: Herdbook) -> None:
         tell(f"males without a row in the sheet: {some(advice.without_row)} aren't listed: name one, if it lives")
 
 
-def give(asked: argparse.Namespace, book: Book, rows: list[list[str]]) -> None:
-    """Writes a list to the screen or to a file."""
-    text = list_text(rows, asked.semicolons)
-    if not asked.out:
-        sys.stdout.write(text)
-        return
-    # spreadsheets that want semicolons tell UTF-8 by a byte-order mark
-    write_outs(book, {asked.out: text.encode("utf-8-sig" if asked.semicolons else "utf-8")}, asked.force)
-    print(f"{asked.out}: {counted(len(rows), 'row')}")
+def do_many_matings(asked: argparse.Namespace, book: Book, program: Herdbook) -> None:
+    """A table of all pairs."""
+    from society.answers.mates import mates_matrix, mates_of, mates_table, pairs_of, told_of_refused
+
+    if asked.dam and asked.dams or asked.sires and asked.sires_in:
+        raise Mistake("mating takes animals that are named, or those of a file, not both")
+    if asked.all or asked.left:
+        raise Mistake("--all and --left are for one dam: a table has all living males where no sire is named")
+    named = {
+        Role.DAM: [find(book, asked.dam)] if asked.dam else named_in(asked.dams, book) if asked.dams else None,
+        Role.SIRE: named_in(asked.sires_in, book) if asked.sires_in else [find(book, id) for id in asked.sires] or None,
+    }
+    dams, sires = (mates_of(book, role, named[role]) for role in (Role.DAM, Role.SIRE))
+    found, refused = pairs_of(book, program, dams, sires)
+    give_table(asked, book, (mates_matrix if asked.matrix else mates_table)(dams, sires, found))
+    for sentence in told_of_refused(book, refused):
+        tell(sentence)

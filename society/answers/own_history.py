@@ -1,0 +1,60 @@
+"""What the history of a book has of one animal."""
+from __future__ import annotations
+
+import json
+import sqlite3
+from collections.abc import Iterator
+
+from society.book.book import NO_OWNER
+from society.book.changes import Told
+from society.book.history import change_numbered
+from society.book.history_words import difference, heading
+from society.book.rows import COLUMNS, Row
+from society.taking.report import What
+from society.taking.stored_findings import entry_of
+
+# what the rows before and after a change say too
+SAID_BY_ROWS = (What.NEW, What.CHANGED)
+
+
+def history_of(connection: sqlite3.Connection, id: str) -> Iterator[str]:
+    """Each change that changed the animal or told of it, with what it did and told."""
+    began, ended = rows_by_change(connection, id, "since"), rows_by_change(connection, id, "until")
+    told = told_of_animal(connection, id)
+    owners: dict[int, str] = dict(connection.execute("SELECT herd, name FROM owner")) | {NO_OWNER: ""}
+    names = names_of_parents(connection, [*began.values(), *ended.values()])
+    for number in sorted(began.keys() | ended.keys() | told.keys()):
+        change = change_numbered(connection, number)
+        assert change is not None
+        yield heading(change)
+        if number in began or number in ended:
+            yield f"  {difference(ended.get(number), began.get(number), names, owners)}"
+        for one in told.get(number, []):
+            entry = entry_of(one)
+            if entry.what not in SAID_BY_ROWS:
+                yield f"  {f'line {one.line}: ' if one.line else ''}{entry.what}: {entry.why}"
+
+
+def rows_by_change(connection: sqlite3.Connection, id: str, column: str) -> dict[int, Row]:
+    """The animal's rows by the change with which they began or ended."""
+    rows = connection.execute(
+        f"SELECT {column}, {COLUMNS} FROM animal WHERE id = ? AND {column} IS NOT NULL", (id,)
+    )
+    return {number: Row(*row) for number, *row in rows}
+
+
+def told_of_animal(connection: sqlite3.Connection, id: str) -> dict[int, list[Told]]:
+    rows = connection.execute(
+        "SELECT change, kind, part, line, fields FROM told WHERE id = ? ORDER BY change, place", (id,)
+    )
+    found: dict[int, list[Told]] = {}
+    for number, kind, part, line, fields in rows:
+        found.setdefault(number, []).append(Told(kind, part, line, id, tuple(json.loads(fields).items())))
+    return found
+
+
+def names_of_parents(connection: sqlite3.Connection, rows: list[Row]) -> dict[str, str]:
+    """The ids of the parents that some rows name."""
+    numbers = sorted({number for row in rows for number in (row.sire, row.dam) if number})
+    marks = ", ".join("?" * len(numbers))
+    return dict(connection.execute(f"SELECT number, id FROM animal WHERE number IN ({marks}) ORDER BY since", numbers))

@@ -1,0 +1,102 @@
+"""What is asked about animals: one shown with its relatives and history, those that a text finds, and lists of some."""
+from __future__ import annotations
+
+import csv
+import io
+from collections.abc import Callable
+from fractions import Fraction
+
+from front_desk.desk import Desk
+from front_desk.sheet import Secretary
+
+
+def test_show(secretary_desk: Desk, secretary: Secretary) -> None:
+    """The sibs and offspring are those that the sheet's parents make, each once."""
+    parents = secretary.parents()
+    chosen = max(parents, key=lambda id: sum(id in its for its in parents.values()) * bool(all(parents[id])))
+    shown = secretary_desk.good("show", chosen).out
+    sire, dam = parents[chosen]
+    offspring = [id for id, its in parents.items() if chosen in its]
+    full = [id for id, its in parents.items() if its == (sire, dam) and id != chosen]
+    by_sire = [id for id, its in parents.items() if its[0] == sire and its[1] != dam]
+    by_dam = [id for id, its in parents.items() if its[1] == dam and its[0] != sire]
+    partners = {next(iter(set(parents[id]) - {chosen})) for id in offspring}
+    assert f"\noffspring: {len(offspring)} with {len(partners)} partner" in shown
+    for what, ids in ("full sibs", full), ("half sibs by the sire", by_sire), ("half sibs by the dam", by_dam):
+        part = shown.partition(f"\n{what}: {len(ids)}\n")[2]
+        assert {line.split("  ")[1] for line in part.splitlines()[: len(ids)]} == set(ids), what
+    exact = secretary.coefficients()[chosen]
+    assert f"  coefficient   {exact} = " in shown
+    assert f"  sire          {sire}  " in shown
+
+
+def test_show_history(society_desk: Desk) -> None:
+    """Each change of the animal and what was told of it, also a refused one; of others nothing."""
+    society_desk.good("transfer", "GK-17/472c", "--to", "New Farm", "--day", "2020-01-01")
+    assert society_desk.run("exit", "GK-17/472c", "--day", "2001-01-01").status == 1
+    society_desk.good("exit", "GK-18/486b", "--day", "2021-01-01")
+    told = society_desk.good("show", "GK-17/472c").out.partition("\nhistory\n")[2].splitlines()
+    assert [line.split()[0] for line in told if line[2] != " "] == ["1", "2", "3"]
+    assert "    owner New Farm, before St. Anne's Abbey; owner since 2020-01-01, before 2017-11-21" in told[3]
+    assert "refusal 14" in told[-1]
+    left_out = society_desk.good("show", "GK-12/351b").out
+    assert "sire          unknown (in the sheet: GK-12/341c)" in left_out
+    assert "isn't male (refusal 5)" in left_out
+
+
+def test_show_many(desk: Desk) -> None:
+    rows = "".join(f"C{at},2004-01-{at % 28 + 1:02},S,D{at % 40}\n" for at in range(60))
+    desk.take(f"id,birth,sire,dam\nS,2000-01-01,,\n{rows}")
+    few, every = desk.good("show", "S").out, desk.good("show", "S", "--all").out
+    assert "offspring: 60 with 40 partners" in few and "  and 35 more: --all shows them" in few
+    assert few.count("    C") == 25 and every.count("    C") == 60 and "more" not in every
+
+
+def test_find(secretary_desk: Desk) -> None:
+    """In ids, names, numbers and owners, with capitals or without; of several texts each."""
+
+    def ids(*texts: str) -> set[str]:
+        return {row["id"] for row in secretary_desk.listed("find", *texts)}
+
+    rows = Secretary().rows
+    assert ids("hof süd") == {row["Ohrmarke"] for row in rows if row["Besitzer"].startswith("Hof Süd")}
+    assert ids("löw") == {row["Ohrmarke"] for row in rows if "Löw" in row["Name"] or "Löw" in row["Besitzer"]}
+    assert ids("LÖWE", "groß") == {r["Ohrmarke"] for r in rows if "Löwe" in r["Name"] and "Groß" in r["Besitzer"]}
+    assert ids("DE-98/00") == {row["Ohrmarke"] for row in rows if "DE-98/00" in row["Ohrmarke"]}
+    numbers = secretary_desk.numbers()
+    assert ids(numbers["DE-98/003"].lower()) == {"DE-98/003"}
+    secretary_desk.wrong("has 'Bärbelo': is Bärbel", "find", "Bärbelo")
+
+
+def test_list_of_some(society_desk: Desk) -> None:
+    every = society_desk.listed("list", "--columns", "+sex,birth,sire,dam,owner,exit,offspring")
+    by_id = {row["id"]: row for row in every}
+    added = ("GK-90/011c", "IMP-7 (imported)")
+    choices: list[tuple[list[str], Callable[[dict[str, str]], bool]]] = [
+        (["--sex", "f"], lambda row: row["sex"][0] == "F"),
+        (["--owner", "lower mill"], lambda row: row["owner"] == "Lower Mill"),
+        (["--born", "2010..2012-06"], lambda row: "2010-01-01" <= row["birth"] <= "2012-06-30"),
+        (["--living", "--sex", "m"], lambda row: not row["exit"] and row["sex"] == "M" and row["id"] not in added),
+    ]
+    for words, is_in in choices:
+        ids = [row["id"] for row in society_desk.listed("list", *words)]
+        assert ids == [row["id"] for row in every if is_in(row)], words
+        assert 5 < len(ids) < 400
+    for row in every:
+        assert row["offspring"] == str(sum(row["id"] in (one["sire"], one["dam"]) for one in every))
+        assert not row["sire"] or by_id[row["sire"]]["sex"][0] == "M"
+    society_desk.wrong("is Lower Mill meant?", "list", "--owner", "Lower Mil")
+    society_desk.wrong("there is no column 'color'", "list", "--columns", "id,color")
+
+
+def test_computed_columns(mrode_desk: Desk) -> None:
+    """Mrode's six animals: D of Henderson's rules, Maignel's generations, and means of the tabular matrix's rows."""
+    words = "id,equivalent-generations,full generations,sampling_variance,mean-kinship"
+    rows = mrode_desk.listed("list", "--columns", words)
+    assert [row["sampling_variance"] for row in rows] == ["1", "1", "0.5", "0.75", "0.5", "0.46875"]
+    assert [row["equivalent_generations"] for row in rows] == ["0", "0", "1", "0.5", "1.75", "1.875"]
+    assert [row["full_generations"] for row in rows] == ["0", "0", "1", "0", "1", "1"]
+    matrix = list(csv.reader(io.StringIO(mrode_desk.good("kinship", *"123456", "--matrix", "kinship").out)))
+    for row, line in zip(rows, matrix[1:]):
+        mean = sum(Fraction(cell) for cell in line[1:]) / 6
+        assert abs(Fraction(row["mean_kinship"]) - mean) < Fraction(1, 10**9)

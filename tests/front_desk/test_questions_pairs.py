@@ -1,0 +1,119 @@
+"""Kinships, tables of matings and exports, compared with the tabular matrix by its definition."""
+from __future__ import annotations
+
+import csv
+import io
+import itertools
+from fractions import Fraction
+
+import reference
+from front_desk.desk import Desk
+
+SOME = ["GK-17/472c", "GK-02/119b", "GK-11/332b", "GK-98/005c", "GK-14/391c", "GK-18/487c", "IMP-7 (imported)"]
+
+
+def entries(desk: Desk) -> tuple[dict[str, str], reference.Relationship]:
+    """The numbers by ids, and the matrix."""
+    return desk.numbers(), reference.filed(desk.text("book/commands.csv"))[0].relationships()
+
+
+def test_kinship(society_desk: Desk) -> None:
+    numbers, entry = entries(society_desk)
+    society_desk.write("some.txt", "id\n" + "\n".join(SOME) + "\n")
+    pairs = list(itertools.combinations_with_replacement(SOME, 2))
+    for words in ([*SOME], ["--among", "some.txt"], [SOME[0], "--among", "some.txt"]):
+        rows = society_desk.listed("kinship", *words)
+        assert [(row["id"], row["with"]) for row in rows] == pairs, words
+        for row in rows:
+            value = entry(numbers[row["id"]], numbers[row["with"]])
+            assert Fraction(row["relationship"]) == value and Fraction(row["kinship"]) == value / 2
+            assert abs(Fraction(row["kinship_decimal"]) - value / 2) <= Fraction(1, 2 * 10**10)
+    with_some = society_desk.listed("kinship", "GK-10/294b", "GK-09/271b", "--with", "some.txt")
+    assert [(row["id"], row["with"]) for row in with_some] == list(itertools.product(["GK-10/294b", "GK-09/271b"], SOME))
+    assert all(Fraction(row["relationship"]) == entry(numbers[row["id"]], numbers[row["with"]]) for row in with_some)
+
+
+def test_kinship_matrix(society_desk: Desk) -> None:
+    numbers, entry = entries(society_desk)
+    for kind, times in ("relationship", 1), ("kinship", Fraction(1, 2)):
+        lines = list(csv.reader(io.StringIO(society_desk.good("kinship", *SOME, "--matrix", kind).out)))
+        assert lines[0] == ["id", *SOME] and [line[0] for line in lines[1:]] == SOME
+        for line, other in itertools.product(lines[1:], range(len(SOME))):
+            value = entry(numbers[line[0]], numbers[SOME[other]]) * times
+            assert abs(Fraction(line[other + 1]) - value) <= Fraction(1, 2 * 10**10)
+    german = society_desk.good("kinship", *SOME[:2], "--matrix", "relationship", "--semicolons").out
+    assert german.splitlines()[1:] == ["GK-17/472c;1,03125;0", "GK-02/119b;0;1,25"]
+
+
+def test_kinship_mistakes(society_desk: Desk) -> None:
+    society_desk.write("wrong.txt", "GK-17/472c\nGK-17/472x\nnobody\n")
+    society_desk.wrong("wrong.txt: the book has no animal 'nobody'", "kinship", "--among", "wrong.txt")
+    society_desk.wrong("wrong.txt: the book has no animal 'GK-17/472x': is", "kinship", "--among", "wrong.txt")
+    society_desk.wrong("kinship needs animals", "kinship")
+
+
+def test_matings(society_desk: Desk) -> None:
+    """Half of each relationship, and the same that `mating --dam` says."""
+    numbers, entry = entries(society_desk)
+    society_desk.write("dams.txt", "GK-17/472c\nGK-14/391c\n")
+    society_desk.write("sires.txt", "GK-10/294b\nGK-11/332b\nGK-16/446b\n")
+    rows = society_desk.listed("mating", "--dams", "dams.txt", "--sires", "sires.txt")
+    assert [row["dam"] for row in rows] == ["GK-17/472c"] * 3 + ["GK-14/391c"] * 3
+    for row in rows:
+        assert Fraction(row["coefficient"]) == entry(numbers[row["dam"]], numbers[row["sire"]]) / 2
+    for dam in "GK-17/472c", "GK-14/391c":
+        one = society_desk.listed("mating", "--dam", dam, "GK-10/294b", "GK-11/332b", "GK-16/446b")
+        asked = [(row["sire"], row["coefficient"], row["decimal"], row["percent"]) for row in rows if row["dam"] == dam]
+        assert asked == [(row["id"], row["coefficient"], row["decimal"], row["percent"]) for row in one]
+    matrix = society_desk.good("mating", "--dams", "dams.txt", "GK-10/294b", "GK-11/332b", "--matrix").out
+    assert matrix.splitlines()[:2] == ["percent,GK-10/294b,GK-11/332b", "GK-17/472c,3.32,26.56"]
+    all_males = society_desk.listed("mating", "--dams", "dams.txt")
+    living = [row["id"] for row in society_desk.listed("list", "--living", "--sex", "m")]
+    assert {row["sire"] for row in all_males} == set(living) and len(all_males) == 2 * len(living)
+    society_desk.wrong("GK-17/472c, GK-14/391c: no sire can be female", "mating", "--sires", "dams.txt")
+    society_desk.wrong("mating needs a dam", "mating")
+
+
+def test_refused_matings(desk: Desk) -> None:
+    """A calf with 61 steps behind it is refused by the program, and isn't in the table."""
+    lines = ["id,birth,sex,sire,dam", "A0,1930-01-01,m,,", "B,1930-01-01,f,,", "C,2001-01-01,m,,"]
+    lines += [f"A{at},{1930 + at}-01-01,{'f' if at == 60 else 'm'},A{at - 1}," for at in range(1, 61)]
+    desk.take("\n".join(lines) + "\n")
+    desk.write("dams.txt", "A60\nB\n")
+    done = desk.good("mating", "--dams", "dams.txt", "C")
+    assert done.out == "dam,sire,coefficient,decimal,percent\nB,C,0,0,0.00\n"
+    assert "longer than 60 steps (fault 5): A60 with C" in done.err
+
+
+def test_export(society_desk: Desk) -> None:
+    """In age order, and it is the same book where it is taken again."""
+    rows = society_desk.listed("export")
+    assert [row["id"] for row in rows] == [row["id"] for row in society_desk.listed("list")]
+    assert {row["id"]: (row["sire"], row["dam"]) for row in rows} == society_desk.parents()
+    society_desk.good("export", "--out", "all.csv")
+    society_desk.good("export", "--triples", "--out", "all.txt")
+    for words in ["all.csv"], ["--pedigree", "all.txt"]:
+        society_desk.good("take", *words, "--book", words[-1][4:])
+        again = society_desk.listed("list", "--book", words[-1][4:])
+        assert {(row["id"], row["coefficient"]) for row in again} == {(row["id"], row["coefficient"]) for row in rows}
+    told = society_desk.listed("export", "--book", "csv")
+    same = ("id", "name", "sex", "birth", "sire", "dam", "owner", "exit", "embryo")
+    assert [[row[title] for title in same] for row in told] == [[row[title] for title in same] for row in rows]
+
+
+def test_export_of_some(society_desk: Desk) -> None:
+    """The ancestors of those that are named, and no others; relationships stay as they are."""
+    society_desk.write("keep.txt", "GK-17/472c\nGK-18/487c\n")
+    parents = society_desk.parents()
+    wanted, new = set[str](), ["GK-17/472c", "GK-18/487c"]
+    while new:
+        wanted.update(new)
+        new = [parent for id in new for parent in parents[id] if parent]
+    lines = society_desk.good("export", "--triples", "--keep", "keep.txt").out.splitlines()
+    assert lines[0] == "id sire dam"
+    assert {line.split()[0] for line in lines[1:]} == wanted
+    seen = {"NA"}
+    for id, sire, dam in (line.split() for line in lines[1:]):
+        assert {sire, dam} <= seen and parents[id] == (sire.replace("NA", ""), dam.replace("NA", ""))
+        seen.add(id)
+    assert {row["id"] for row in society_desk.listed("export", "--keep", "keep.txt")} == wanted
