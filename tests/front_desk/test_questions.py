@@ -98,5 +98,5 @@ def test_computed_columns(mrode_desk: Desk) -> None:
     assert [row["full_generations"] for row in rows] == ["0", "0", "1", "0", "1", "1"]
     matrix = list(csv.reader(io.StringIO(mrode_desk.good("kinship", *"123456", "--matrix", "kinship").out)))
     for row, line in zip(rows, matrix[1:]):
-        mean = sum(Fraction(cell) for cell in line[1:]) / 6
+        mean = sum((Fraction(cell) for cell in line[1:]), Fraction(0)) / 6
         assert abs(Fraction(row["mean_kinship"]) - mean) < Fraction(1, 10**9)

@@ -35,7 +35,7 @@ def test_kinship(society_desk: Desk) -> None:
 
 def test_kinship_matrix(society_desk: Desk) -> None:
     numbers, entry = entries(society_desk)
-    for kind, times in ("relationship", 1), ("kinship", Fraction(1, 2)):
+    for kind, times in ("relationship", Fraction(1)), ("kinship", Fraction(1, 2)):
         lines = list(csv.reader(io.StringIO(society_desk.good("kinship", *SOME, "--matrix", kind).out)))
         assert lines[0] == ["id", *SOME] and [line[0] for line in lines[1:]] == SOME
         for line, other in itertools.product(lines[1:], range(len(SOME))):
