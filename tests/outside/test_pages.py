@@ -24,6 +24,10 @@ STATUSES = [
 ]
 
 
+# as many words are read in half a minute by who looks for what it is, why and how
+README_WORDS = 600
+
+
 class TestPages(Rooms):
     def test_pages(self) -> None:
         """The examples of each page as they stand there, in a folder of the page's own."""
@@ -32,6 +36,15 @@ class TestPages(Rooms):
         shown, ran = (sum(count) for count in zip(*counts))
         found = f"{ran} commands and {shown} printed texts were found"
         self.count(shown >= 8 and ran >= shown, f"the pages: {found}")
+
+    def test_readme(self) -> None:
+        """README is short, and what it points to is there."""
+        text = (TOP / "README.md").read_text()
+        words = len(text.split())
+        self.count(words <= README_WORDS, f"README has {words} words, {README_WORDS} at most")
+        links = re.findall(r"\]\(([^)#]+)", text)
+        lost = [link for link in links if not (TOP / link).is_file()]
+        self.count(bool(links) and not lost, f"what README points to isn't there: {lost}")
 
     def test_table_of_statuses(self) -> None:
         """Each row of the table has a group of checks, and each group's row is there."""
