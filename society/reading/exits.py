@@ -14,7 +14,7 @@ DEAD = re.compile(r"†|✝|^\+(?=\s*\d)")
 
 def lives(text: str) -> bool:
     """Does it say that the animal hasn't left, as `lebt (Stand 2024)`?"""
-    if text.casefold() in KNOWN_NO:
+    if not text or text.casefold() in KNOWN_NO:
         return True
     return has_word(text, KNOWN_STAYS) and not has_word(text, TELLING_EXITS | KNOWN_NEGATIONS)
 

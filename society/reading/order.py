@@ -27,6 +27,11 @@ class Order:
                 else:
                     self.either += first != second
 
+    @staticmethod
+    def may_show(text: str) -> bool:
+        """Can a text have such a day?"""
+        return "/" in text or "-" in text
+
     def fault(self, month_first: bool) -> str:
         """Why the days can't be read in the order that is wanted."""
         wrong = self.days_first if month_first else self.months_first

@@ -93,10 +93,10 @@ class Rows:
         for animal in animals.values():
             if plain(animal.id.split()[0]) in KNOWN_SUMS:
                 self.report.add(animal.line, animal.id, LikeASum())
+        places = [(name, line, cells) for name in DAYS if name in self.columns for line, cells in self.sheet.rows]
+        slashed = [(*place, text) for place in places if Order.may_show(text := self.cell(place[2], place[0]))]
         order = Order(
-            (f"line {line}: {self.cell(cells, Field.ID)}: {DAYS[name]}", self.cell(cells, name))
-            for name in DAYS
-            for line, cells in self.sheet.rows
+            (f"line {line}: {self.cell(cells, Field.ID)}: {DAYS[name]}", text) for name, line, cells, text in slashed
         )
         self.faults += [order.fault(self.month_first), *self.cut_numbers()]
         self.faults += [*self.unread.mostly(), *self.errors.mostly()]
@@ -106,7 +106,7 @@ class Rows:
     def cell(self, cells: list[str], name: str) -> str:
         at = self.columns.get(name)
         text = cells[at] if at is not None and at < len(cells) else ""
-        return "" if text[:1] in "#E" and self.errors.is_one(text) else text
+        return "" if self.errors.found and self.errors.is_one(text) else text
 
     def is_of_book(self, id: str, cells: list[str]) -> bool:
         """Has the row the birth day that the book has of this id?"""
@@ -236,8 +236,9 @@ class Rows:
         found = []
         for pattern, what in (CUT, CUT_TOLD), (FORMULA, FORMULA_TOLD):
             names = (Field.ID, *ROLES) if pattern is CUT else self.columns
-            places = [(line, self.cell(cells, name)) for line, cells in self.sheet.rows for name in names]
-            those = [(line, text) for line, text in places if pattern.fullmatch(text)]
+            columns = [at for name in names if (at := self.columns.get(name)) is not None]
+            places = [(line, cells[at]) for line, cells in self.sheet.rows for at in columns if at < len(cells)]
+            those = [(line, text) for line, text in places if text and pattern.fullmatch(text)]
             more = f" ({counted(len(those), 'such cell')})" if len(those) > 1 else ""
             found += [f"line {line}: '{text}' {what}{more}" for line, text in those[:1]]
         return found

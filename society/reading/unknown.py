@@ -36,8 +36,16 @@ class UnknownParents:
         self.more = {word.casefold() for one in more for word in listed(one)}
         self.known = {word.casefold() for one in known for word in listed(one)}
 
+        # the same texts stand in many cells
+        self.seen: dict[str, bool] = {}
+
     def __contains__(self, text: object) -> bool:
-        return isinstance(text, str) and self.is_one(text)
+        if not isinstance(text, str):
+            return False
+        found = self.seen.get(text)
+        if found is None:
+            found = self.seen[text] = self.is_one(text)
+        return found
 
     def is_one(self, text: str) -> bool:
         folded = text.casefold()
