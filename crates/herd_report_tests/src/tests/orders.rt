@@ -137,6 +137,15 @@ fn stops_where_the_writer_does(rt: HostRuntime) -> Result<(), Fail> {
         let order = Order::Mating { dam, sires: &sires };
         run_order!(rt, order, writer)
     })?;
+    expect_stops(&rt, |writer| {
+        let numbers = [number, dam];
+        let others = [Bull(3).number(), Bull(9).number()];
+        let order = Order::Relationships {
+            numbers: &numbers,
+            others: &others,
+        };
+        run_order!(rt, order, writer)
+    })?;
     expect_stops(&rt, |writer| run_order!(rt, Order::Inverse, writer))
 }
 

@@ -8,7 +8,7 @@ use herd_kinship::coefficients_plain;
 use herd_register::{Command, Refusal, Reply, Step};
 use herd_report::{
     CertificateFault, ReportFault, write_certificate, write_inbreeding, write_inverse,
-    write_mating, write_replies,
+    write_mating, write_relationships, write_replies,
 };
 use linked_list_allocator::LocalHeap;
 use std::process::Abort;
@@ -49,6 +49,12 @@ DDD 0
 
 const ADVICE: &[u8] = b"HOLGBRM000000000003,1/4,25.00
 HOLGBRF000000000004,refused,3
+";
+
+const RELATIONSHIPS: &[u8] = b"HOLGBRM000000000099,refused,1
+HOLGBRM000000000005,HOLGBRM000000000005,5/4
+HOLGBRM000000000005,HOLGBRF000000000004,3/4
+HOLGBRF000000000004,HOLGBRF000000000004,1
 ";
 
 const CONTRIBUTION: &[u8] = b"HOLGBRM000000000001,HOLGBRM000000000001,HOLGBRM000000000001,1\n";
@@ -124,6 +130,16 @@ fn writes_advice(rt: HostRuntime) -> Result<(), Fail> {
     let sires = [Bull(3).number(), dam];
     expect_memory_or_text(&rt, ADVICE, |alloc, writer| {
         Ok(write_mating(alloc, &frozen, &coefficients, dam, &sires, writer)?)
+    })
+}
+
+#[test]
+fn writes_relationships(rt: HostRuntime) -> Result<(), Fail> {
+    let frozen = frozen_of(rt.alloc(), &full_sibs())?;
+    let coefficients = coefficients_plain(rt.alloc(), &frozen)?;
+    let numbers = [Bull(5), Bull(99), Cow(4)].map(|name| name.number());
+    expect_memory_or_text(&rt, RELATIONSHIPS, |alloc, writer| {
+        Ok(write_relationships(alloc, &frozen, &coefficients, &numbers, &[], writer)?)
     })
 }
 
