@@ -4,6 +4,7 @@ from __future__ import annotations
 import calendar
 import datetime
 import enum
+import functools
 import re
 from typing import NamedTuple
 
@@ -133,6 +134,7 @@ def year_of(year: int, wrong: str = "", text: str = "") -> Span:
     return Span(datetime.date(year, 1, 1), datetime.date(year, 12, 31), wrong, text, Precision.YEAR)
 
 
+@functools.lru_cache(maxsize=50_000)
 def read_span(text: str, month_first: bool = False, legible: bool = True) -> Span:
     """The day, month or year of a cell, or, where that is wanted, the only year that is legible in it; raises
     `Unreadable`."""

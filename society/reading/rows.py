@@ -134,21 +134,25 @@ class Rows:
         return is_known and abs((here.first - animal.birth.first).days) >= YEARS_APART
 
     def animal(self, line: int, id: str, cells: list[str]) -> Animal:
-        animal = Animal(id, line, name=self.cell(cells, Field.NAME), owner=self.cell(cells, Field.OWNER))
-        animal.cells = {name: self.cell(cells, name) for name in self.columns if name != Field.ID}
-        animal.sire, animal.dam = (self.parent(cells, role) for role in ROLES)
+        said = {name: self.cell(cells, name) for name in self.columns}
+        del said[Field.ID]
+        animal = Animal(id, line, name=said.get(Field.NAME, ""), owner=said.get(Field.OWNER, ""), cells=said)
+        animal.sire, animal.dam = (self.known_parent(said.get(role, "")) for role in ROLES)
         for text in id, animal.name, animal.owner, animal.sire, animal.dam:
-            self.letters.look(line, text)
-        self.read_sex(animal, self.cell(cells, Field.SEX))
-        animal.birth = self.span(animal, Field.BIRTH, self.cell(cells, Field.BIRTH)) or ANY_DAY
-        self.read_exit(animal, self.cell(cells, Field.EXIT))
-        animal.since = self.span(animal, Field.SINCE, self.cell(cells, Field.SINCE))
-        animal.embryo = self.is_embryo(animal, self.cell(cells, Field.EMBRYO))
+            if not text.isascii():
+                self.letters.look(line, text)
+        self.read_sex(animal, said.get(Field.SEX, ""))
+        animal.birth = self.span(animal, Field.BIRTH, said.get(Field.BIRTH, "")) or ANY_DAY
+        self.read_exit(animal, said.get(Field.EXIT, ""))
+        animal.since = self.span(animal, Field.SINCE, said.get(Field.SINCE, ""))
+        animal.embryo = self.is_embryo(animal, said.get(Field.EMBRYO, ""))
         return animal
 
+    def known_parent(self, text: str) -> str:
+        return "" if text in self.unknown else text
+
     def parent(self, cells: list[str], role: str) -> str:
-        parent = self.cell(cells, role)
-        return "" if parent in self.unknown else parent
+        return self.known_parent(self.cell(cells, role))
 
     def leave_out(self, animal: Animal, name: str, text: str, found: Finding) -> None:
         """A cell that can't be read."""
