@@ -62,7 +62,7 @@ class Secretary:
         self.grandchild = calf["Ohrmarke"]
         self.grandsire = by_id[calf["Vater"]]["Vater"]
         by_id[self.grandsire]["Mutter"] = self.grandchild
-        self.misled, self.cow = self.rows[150]["Ohrmarke"], self.rows[40]["Ohrmarke"]
+        self.misled = self.rows[150]["Ohrmarke"]
         self.cow = next(row["Ohrmarke"] for row in self.rows[30:60] if row["Geschlecht"] == "weiblich")
         self.rows[150]["Vater"] = self.cow
         dams = [row["Mutter"] for row in self.rows]
