@@ -1,0 +1,145 @@
+"""The file of a book: what isn't one is told and not touched, and it is read where nothing can be written."""
+from __future__ import annotations
+
+import contextlib
+import os
+import pathlib
+import shutil
+import sqlite3
+import tempfile
+from typing import Iterator
+
+import pytest
+
+from front_desk.desk import Desk
+from front_desk.whole import FLOCK, GROWN, changes_of, run
+from society.book import database, schema
+
+# who has no rights: nobody
+NOBODY = 65534
+
+
+@pytest.fixture
+def flock_desk(desk: Desk) -> Desk:
+    desk.take(FLOCK)
+    return desk
+
+
+def change_file(desk: Desk, *statements: str) -> None:
+    with contextlib.closing(sqlite3.connect(desk.room / "book/book.sqlite", isolation_level=None)) as connection:
+        for statement in statements:
+            connection.execute(statement)
+
+
+CALLS = (["list"], ["take", "sheet.csv"], ["verify"], ["undo"], ["backup", "copy"])
+
+
+def test_no_database(flock_desk: Desk) -> None:
+    flock_desk.write("book/book.sqlite", "no database " * 999)
+    for words in CALLS:
+        flock_desk.wrong("book/book.sqlite is damaged, or isn't a database", *words)
+
+
+def test_damaged(flock_desk: Desk) -> None:
+    """Pages of zeros within the file: what reads or changes them is told, and a backup makes it whole."""
+    flock_desk.good("backup", "copy")
+    listed = flock_desk.good("list").out
+    text = bytearray((flock_desk.room / "book/book.sqlite").read_bytes())
+    text[8192:] = bytes(len(text) - 8192)
+    flock_desk.write("book/book.sqlite", bytes(text))
+    for words in CALLS[:4]:
+        done = flock_desk.run(*words)
+        assert done.status == 1 and "is damaged" in done.err and not done.out, f"{words}: {done}"
+    assert (flock_desk.room / "book/book.sqlite").read_bytes() == bytes(text)
+    flock_desk.good("restore", "copy", "--anyway")
+    assert flock_desk.good("list").out == listed
+
+
+def test_newer_schema(flock_desk: Desk) -> None:
+    change_file(flock_desk, "PRAGMA user_version = 99")
+    for words in CALLS:
+        flock_desk.wrong("was written by a newer front desk (its tables have version 99", *words)
+
+
+def test_database_of_another_program(flock_desk: Desk) -> None:
+    change_file(flock_desk, "PRAGMA application_id = 7")
+    for words in CALLS:
+        flock_desk.wrong("is a database of another program, not a herd book", *words)
+
+
+@pytest.mark.parametrize(("statement", "told"), [
+    ("UPDATE command SET day = '1999-12-31' WHERE place = 3", "1 animal aren't as the journal has them"),
+    ("UPDATE command SET refusal = 5 WHERE place = 3", "the program's reply to command 3 is that it is accepted"),
+    ("UPDATE coefficient SET fraction = '1/2' WHERE place = 9", "1 kept coefficient aren't the program's"),
+    ("DELETE FROM owner", ""),
+])  # fmt: skip
+def test_verify(flock_desk: Desk, statement: str, told: str) -> None:
+    """What somebody changed in the file is told before anything is written."""
+    change_file(flock_desk, statement)
+    if told:
+        flock_desk.wrong(told, "verify")
+        flock_desk.wrong(told, "take", "sheet.csv")
+
+
+def test_migration(flock_desk: Desk, monkeypatch: pytest.MonkeyPatch) -> None:
+    """A file of an earlier version becomes one of this version on the first call; it is the earlier one where that
+    fails."""
+    folder = flock_desk.room / "book"
+    for script, is_made in (("CREATE TABLE added (one) STRICT;", False), ("CREATE TABLE added (one TEXT) STRICT;", True)):
+        monkeypatch.setattr(database, "MIGRATIONS", (*schema.MIGRATIONS, script))
+        monkeypatch.setattr(database, "VERSION", schema.VERSION + 1)
+        with contextlib.ExitStack() as stack:
+            if not is_made:
+                stack.enter_context(pytest.raises(Exception, match="nothing is changed"))
+            database.up_to_date(folder)
+        with contextlib.closing(sqlite3.connect(folder / "book.sqlite")) as connection:
+            version = connection.execute("PRAGMA user_version").fetchone()[0]
+            tables = connection.execute("SELECT count(*) FROM sqlite_schema WHERE name = 'added'").fetchone()[0]
+        assert (version, tables) == (schema.VERSION + is_made, is_made)
+    assert changes_of(folder) == 1
+
+
+@pytest.fixture
+def open_room() -> Iterator[pathlib.Path]:
+    """A folder that nobody may go to."""
+    room = pathlib.Path(tempfile.mkdtemp(prefix="society-tests-"))
+    room.chmod(0o755)
+    yield room
+    shutil.rmtree(room)
+
+
+@pytest.mark.skipif(os.getuid() != 0, reason="only root can call as somebody else")
+@pytest.mark.parametrize("is_unsettled", [False, True])
+def test_without_rights(flock_desk: Desk, open_room: pathlib.Path, is_unsettled: bool) -> None:
+    """Where nothing can be written a book is read, also with a change that isn't in the file itself yet."""
+    desk = flock_desk.copy_to(open_room)
+    listed = desk.good("list").out
+    with contextlib.closing(sqlite3.connect(desk.room / "book/book.sqlite")) as connection:
+        if is_unsettled:
+            connection.execute("UPDATE animal SET name = 'unsettled' WHERE id = 'a0'")
+            connection.commit()
+            for name in "book.sqlite-wal", "book.sqlite-shm":
+                (desk.room / "book" / name).chmod(0o644)
+        nobody = lambda: os.setuid(NOBODY)  # noqa: E731
+        done = run(desk, "list", before=nobody)
+        assert done.status == 0
+        assert done.out == (listed.replace("a0,,", "a0,unsettled,") if is_unsettled else listed)
+        assert "is whole" in run(desk, "verify", before=nobody).out
+        desk.write("grown.csv", GROWN)
+        for words in ["take", "grown.csv"], ["undo"], ["exit", "a0", "--day", "2012-01-01"]:
+            done = run(desk, *words, before=nobody)
+            assert done.status == 1 and "book/book.sqlite can't be written" in done.err and not done.out, f"{done}"
+    assert changes_of(desk.room / "book") == 1
+
+
+def test_exports(flock_desk: Desk) -> None:
+    """Exports that were changed or are missing are written again, and never read."""
+    kept = {name: flock_desk.text(f"book/{name}") for name in ("commands.csv", "ids.csv", "report.csv")}
+    assert all(row["change"] == "1" for row in flock_desk.table("book/ids.csv"))
+    flock_desk.write("book/commands.csv", "changed")
+    (flock_desk.room / "book/ids.csv").unlink()
+    flock_desk.good("list")
+    assert {name: flock_desk.text(f"book/{name}") for name in kept} == kept
+    flock_desk.good("exit", "a0", "--day", "2012-01-01")
+    assert all(row["change"] == "2" for row in flock_desk.table("book/ids.csv"))
+    assert flock_desk.commands()[-1].startswith("exit,")

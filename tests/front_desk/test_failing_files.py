@@ -1,0 +1,69 @@
+"""Calls on files that fail, each at every place, and files that can't be long enough: what is told of the change is
+true, and the book is whole."""
+from __future__ import annotations
+
+import pathlib
+import resource
+import subprocess
+
+import pytest
+
+from front_desk.desk import TOP, Desk
+from front_desk.whole import FLOCK, GROWN, changes_of, run, told_truly
+
+# so many calls of a kind a taking makes at most
+MOST_CALLS = 400
+SIZES = (0, 1, 100, 500, 4096, 8192, 20_000, 40_000, 80_000, 90_000, 120_000, 1_000_000)
+
+
+@pytest.fixture(scope="module")
+def failing(tmp_path_factory: pytest.TempPathFactory) -> str:
+    library = tmp_path_factory.mktemp("library") / "fail_files.so"
+    source = TOP / "tests/front_desk/fail_files.c"
+    subprocess.run(["cc", "-O1", "-shared", "-fPIC", "-o", library, source, "-ldl"], check=True)
+    return str(library)
+
+
+@pytest.fixture(scope="module")
+def taken_flock(program: str, tmp_path_factory: pytest.TempPathFactory) -> Desk:
+    desk = Desk(tmp_path_factory.mktemp("flock"), program)
+    desk.take(FLOCK)
+    desk.write("grown.csv", GROWN)
+    return desk
+
+
+@pytest.mark.parametrize("call", ["write", "sync", "rename"])
+def test_each_call_fails(taken_flock: Desk, failing: str, tmp_path: pathlib.Path, call: str) -> None:
+    """The first call fails, then the second, and so on, until a taking makes no more."""
+    for nth in range(1, MOST_CALLS):
+        desk = taken_flock.copy_to(tmp_path / str(nth))
+        met = desk.room / "met"
+        done = run(desk, "take", "grown.csv", FAIL=call, FAIL_NTH=str(nth), FAIL_MET=str(met), LD_PRELOAD=failing)
+        told_truly(done, 1, changes_of(desk.room / "book"))
+        if not met.exists():
+            assert done.status == 0 and nth > 2
+            return
+    pytest.fail("a taking makes more calls than are tried")
+
+
+@pytest.mark.parametrize("call", ["write", "sync"])
+def test_calls_fail_from_one_on(taken_flock: Desk, failing: str, tmp_path: pathlib.Path, call: str) -> None:
+    """As on a disk that is full, or that is broken, from a moment on."""
+    for nth in (1, 2, 4, 8, 16):
+        desk = taken_flock.copy_to(tmp_path / str(nth))
+        calls = {"FAIL": call, "FAIL_NTH": str(nth), "FAIL_LAST": "1000000", "LD_PRELOAD": failing}
+        done = run(desk, "take", "grown.csv", **calls)
+        told_truly(done, 1, changes_of(desk.room / "book"))
+        assert "is whole" in desk.good("verify").out
+
+
+@pytest.mark.parametrize("is_new", [True, False])
+def test_short_files(taken_flock: Desk, tmp_path: pathlib.Path, is_new: bool) -> None:
+    """No file may have more than so many bytes."""
+    for size in SIZES:
+        desk = Desk(tmp_path / str(size), taken_flock.program) if is_new else taken_flock.copy_to(tmp_path / str(size))
+        desk.write("grown.csv", GROWN)
+        before = changes_of(desk.room / "book")
+        limit = lambda: resource.setrlimit(resource.RLIMIT_FSIZE, (size, size))  # noqa: B023, E731
+        done = run(desk, "take", "grown.csv", before=limit)
+        told_truly(done, before, changes_of(desk.room / "book"))

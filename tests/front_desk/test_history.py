@@ -1,0 +1,162 @@
+"""The history of a book: single commands, what stays by hand, undo, backup and restore."""
+from __future__ import annotations
+
+import random
+import re
+
+import pytest
+
+from front_desk.desk import Desk
+from front_desk.whole import FLOCK, GROWN, changes_of
+
+CALF = ["birth", "calf", "--sex", "f", "--day", "2012-03-04", "--sire", "a8", "--dam", "a9", "--owner", "Neuer Hof"]
+
+
+@pytest.fixture
+def flock_desk(desk: Desk) -> Desk:
+    desk.take(FLOCK)
+    return desk
+
+
+def test_single_commands(flock_desk: Desk) -> None:
+    """Each is filed with its reply; the answer is the reply in words."""
+    number = "HOLGBRF000000000017"
+    assert flock_desk.good(*CALF).out == f"calf ({number}): the birth on 2012-03-04 is accepted: change 2\n"
+    assert flock_desk.good("parents", "calf", "--dam", "0").out == f"calf ({number}): the parents are accepted: change 3\n"
+    flock_desk.good("transfer", "calf", "--to", "farm 1", "--day", "2013-01-01")
+    flock_desk.good("exit", "calf", "--day", "2014-01-01")
+    assert flock_desk.commands()[-4:] == [
+        f"birth,{number},2012-03-04,{flock_desk.numbers()['a8']},{flock_desk.numbers()['a9']},,4,",
+        f"parents,{number},,{flock_desk.numbers()['a8']},0,,,",
+        f"transfer,{number},2013-01-01,,,4,2,",
+        f"exit,{number},2014-01-01,,,,,",
+    ]
+    assert "calf: owner farm 1, before Neuer Hof" in flock_desk.good("history", "4").out
+    assert "is whole" in flock_desk.good("verify").out
+
+
+@pytest.mark.parametrize(("words", "refusal"), [
+    (["birth", "a0", "--sex", "f", "--day", "2012-03-04"], "the number is in the book already (refusal 1)"),
+    (["birth", "c", "--sex", "f", "--day", "2012-03-04", "--sire", "a9"], "its sire isn't male (refusal 5)"),
+    (["parents", "a0", "--dam", "a9"], "its dam isn't at least a day older (refusal 8)"),
+    (["transfer", "a0", "--to", "farm 0", "--day", "2012-03-04"], "giver and taker are the same owner (refusal 15)"),
+    (["transfer", "a0", "--to", "x", "--from", "farm 1", "--day", "2012-03-04"], "isn't its owner (refusal 13)"),
+    (["exit", "a0", "--day", "1999-01-01"], "the day is before its birth, or before its owner got it (refusal 14)"),
+])  # fmt: skip
+def test_refused_commands(flock_desk: Desk, words: list[str], refusal: str) -> None:
+    """The animals stay, and the history tells of the command with its reply."""
+    listed = flock_desk.good("list").out
+    done = flock_desk.run(*words)
+    assert done.status == 1 and refusal in done.err and "change 2 of the history" in done.err and not done.out
+    assert flock_desk.good("list").out == listed
+    shown = flock_desk.good("history", "2").out
+    assert refusal in shown and "animals changed: 0" in shown
+    assert len(flock_desk.commands()) == 17 and "is whole" in flock_desk.good("verify").out
+    # a taking goes on behind it
+    assert " 16 animals, 0 new, 0 changed," in flock_desk.take(FLOCK).last
+
+
+def test_by_hand_between_sheets(flock_desk: Desk) -> None:
+    """A cell that is as in the last sheet doesn't override a later command; one that was changed does."""
+    flock_desk.good(*CALF)
+    flock_desk.good("transfer", "a0", "--to", "y", "--day", "2012-01-01")
+    flock_desk.good("exit", "a1", "--day", "2012-01-01")
+    flock_desk.good("parents", "a9", "--sire", "0")
+    parents = flock_desk.parents()
+    done = flock_desk.take(FLOCK)
+    assert " 17 animals, 0 new, 0 changed, 3 inferred, 0 left out, 0 added, 0 gone" in done.last
+    done.tells(
+        "line 2: a0: inferred: owner y, as filed by hand, since its cell is as in the last sheet",
+        "line 3: a1: inferred: exit 2012-01-01, as filed by hand, since its cell is as in the last sheet",
+        "line 11: a9: inferred: sire none, as filed by hand, since its cell is as in the last sheet",
+    )
+    assert flock_desk.parents() == parents
+    changed = FLOCK.replace("a0,M,2000-01-01,,,farm 0,", "a0,M,2000-01-01,,,farm 2,")
+    assert " 1 changed, 2 inferred," in flock_desk.take(changed).last
+    assert "calf" in flock_desk.numbers()
+    # with a row it is one of the sheet's, and gone when that is missing again
+    flock_desk.take(FLOCK + "calf,F,2012-03-04,a8,a9,Neuer Hof,\n")
+    assert " 1 gone: " in flock_desk.take(FLOCK).last
+
+
+def test_undo(flock_desk: Desk) -> None:
+    """The first state again: the same numbers, and the same bytes of the list."""
+    first = flock_desk.good("list").out
+    done = flock_desk.take(GROWN)
+    grown, numbers = flock_desk.good("list").out, flock_desk.numbers()
+    assert grown != first and "is written anew" in done.out
+    assert "brought back the state after change 1" in flock_desk.good("undo").out
+    assert flock_desk.good("list").out == first
+    flock_desk.take(GROWN)
+    assert flock_desk.good("list").out == grown and flock_desk.numbers() == numbers
+    flock_desk.good("undo", "--to", "0")
+    assert flock_desk.good("list").out.count("\n") == 1
+    # no other animal gets a number that one had
+    flock_desk.take("id,sex,born,sire,dam\nother,F,2001-01-01,,\n")
+    assert flock_desk.numbers() == {"other": "HOLGBRF000000000018"}
+    flock_desk.good("undo", "--to", "4")
+    assert flock_desk.good("list").out == grown
+    assert changes_of(flock_desk.room / "book") == 7 and "is whole" in flock_desk.good("verify").out
+    flock_desk.wrong("--to takes 0 to 6", "undo", "--to", "7")
+    flock_desk.wrong("the book has no change 8: its changes are 1 to 7", "history", "8")
+    assert [line.split("  ")[0] for line in flock_desk.good("history").out.splitlines()] == list("1234567")
+
+
+def test_backup(flock_desk: Desk) -> None:
+    """A backup is restored where nothing else of the book is, and in the place of a book only where that is wished."""
+    flock_desk.good(*CALF)
+    listed = flock_desk.good("list").out
+    assert flock_desk.good("backup", "copy").out == "copy has the book with its 2 changes\n"
+    flock_desk.wrong("copy is there already", "backup", "copy")
+    flock_desk.wrong("is a file of the book", "backup", "book/book.sqlite", "--force")
+    flock_desk.good("restore", "copy", "--book", "other")
+    assert flock_desk.good("list", "--book", "other").out == listed
+    assert "restored the backup copy" in flock_desk.good("history", "--book", "other").out
+    assert "is whole" in flock_desk.good("verify", "--book", "other").out
+    flock_desk.take(GROWN)
+    flock_desk.wrong("to restore copy in its place say --anyway", "restore", "copy")
+    flock_desk.good("restore", "copy", "--anyway")
+    assert flock_desk.good("list").out == listed
+    kept = [path for path in (flock_desk.room / "book/old").iterdir()]
+    assert len(kept) == 1
+    flock_desk.good("restore", str(kept[0]), "--book", "third")
+    assert "b," in flock_desk.good("list", "--book", "third").out
+    flock_desk.wrong("is damaged, or isn't a backup", "restore", flock_desk.write("text", "no database " * 99))
+    flock_desk.wrong("can't be read: No such file", "restore", "absent")
+
+
+def test_flock_over_three_takings(desk: Desk) -> None:
+    """400 rows, taken three times with commands by hand between: what was filed stays, and each number too."""
+    draw = random.Random(7)
+    rows = [["id", "sex", "born", "sire", "dam", "owner", "exit"]]
+    for at in range(400):
+        old = at >= 80
+        sire, dam = (2 * draw.randrange((at - 40) // 2), 2 * draw.randrange((at - 40) // 2) + 1) if old else (0, 0)
+        parents = [f"n{sire}", f"n{dam}"] if old else ["", ""]
+        day = f"{1990 + at // 20}-{at % 12 + 1:02}-{at % 28 + 1:02}"
+        rows.append([f"n{at}", "MF"[at % 2], day, *parents, f"farm {at % 9}", ""])
+    text = lambda: "".join(",".join(row) + "\n" for row in rows)  # noqa: E731
+    desk.take(text())
+    numbers = desk.numbers()
+    sold = draw.sample(range(300, 400), 6)
+    for at in sold[:3]:
+        desk.good("exit", f"n{at}", "--day", "2015-01-01")
+    for at in sold[3:]:
+        desk.good("transfer", f"n{at}", "--to", "a new farm", "--day", "2015-01-01")
+    desk.good("birth", "by hand", "--sex", "m", "--day", "2015-02-01", "--sire", "n390", "--dam", "n391")
+    desk.good("parents", "n399", "--sire", "0")
+    rows[1][5] = "farm of the sheet"
+    assert ", 0 new, 1 changed, 7 inferred, " in desk.take(text()).last
+    assert desk.parents()["n399"][0] == "" and desk.parents()["by hand"] == ("n390", "n391")
+    assert desk.run("exit", "n399", "--day", "1980-01-01").status == 1
+    rows[2][2] = "1990-02-01"
+    done = desk.take(text())
+    assert ", 0 new, 1 changed, 7 inferred, " in done.last and "is written anew" in done.out
+    assert desk.numbers().items() >= numbers.items() and len(desk.numbers()) == 401
+    exits = [line.split(",")[1] for line in desk.commands() if line.startswith("exit")]
+    assert sorted(exits) == sorted(numbers[f"n{at}"] for at in sold[:3])
+    assert sum(",2015-01-01," in line and line.startswith("transfer") for line in desk.commands()) == 3
+    assert "is whole" in desk.good("verify").out
+    shown = desk.good("history", "12").out
+    assert re.search(r"journal: \d+ commands of edition 2, which keeps \d+ commands? of edition 1", shown)
+    assert "n1: birth day 1990-02-01, before 1990-02-02" in shown

@@ -1,0 +1,55 @@
+"""A folder of version 0.11 is taken over on the first call, with the same numbers."""
+from __future__ import annotations
+
+import pytest
+
+from front_desk.desk import Desk
+from front_desk.old_folder import FILES, LIST, SHEET, write_old
+
+
+@pytest.fixture
+def old_desk(desk: Desk) -> Desk:
+    write_old(desk)
+    return desk
+
+
+def test_taken_over(old_desk: Desk) -> None:
+    assert old_desk.good("list").out == LIST
+    kept = {name: old_desk.text(f"book/old/{name}") for name in FILES}
+    assert kept == FILES
+    assert sorted(path.name for path in (old_desk.room / "book").iterdir()) == [
+        "book.sqlite", "commands.csv", "ids.csv", "old", "report.csv"
+    ]  # fmt: skip
+    assert old_desk.text("book/commands.csv") == FILES["commands.csv"]
+    assert "took over the folder of version 0.11" in old_desk.good("history").out
+    assert "is whole" in old_desk.good("verify").out
+
+
+def test_taken_after_it(old_desk: Desk) -> None:
+    """What it remembers is used, and the animal that was dropped gets its number again."""
+    done = old_desk.take(SHEET)
+    assert "as at the last time: --columns id=Tag,sex=S,owner=Hof (the book remembers these)" in done.out
+    assert " 7 animals, 1 new, 0 changed," in done.last
+    assert old_desk.numbers()["g"] == "SKUGBRF000000000003"
+    assert old_desk.text("book/old/ids.csv") == FILES["ids.csv"]
+
+
+@pytest.mark.parametrize(("name", "text", "told"), [
+    ("commands.csv", FILES["commands.csv"] + "exit,HOLGBRF000000000009,2001-01-01,,,,,\n",
+     "book/commands.csv: command 8 is refused: it isn't in the book (refusal 11). Somebody has changed this file"),
+    ("commands.csv", FILES["commands.csv"] + "exit,SKUGBRF000000000001,2001-02-30,,,,,\n",
+     "the program `herdbook file` can't do it: record 8: fault 5 Day. Somebody has changed the command file"),
+    ("commands.csv", "birth\n", "book/commands.csv: line 1 isn't the header of a command file"),
+    ("ids.csv", "number\n", "book/ids.csv is missing or was changed"),
+    ("owners.csv", "herd,owner\nx,y\n", "book/owners.csv is missing or was changed"),
+])  # fmt: skip
+def test_changed_by_somebody(old_desk: Desk, name: str, text: str, told: str) -> None:
+    old_desk.write(f"book/{name}", text.encode())
+    old_desk.wrong(told, "list")
+
+
+def test_exports_alone(desk: Desk) -> None:
+    """Where the database is missing its exports aren't taken for it."""
+    desk.take("id,born,sire,dam\na,2001-01-01,,\n")
+    (desk.room / "book/book.sqlite").unlink()
+    desk.wrong("book/book.sqlite, the book, is missing: book/ids.csv was only written from it", "list")

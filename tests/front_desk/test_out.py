@@ -1,0 +1,71 @@
+"""What leaves the front desk: files that are asked for, cells for spreadsheets, and text for a terminal."""
+from __future__ import annotations
+
+import pytest
+
+from front_desk.desk import Desk
+from front_desk.whole import FLOCK
+
+ODD = 'id,name,sex,born,sire,dam\n@SUM(A1),+x,F,2001-01-01,,\nA 1,\x1b[31mred,F,2001-01-01,,\nA-1,,F,2001-01-01,,\nA/1,,M,2001-01-01,,\n'
+
+
+@pytest.fixture
+def flock_desk(desk: Desk) -> Desk:
+    desk.take(FLOCK)
+    return desk
+
+
+@pytest.mark.parametrize("name", ["book/book.sqlite", "book/commands.csv", "book/ids.csv", "book/owners.csv", "book/old/x"])
+def test_never_onto_the_book(flock_desk: Desk, name: str) -> None:
+    (flock_desk.room / "book/old").mkdir()
+    flock_desk.wrong("is a file of the book, and is never written over", "list", "--out", name, "--force")
+    (flock_desk.room / "link").symlink_to(name)
+    flock_desk.wrong("is a file of the book, and is never written over", "list", "--out", "link", "--force")
+
+
+def test_never_onto_a_sheet(flock_desk: Desk) -> None:
+    """Neither by its name nor by what stands in it."""
+    flock_desk.write("copy.csv", FLOCK)
+    for name in "sheet.csv", "copy.csv":
+        flock_desk.wrong("is a sheet that was taken, and is never written over", "list", "--out", name, "--force")
+
+
+def test_onto_other_files(flock_desk: Desk) -> None:
+    """Only where that is wished; a link is replaced, and what it leads to stays."""
+    flock_desk.write("other.csv", "precious")
+    (flock_desk.room / "link").symlink_to("other.csv")
+    for name in "other.csv", "link":
+        flock_desk.wrong("is there already: name another file", "list", "--out", name)
+    flock_desk.good("list", "--out", "link", "--force")
+    assert flock_desk.text("other.csv") == "precious" and flock_desk.text("link").startswith("id,")
+    flock_desk.wrong("there is no folder absent", "list", "--out", "absent/list.csv")
+    flock_desk.wrong("the folder absent isn't there", "take", "sheet.csv", "--book", "absent/book")
+    (flock_desk.room / "matrix.ids").write_text("precious")
+    flock_desk.wrong("matrix.ids is there already", "inverse", "--matrix-market", "matrix")
+
+
+def test_spreadsheets_and_terminals(desk: Desk) -> None:
+    """No cell is a formula, and nothing that a terminal shows does something there."""
+    done = desk.take(ODD)
+    shown = done.out + done.err + desk.good("list").out + desk.good("history", "1").out
+    assert "\x1b" not in shown
+    for text in desk.good("list").out, desk.text("book/ids.csv"), desk.text("book/report.csv"):
+        cells = [cell for line in text.splitlines() for cell in line.split(",")]
+        assert not [cell for cell in cells if cell[:1] in ("=", "+", "-", "@")]
+    assert [row["id"] for row in desk.listed("list")][:1] == ["'@SUM(A1)"]
+
+
+def test_file_names(desk: Desk) -> None:
+    """Each animal's certificate has a name of its own."""
+    desk.take(ODD)
+    names = {desk.good("certificate", id).out.split(" is written")[0] for id in ("A 1", "A-1", "A/1", "@SUM(A1)")}
+    assert len(names) == 4
+
+
+@pytest.mark.parametrize(("text", "told"), [
+    ("id,born,sire,dam\n" + "a,2001,,\n" * 200_001, "sheet.csv has 200,002 rows, and 200,000 are taken at most"),
+    (f"id,born,sire,dam\na,2001,,\n{'b' * 10_001},2001,,\n", "line 3: a cell has more than 10,000 letters"),
+    (b"id,born,sire,dam\n" + b" " * 50_000_000, "sheet.csv has 50 MB, and 50 MB are read at most"),
+])  # fmt: skip
+def test_bounds(desk: Desk, text: str | bytes, told: str) -> None:
+    desk.wrong(told, "take", desk.write("sheet.csv", text))
