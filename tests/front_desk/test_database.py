@@ -2,6 +2,7 @@
 from __future__ import annotations
 
 import contextlib
+import functools
 import os
 import pathlib
 import shutil
@@ -120,7 +121,7 @@ def test_without_rights(flock_desk: Desk, open_room: pathlib.Path, is_unsettled:
             connection.commit()
             for name in "book.sqlite-wal", "book.sqlite-shm":
                 (desk.room / "book" / name).chmod(0o644)
-        nobody = lambda: os.setuid(NOBODY)  # noqa: E731
+        nobody = functools.partial(os.setuid, NOBODY)
         done = run(desk, "list", before=nobody)
         assert done.status == 0
         assert done.out == (listed.replace("a0,,", "a0,unsettled,") if is_unsettled else listed)

@@ -2,6 +2,7 @@
 true, and the book is whole."""
 from __future__ import annotations
 
+import functools
 import pathlib
 import resource
 import subprocess
@@ -51,10 +52,13 @@ def test_calls_fail_from_one_on(taken_flock: Desk, failing: str, tmp_path: pathl
     """As on a disk that is full, or that is broken, from a moment on."""
     for nth in (1, 2, 4, 8, 16):
         desk = taken_flock.copy_to(tmp_path / str(nth))
-        calls = {"FAIL": call, "FAIL_NTH": str(nth), "FAIL_LAST": "1000000", "LD_PRELOAD": failing}
-        done = run(desk, "take", "grown.csv", **calls)
+        done = run(desk, "take", "grown.csv", FAIL=call, FAIL_NTH=str(nth), FAIL_LAST="1000000", LD_PRELOAD=failing)
         told_truly(done, 1, changes_of(desk.room / "book"))
         assert "is whole" in desk.good("verify").out
+
+
+def limit_files(size: int) -> None:
+    resource.setrlimit(resource.RLIMIT_FSIZE, (size, size))
 
 
 @pytest.mark.parametrize("is_new", [True, False])
@@ -64,6 +68,5 @@ def test_short_files(taken_flock: Desk, tmp_path: pathlib.Path, is_new: bool) ->
         desk = Desk(tmp_path / str(size), taken_flock.program) if is_new else taken_flock.copy_to(tmp_path / str(size))
         desk.write("grown.csv", GROWN)
         before = changes_of(desk.room / "book")
-        limit = lambda: resource.setrlimit(resource.RLIMIT_FSIZE, (size, size))  # noqa: B023, E731
-        done = run(desk, "take", "grown.csv", before=limit)
+        done = run(desk, "take", "grown.csv", before=functools.partial(limit_files, size))
         told_truly(done, before, changes_of(desk.room / "book"))

@@ -5,7 +5,8 @@ import pytest
 
 from front_desk.desk import CALLED, Desk
 
-WORDS = ["take", "list", "certificate", "mating", "trend", "pedigree", "inverse"]
+WORDS = ["take", "list", "certificate", "mating", "trend", "pedigree", "inverse", "birth", "parents", "transfer", "exit", "history",
+         "undo", "verify", "backup", "restore"]
 
 
 @pytest.mark.parametrize("word", WORDS)

@@ -135,7 +135,10 @@ def test_flock_over_three_takings(desk: Desk) -> None:
         parents = [f"n{sire}", f"n{dam}"] if old else ["", ""]
         day = f"{1990 + at // 20}-{at % 12 + 1:02}-{at % 28 + 1:02}"
         rows.append([f"n{at}", "MF"[at % 2], day, *parents, f"farm {at % 9}", ""])
-    text = lambda: "".join(",".join(row) + "\n" for row in rows)  # noqa: E731
+
+    def text() -> str:
+        return "".join(",".join(row) + "\n" for row in rows)
+
     desk.take(text())
     numbers = desk.numbers()
     sold = draw.sample(range(300, 400), 6)
