@@ -172,6 +172,12 @@ CREATE TABLE remembered (
     PRIMARY KEY (what, word, since)
 ) STRICT, WITHOUT ROWID;
 
+-- what the society says of itself: no part of the history
+CREATE TABLE setting (
+    setting TEXT NOT NULL PRIMARY KEY,
+    value TEXT NOT NULL
+) STRICT, WITHOUT ROWID;
+
 -- the coefficients of the last state, in age order
 CREATE TABLE coefficient (
     place INTEGER PRIMARY KEY,

@@ -1,14 +1,16 @@
 """An animal's certificate as a page for the printer, with the pedigree drawn."""
 from __future__ import annotations
 
+import datetime
+from collections.abc import Mapping, Sequence
 from dataclasses import dataclass
-from typing import Mapping
 
 from society.book.book import NO_OWNER, Book
 from society.book.certificate_facts import certificate_facts
-from society.book.coefficients import Coefficient
+from society.book.coefficients import Coefficient, kept_coefficients
 from society.book.known import Known
 from society.book.role import Role
+from society.pages.common import common_ancestors, letters_named
 from society.pages.languages import Language
 from society.pages.marks import Mark, mark_of
 from society.pages.page import rendered
@@ -30,6 +32,8 @@ DRAWN = [letters for line in LINES for letters in line]
 RELATIONS = ("S", "D", "SS", "SD", "DS", "DD")
 # what each generation is called in the style, and over how many lines its cells go
 GENERATIONS = {1: ("one", 4), 2: ("two", 2), 3: ("three", 1)}
+# of so many animals and more all that the book has is read at once
+MANY = 100
 # the colours and letters of all pages and pictures, as the style names them
 LOOK = {
     "font": FONT, "ink": INK, "grey": GREY, "line": LINE, "paper": PAPER, "sire": SIRE, "dam": DAM, "inbred": INBRED,
@@ -39,12 +43,14 @@ LOOK = {
 
 @dataclass(frozen=True, slots=True)
 class DrawnAnimal:
-    """An ancestor as its cell shows it. `percent` is empty for one that isn't inbred."""
+    """An ancestor as its cell shows it. What an animal hasn't is empty, as `percent` of one that isn't inbred."""
 
     id: str
     name: str
     born: str
     percent: str
+    # of one that is an ancestor on both sides
+    letter: str
 
 
 @dataclass(frozen=True, slots=True)
@@ -59,6 +65,31 @@ class Cell:
     unknown: str
 
 
+@dataclass(frozen=True, slots=True)
+class Shown:
+    """What stands on the page of an animal."""
+
+    id: str
+    name: str
+    percent: str
+    fraction: str
+    decimal: str
+    facts: list[tuple[str, str]]
+    lines: list[list[Cell]]
+    notes: list[str]
+
+
+@dataclass(frozen=True, slots=True)
+class Issue:
+    """What is the same on all certificates that are issued at once: the society and the day. An empty title is the
+    usual one."""
+
+    title: str
+    society: str
+    address: str
+    day: datetime.date
+
+
 class Certificate:
     """What a certificate is made of: what the book has of an animal and its ancestors, and the coefficients."""
 
@@ -69,17 +100,22 @@ class Certificate:
         self.language, self.texts = language, language.texts
         self.names = book.by_number()
         self.told = certificate_facts(book, known.number, coefficients)
+        drawn = [self.told[letters] for letters in DRAWN if self.told[letters] != "0"]
+        self.common = common_ancestors(book, known.number, drawn)
 
-    def page(self, title: str) -> str:
+    def shown(self) -> Shown:
         fraction, percent = self.told["inbreeding"].split(" ")
         own = Coefficient(fraction, percent)
-        return rendered(
-            "certificate.html",
-            language=self.language.name, look=LOOK, title=title or self.texts["title"], id=self.known.id,
-            name=self.known.name, texts=self.texts, fraction=own.fraction,
-            decimal=self.language.decimal(own.decimal()), percent=self.language.percent(own.percent),
-            facts=self.facts(), lines=[[self.cell(letters) for letters in line] for line in LINES], notes=self.notes(),
-        )  # fmt: skip
+        return Shown(
+            self.known.id,
+            self.known.name,
+            self.language.percent(own.percent),
+            own.fraction,
+            self.language.decimal(own.decimal()),
+            self.facts(),
+            [[self.cell(letters) for letters in line] for line in LINES],
+            self.notes(),
+        )
 
     def facts(self) -> list[tuple[str, str]]:
         """The animal's record. The owner has no name where the sheet gave none."""
@@ -116,7 +152,7 @@ class Certificate:
         id = self.language.marked(known.id, Mark.INFERRED if is_written_otherwise else None)
         born = self.day(self.book.records[number].born, mark_of(known.birth))
         percent = self.language.percent_of(coefficient) if coefficient.is_inbred else ""
-        return DrawnAnimal(id, known.name, born, percent)
+        return DrawnAnimal(id, known.name, born, percent, self.common.get(number, ""))
 
     def written(self, letters: str) -> str:
         """What the sheet writes for an ancestor, where that isn't its id or it is left out."""
@@ -132,13 +168,26 @@ class Certificate:
         marks |= {mark_of(self.known.owner_day)} if owner_day_known(self.book, self.known) else set()
         written = [letters for letters in DRAWN if self.written(letters)]
         marks |= {Mark.IN_SHEET if self.told[letters] == "0" else Mark.INFERRED for letters in written}
-        return [self.texts["note"], *(self.texts[f"{mark.value} note"] for mark in Mark if mark in marks)]
+        common = [self.texts["common note"].format(letters_named(self.common))] * bool(self.common)
+        return [self.texts["note"], *common, *(self.texts[f"{mark.value} note"] for mark in Mark if mark in marks)]
 
 
-def certificate_page(
-    book: Book, known: Known, coefficients: Mapping[str, Coefficient], language: str, title: str
-) -> str:
-    return Certificate(book, known, coefficients, Language(language)).page(title)
+def certificates_page(book: Book, animals: Sequence[Known], language: Language, issue: Issue) -> str:
+    """A page for each of the animals, in a file."""
+    coefficients, texts = kept_coefficients(book), language.texts
+    if len(animals) > MANY:
+        # all are read at once
+        len(book.records), len(book.by_number()), len(coefficients)
+    title = issue.title or texts["title"]
+    one = animals[0].id if len(animals) == 1 else texts["certificates"].format(len(animals))
+    return rendered(
+        "certificate.html",
+        language=language.name, look=LOOK, texts=texts, title=title, heading=f"{title}: {one}",
+        society=issue.society, address=issue.address, issued=texts["issued"].format(language.day(issue.day)),
+        pages=[Certificate(book, known, coefficients, language).shown() for known in animals],
+    )  # fmt: skip
+
+
 def role_of(letters: str) -> Role:
     return Role.SIRE if letters[-1] == "S" else Role.DAM
 

@@ -30,6 +30,9 @@ TEXTS = {
     "DD": ("Dam's dam", "Muttersmutter", "Mère de la mère"),
     "unknown sire": ("unknown", "unbekannt", "inconnu"),
     "unknown dam": ("unknown", "unbekannt", "inconnue"),
+    "issued": ("Issued on {}", "Ausgestellt am {}", "Établi le {}"),
+    "certificates": ("{} certificates", "{} Abstammungsnachweise", "{} certificats"),
+    "page": ("page {} of {}", "Seite {} von {}", "page {} sur {}"),
     "place": ("Place and date", "Ort und Datum", "Lieu et date"),
     "society": ("For the society", "Für den Zuchtverband", "Pour l'association"),
     "inferred": ("inferred", "erschlossen", "déduit"),
@@ -76,6 +79,14 @@ TEXTS = {
         "An unknown parent counts as unrelated to all animals. Coefficients are Wright's, computed exactly.",
         "Unbekannte Eltern gelten als mit keinem Tier verwandt. Koeffizienten nach Wright, exakt berechnet.",
         "Un parent inconnu n'est compté comme apparenté à aucun animal. Coefficients de Wright, calculés exactement.",
+    ),
+    "common note": (
+        "{}: an ancestor on the sire's and on the dam's side; the same letter is the same animal, and one that stands "
+        "here once is further back on the other side.",
+        "{}: Ahn auf der Vater- und der Mutterseite; derselbe Buchstabe ist dasselbe Tier, und eines, das hier einmal "
+        "steht, liegt auf der anderen Seite weiter zurück.",
+        "{} : ancêtre du côté du père et du côté de la mère ; la même lettre est le même animal, et celui qui n'est ici "
+        "qu'une fois est plus loin de l'autre côté.",
     ),
     "inferred note": (
         (

@@ -1,147 +1,147 @@
-"""A picture of an animal with its known ancestors, inbred ones marked."""
+"""A picture of an animal with its known ancestors, inbred ones and those on both sides marked: on one page, or for many
+generations on several, each of which can be printed."""
 from __future__ import annotations
 
 import collections
-from dataclasses import dataclass, field
+import math
 from typing import Mapping
 
-from society.book.coefficients import Coefficient
 from society.book.book import Book
+from society.book.coefficients import Coefficient
 from society.book.known import Known
+from society.pages.common import common_ancestors, letters_named
 from society.pages.languages import Language
-from society.pages.marks import mark_of
-from society.pages.picture import (
-    DAM,
-    GREY,
-    INBRED,
-    INBRED_INK,
-    INK,
-    LINE,
-    SIRE,
-    escape,
-    shortened,
-    svg,
-    text_at,
-    year_of,
-)
+from society.pages.pedigree_box import Box, Drawn, Place
+from society.pages.pedigree_tree import Node, depth_of, grow, nodes_of
+from society.pages.picture import FONT, GREY, INBRED, INBRED_INK, INK, LINE, PAPER, escape, svg, text_at
+from society.pages.text_width import fitted
 from society.pedigree_order import ancestors
 
-BOX_WIDTH, BOX_HEIGHT, COLUMN, ROW, MARGIN = 200, 62, 236, 72, 24
-HEAD, FOOT = 64, 62
+# what is printed on a page of A4 in landscape format, in pixels of which an inch has 96
+WIDTH, HEIGHT = 1046, 718
+HEAD, FOOT, MARGIN = 64, 72, 24
+COLUMN, BETWEEN, ROW, BOX_HEIGHT = 236.0, 36.0, 72.0, 62.0
+# so many generations behind an animal stand on a page
+ON_A_PAGE = 5
 
 
-@dataclass(slots=True)
-class Node:
-    """An animal in its place in the drawing. `y` is the middle of its box, counted in rows."""
+class Pedigree:
+    """The pages of an animal's pedigree. `tops` are the animals with which they begin, itself the first, `most` how
+    many generations each has at most."""
 
-    number: str
-    generation: int
-    y: float = 0.0
-    parents: list[Node] = field(default_factory=list)
+    def __init__(
+        self, book: Book, known: Known, coefficients: Mapping[str, Coefficient], generations: int, language: Language
+    ) -> None:
+        self.book, self.known, self.coefficients, self.language = book, known, coefficients, language
+        whole = grow(book, known.number, 0, generations, 0.0)[0]
+        nodes = nodes_of(whole)
+        self.times = collections.Counter(node.number for node in nodes)
+        self.letters = common_ancestors(book, known.number, [node.number for node in nodes[1:]])
+        pages = math.ceil(min(generations, depth_of(whole)) / ON_A_PAGE)
+        self.most = generations if pages < 2 else math.ceil(generations / pages)
+        last = [node for node in nodes if node.generation == self.most and node.parents]
+        self.tops = list(dict.fromkeys([known.number, *(node.number for node in last)]))
+        self.left = generations - self.most
+
+    def text(self) -> str:
+        """A picture where one page is enough, else a file of HTML with all of them."""
+        if not self.is_long:
+            width, height, parts = self.page(0)
+            return svg(round(width), round(height), parts)
+        pages = "".join(self.section(at) for at in range(len(self.tops)))
+        title = escape(self.language.texts["pedigree of"].format(self.known.id))
+        return (
+            f'<!DOCTYPE html>\n<html lang="{self.language.name}" xmlns="http://www.w3.org/1999/xhtml">\n<head>\n'
+            f'<meta charset="utf-8"/>\n<title>{title}</title>\n<style>{STYLE}</style>\n</head>\n<body>\n{pages}</body>\n'
+            "</html>\n"
+        )
+
+    @property
+    def is_long(self) -> bool:
+        return len(self.tops) > 1
+
+    def section(self, at: int) -> str:
+        width, height, parts = self.page(at)
+        return (
+            f'<section id="page-{at + 1}"><svg xmlns="http://www.w3.org/2000/svg" viewBox="0 0 {width:.0f} {height:.0f}" '
+            f'font-family="{escape(FONT)}">\n' + "\n".join(parts) + "\n</svg></section>\n"
+        )
+
+    def page(self, at: int) -> tuple[float, float, list[str]]:
+        """The width and height of a page, and what stands on it."""
+        root, rows = grow(self.book, self.tops[at], 0, self.most if at == 0 else self.left, 0.0)
+        nodes = nodes_of(root)
+        columns = depth_of(root) + 1
+        column = min(COLUMN, (WIDTH - 2 * MARGIN + BETWEEN) / columns)
+        row = min(ROW, (HEIGHT - HEAD - FOOT) / rows)
+        width, height = MARGIN * 2 + columns * column - BETWEEN, HEAD + rows * row + FOOT
+        if self.is_long:
+            height = float(HEIGHT)
+        width = WIDTH if self.is_long else max(width, 620.0)
+        places = {id(node): place_of(node, column, row) for node in nodes}
+        parts = [link(places[id(node)], places[id(parent)]) for node in nodes for parent in node.parents]
+        parts += [self.box(at, node, places[id(node)]) for node in nodes]
+        return width, height, self.head(at, width, height, nodes) + parts
+
+    def box(self, at: int, node: Node, place: Place) -> str:
+        number = node.number
+        goes_on = at == 0 and node.generation == self.most and number in self.tops
+        page = str(self.tops.index(number) + 1) if goes_on else ""
+        drawn = Drawn(
+            self.book.by_number()[number], self.coefficients[number], self.times[number], self.letters.get(number, ""), page
+        )
+        return Box(self.book, drawn, place, self.language).picture()
+
+    def head(self, at: int, width: float, height: float, nodes: list[Node]) -> list[str]:
+        """The title, and below the tree what the marks mean."""
+        texts, top = self.language.texts, self.book.by_number()[self.tops[at]]
+        title = texts["pedigree of"].format(top.id) + (f", {top.name}" if top.name else "")
+        y, page = height - 46, texts["page"].format(at + 1, len(self.tops)) if self.is_long else ""
+        here = {self.letters[node.number]: node.number for node in nodes if node.number in self.letters}
+        letters = {number: letter for letter, number in sorted(here.items(), key=lambda pair: (len(pair[0]), pair[0]))}
+        common = texts["common note"].format(letters_named(letters)) if letters else ""
+        return [
+            text_at(MARGIN, 36, fitted(title, width - 2 * MARGIN - 110 * self.is_long, 20, True), INK, 20, weight="bold"),
+            text_at(width - MARGIN, 36, page, GREY, 13, "end"),
+            f'<rect x="{MARGIN}" y="{y - 11:.1f}" width="20" height="14" rx="3" fill="{INBRED}" stroke="{INBRED_INK}" '
+            'stroke-width="2"/>',
+            text_at(MARGIN + 28, y, texts["tree key"], GREY, 13),
+            text_at(MARGIN, y + 18, self.note() + ".", GREY, 13),
+            text_at(MARGIN, y + 34, fitted(common, width - 2 * MARGIN, 10), GREY, 10),
+        ]
+
+    def note(self) -> str:
+        """How many ancestors are drawn, and how many aren't."""
+
+        def parents(number: str) -> list[str]:
+            record = self.book.records[number]
+            return [parent for parent in (record.sire, record.dam) if parent]
+
+        hidden = len(ancestors([self.known.number], parents) - set(self.times))
+        more = self.language.counted("hidden", hidden) if hidden else ""
+        return self.language.counted("ancestors", len(self.times) - 1) + more
 
 
-def grow(book: Book, number: str, generation: int, most: int, top: float) -> tuple[Node, float]:
-    """The node of an animal with those of its ancestors, from a row on; and the row below all of them."""
-    node = Node(number, generation)
-    record = book.records[number]
-    if generation == most or not (record.sire or record.dam):
-        node.y = top + 0.5
-        return node, top + 1
-    middles = []
-    for parent in (record.sire, record.dam):
-        if parent:
-            child, below = grow(book, parent, generation + 1, most, top)
-            node.parents.append(child)
-            middles.append(child.y)
-        else:
-            # an unknown parent leaves half a row free
-            below = top + 0.5
-            middles.append(top + 0.25)
-        top = below
-    node.y = sum(middles) / 2
-    return node, top
+STYLE = f"""
+@page {{ size: A4 landscape; margin: 10mm; }}
+body {{ margin: 0; background: #e9ecef; -webkit-print-color-adjust: exact; print-color-adjust: exact; }}
+section {{ width: 277mm; height: 190mm; margin: 8mm auto; background: {PAPER}; }}
+svg {{ display: block; }}
+section > svg {{ width: 100%; height: 100%; }}
+@media print {{ body {{ background: none; }} section {{ margin: 0; break-after: page; break-inside: avoid; }}
+  section:last-child {{ break-after: auto; }} }}
+"""
 
 
-def nodes_of(node: Node) -> list[Node]:
-    return [node, *(one for parent in node.parents for one in nodes_of(parent))]
+def place_of(node: Node, column: float, row: float) -> Place:
+    height = min(BOX_HEIGHT, max(node.span, 1.0) * row - min(10.0, row * 0.14))
+    return Place(MARGIN + node.generation * column, HEAD + node.y * row - height / 2, column - BETWEEN, height)
 
 
-def tree_picture(
-    book: Book, known: Known, coefficients: Mapping[str, Coefficient], generations: int, language: Language
-) -> str:
-    names = book.by_number()
-    root, rows = grow(book, known.number, 0, generations, 0.0)
-    nodes = nodes_of(root)
-    times = collections.Counter(node.number for node in nodes)
-    width = MARGIN * 2 + max(node.generation for node in nodes) * COLUMN + BOX_WIDTH
-    width = max(width, 620)
-    height = HEAD + rows * ROW + FOOT
-    parts = [link(node, parent) for node in nodes for parent in node.parents]
-    parts += [
-        box(book, node, names[node.number], coefficients[node.number], times[node.number], language) for node in nodes
-    ]
-
-    def parents(number: str) -> list[str]:
-        record = book.records[number]
-        return [parent for parent in (record.sire, record.dam) if parent]
-
-    hidden = len(ancestors([known.number], parents) - set(times))
-    note = language.counted("ancestors", len(times) - 1) + (language.counted("hidden", hidden) if hidden else "")
-    return picture(parts, known, width, height, note, language.texts)
-
-
-def corner(node: Node) -> tuple[float, float]:
-    return MARGIN + node.generation * COLUMN, HEAD + node.y * ROW - BOX_HEIGHT / 2
-
-
-def link(node: Node, parent: Node) -> str:
-    x1, y1 = corner(node)
-    x2, y2 = corner(parent)
-    x1, middle = x1 + BOX_WIDTH, (x1 + BOX_WIDTH + x2) / 2
+def link(child: Place, parent: Place) -> str:
+    x = child.x + child.width
+    middle = (x + parent.x) / 2
     return (
-        f'<path d="M{x1:.1f} {y1 + BOX_HEIGHT / 2:.1f}H{middle:.1f}V{y2 + BOX_HEIGHT / 2:.1f}H{x2:.1f}" '
+        f'<path d="M{x:.1f} {child.y + child.height / 2:.1f}H{middle:.1f}V{parent.y + parent.height / 2:.1f}H{parent.x:.1f}" '
         f'fill="none" stroke="{LINE}" stroke-width="1.5"/>'
     )
-
-
-def box(book: Book, node: Node, known: Known, coefficient: Coefficient, times: int, language: Language) -> str:
-    x, y = corner(node)
-    inbred = coefficient.is_inbred
-    fill, edge = (INBRED, INBRED_INK) if inbred else ({"M": SIRE, "F": DAM}[known.number[6]], LINE)
-    # a male has corners, a female is round
-    round_by = 3 if known.number[6] == "M" else 16
-    texts = language.texts
-    facts = [year_of(book, known, language)] + ([texts["drawn times"].format(times)] if times > 1 else [])
-    day = language.marked(language.day(book.records[known.number].born), mark_of(known.birth))
-    tip = (
-        f"{known.id} {known.name}".strip()
-        + f", {known.number}, {texts['born on'].format(day)}, F {coefficient.fraction}"
-    )
-    # a coefficient stands at the end of the second line
-    told = [shortened(known.name, 14 if inbred else 24)] * bool(known.name or inbred) + [", ".join(facts)]
-    id_size = max(10.0, min(15.0, 15 * 20 / len(known.id)))
-    lines = [
-        f'<g><title>{escape(tip)}</title>'
-        f'<rect x="{x:.1f}" y="{y:.1f}" width="{BOX_WIDTH}" height="{BOX_HEIGHT}" rx="{round_by}" '
-        f'fill="{fill}" stroke="{edge}" stroke-width="{2 if inbred else 1.2}"/>',
-        text_at(x + 12, y + 20, shortened(known.id, 30), INK, id_size, weight="bold"),
-    ]
-    lines += [text_at(x + 12, y + 37 + 16 * at, what, GREY, 13) for at, what in enumerate(told)]
-    if inbred:
-        lines.append(
-            text_at(x + BOX_WIDTH - 10, y + 37, language.percent_of(coefficient), INBRED_INK, 13.5, "end", "bold")
-        )
-    return "".join(lines) + "</g>"
-
-
-def picture(parts: list[str], known: Known, width: float, height: float, note: str, texts: dict[str, str]) -> str:
-    title = texts["pedigree of"].format(known.id) + (f", {known.name}" if known.name else "")
-    y = height - 34
-    head = [
-        text_at(MARGIN, 36, shortened(title, int(width / 11)), INK, 20, weight="bold"),
-        f'<rect x="{MARGIN}" y="{y - 11:.1f}" width="20" height="14" rx="3" fill="{INBRED}" stroke="{INBRED_INK}" '
-        'stroke-width="2"/>',
-        text_at(MARGIN + 28, y, texts["tree key"], GREY, 13),
-        text_at(MARGIN, y + 20, note + ".", GREY, 13),
-    ]
-    return svg(round(width), round(height), head + parts)

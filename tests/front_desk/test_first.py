@@ -91,7 +91,7 @@ def test_her_certificate(her: Secretary, secretary_desk: Desk, whose: str) -> No
     for value in id, numbers[id], told["sex"], told["born"], told["inbreeding"].split(" ")[0]:
         assert value in words
     ancestors = [ids[told[key]] for key in told if set(key) <= {"S", "D"} and told[key] != "0"]
-    boxes = [" ".join(box.itertext()) for box in page.iter() if box.get("class") == "box"]
+    boxes = [" ".join(box.itertext()) for box in page.iter() if box.get("class") in ("box", "box common")]
     assert len(boxes) == len(ancestors)
     assert all(any(one in box for box in boxes) for one in ancestors)
     unknown = [box for box in page.iter() if box.get("class") == "box unknown"]

@@ -102,7 +102,7 @@ WORDS_WITH_A_BOOK: list[tuple[list[str], str]] = [
      "the book has no animal 'HOLGBRM000000000009': book/ids.csv has the ids"),
     (["mating", "--dam", "a"], "the book has no male"),
     (["mating", "--dam", "a", "a", "--all"], "not both"),
-    (["certificate", "DE", "01", "2345"],
+    (["pedigree", "DE", "01", "2345"],
      "unrecognized arguments: 01 2345: put an id or a name with blanks between quotation marks"),
     (["list", "--language", "de"], f"there is no option --language here: `{CALLED} list --help` shows"),
     (["list", "--out", "book"], "'book' is a folder: name a file"),

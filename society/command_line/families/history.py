@@ -1,4 +1,4 @@
-"""The words about the book as a whole: `history`, `undo`, `verify`, `backup` and `restore`."""
+"""The words about the book as a whole: `history`, `undo`, `settings`, `verify`, `backup` and `restore`."""
 from __future__ import annotations
 
 import argparse
@@ -8,7 +8,8 @@ from society.book.backup import backup, restore
 from society.book.book import Book
 from society.book.history import all_changes, change_numbered
 from society.book.history_words import details, heading
-from society.book.opening import export, there_to_change
+from society.book.opening import export, opened, there_to_change
+from society.book.settings import Setting, change_settings, settings_of
 from society.book.undo import undo
 from society.book.verify import verify
 from society.command_line.arguments import add_force, file, whole_number
@@ -27,6 +28,9 @@ def add_words(words: Words) -> None:
         "undo", do_undo, "bring back the state before the last change, as a new change", "Nothing is lost by it."
     )
     back.add_argument("--to", type=whole_number, metavar="N", help="the state after this change, 0 for the empty book")
+    settings = words.add("settings", do_settings, "keep what the society says of itself, or write it", "Certificates show it.")
+    for setting in Setting:
+        settings.add_argument(f"--{setting}", metavar="TEXT", help=f"the society's {setting}, '' for none [as it is]")
     words.add_for_book(
         "verify", do_verify, "see whether the book is whole, and its replies and coefficients are the program's"
     )
@@ -71,6 +75,19 @@ def do_verify(asked: argparse.Namespace, book: Book, program: Herdbook) -> None:
         f"{book.path} is whole: {counted(changes, 'change')}, {counted(book.journal.length, 'command')}, "
         f"{counted(len(book.known), 'animal')}; the program's replies and coefficients are the stored ones"
     )
+
+
+def do_settings(asked: argparse.Namespace) -> None:
+    program = Herdbook()
+    given = {Setting(name): text for name, text in vars(asked).items() if name in list(Setting) and text is not None}
+    with opened(asked.book, program) as book:
+        settings = settings_of(book)
+    if given:
+        change_settings(asked.book, given)
+        with opened(asked.book, program) as book:
+            settings = settings_of(book)
+    for setting, text in settings.items():
+        print(f"{setting}: {', '.join(text.splitlines()) or 'not said'}")
 
 
 def do_backup(asked: argparse.Namespace, book: Book, program: Herdbook) -> None:

@@ -2,35 +2,50 @@
 from __future__ import annotations
 
 import argparse
+import datetime
+import pathlib
 
+from society.answers.choice import Choice, chosen
 from society.book.book import Book
 from society.book.coefficients import kept_coefficients
+from society.book.known import Known
 from society.book.out import write_outs, write_page
+from society.book.rows import known_of
 from society.book.search import find
-from society.command_line.arguments import add_force, file, generations
+from society.book.settings import Setting, settings_of
+from society.command_line.arguments import add_force, day, file, generations
+from society.command_line.families.answers import add_choice
+from society.command_line.giving import named_in
 from society.command_line.parser import Words
 from society.herdbook import Herdbook
+from society.mistake import Mistake, counted
 from society.packages import Group
 from society.pages.languages import LANGUAGES, Language
-from society.pages.pedigree_picture import tree_picture
+from society.pages.pedigree_picture import Pedigree
 from society.pages.picture import file_name
 from society.pages.trend_picture import trend_picture
 
 
 def add_words(words: Words) -> None:
     certificate = words.add_for_book(
-        "certificate", do_certificate, "write an animal's certificate, a page of HTML for the printer",
-        group=Group.PAGES,
+        "certificate", do_certificate, "write certificates, a page for each animal in one file for the printer",
+        "They show what `settings` says of the society.", Group.PAGES,
+    )
+    certificate.add_argument("ids", nargs="*", metavar="ID", help="the animals, by id, name or number")
+    certificate.add_argument("--among", type=pathlib.Path, metavar="FILE", help="those that a file names, one id a line")
+    add_choice(certificate)
+    certificate.add_argument(
+        "--day", type=day, default=datetime.date.today(), metavar="DAY", help="the day of issue [today]"
     )
     certificate.add_argument(
         "--title", default="", help="what stands above the animal [Certificate of pedigree, in the language]"
     )
     pedigree = words.add_for_book(
-        "pedigree", do_pedigree, "draw an animal with its known ancestors, inbred ones marked"
-    )
+        "pedigree", do_pedigree, "draw an animal with its known ancestors, inbred and common ones marked",
+        "More than five generations go on on further pages of one file.",
+    )  # fmt: skip
     pedigree.add_argument("--generations", type=generations, default=4, metavar="N", help="how many, 1 to 10 [4]")
-    for one in certificate, pedigree:
-        one.add_argument("id", metavar="ID", help="the animal, by id, name or number")
+    pedigree.add_argument("id", metavar="ID", help="the animal, by id, name or number")
     trend = words.add_for_book(
         "trend", do_trend, "draw the mean coefficient by birth year, with how many animals each year has"
     )
@@ -41,28 +56,48 @@ def add_words(words: Words) -> None:
 
 
 def do_certificate(asked: argparse.Namespace, book: Book, program: Herdbook) -> None:
-    from society.pages.certificate import certificate_page
+    from society.pages.certificate import Issue, certificates_page
 
-    known = find(book, asked.id)
-    page = certificate_page(book, known, kept_coefficients(book), asked.language, asked.title)
-    give(asked, book, page, file_name("certificate", known.id, ".html"))
+    animals = animals_asked_for(asked, book)
+    settings = settings_of(book)
+    issue = Issue(asked.title, settings[Setting.NAME], settings[Setting.ADDRESS], asked.day)
+    page = certificates_page(book, animals, Language(asked.language), issue)
+    name = file_name("certificate", animals[0].id, ".html") if len(animals) == 1 else "certificates.html"
+    give(asked, book, page, name, f", {counted(len(animals), 'page')}" * (len(animals) > 1))
+
+
+def animals_asked_for(asked: argparse.Namespace, book: Book) -> list[Known]:
+    """Those that are named, or those of an owner or that live; each once."""
+    choice = Choice(asked.living, "", asked.owner)
+    named = [find(book, id) for id in asked.ids] + (named_in(asked.among, book) if asked.among else [])
+    if named and not choice.is_everything:
+        raise Mistake("certificate takes animals that are named, or those of --owner and --living, not both")
+    if not named and choice.is_everything:
+        raise Mistake("certificate needs animals: name them, or choose some by --owner or --living")
+    animals = named or [known_of(row) for row in chosen(book, choice)]
+    if not animals:
+        raise Mistake("there is no such animal: `list` with the same options shows which there are")
+    return list({known.number: known for known in animals}.values())
 
 
 def do_pedigree(asked: argparse.Namespace, book: Book, program: Herdbook) -> None:
     known = find(book, asked.id)
-    picture = tree_picture(book, known, kept_coefficients(book), asked.generations, Language(asked.language))
-    give(asked, book, picture, file_name("pedigree", known.id, ".svg"))
+    drawn = Pedigree(book, known, kept_coefficients(book), asked.generations, Language(asked.language))
+    if drawn.is_long and asked.out and asked.out.suffix.lower() == ".svg":
+        raise Mistake(f"{counted(asked.generations, 'generation')} stand on several pages: name a file as tree.html")
+    pages = f", {counted(len(drawn.tops), 'page')}" * drawn.is_long
+    give(asked, book, drawn.text(), file_name("pedigree", known.id, ".html" if drawn.is_long else ".svg"), pages)
 
 
 def do_trend(asked: argparse.Namespace, book: Book, program: Herdbook) -> None:
     give(asked, book, trend_picture(book, kept_coefficients(book), Language(asked.language)), "trend.svg")
 
 
-def give(asked: argparse.Namespace, book: Book, text: str, name: str) -> None:
+def give(asked: argparse.Namespace, book: Book, text: str, name: str, what: str = "") -> None:
     """Writes a page or picture, where no file is named to one in the book's folder."""
     path = asked.out or asked.book / name
     if asked.out:
         write_outs(book, {path: text.encode()}, asked.force)
     else:
         write_page(book, path, text.encode())
-    print(f"{path} is written: open it in a browser, and print it there")
+    print(f"{path} is written{what}: open it in a browser, and print it there")

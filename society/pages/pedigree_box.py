@@ -1,0 +1,156 @@
+"""The box of an animal in a drawn pedigree. Its text is cut to what fits, and never leaves it."""
+from __future__ import annotations
+
+from dataclasses import dataclass
+
+from society.book.book import Book
+from society.book.coefficients import Coefficient
+from society.book.known import Known
+from society.pages.languages import Language
+from society.pages.marks import mark_of
+from society.pages.picture import DAM, GREY, INBRED, INBRED_INK, INK, LINE, PAPER, SIRE, escape, text_at, year_of
+from society.pages.text_width import fitted, fitted_id, width_of
+
+# boxes of so many pixels have three or two lines
+THREE_LINES, TWO_LINES = 54.0, 28.0
+PADDING = 8.0
+
+
+@dataclass(frozen=True, slots=True)
+class Place:
+    x: float
+    y: float
+    width: float
+    height: float
+
+
+@dataclass(frozen=True, slots=True)
+class Drawn:
+    """An animal as its box shows it. `letter` is that of a common ancestor, `page` that on which it goes on; each is
+    empty for none."""
+
+    known: Known
+    coefficient: Coefficient
+    times: int
+    letter: str
+    page: str
+
+
+class Box:
+    def __init__(self, book: Book, drawn: Drawn, place: Place, language: Language) -> None:
+        self.book, self.drawn, self.place, self.language = book, drawn, place, language
+        self.percent = language.percent_of(drawn.coefficient) if drawn.coefficient.is_inbred else ""
+
+    def picture(self) -> str:
+        at = self.place
+        height = at.height
+        lines = self.three() if height >= THREE_LINES else self.two() if height >= TWO_LINES else self.one()
+        return (
+            f"<g><title>{escape(self.tip())}</title>{self.frame()}"
+            f'<svg x="{at.x:.1f}" y="{at.y:.1f}" width="{at.width:.1f}" height="{height:.1f}">'
+            f'{"".join(lines)}{self.badge()}</svg></g>'
+        )
+
+    @property
+    def round_by(self) -> float:
+        return min(3.0 if self.drawn.known.is_male else 14.0, self.place.height / 2)
+
+    @property
+    def inset(self) -> float:
+        """A badge keeps away from a round corner."""
+        has_badge = self.drawn.letter or self.drawn.page
+        return 0.0 if self.drawn.known.is_male or not has_badge else self.round_by * 0.6
+
+    def frame(self) -> str:
+        """A male has corners, a female is round; a common ancestor has a thick edge."""
+        at, known, letter = self.place, self.drawn.known, self.drawn.letter
+        fill, edge = (INBRED, INBRED_INK) if self.percent else (SIRE if known.is_male else DAM, LINE)
+        edge, thick = (INK, 2.6) if letter else (edge, 2.0 if self.percent else 1.2)
+        return (
+            f'<rect x="{at.x:.1f}" y="{at.y:.1f}" width="{at.width:.1f}" height="{at.height:.1f}" rx="{self.round_by:.1f}" '
+            f'fill="{fill}" stroke="{edge}" stroke-width="{thick}"/>'
+        )
+
+    def tip(self) -> str:
+        """What is told of it where the pointer rests."""
+        known, texts = self.drawn.known, self.language.texts
+        day = self.language.marked(self.language.day(self.book.records[known.number].born), mark_of(known.birth))
+        name = f"{known.id} {known.name}".strip()
+        return f"{name}, {known.number}, {texts['born on'].format(day)}, F {self.drawn.coefficient.fraction}"
+
+    def badge(self) -> str:
+        """The letter of a common ancestor, and behind it where its ancestors are drawn."""
+        parts, right = [], self.place.width - self.inset
+        if self.drawn.letter:
+            width = width_of(self.drawn.letter, 11, True) + 7
+            right -= width
+            parts.append(f'<rect x="{right:.1f}" y="0" width="{width:.1f}" height="15" fill="{INK}"/>')
+            parts.append(text_at(right + width / 2, 11.5, self.drawn.letter, PAPER, 11, "middle", "bold"))
+        if self.drawn.page:
+            parts.append(text_at(right - 4, 12, f"→ {self.drawn.page}", INK, 10, "end", "bold"))
+        return "".join(parts)
+
+    @property
+    def taken(self) -> float:
+        """What the badge leaves no room for in the first line."""
+        letter = width_of(self.drawn.letter, 11, True) + 7 if self.drawn.letter else 0.0
+        return self.inset + letter + (width_of(f"→ {self.drawn.page}", 10, True) + 6 if self.drawn.page else 0.0)
+
+    def text(self, what: str, y: float, size: float, less: float = 0.0) -> str:
+        """A line from the left, so much shorter than the box."""
+        return text_at(PADDING, y, fitted(what, self.place.width - 2 * PADDING - less, size), GREY, size)
+
+    def id_line(self, y: float, size: float) -> str:
+        id = fitted_id(self.drawn.known.id, self.place.width - 2 * PADDING - self.taken, size, True)
+        return text_at(PADDING, y, id, INK, size, weight="bold")
+
+    def coefficient(self, y: float, size: float, less: float = 0.0) -> str:
+        """The coefficient of one that is inbred, at the end of a line."""
+        return text_at(self.place.width - PADDING - less, y, self.percent, INBRED_INK, size, "end", "bold")
+
+    def room_for_percent(self, size: float) -> float:
+        return width_of(self.percent, size, True) + 6 if self.percent else 0.0
+
+    def facts(self) -> str:
+        times = self.drawn.times
+        drawn_times = [self.language.texts["drawn times"].format(times)] if times > 1 else []
+        return ", ".join([year_of(self.book, self.drawn.known, self.language), *drawn_times])
+
+    def id_size(self, most: float, least: float) -> float:
+        """So large that the id fits, within bounds."""
+        room = self.place.width - 2 * PADDING - self.taken
+        return max(least, min(most, most * room / max(width_of(self.drawn.known.id, most, True), 1.0)))
+
+    def three(self) -> list[str]:
+        known = self.drawn.known
+        middle, size = self.place.height / 2, self.id_size(14, 9)
+        return [
+            self.id_line(middle - 11, size),
+            self.text(known.name, middle + 6, 12, self.room_for_percent(12.5)),
+            self.coefficient(middle + 6, 12.5),
+            self.text(self.facts(), middle + 22, 12),
+        ]
+
+    def two(self) -> list[str]:
+        known = self.drawn.known
+        middle, size = self.place.height / 2, self.id_size(12, 8.5)
+        facts = f"{known.name}, {self.facts()}" if known.name else self.facts()
+        return [
+            self.id_line(middle - 3, size),
+            self.text(facts, middle + 12, 10, self.room_for_percent(10.5)),
+            self.coefficient(middle + 12, 10.5),
+        ]
+
+    def one(self) -> list[str]:
+        known = self.drawn.known
+        y, less = self.place.height / 2 + 3.5, self.taken + self.room_for_percent(9.5)
+        size = min(10.0, self.place.height * 0.62)
+        id = fitted_id(known.id, self.place.width - 2 * PADDING - less, size, True)
+        used = width_of(id, size, True) + 5
+        name = known.name if id == known.id else ""
+        room = self.place.width - 2 * PADDING - less - used
+        found = [text_at(PADDING, y, id, INK, size, weight="bold"), self.coefficient(y, 9.5, self.taken)]
+        if room > 25:
+            facts = f"{name}, {year_of(self.book, known, self.language)}".removeprefix(", ")
+            found.append(text_at(PADDING + used, y, fitted(facts, room, size * 0.92), GREY, size * 0.92))
+        return found

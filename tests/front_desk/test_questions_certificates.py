@@ -1,0 +1,96 @@
+"""Certificates of many animals in one file, with the society's name, the day of issue and common ancestors."""
+from __future__ import annotations
+
+import xml.etree.ElementTree as xml
+
+from front_desk.desk import Desk
+
+XHTML = "{http://www.w3.org/1999/xhtml}"
+
+
+def pages(desk: Desk, name: str = "page.html") -> list[xml.Element]:
+    return list(desk.page(name).iter(f"{XHTML}main"))
+
+
+def classed(page: xml.Element, name: str) -> list[xml.Element]:
+    return [one for one in page.iter() if name in one.get("class", "").split()]
+
+
+def words(page: xml.Element) -> str:
+    return " ".join(" ".join(page.itertext()).split())
+
+
+def titles(desk: Desk) -> list[str]:
+    return [words(next(page.iter(f"{XHTML}h1"))) for page in pages(desk, "book/certificates.html")]
+
+
+def test_many(society_desk: Desk) -> None:
+    """One page each, in the order that they are named, or in age order."""
+    society_desk.write("some.txt", "GK-11/332b\nGK-17/472c\n")
+    done = society_desk.good("certificate", "GK-17/472c", "GK-02/119b", "--among", "some.txt")
+    assert done.last.startswith("book/certificates.html is written, 3 pages: ")
+    assert titles(society_desk) == ["GK-17/472c", "GK-02/119b", "GK-11/332b"]
+    society_desk.good("certificate", "--owner", "Lower Mill", "--living")
+    wanted = society_desk.listed("list", "--owner", "Lower Mill", "--living")
+    assert titles(society_desk) == [row["id"] for row in wanted] and len(wanted) > 30
+    society_desk.wrong("certificate needs animals", "certificate")
+    society_desk.wrong("not both", "certificate", "GK-17/472c", "--living")
+
+
+def test_society(society_desk: Desk) -> None:
+    """What `settings` keeps stands on each page, with the day; it stays after other changes, and can be taken away."""
+    society_desk.good("certificate", "GK-17/472c", "--out", "bare.html")
+    assert not classed(pages(society_desk, "bare.html")[0], "letterhead")
+    told = society_desk.good("settings", "--name", "Goats <of> the Vale", "--address", "Church Lane\n  UV1 2AB ").out
+    assert told == "name: Goats <of> the Vale\naddress: Church Lane, UV1 2AB\n"
+    society_desk.good("exit", "GK-18/486b", "--day", "2021-01-01")
+    society_desk.good("undo")
+    assert society_desk.good("settings", "--address", "Church Lane 1").out.startswith("name: Goats <of> the Vale\n")
+    society_desk.good("certificate", "GK-17/472c", "GK-02/119b", "--day", "2026-03-01", "--language", "de")
+    for page in pages(society_desk, "book/certificates.html"):
+        assert words(classed(page, "letterhead")[0]) == "Goats <of> the Vale Church Lane 1"
+        assert "Ausgestellt am 01.03.2026" in words(page)
+        assert "Für den Zuchtverband: Goats <of> the Vale" in words(page)
+    assert society_desk.good("settings", "--name", "", "--address", "").out == "name: not said\naddress: not said\n"
+
+
+def test_common_ancestors(desk: Desk) -> None:
+    """Each has a letter wherever it stands; one that is further back on the other side has one too, and none that is
+    on one side alone."""
+    rows = """
+        id,sex,birth,sire,dam
+        far,m,1990-01-01,,
+        a,m,1995-01-01,far,
+        b,f,1995-01-01,,
+        s,m,2000-01-01,a,b
+        d1,f,2000-01-01,a,b
+        c,m,2001-01-01,,
+        d,f,2003-01-01,c,d1
+        x,m,2006-01-01,s,d
+        own,f,2009-01-01,x,
+        calf,f,2012-01-01,x,own
+        e,m,1996-01-01,far,
+        e1,m,2000-01-01,e,
+        e2,f,2003-01-01,e1,
+        y,m,2004-01-01,s,e2
+    """
+    desk.take(rows)
+    letters = {}
+    for id in "x", "calf", "y", "d":
+        desk.good("certificate", id, "--force", "--out", "page.html")
+        boxes = [(classed(box, "letter"), words(next(box.iter(f"{XHTML}b")))) for box in classed(pages(desk)[0], "common")]
+        letters[id] = [(words(letter), name) for (letter,), name in boxes]
+    # in the order of the lines: the dam's sire and dam, with their own parents
+    assert letters["x"] == [("A", "a"), ("B", "far"), ("C", "b"), ("A", "a"), ("C", "b")]
+    assert letters["calf"][0] == ("A", "x") and letters["calf"].count(("A", "x")) == 2
+    assert letters["y"] == [("A", "far")]
+    assert letters["d"] == []
+    desk.good("certificate", "calf", "--force", "--out", "page.html")
+    assert "is further back on the other side" in words(pages(desk)[0])
+
+
+def test_large_percentage(mrode_desk: Desk) -> None:
+    mrode_desk.good("certificate", "5", "--out", "page.html")
+    (coefficient,) = classed(pages(mrode_desk)[0], "coefficient")
+    assert words(next(coefficient.iter(f"{XHTML}b"))) == "12.50%"
+    assert words(next(coefficient.iter(f"{XHTML}small"))) == "1/8 = 0.125"

@@ -1,0 +1,75 @@
+"""Drawn pedigrees of many generations: each page can be printed, and no text leaves its box."""
+from __future__ import annotations
+
+import xml.etree.ElementTree as xml
+
+import pytest
+
+from front_desk.desk import Desk
+from society.pages.text_width import fitted, fitted_id, width_of
+
+SVG = "{http://www.w3.org/2000/svg}"
+# ids and names of goats of a long line of full sibs
+LONG = "DE-09-2765-0000123456-Zuchtverband-Nr-"
+
+
+def full_sibs(generations: int) -> str:
+    rows = ["id,name,sex,birth,sire,dam"]
+    for at in range(generations + 1):
+        parents = f"{LONG}{at - 1}m,{LONG}{at - 1}f" if at else ","
+        rows += [f"{LONG}{at}{sex},Wilhelmine von der Wiese WWWWWWWWWW,{sex},{1990 + 2 * at}-01-01,{parents}" for sex in "mf"]
+    return "\n".join(rows) + "\n"
+
+
+@pytest.mark.parametrize(("generations", "pages"), [(5, 1), (6, 3), (8, 3), (10, 3)])
+def test_pages(desk: Desk, generations: int, pages: int) -> None:
+    """Two animals, once each, go on on pages of their own; on each the boxes stand apart, within A4."""
+    desk.take(full_sibs(10))
+    name = "tree.svg" if pages == 1 else "tree.html"
+    desk.good("pedigree", f"{LONG}10f", "--generations", str(generations), "--out", name)
+    page = desk.page(name)
+    pictures = [one for one in page.iter(f"{SVG}svg") if one.get("viewBox")]
+    assert len(pictures) == pages
+    drawn = set[str]()
+    for picture in pictures:
+        width, height = (float(text) for text in picture.attrib["viewBox"].split()[2:])
+        assert width <= 1046 and height <= 718
+        boxes = [[float(box.attrib[side]) for side in ("x", "y", "width", "height")] for box in picture.iter(f"{SVG}svg") if box.get("x")]
+        for x, y, wide, high in boxes:
+            assert 0 <= x and x + wide <= width and 50 <= y and y + high <= height - 60 and high >= 14
+        for one, other in zip(sorted(boxes), sorted(boxes)[1:]):
+            assert one[0] != other[0] or one[1] + one[3] < other[1]
+        drawn |= {title.text.split(" ")[0] for title in picture.iter(f"{SVG}title") if title.text}
+    assert len(drawn) == 2 * generations + 1
+    if pages > 1:
+        desk.wrong("stand on several pages", "pedigree", f"{LONG}10f", "--generations", str(generations), "--out", "x.svg")
+
+
+def test_text_in_a_box(desk: Desk) -> None:
+    """Texts are cut to the width of their box, which clips what a wider font would draw outside; ids keep their end."""
+    desk.take(full_sibs(5))
+    desk.good("pedigree", f"{LONG}5f", "--generations", "5", "--out", "tree.svg")
+    boxes = [box for box in desk.page("tree.svg").iter(f"{SVG}svg") if box.get("x")]
+    assert len(boxes) == 63
+    for box in boxes:
+        room = float(box.attrib["width"])
+        for text in box.iter(f"{SVG}text"):
+            wide = width_of(text.text or "", float(text.attrib["font-size"]), text.attrib["font-weight"] == "bold")
+            assert wide <= room - (0 if text.attrib["text-anchor"] == "middle" else 8), xml.tostring(text)
+    ids = [next(box.iter(f"{SVG}text")).text or "" for box in boxes]
+    assert {id[-2:] for id in ids} == {"5f", *(f"{at}{sex}" for at in range(5) for sex in "mf")}
+    assert fitted_id("WWWW", 1, 10) == "…W" and fitted("WWWW", 1, 10) == "…" and fitted_id("ab", 90, 10) == "ab"
+
+
+def test_common_ancestors(mrode_desk: Desk) -> None:
+    """A letter at each place of an animal that is on both sides."""
+    mrode_desk.good("pedigree", "6", "--out", "tree.svg")
+    page = mrode_desk.page("tree.svg")
+    texts = [[text.text for text in box.iter(f"{SVG}text")] for box in page.iter(f"{SVG}svg") if box.get("x")]
+    letters = [(box[0], box[-1]) for box in texts if box[-1] in ("A", "B", "C")]
+    # 5 of 4 and 3, and 2; 4 of 1; 3 of 1 and 2: 1 and 2 are on both sides of 5, 2 is the other parent
+    assert letters == [("2", "A"), ("2", "A")]
+    mrode_desk.good("pedigree", "5", "--force", "--out", "tree.svg")
+    page = mrode_desk.page("tree.svg")
+    texts = [[text.text for text in box.iter(f"{SVG}text")] for box in page.iter(f"{SVG}svg") if box.get("x")]
+    assert [box[0] for box in texts if box[-1] == "A"] == ["1", "1"]
