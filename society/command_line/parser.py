@@ -19,6 +19,8 @@ proved."""
 EXAMPLES = """examples:
   society/society take sheet.csv                     from a spreadsheet to a book in the folder `book`
   society/society list --out list.csv                all animals with their coefficients
+  society/society find berta                         animals by a part of id, name, number or owner
+  society/society show HA-17/3                       its record, relatives and history
   society/society certificate HA-17/3                a page for the printer
   society/society mating --dam HA-17/3               each living male, the least related first
   society/society take --pedigree triples.txt        from `id sire dam`, for geneticists

@@ -5,8 +5,10 @@ import pytest
 
 from front_desk.desk import CALLED, Desk
 
-WORDS = ["take", "list", "certificate", "mating", "trend", "pedigree", "inverse", "birth", "parents", "transfer", "exit", "history",
-         "undo", "verify", "backup", "restore"]
+WORDS = [
+    "take", "list", "certificate", "mating", "trend", "pedigree", "inverse", "birth", "parents", "transfer", "exit",
+    "history", "undo", "verify", "backup", "restore", "show", "find", "kinship", "export", "settings",
+]  # fmt: skip
 
 
 @pytest.mark.parametrize("word", WORDS)
