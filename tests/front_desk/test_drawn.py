@@ -36,22 +36,39 @@ def test_trend(secretary: Secretary, secretary_desk: Desk) -> None:
     assert "2 more have no known birth year" in words_of(desk, "book/trend.svg")
 
 
-@pytest.mark.parametrize("generations", [1, 4, 10])
+@pytest.mark.parametrize("generations", [1, 4, 5])
 def test_drawn_pedigree(secretary: Secretary, secretary_desk: Desk, generations: int) -> None:
     """The youngest animal's pedigree has each ancestor, and marks those that are inbred."""
     desk, parents, values = secretary_desk, secretary.parents(), secretary.coefficients()
     born = desk.born()
     youngest = max((row["Ohrmarke"] for row in secretary.rows), key=lambda id: (born[id], id))
     desk.good("pedigree", youngest, "--generations", str(generations), "--out", "tree.svg")
-    drawn, level = [youngest], [youngest]
-    for _ in range(generations):
-        level = [parent for id in level for parent in parents[id] if parent]
-        drawn += level
+    drawn = drawn_of(parents, youngest, generations)
     tips = [tip.split(",")[0] for tip in tips_of(desk, "tree.svg")]
     assert sorted(tip.split(" ")[0] for tip in tips) == sorted(id.split(" ")[0] for id in drawn)
     words = words_of(desk, "tree.svg")
     assert words.count("F\u00a0") == sum(values[id] > 0 for id in drawn)
     assert f"{len(set(drawn)) - 1} known ancestors" in words
+
+
+def drawn_of(parents: dict[str, tuple[str, str]], id: str, generations: int) -> list[str]:
+    """An animal and its ancestors, as often as they are drawn."""
+    drawn, level = [id], [id]
+    for _ in range(generations):
+        level = [parent for id in level for parent in parents[id] if parent]
+        drawn += level
+    return drawn
+
+
+def test_drawn_on_pages(secretary: Secretary, secretary_desk: Desk) -> None:
+    """All ancestors of ten generations stand on some page."""
+    desk, born = secretary_desk, secretary_desk.born()
+    youngest = max((row["Ohrmarke"] for row in secretary.rows), key=lambda id: (born[id], id))
+    desk.good("pedigree", youngest, "--generations", "10", "--out", "tree.html")
+    drawn = set(drawn_of(secretary.parents(), youngest, 10))
+    tips = {tip.split(",")[0].split(" ")[0] for tip in tips_of(desk, "tree.html")}
+    assert tips == {id.split(" ")[0] for id in drawn}
+    assert f"{len(drawn) - 1} known ancestors" in words_of(desk, "tree.html")
 
 
 @pytest.mark.parametrize(("language", "tree", "trend"), [
