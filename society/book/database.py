@@ -3,6 +3,7 @@ then."""
 from __future__ import annotations
 
 import contextlib
+import os
 import pathlib
 import shutil
 import sqlite3
@@ -40,7 +41,16 @@ def primary(error: sqlite3.Error) -> int:
     return getattr(error, "sqlite_errorcode", 0) & 0xFF
 
 
+class NotAllowed(sqlite3.OperationalError):
+    """Somebody may not write a file. SQLite would read it all the same, and leave files beside it that aren't those of
+    its owner, who couldn't change the book any more."""
+
+    sqlite_errorcode = sqlite3.SQLITE_READONLY
+
+
 def connect(path: pathlib.Path, mode: str) -> sqlite3.Connection:
+    if path.exists() and not os.access(path, os.W_OK):
+        raise NotAllowed("it belongs to somebody else, and is only to be read")
     address = f"file:{urllib.parse.quote(str(path.absolute()))}?mode={mode}"
     connection = sqlite3.connect(address, uri=True, timeout=SECONDS_TO_WAIT, isolation_level=None)
     connection.execute("PRAGMA foreign_keys = ON")

@@ -70,10 +70,11 @@ def alone(folder: pathlib.Path) -> Iterator[None]:
 
 
 def is_old(folder: pathlib.Path) -> bool:
-    """Has the folder a file that only version 0.11 writes, or a command file and no database?"""
+    """Has the folder a file that only version 0.11 writes, or a command file and no database, or an empty one?"""
     if any((folder / name).exists() for name in OLD_NAMES):
         return True
-    return (folder / COMMANDS).exists() and not path_of(folder).exists()
+    path = path_of(folder)
+    return (folder / COMMANDS).exists() and not (path.exists() and path.stat().st_size)
 
 
 def keep_files(folder: pathlib.Path) -> None:
@@ -176,8 +177,8 @@ def read_table(folder: pathlib.Path, name: str, titles: list[str], needed: bool 
         found = []
     if found == [*titles, "change"]:
         raise Mistake(
-            f"{path_of(folder)}, the book, is missing: {path} was only written from it. Restore a backup, by the word "
-            "restore, or take the sheet into another folder"
+            f"{path_of(folder)}, the book, is missing or empty: {path} was only written from it. Restore a backup, by "
+            "the word restore, or take the sheet into another folder"
         )
     if found != titles or any(len(row) != len(titles) for row in rows):
         raise changed(path)

@@ -38,7 +38,11 @@ def faults_of_file(connection: sqlite3.Connection) -> list[str]:
 
 
 def faults_of_replies(book: Book, connection: sqlite3.Connection, program: Herdbook) -> list[str]:
-    stored, told = refusals_of(connection, book.journal), program.file_text(book.command_file(), book.journal.length)
+    text, length = book.command_file(), book.journal.length
+    there = text.count(b"\n") - 1
+    if there != length:
+        return [f"the journal has {counted(there, 'command')}, and its last change tells of {length}"]
+    stored, told = refusals_of(connection, book.journal), program.file_text(text, length)
     differing = sorted(place for place in stored.keys() | told.keys() if stored.get(place) != told.get(place))
     return [
         f"the program's reply to command {place + 1} is {reply(told.get(place))}, the stored one {reply(stored.get(place))}"
@@ -56,7 +60,7 @@ def faults_of_state(book: Book) -> list[str]:
     if records == kept:
         return []
     differing = [number for number in records.keys() | kept.keys() if records.get(number) != kept.get(number)]
-    return [f"{counted(len(differing), 'animal')} aren't as the journal has them, the first is {min(differing)}"]
+    return [f"the journal has {counted(len(differing), 'animal')} otherwise, the first is {min(differing)}"]
 
 
 def faults_of_coefficients(book: Book, connection: sqlite3.Connection, program: Herdbook) -> list[str]:
@@ -65,5 +69,6 @@ def faults_of_coefficients(book: Book, connection: sqlite3.Connection, program: 
     if list(found.items()) == list(kept.items()):
         return []
     differing = [number for number in found.keys() | kept.keys() if found.get(number) != kept.get(number)]
-    first = f", the first is that of {min(differing)}" if differing else ""
-    return [f"{counted(len(differing), 'kept coefficient')} aren't the program's{first}"]
+    if not differing:
+        return ["the kept coefficients aren't in the program's order"]
+    return [f"the program has {counted(len(differing), 'kept coefficient')} otherwise, the first is {min(differing)}'s"]

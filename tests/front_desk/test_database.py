@@ -69,17 +69,16 @@ def test_database_of_another_program(flock_desk: Desk) -> None:
 
 
 @pytest.mark.parametrize(("statement", "told"), [
-    ("UPDATE command SET day = '1999-12-31' WHERE place = 3", "1 animal aren't as the journal has them"),
+    ("UPDATE command SET day = '1999-12-31' WHERE place = 3", "the journal has 1 animal otherwise"),
     ("UPDATE command SET refusal = 5 WHERE place = 3", "the program's reply to command 3 is that it is accepted"),
-    ("UPDATE coefficient SET fraction = '1/2' WHERE place = 9", "1 kept coefficient aren't the program's"),
-    ("DELETE FROM owner", ""),
+    ("UPDATE coefficient SET fraction = '1/2' WHERE place = 9", "the program has 1 kept coefficient otherwise"),
+    ("DELETE FROM command WHERE place = 16", "the journal has 15 commands, and its last change tells of 16"),
 ])  # fmt: skip
 def test_verify(flock_desk: Desk, statement: str, told: str) -> None:
     """What somebody changed in the file is told before anything is written."""
     change_file(flock_desk, statement)
-    if told:
-        flock_desk.wrong(told, "verify")
-        flock_desk.wrong(told, "take", "sheet.csv")
+    flock_desk.wrong(told, "verify")
+    flock_desk.wrong(told, "take", "sheet.csv")
 
 
 def test_migration(flock_desk: Desk, monkeypatch: pytest.MonkeyPatch) -> None:
@@ -131,6 +130,18 @@ def test_without_rights(flock_desk: Desk, open_room: pathlib.Path, is_unsettled:
             done = run(desk, *words, before=nobody)
             assert done.status == 1 and "book/book.sqlite can't be written" in done.err and not done.out, f"{done}"
     assert changes_of(desk.room / "book") == 1
+
+
+@pytest.mark.skipif(os.getuid() != 0, reason="only root can call as somebody else")
+def test_only_to_be_read(flock_desk: Desk, open_room: pathlib.Path) -> None:
+    """Who may write in the folder and not the file leaves nothing beside it, by which its owner couldn't change it."""
+    desk = flock_desk.copy_to(open_room)
+    (desk.room / "book").chmod(0o777)
+    before = set(desk.files())
+    for words in ["list"], ["verify"], ["undo"], ["take", "sheet.csv"]:
+        done = run(desk, *words, before=functools.partial(os.setuid, NOBODY))
+        assert done.status == (words[0] in ("undo", "take")), f"{done}"
+        assert set(desk.files()) == before, f"{words}"
 
 
 def test_exports(flock_desk: Desk) -> None:

@@ -48,8 +48,12 @@ def test_changed_by_somebody(old_desk: Desk, name: str, text: str, told: str) ->
     old_desk.wrong(told, "list")
 
 
-def test_exports_alone(desk: Desk) -> None:
-    """Where the database is missing its exports aren't taken for it."""
+@pytest.mark.parametrize("is_there", [False, True])
+def test_exports_alone(desk: Desk, is_there: bool) -> None:
+    """Where the database is missing, or has nothing in it, its exports aren't taken for it, and no new one is begun."""
     desk.take("id,born,sire,dam\na,2001-01-01,,\n")
     (desk.room / "book/book.sqlite").unlink()
-    desk.wrong("book/book.sqlite, the book, is missing: book/ids.csv was only written from it", "list")
+    if is_there:
+        desk.write("book/book.sqlite", b"")
+    for words in ["list"], ["take", "sheet.csv"], ["birth", "b", "--sex", "m", "--day", "2001-01-01"]:
+        desk.wrong("book/book.sqlite, the book, is missing or empty: book/ids.csv was only written from it", *words)
