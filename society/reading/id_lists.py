@@ -18,7 +18,9 @@ def read_ids(path: pathlib.Path, is_known: Callable[[str], bool]) -> list[str]:
     """The ids in their order, each once: a whole line where that is known, else its first cell. A first line may be a
     title."""
     text, _ = decoded(path, read_bytes(path))
-    lines = [" ".join(line.split()) for line in text.splitlines() if line.strip() and not line.startswith("#")]
+    lines = [" ".join(line.split()) for line in text.splitlines() if line.strip()]
+    # an id may begin as a comment does
+    lines = [line for line in lines if not line.startswith("#") or is_known(line)]
     if lines and not is_known(lines[0]) and plain(first_cell(lines[0])) in OF_FIELD[Field.ID]:
         del lines[0]
     ids = [line if is_known(line) else first_cell(line) for line in lines]

@@ -11,7 +11,7 @@ from society.mistake import Mistake, counted
 from society.reading.animal import Animal
 from society.reading.days import ANY_DAY, Unreadable, read_span
 from society.reading.findings import DayLeftOut, LineAgain, SexUnread
-from society.reading.pedigree_lines import Line, read_lines
+from society.reading.pedigree_lines import STANDARD_INPUT, Line, read_lines
 from society.reading.pedigree_titles import Columns, are_titles, columns_read, find_pedigree_columns
 from society.reading.sexes import Sexes
 from society.taking.report import Report
@@ -37,7 +37,8 @@ def read_triples(path: pathlib.Path, given: Mapping[Field, str], unknown: Contai
     if given and not titles and lines:
         raise Mistake(f"{lines[0]} has none of the titles that --columns names: write a first line with titles")
     if not lines:
-        raise Mistake(f"{path} has no animals: write a line `id sire dam` for each")
+        what = "standard input" if path == STANDARD_INPUT else str(path)
+        raise Mistake(f"{what} has no animals: write a line `id sire dam` for each")
     if titles is None:
         columns, told = WITHOUT_TITLES, [f"{lines[0]} has none of the known titles, and is taken for an animal"]
     else:
@@ -47,6 +48,7 @@ def read_triples(path: pathlib.Path, given: Mapping[Field, str], unknown: Contai
     for line in lines:
         check_cells(line, titles, max(columns.values()))
         reader.read(line)
+    check_comments(reader.animals)
     return Triples(reader.animals, columns, told)
 
 
@@ -89,6 +91,17 @@ class Reader:
         except Unreadable as error:
             animal.birth = ANY_DAY
             self.report.add(animal.line, animal.id, DayLeftOut(Field.BIRTH, error.fault, error.text))
+
+
+def check_comments(animals: Mapping[str, Animal]) -> None:
+    """No line of a parent was read as a comment, for its id begins with `#`: its parents would be lost."""
+    for animal in animals.values():
+        lost = [parent for parent in animal.parent_ids() if parent.startswith("#") and parent not in animals]
+        if lost:
+            raise Mistake(
+                f"line {animal.line}: the parent '{lost[0]}' of {animal.id} has no line, since a line that begins with "
+                "# is a comment: put its id into quotation marks where its line begins, or write it otherwise"
+            )
 
 
 def check_cells(line: Line, titles: Line | None, last: int) -> None:

@@ -6,7 +6,7 @@ import re
 import unicodedata
 
 UNKNOWN = (
-    "na, nan, n/a, nn, none, null, unknown, unk, not known, not recorded, not available, unknown sire, unknown dam, "
+    "na, <na>, nan, n/a, nn, none, null, unknown, unk, not known, not recorded, not available, unknown sire, unknown dam, "
     "unbekannt, unbek, nicht bekannt, nb, ka, keine angabe, keine angaben, fehlt, inconnu, inconnue, non connu, "
     "non connue, pas connu, non renseigné, non renseignée, nc, nr, -1, -9, -99, -999, -9999"
 )

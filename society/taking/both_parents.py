@@ -40,4 +40,9 @@ def told(id: str, of_sire: Animal, of_dam: Animal) -> str:
     """Where it is a sire, and where a dam."""
     if of_sire is of_dam:
         return f"{id} (both parents of {of_sire.id} in line {of_sire.line})"
-    return f"{id} (a sire in line {of_sire.line}, a dam in line {of_dam.line})"
+    return f"{id} (a sire {place(of_sire)}, a dam {place(of_dam)})"
+
+
+def place(calf: Animal) -> str:
+    """Where an animal's parents stand: in a line of the file, or in the book alone."""
+    return f"in line {calf.line}" if calf.line else f"of {calf.id} in the book"

@@ -84,6 +84,23 @@ def test_links_that_would_be_lost(desk: Desk, text: str, told: str) -> None:
     assert "book: " in desk.good("take", "--pedigree", pedigree, "--leave-out").last
 
 
+def test_sire_of_the_book_that_is_a_dam(desk: Desk) -> None:
+    """A second pedigree says otherwise than the book's."""
+    desk.good("take", "--pedigree", desk.write("first.txt", "a 0 0\nb 0 0\nc a b\n"))
+    told = "1 animal is both sire and dam: a (a sire of c in the book, a dam in line 3)"
+    desk.wrong(told, "take", "--pedigree", desk.write("second.txt", "id sire dam\ny 0 0\nx y a\n"))
+
+
+def test_ids_that_begin_as_comments(desk: Desk) -> None:
+    """No line is lost without a word, and lists of ids have them."""
+    told = "line 3: the parent '#1' of b has no line, since a line that begins with # is a comment"
+    desk.wrong(told, "take", "--pedigree", desk.write("lost.txt", "#1 a 0\na 0 0\nb #1 0\n"))
+    pedigree = desk.write("quoted.txt", '"#1" a 0\na 0 0\nb #1 0\n')
+    done = desk.good("take", "--pedigree", pedigree, "--keep", desk.write("ids.txt", "# comment\n#1\n"))
+    assert "kept: 1 animal of " in done.out
+    assert desk.parents() == {"#1": ("a", ""), "a": ("", "")}
+
+
 def test_line_that_says_the_same_again(desk: Desk) -> None:
     done = desk.good("take", "--pedigree", desk.write("twice.txt", "a 0 0\nb 0 0\nc a b\nc a b\n"))
     done.tells("line 4: c: the line is left out: line 3 has this id too")
@@ -177,6 +194,8 @@ def test_standard_input(desk: Desk, program: str) -> None:
     done = subprocess.run(words, cwd=desk.room, env=env, input=given, capture_output=True, text=True, timeout=60)
     assert done.returncode == 0 and "standard input: the sexes and birth days of 2 animals" in done.stdout
     assert desk.parents() == {"a": ("", ""), "b": ("a", "")}
+    done = subprocess.run(words, cwd=desk.room, env=env, input="", capture_output=True, text=True, timeout=60)
+    assert done.returncode == 1 and "standard input has no animals" in done.stderr
 
 
 # the solutions of Mrode's example 3.1 as printed (Linear Models for the Prediction of Animal Breeding Values, 2014)

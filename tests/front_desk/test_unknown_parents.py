@@ -5,7 +5,7 @@ from front_desk.desk import Desk
 
 TITLES = "id;sex;birth;sire;dam\n"
 UNKNOWN = (
-    "NN, n.n., N.N., n.b., k. A., k.A., nicht bekannt, unbekannt, not known, Not recorded, n/a, none, unk, inconnu, "
+    "<NA>, NN, n.n., N.N., n.b., k. A., k.A., nicht bekannt, unbekannt, not known, Not recorded, n/a, none, unk, inconnu, "
     "inconnue, -1, -9, *, 00, 0, 000, ?, -, --, ."
 ).split(", ")
 ERRORS = "#REF! #BEZUG! #N/A #NV #WERT! #VALUE! #VALEUR! #NAME? #NOM? #DIV/0! #ZAHL! #NULL! Err:502 ####".split()
