@@ -12,7 +12,7 @@ from society.answers.table import Cell, Decimal, Table
 from society.book.book import Book
 from society.book.coefficients import Coefficient, kept_coefficients
 from society.book.known import Known
-from society.book.rows import Row, known_of
+from society.book.rows import SEX_SOURCES, Row, birth_basis, exit_basis
 
 if TYPE_CHECKING:
     from society.breed.completeness import Generations
@@ -39,6 +39,8 @@ class Column(enum.StrEnum):
     SAMPLING_VARIANCE = "sampling_variance"
 
 
+# of more animals than so many, all that the book has is read at once
+MANY = 10_000
 # what a list has where nothing else is asked for
 USUAL = (
     Column.ID, Column.NAME, Column.NUMBER, Column.BIRTH, Column.COEFFICIENT, Column.DECIMAL, Column.PERCENT,
@@ -104,12 +106,12 @@ class Facts:
 
 
 def birth_of(row: Row) -> str:
-    return f"{row.born or ''}{known_of(row).birth.mark()}"
+    return f"{row.born or ''}{birth_basis(row.birth_source, row.birth_period, row.birth_no_such_day).mark()}"
 
 
 def exit_of(row: Row) -> str:
     """The day of the exit with its mark, or what is told of one without a day."""
-    basis = known_of(row).exit
+    basis = exit_basis(row.exit_source, row.exit_period, row.exit_no_such_day, row.exit_text)
     return f"{row.departed}{basis.mark()}" if row.departed else basis.words()
 
 
@@ -117,7 +119,7 @@ CELLS: dict[Column, Callable[[Facts, Row], Cell]] = {
     Column.ID: lambda facts, row: row.id,
     Column.NAME: lambda facts, row: row.name,
     Column.NUMBER: lambda facts, row: row.number,
-    Column.SEX: lambda facts, row: row.number[6] + known_of(row).sex.mark(),
+    Column.SEX: lambda facts, row: row.number[6] + SEX_SOURCES[row.sex_source].mark(),
     Column.BIRTH: lambda facts, row: birth_of(row),
     Column.SIRE: lambda facts, row: facts.parent(row.sire),
     Column.DAM: lambda facts, row: facts.parent(row.dam),
@@ -138,7 +140,9 @@ def animals_table(book: Book, rows: Sequence[Row], columns: Sequence[Column] = U
     """These animals with these columns."""
     facts = Facts(book)
     makers = [CELLS[column] for column in columns]
-    # all animals are read at once where there are many
-    if len(rows) > 1_000:
-        len(facts.ids), len(facts.coefficients)
+    # all are read at once where there are many
+    if len(rows) > MANY:
+        len(facts.coefficients)
+        if Column.SIRE in columns or Column.DAM in columns:
+            len(facts.ids)
     return Table([column.value for column in columns], [[cell(facts, row) for cell in makers] for row in rows])
