@@ -7,5 +7,6 @@ mod deep_books;
 mod inverse;
 mod line_faults;
 mod mating;
+mod relationships;
 mod replies;
 mod support;

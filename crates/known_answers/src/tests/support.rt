@@ -131,6 +131,16 @@ pub(super) fn advice<R: AllocGlobal + Threads + Wait + Sync>(
     ran!(rt, Order::Mating { dam, sires }, bytes)
 }
 
+/// Runs a command file for relationships of some animals with others, or with one another.
+pub(super) fn relationships<R: AllocGlobal + Threads + Wait + Sync>(
+    rt: &R,
+    numbers: &[AnimalNumber],
+    others: &[AnimalNumber],
+    bytes: &[u8],
+) -> Ran {
+    ran!(rt, Order::Relationships { numbers, others }, bytes)
+}
+
 /// Runs a command file for the contributions to the inverse.
 pub(super) fn inverse<R: AllocGlobal + Threads + Wait + Sync>(rt: &R, bytes: &[u8]) -> Ran {
     ran!(rt, Order::Inverse, bytes)
