@@ -9,6 +9,9 @@ from scipy.sparse.linalg import spsolve
 inverse, alpha = mmread(sys.argv[1]).tocsc(), float(sys.argv[3])
 ids = open(sys.argv[1] + ".ids", encoding="utf-8").read().splitlines()
 records = list(csv.DictReader(open(sys.argv[2], encoding="utf-8")))
+unknown = [record["id"] for record in records if record["id"] not in ids]
+if unknown:
+    sys.exit(f"{sys.argv[2]} has records of animals that {sys.argv[1]} has no row of: {', '.join(unknown[:12])}")
 sexes = sorted({record["sex"] for record in records}, reverse=True)
 fixed = csc_matrix([[float(record["sex"] == sex) for sex in sexes] for record in records])
 animals = csc_matrix([[float(record["id"] == id) for id in ids] for record in records])

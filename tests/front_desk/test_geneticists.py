@@ -211,6 +211,9 @@ def test_recipes_by_scipy(desk: Desk) -> None:
     desk.good("inverse", "--matrix-market", "inverse.mtx")
     found = recipe(desk, "blup_scipy.py", "inverse.mtx", str(TOP / "examples/growth.csv"), "2")
     assert {name: float(value) for name, value in found} == pytest.approx(SOLUTIONS, abs=0.00101)
+    desk.write("other.csv", "id,sex,gain\n4,male,4.5\n004,male,4.5\n")
+    with pytest.raises(subprocess.CalledProcessError):
+        recipe(desk, "blup_scipy.py", "inverse.mtx", "other.csv", "2")
     kinships = recipe(desk, "kinship_scipy.py", "inverse.mtx", "7", "8", "5")
     wanted = [0.5, 0.125, 0.25, 0.5, 0.1875, 0.5]
     assert [float(value) for _, _, value in kinships] == wanted
