@@ -53,6 +53,9 @@ def check(book: Book, path: pathlib.Path, force: bool) -> None:
         if path.is_symlink() and not force:
             raise is_there(path)
         return
+    # a device would be replaced by a file, and a pipe read for ever
+    if not path.is_file():
+        raise Mistake(f"{path} can't be written: it isn't an ordinary file: name another one")
     if is_taken_sheet(book, path):
         raise Mistake(f"{path} is a sheet that was taken, and is never written over: name another file")
     if not force:

@@ -1,6 +1,8 @@
 """What leaves the front desk: files that are asked for, cells for spreadsheets, and text for a terminal."""
 from __future__ import annotations
 
+import os
+
 import pytest
 
 from front_desk.desk import Desk
@@ -39,6 +41,8 @@ def test_onto_other_files(flock_desk: Desk) -> None:
     flock_desk.good("list", "--out", "link", "--force")
     assert flock_desk.text("other.csv") == "precious" and flock_desk.text("link").startswith("id,")
     flock_desk.wrong("there is no folder absent", "list", "--out", "absent/list.csv")
+    os.mkfifo(flock_desk.room / "pipe")
+    flock_desk.wrong("pipe can't be written: it isn't an ordinary file", "list", "--out", "pipe", "--force")
     flock_desk.wrong("the folder absent isn't there", "take", "sheet.csv", "--book", "absent/book")
     (flock_desk.room / "matrix.ids").write_text("precious")
     flock_desk.wrong("matrix.ids is there already", "inverse", "--matrix-market", "matrix")
