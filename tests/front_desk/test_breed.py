@@ -124,3 +124,10 @@ def test_plan_with_bounds(secretary_desk: Desk) -> None:
     desk.wrong("'2' isn't a fraction or a decimal from 0 to 1", "plan", "--at-most", "2")
     males = desk.write("males.txt", next(row["id"] for row in desk.listed("list") if row["number"][6] == "M"))
     desk.wrong("no dam can be male", "plan", "--dams", males)
+
+
+def test_plan_of_days_after_today(desk: Desk) -> None:
+    """Invented days of a long pedigree go on after today, and no age is asked unless that is wished."""
+    text = "id sire dam sex birth\ns 0 0 M 2190-01-01\nd 0 0 F 2190-01-02\n"
+    desk.good("take", "--pedigree", desk.write("ahead.txt", text))
+    assert "1 mating" in desk.good("plan").err

@@ -123,7 +123,10 @@ def do_plan(asked: argparse.Namespace, book: Book, program: Herdbook) -> None:
     from society.breed.mated import best_plan, candidates_of, table_of, told_of
 
     breed = breed_of(book)
-    youngest = datetime.date.today() - datetime.timedelta(days=asked.minimum_age or 0)
+    # days that are invented for a long pedigree may lie after today
+    youngest = datetime.date.max
+    if asked.minimum_age is not None:
+        youngest = datetime.date.today() - datetime.timedelta(days=asked.minimum_age)
     candidates = candidates_of(breed, named(asked.dams, book), named(asked.sires, book), youngest)
     found = best_plan(breed, program, candidates, asked.most_for_a_sire, asked.at_most, asked.kinship_weight)
     text = table_of(breed, found, asked.table, asked.semicolons)
