@@ -30,7 +30,9 @@ class Crates:
             # those below first
             self.upwards = [*graphlib.TopologicalSorter(self.below).static_order()]
         except graphlib.CycleError as error:
-            raise Stop(f"crates.txt has crates that stand on themselves: {' > '.join(error.args[1][::-1])}", 2) from None
+            raise Stop(
+                f"crates.txt has crates that stand on themselves: {' > '.join(error.args[1][::-1])}", 2
+            ) from None
 
     def all_below(self, name: str) -> set[str]:
         """A crate and all that it stands on."""

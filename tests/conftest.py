@@ -44,7 +44,9 @@ def pytest_runtest_makereport(item: pytest.Item, call: pytest.CallInfo[None]) ->
 
 
 def pytest_addoption(parser: pytest.Parser) -> None:
-    parser.addoption("--counts", metavar="FILE", help="write how many checks passed and failed into a file, for ./check")
+    parser.addoption(
+        "--counts", metavar="FILE", help="write how many checks passed and failed into a file, for ./check"
+    )
 
 
 def pytest_terminal_summary(terminalreporter: TerminalReporter, exitstatus: int, config: pytest.Config) -> None:

@@ -17,9 +17,7 @@ LISTED = f"standing IN ('{Standing.ROW.value}', '{Standing.FILED.value}')"
 # the living animals of the society
 LIVING = f"{LISTED} AND departed IS NULL AND exit_source <> '{ExitSource.UNKNOWN_DAY.value}'"
 # of an inferred birth day at least the year has to be known
-BORN_BETWEEN = (
-    f"born BETWEEN ? AND ? AND birth_source IN ('{BirthSource.GIVEN.value}', '{BirthSource.PERIOD.value}')"
-)
+BORN_BETWEEN = f"born BETWEEN ? AND ? AND birth_source IN ('{BirthSource.GIVEN.value}', '{BirthSource.PERIOD.value}')"
 
 
 @dataclass(frozen=True, slots=True)

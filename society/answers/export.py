@@ -54,8 +54,10 @@ def triples_text(rows: Iterable[Row]) -> str:
     names: dict[str, str] = {}
     for row in rows:
         names[row.number] = quoted(row.id)
-        lines.append(f"{names[row.number]} {names[row.sire] if row.sire else UNKNOWN} "
-                     f"{names[row.dam] if row.dam else UNKNOWN}")
+        lines.append(
+            f"{names[row.number]} {names[row.sire] if row.sire else UNKNOWN} "
+            f"{names[row.dam] if row.dam else UNKNOWN}"
+        )
     return "\n".join(lines) + "\n"
 
 

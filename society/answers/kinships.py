@@ -29,9 +29,7 @@ class Related(NamedTuple):
         return self.relationship / 2
 
 
-def related(
-    book: Book, program: Herdbook, animals: Sequence[Known], others: Sequence[Known] | None
-) -> list[Related]:
+def related(book: Book, program: Herdbook, animals: Sequence[Known], others: Sequence[Known] | None) -> list[Related]:
     """All pairs of some animals, each with itself too; or else each of them with each of the others."""
     count = len(animals) * (len(animals) + 1) // 2 if others is None else len(animals) * len(others)
     if count > MOST_PAIRS:

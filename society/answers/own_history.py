@@ -37,9 +37,7 @@ def history_of(connection: sqlite3.Connection, id: str) -> Iterator[str]:
 
 def rows_by_change(connection: sqlite3.Connection, id: str, column: str) -> dict[int, Row]:
     """The animal's rows by the change with which they began or ended."""
-    rows = connection.execute(
-        f"SELECT {column}, {COLUMNS} FROM animal WHERE id = ? AND {column} IS NOT NULL", (id,)
-    )
+    rows = connection.execute(f"SELECT {column}, {COLUMNS} FROM animal WHERE id = ? AND {column} IS NOT NULL", (id,))
     return {number: Row(*row) for number, *row in rows}
 
 

@@ -129,9 +129,13 @@ def put_in_place(folder: pathlib.Path, copy: pathlib.Path) -> None:
             if primary(error) not in DAMAGED:
                 raise told(error, path) from None
         except FileNotFoundError:
-            raise Mistake(f"the folder {folder.parent} isn't there: make it, or name another folder by --book") from None
+            raise Mistake(
+                f"the folder {folder.parent} isn't there: make it, or name another folder by --book"
+            ) from None
         except OSError as error:
-            raise Mistake(f"the folder {folder} can't be written ({error.strerror or error}): nothing is changed") from None
+            raise Mistake(
+                f"the folder {folder} can't be written ({error.strerror or error}): nothing is changed"
+            ) from None
     replace_damaged(path, copy)
 
 

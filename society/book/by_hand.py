@@ -76,7 +76,9 @@ def number_for(book: Book, calf: Calf) -> str:
     former = dropped.number if dropped else book.former_numbers().get(calf.id, "")
     if former:
         return former[:6] + calf.sex + former[7:]
-    row = book.connection and book.connection.execute("SELECT number FROM animal ORDER BY animal DESC LIMIT 1").fetchone()
+    row = (
+        book.connection and book.connection.execute("SELECT number FROM animal ORDER BY animal DESC LIMIT 1").fetchone()
+    )
     last = row[0] if row else BREED + COUNTRY
     return f"{calf.breed or last[:3]}{calf.country or last[3:6]}{calf.sex}{book.greatest_digits() + 1:012}"
 

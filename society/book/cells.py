@@ -1,14 +1,15 @@
 """What stands in cells and on a terminal: never a formula, nor a character that does something."""
 from __future__ import annotations
 
-import unicodedata
+import re
 
 # how spreadsheets know a formula, also in the wide letters of East Asia
 FORMULA = tuple("=+-@\t\r＝＋－＠")
 # an apostrophe before a cell says that it is text
 TEXT = "'"
-# marks that turn the direction of what follows
-TURNING = {0x061C, 0x200E, 0x200F, *range(0x202A, 0x202F), *range(0x2066, 0x206A)}
+# characters of control but tabs and ends of lines, halves of characters, and marks that turn the direction of what
+# follows
+ACTING = re.compile("[\x00-\x08\x0b-\x1f\x7f-\x9f\ud800-\udfff\u061c\u200e\u200f\u202a-\u202e\u2066-\u2069]")
 
 
 def for_spreadsheets(cell: str) -> str:
@@ -18,13 +19,7 @@ def for_spreadsheets(cell: str) -> str:
 
 def for_terminals(text: str) -> str:
     """The text with what would do something to a terminal as a name for it; lines may end, and tabs stay."""
-    if text.isascii() and text.isprintable():
-        return text
-    return "".join(one if one in "\n\t" or is_shown(one) else escape(one) for one in text)
-
-
-def is_shown(character: str) -> bool:
-    return unicodedata.category(character) not in ("Cc", "Cs") and ord(character) not in TURNING
+    return ACTING.sub(lambda found: escape(found[0]), text)
 
 
 def escape(character: str) -> str:

@@ -38,7 +38,10 @@ def companions(path: pathlib.Path) -> tuple[pathlib.Path, ...]:
 
 def primary(error: sqlite3.Error) -> int:
     """The kind of an error, without its details; 0 where it has none."""
-    return getattr(error, "sqlite_errorcode", 0) & 0xFF
+    try:
+        return error.sqlite_errorcode & 0xFF
+    except AttributeError:
+        return 0
 
 
 class NotAllowed(sqlite3.OperationalError):
@@ -173,7 +176,9 @@ def copy_of(path: pathlib.Path, room: pathlib.Path) -> pathlib.Path:
                 if one.exists():
                     shutil.copyfile(one, target)
         except OSError as error:
-            raise Mistake(f"{path} can't be read ({error.strerror or error}): who may read it has to allow it") from None
+            raise Mistake(
+                f"{path} can't be read ({error.strerror or error}): who may read it has to allow it"
+            ) from None
         if marks(path) == before:
             return copy
         time.sleep(0.05)

@@ -89,6 +89,4 @@ def told_by(connection: sqlite3.Connection, number: int) -> list[Told]:
     rows = connection.execute(
         "SELECT kind, part, line, id, fields FROM told WHERE change = ? ORDER BY place", (number,)
     )
-    return [
-        Told(kind, part, line, id, tuple(json.loads(fields).items())) for kind, part, line, id, fields in rows
-    ]
+    return [Told(kind, part, line, id, tuple(json.loads(fields).items())) for kind, part, line, id, fields in rows]

@@ -51,7 +51,9 @@ def details(connection: sqlite3.Connection, change: Change) -> Iterator[str]:
         yield f"file: {change.source.path}, SHA-256 {change.source.digest}"
     if change.options:
         yield f"options: {' '.join(f'{one.option} {one.word}'.strip() for one in change.options)}"
-    edition = connection.execute("SELECT predecessor, keeps FROM edition WHERE edition = ?", (change.edition,)).fetchone()
+    edition = connection.execute(
+        "SELECT predecessor, keeps FROM edition WHERE edition = ?", (change.edition,)
+    ).fetchone()
     kept = f", which keeps {counted(edition[1], 'command')} of edition {edition[0]}" if edition[0] else ""
     yield f"journal: {counted(change.length, 'command')} of edition {change.edition}{kept}"
     yield from animals_changed(connection, change.number)
@@ -81,7 +83,8 @@ def rows_by_id(connection: sqlite3.Connection, column: str, number: int) -> dict
 def names_around(connection: sqlite3.Connection, number: int) -> dict[str, str]:
     """The ids that numbers stand for, before a change and after it."""
     rows = connection.execute(
-        "SELECT number, id FROM animal WHERE since <= ? AND (until IS NULL OR until >= ?) ORDER BY since", (number, number)
+        "SELECT number, id FROM animal WHERE since <= ? AND (until IS NULL OR until >= ?) ORDER BY since",
+        (number, number),
     )
     return dict(rows)
 
@@ -118,5 +121,3 @@ def facts(row: Row, names: dict[str, str], owners: dict[int, str]) -> dict[str, 
         "dam in the sheet": row.written_dam,
         "filed by hand": row.by_hand,
     }
-
-

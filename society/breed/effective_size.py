@@ -36,9 +36,7 @@ def individual_increase(pedigree: Pedigree, generations: Generations, population
     counted = [rank for rank in population if generations.equivalent(rank) > 1]
     if not counted:
         return None
-    increases = [
-        1 - outbred_part(pedigree, rank) ** (1 / float(generations.equivalent(rank) - 1)) for rank in counted
-    ]
+    increases = [1 - outbred_part(pedigree, rank) ** (1 / float(generations.equivalent(rank) - 1)) for rank in counted]
     mean = math.fsum(increases) / len(increases)
     size = size_of(mean)
     if size is None or len(increases) < 2:

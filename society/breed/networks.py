@@ -1,4 +1,4 @@
-"""The transport problem by networkx, which has no types: this module alone names it."""
+"""The transport problem by networkx, which has no types: no other module names it."""
 from __future__ import annotations
 
 from collections.abc import Mapping, Sequence
@@ -19,7 +19,7 @@ class Flow:
 
 def cheapest_flow(flow: Flow) -> dict[str, str]:
     """To whom each sender sends, where as many as can be send, and the sum of the costs is least."""
-    import networkx  # type: ignore[import]
+    import networkx
 
     network = networkx.DiGraph()
     # to send nothing costs more than anything that it could save

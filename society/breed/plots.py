@@ -54,9 +54,7 @@ def drawn(line: Line, points: list[tuple[float, float]]) -> str:
     path = " ".join(f"{x:.1f},{y:.1f}" for x, y in points)
     dashes = f' stroke-dasharray="{line.dashes}"' if line.dashes else ""
     fill = line.colour if line.is_filled else PAPER
-    dots = "".join(
-        f'<circle cx="{x:.1f}" cy="{y:.1f}" r="3" fill="{fill}" stroke="{line.colour}"/>' for x, y in points
-    )
+    dots = "".join(f'<circle cx="{x:.1f}" cy="{y:.1f}" r="3" fill="{fill}" stroke="{line.colour}"/>' for x, y in points)
     return f'<polyline points="{path}" fill="none" stroke="{line.colour}" stroke-width="2"{dashes}/>{dots}'
 
 

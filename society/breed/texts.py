@@ -101,7 +101,9 @@ MEANINGS: dict[Name, Three] = {
         "La borne inférieure, où il y a plus de 5 000 animaux.",
     ),
     Name.EFFECTIVE_ANCESTORS_GREATEST: (
-        "The upper bound.", "Die obere Schranke.", "La borne supérieure.",
+        "The upper bound.",
+        "Die obere Schranke.",
+        "La borne supérieure.",
     ),
     Name.FOUNDER_GENOME_EQUIVALENTS: (
         "So many founders that lost none of their genes would give the same diversity: one half by mean kinship "

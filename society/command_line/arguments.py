@@ -50,7 +50,9 @@ def birth_days(text: str) -> tuple[datetime.date, datetime.date]:
 
 def columns(text: str) -> list[Column]:
     """The columns of a list; with + in front those of a usual one and these."""
-    words = ["_".join(word.casefold().replace("-", " ").replace("_", " ").split()) for word in text.lstrip("+").split(",")]
+    words = [
+        "_".join(word.casefold().replace("-", " ").replace("_", " ").split()) for word in text.lstrip("+").split(",")
+    ]
     wrong = [word for word in words if word not in list(Column)]
     if wrong:
         raise argparse.ArgumentTypeError(f"there is no column '{wrong[0]}': there are {', '.join(Column)}")

@@ -61,9 +61,7 @@ class Words:
 
     def add(self, name: str, does: Does, help: str, more: str = "") -> Parser:
         """A word with the option `--book`; `does` is called with its options."""
-        one: Parser = self.words.add_parser(
-            name, help=help, description=f"{help[0].upper()}{help[1:]}. {more}".strip()
-        )
+        one: Parser = self.words.add_parser(name, help=help, description=f"{help[0].upper()}{help[1:]}. {more}".strip())
         one.add_argument(
             "--book", type=pathlib.Path, default=pathlib.Path("book"), metavar="FOLDER",
             help="the book's folder [book]",

@@ -93,9 +93,7 @@ class Issue:
 class Certificate:
     """What a certificate is made of: what the book has of an animal and its ancestors, and the coefficients."""
 
-    def __init__(
-        self, book: Book, known: Known, coefficients: Mapping[str, Coefficient], language: Language
-    ) -> None:
+    def __init__(self, book: Book, known: Known, coefficients: Mapping[str, Coefficient], language: Language) -> None:
         self.book, self.known, self.coefficients = book, known, coefficients
         self.language, self.texts = language, language.texts
         self.names = book.by_number()

@@ -88,7 +88,11 @@ class Pedigree:
         goes_on = at == 0 and node.generation == self.most and number in self.tops
         page = str(self.tops.index(number) + 1) if goes_on else ""
         drawn = Drawn(
-            self.book.by_number()[number], self.coefficients[number], self.times[number], self.letters.get(number, ""), page
+            self.book.by_number()[number],
+            self.coefficients[number],
+            self.times[number],
+            self.letters.get(number, ""),
+            page,
         )
         return Box(self.book, drawn, place, self.language).picture()
 
@@ -101,7 +105,9 @@ class Pedigree:
         letters = {number: letter for letter, number in sorted(here.items(), key=lambda pair: (len(pair[0]), pair[0]))}
         common = texts["common note"].format(letters_named(letters)) if letters else ""
         return [
-            text_at(MARGIN, 36, fitted(title, width - 2 * MARGIN - 110 * self.is_long, 20, True), INK, 20, weight="bold"),
+            text_at(
+                MARGIN, 36, fitted(title, width - 2 * MARGIN - 110 * self.is_long, 20, True), INK, 20, weight="bold"
+            ),
             text_at(width - MARGIN, 36, page, GREY, 13, "end"),
             f'<rect x="{MARGIN}" y="{y - 11:.1f}" width="20" height="14" rx="3" fill="{INBRED}" stroke="{INBRED_INK}" '
             'stroke-width="2"/>',

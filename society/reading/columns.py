@@ -8,6 +8,7 @@ from society.book.kinds import Field
 from society.reading.days import is_span
 from society.reading.id_column import IdColumn
 from society.reading.sheet import Sheet
+
 from society.reading.titles import (
     KNOWN_DOUBTFUL, KNOWN_PAIRS, KNOWN_TITLES, NEEDED, TITLES, title_list,
 )  # fmt: skip

@@ -15,6 +15,7 @@ from society.reading.days import ANY_DAY, DayFault, Span, Unreadable, is_span, r
 from society.reading.encodings import Letters
 from society.reading.errors import ErrorValues
 from society.reading.exits import exit_word, lives, word_fault
+
 from society.reading.findings import (
     DAYS, DayLeftOut, EmbryoUnread, ExitInferred, IdAgain, NoId, SexUnread, TooManyCells,
 )  # fmt: skip

@@ -120,7 +120,7 @@ def read_records(text: str, separator: str) -> list[Row]:
             begins = reader.line_num + 1
     except csv.Error:
         raise Mistake(
-            f'line {begins}: a cell begins with a quotation mark (") and doesn\'t end with one, or has one within. '
+            f"line {begins}: a cell begins with a quotation mark (\") and doesn't end with one, or has one within. "
             "Close it, or write two of them for one within"
         ) from None
     return rows

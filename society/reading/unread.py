@@ -88,4 +88,3 @@ def shown(cells: list[Cell]) -> str:
     texts = [f"'{text}'{f' ({count} times)' if count > 1 else ''}" for text, count in counts[:MOST_TEXTS]]
     more = f" and {len(counts) - MOST_TEXTS} more" if len(counts) > MOST_TEXTS else ""
     return f"the first in line {cells[0][1]}: {', '.join(texts)}{more}"
-

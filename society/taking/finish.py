@@ -60,9 +60,7 @@ def file(next_book: NextBook, program: Herdbook, wishes: Wishes, about: About) -
     tell_respelt_owners(next_book, owners_before)
     left_out = [entry for entry in report.in_order() if entry.what is What.LEFT_OUT]
     if wishes.strict and left_out:
-        raise Mistake(
-            *sentences_of(left_out), *report.advice, f"{report.left_out()}: with --strict nothing is taken"
-        )
+        raise Mistake(*sentences_of(left_out), *report.advice, f"{report.left_out()}: with --strict nothing is taken")
     filing.tell_changes()
     new = sum(1 for animal in next_book.animals.values() if animal.line and animal.id not in book.known)
     is_first = not before and not next_book.is_pedigree and not (wishes.breed and wishes.country)

@@ -27,7 +27,6 @@ from society.taking.report import Report
 from society.taking.wishes import Wishes
 
 
-
 def take_sheet(path: pathlib.Path, wishes: Wishes) -> list[str]:
     """Takes a sheet, or tells what would be taken; answers what is to be told besides."""
     program = Herdbook()

@@ -260,7 +260,17 @@ class NextBook:
             castrated = animal.castrated if is_said else before is not None and before.castrated
             texts = written.get((id, Role.SIRE), ""), written.get((id, Role.DAM), "")
             by_hand = before.by_hand - self.overridden.get(id, NO_FIELDS) if before else NO_FIELDS
-            kept[id] = Known(animal.number, id, animal.name, standing, *inferred, castrated, *texts, by_hand, self.owner_day_of(animal, before))
+            kept[id] = Known(
+                animal.number,
+                id,
+                animal.name,
+                standing,
+                *inferred,
+                castrated,
+                *texts,
+                by_hand,
+                self.owner_day_of(animal, before),
+            )
         return kept
 
     def owner_day_of(self, animal: Animal, before: Known | None) -> OwnerDay:

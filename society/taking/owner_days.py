@@ -89,7 +89,9 @@ class OwnerDays:
                 first_herd = NO_OWNER
                 transfers = [transfer(animal.number, animal.since.first, NO_OWNER, first)]
         transfers = self.in_order(animal, transfers)
-        is_kept = [one[1:] for one in transfers[: len(before)]] == [one._replace(animal=animal.number)[1:] for one in before]
+        is_kept = [one[1:] for one in transfers[: len(before)]] == [
+            one._replace(animal=animal.number)[1:] for one in before
+        ]
         return Owners(first_herd, transfers, len(before), not is_kept or first_herd != first)
 
     def of_new(self, animal: Animal) -> Owners:

@@ -23,13 +23,19 @@ def save(next_book: NextBook, filed: Filed, program: Herdbook, wishes: Wishes, s
     book, report = next_book.book, next_book.report
     known = next_book.known_animals() | next_book.dropped_animals()
     before: dict[Values, Values] = {(row.id,): row for row in book.every_row}
-    herds = set() if book.connection is None else {herd for (herd,) in book.connection.execute("SELECT herd FROM owner")}
+    herds = (
+        set() if book.connection is None else {herd for (herd,) in book.connection.execute("SELECT herd FROM owner")}
+    )
     counts = report.counts()
     made = Made(
         ChangeKind.PEDIGREE if next_book.is_pedigree else ChangeKind.TAKE,
         source,
         tuple(options_of(wishes)),
-        (("animals", len(next_book.animals)), ("new", new), *((what.value, counts[what]) for what in What if what is not What.NEW)),
+        (
+            ("animals", len(next_book.animals)),
+            ("new", new),
+            *((what.value, counts[what]) for what in What if what is not What.NEW),
+        ),
         tuple(told_of(entry) for entry in report.in_order()),
     )
     state = State(
@@ -68,7 +74,11 @@ def options_of(wishes: Wishes) -> Iterable[Option]:
     for name, words in ("--columns", wishes.columns), ("--unknown", wishes.unknown), ("--sexes", wishes.sexes):
         for word in words:
             yield Option(name, word)
-    for name, text in ("--breed", wishes.breed), ("--country", wishes.country), ("--day", wishes.day and str(wishes.day)):
+    for name, text in (
+        ("--breed", wishes.breed),
+        ("--country", wishes.country),
+        ("--day", wishes.day and str(wishes.day)),
+    ):
         if text:
             yield Option(name, text)
     flags = ("--strict", wishes.strict), ("--drop-gone", wishes.drop_gone), (SEMICOLONS, wishes.semicolons)

@@ -83,13 +83,13 @@ def test_maccluer_index(pedigree: Pedigree) -> None:
 
 
 def test_founders(pedigree: Pedigree) -> None:
-    wanted: collections.Counter[tuple[int, bool]] = collections.Counter()
+    wanted: dict[tuple[int, bool], Fraction] = {}
     for rank in POPULATION:
         for founder, share in path_shares(pedigree, rank).items():
-            wanted[founder] += share / len(POPULATION)  # type: ignore[assignment]
+            wanted[founder] = wanted.get(founder, Fraction(0)) + share / len(POPULATION)
     found = founder_contributions(FoundedPedigree(pedigree), POPULATION)
     assert {(one.rank, one.is_parent_of): one.share for one in found} == wanted
-    assert effective_number(found) == 1 / sum((share**2 for share in map(Fraction, wanted.values())), Fraction(0))
+    assert effective_number(found) == 1 / sum((share**2 for share in wanted.values()), Fraction(0))
 
 
 def test_ancestors(pedigree: Pedigree) -> None:
@@ -137,7 +137,7 @@ def test_individual_increase(pedigree: Pedigree) -> None:
 
 
 def test_yearly_rate_by_scipy(pedigree: Pedigree) -> None:
-    from scipy import stats  # type: ignore[import]
+    from scipy import stats
 
     years = [born.year for rank in POPULATION if (born := pedigree.births[rank])]
     logs = [math.log(1 - pedigree.coefficients[rank] / 2**120) for rank in POPULATION]
@@ -148,8 +148,8 @@ def test_yearly_rate_by_scipy(pedigree: Pedigree) -> None:
 def test_relationships_by_scipy(pedigree: Pedigree) -> None:
     """The inverse of the numerator relationship matrix by Henderson's rules, solved for the population."""
     import numpy
-    from scipy.sparse import csc_matrix  # type: ignore[import]
-    from scipy.sparse.linalg import spsolve  # type: ignore[import]
+    from scipy.sparse import csc_matrix
+    from scipy.sparse.linalg import spsolve
 
     count = len(pedigree)
     inverse = numpy.zeros((count, count))

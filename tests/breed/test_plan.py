@@ -65,7 +65,7 @@ def assert_keeps(plan: Plan, dams: list[str], coefficients: Coefficients, rules:
 def test_beside_scipy() -> None:
     """The same least sum by the assignment of dams to places, each sire with as many places as it may have dams."""
     import numpy
-    from scipy.optimize import linear_sum_assignment  # type: ignore[import]
+    from scipy.optimize import linear_sum_assignment
 
     dams, sires, most = [f"D{at}" for at in range(120)], [f"S{at}" for at in range(10)], 15
     draw = random.Random(5)

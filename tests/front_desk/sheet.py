@@ -9,7 +9,16 @@ import io
 import random
 
 TITLES = [
-    "Ohrmarke", "Name", "Geschlecht", "Geburtsdatum", "Vater", "Mutter", "Besitzer", "Abgang", "Embryo", "Bemerkung",
+    "Ohrmarke",
+    "Name",
+    "Geschlecht",
+    "Geburtsdatum",
+    "Vater",
+    "Mutter",
+    "Besitzer",
+    "Abgang",
+    "Embryo",
+    "Bemerkung",
 ]
 OWNERS = ["Hof Süd, Müller", "Jörg Weiß", "Groß-Ähren", "Käthe Löw", ""]
 NAMES = ["Bärbel", "Änne", "Löwe", "Süße", "Gräfin", "Jürgen", "Flöckchen", "Rößl", "Ümit", "Mäxle"]
@@ -29,7 +38,15 @@ def clean_rows() -> list[dict[str, str]]:
         born = german(year, 1 + at % 12, 1 + at * 7 % 28)
         left = german(2018, 1 + at % 12, 3) if year < 2003 and at % 3 == 0 else ""
         values = [
-            f"DE-{year % 100:02}/{at:03}", NAMES[at % 10] + f" {at}", sex, born, sire, dam, OWNERS[at % 5], left, "",
+            f"DE-{year % 100:02}/{at:03}",
+            NAMES[at % 10] + f" {at}",
+            sex,
+            born,
+            sire,
+            dam,
+            OWNERS[at % 5],
+            left,
+            "",
             "",
         ]
         rows.append(dict(zip(TITLES, values)))

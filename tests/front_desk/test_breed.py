@@ -89,6 +89,8 @@ def test_tables_of_a_pedigree_without_days(desk: Desk) -> None:
     found = measured(desk)
     assert found["mean_inbreeding"] == "1/20" and found["generation_interval"] == ""
     assert desk.table("tables/years.csv") == []
+
+
 def planned(desk: Desk, *words: str) -> list[dict[str, str]]:
     return list(csv.DictReader(io.StringIO(desk.good("plan", *words).out)))
 

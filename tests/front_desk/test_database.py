@@ -85,7 +85,10 @@ def test_migration(flock_desk: Desk, monkeypatch: pytest.MonkeyPatch) -> None:
     """A file of an earlier version becomes one of this version on the first call; it is the earlier one where that
     fails."""
     folder = flock_desk.room / "book"
-    for script, is_made in (("CREATE TABLE added (one) STRICT;", False), ("CREATE TABLE added (one TEXT) STRICT;", True)):
+    for script, is_made in (
+        ("CREATE TABLE added (one) STRICT;", False),
+        ("CREATE TABLE added (one TEXT) STRICT;", True),
+    ):
         monkeypatch.setattr(database, "MIGRATIONS", (*schema.MIGRATIONS, script))
         monkeypatch.setattr(database, "VERSION", schema.VERSION + 1)
         with contextlib.ExitStack() as stack:

@@ -79,7 +79,8 @@ def test_no_day_shows_the_order(desk: Desk) -> None:
 def test_days_after_today(desk: Desk) -> None:
     """A birth or an exit after today is left out, and told, and no day that is inferred is after today."""
     done = desk.take(
-        TITLES + f"a;F;2062-03-01;;;\nb;F;2001-03-01;;;{NEXT_MONTH}\nc;F;{TODAY};;b;{TODAY}\nd;F;{TODAY.year};;;{TODAY.year}\n"
+        TITLES
+        + f"a;F;2062-03-01;;;\nb;F;2001-03-01;;;{NEXT_MONTH}\nc;F;{TODAY};;b;{TODAY}\nd;F;{TODAY.year};;;{TODAY.year}\n"
         "e;F;;;c;\nf;F;;;b;\n"
     )
     done.tells(

@@ -16,7 +16,9 @@ def test_stray_byte(desk: Desk) -> None:
 
 def test_stray_byte_with_other_obstacles(desk: Desk) -> None:
     """All that keeps a sheet from being taken is told in one run."""
-    data = SHEET.encode().replace("Süße".encode(), b"S\xfc\xc3\x9fe").replace(b"Mutter", b"M").replace(b"02.03", b"03/25/")
+    data = (
+        SHEET.encode().replace("Süße".encode(), b"S\xfc\xc3\x9fe").replace(b"Mutter", b"M").replace(b"02.03", b"03/25/")
+    )
     done = desk.wrong("the byte FC isn't UTF-8", "take", desk.write("sheet.csv", data))
     assert "line 1: no column for dam is found" in done.err
     assert len(done.err.splitlines()) == 2

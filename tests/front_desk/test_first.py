@@ -164,7 +164,10 @@ def test_ten_more_rows(her: Secretary, secretary_desk: Desk) -> None:
     calves = [
         dict.fromkeys(TITLES, "")
         | {
-            "Ohrmarke": f"AT-17/{at}", "Geschlecht": "w", "Geburtsdatum": german(2017, 3, at), "Vater": "DE-98/001",
+            "Ohrmarke": f"AT-17/{at}",
+            "Geschlecht": "w",
+            "Geburtsdatum": german(2017, 3, at),
+            "Vater": "DE-98/001",
             "Mutter": "DE-98/010",
         }
         for at in range(1, 11)

@@ -159,9 +159,7 @@ def test_numbers_of_others(desk: Desk) -> None:
 
 
 MALES = "Bock,Hengst,Bulle,Stier,Widder,bélier,taureau,étalon,bouc,männl.,m,M.,Zuchtbock,ram,tup,bull"
-FEMALES = (
-    "Aue,Mutter,Stute,Kuh,Färse,Kalbin,brebis,vache,jument,chèvre,génisse,weibl.,w,W.,Mutterschaf,ewe,heifer,Geiß"
-)
+FEMALES = "Aue,Mutter,Stute,Kuh,Färse,Kalbin,brebis,vache,jument,chèvre,génisse,weibl.,w,W.,Mutterschaf,ewe,heifer,Geiß"
 
 
 def test_words_for_sexes(desk: Desk) -> None:

@@ -155,9 +155,7 @@ def test_corrected_goats(goats: Desk) -> None:
     assert len(done.out.splitlines()) == 5
     assert "1 (CH 120.1150.8)" in done.err
     assert "2 (CH 120.1150.8, CH 120.1157.8): added as parents, or gone" in desk.good("list").err
-    done = desk.take(
-        sheet.replace("verkauft am 3.4.2020", "lebt").replace("Luna;Z;31.02.2017", "Luna;Q;31.02.2017")
-    )
+    done = desk.take(sheet.replace("verkauft am 3.4.2020", "lebt").replace("Luna;Z;31.02.2017", "Luna;Q;31.02.2017"))
     done.tells(
         "line 6: CH 120.1160.1: changed: exit: none, before 2020-04-03",
         "line 4: CH 120.1158.7: inferred: female, as in the book, since its cell can't be read",
@@ -185,8 +183,7 @@ def test_exits_in_words(desk: Desk) -> None:
         ("nein", ""), ("-", ""), ("im Bestand", ""), ("alive", ""), ("vivante", ""), ("", ""),
     ]  # fmt: skip
     done = desk.take(
-        "id;sex;born;sire;dam;exit\n"
-        + "".join(f"a{at};M;2001-01-01;;;{cell}\n" for at, (cell, _) in enumerate(cells))
+        "id;sex;born;sire;dam;exit\n" + "".join(f"a{at};M;2001-01-01;;;{cell}\n" for at, (cell, _) in enumerate(cells))
     )
     left = {line.split(",")[1]: line.split(",")[2] for line in desk.commands() if line.startswith("exit")}
     unknown = {row["id"] for row in desk.table("book/ids.csv") if row["exit"].startswith("day unknown")}

@@ -47,7 +47,9 @@ def test_another_flock(taken: Desk, words: tuple[str, ...]) -> None:
 def test_another_id(taken: Desk) -> None:
     """The same animals, with another column of ids under the same title, and without the book's column."""
     others = [row.replace("A", "Z", 1) for row in flock("A")]
-    told = "it looks like the same animals with another id: name the column that has the book's ids, as --columns id=TITLE"
+    told = (
+        "it looks like the same animals with another id: name the column that has the book's ids, as --columns id=TITLE"
+    )
     refused(taken, sheet(others), told)
 
 
@@ -89,7 +91,9 @@ def test_other_animals_with_the_same_ids(taken: Desk) -> None:
 
 
 def test_parents_by_name_without_names(desk: Desk) -> None:
-    rows = [f"T{at};2001-01-{1 + at % 28:02};Sire of {'abcdefgh'[at % 8]};Dam of {'abcdefgh'[at % 7]}" for at in range(40)]
+    rows = [
+        f"T{at};2001-01-{1 + at % 28:02};Sire of {'abcdefgh'[at % 8]};Dam of {'abcdefgh'[at % 7]}" for at in range(40)
+    ]
     text = sheet(rows, "Ohrmarke;Geburtsdatum;Vater;Mutter")
     refused(desk, text, "80 of 80 parents have no row, the first are 'Sire of a', 'Dam of a', 'Sire of b': it looks like "
             "parents that are written by their names")  # fmt: skip

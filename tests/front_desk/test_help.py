@@ -17,4 +17,3 @@ def test_help(desk: Desk, word: str) -> None:
     assert word in desk.good("--help").out
     assert "--book FOLDER" in shown
     assert f"usage: {CALLED} {word}" in shown
-

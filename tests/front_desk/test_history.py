@@ -22,7 +22,9 @@ def test_single_commands(flock_desk: Desk) -> None:
     """Each is filed with its reply; the answer is the reply in words."""
     number = "HOLGBRF000000000017"
     assert flock_desk.good(*CALF).out == f"calf ({number}): the birth on 2012-03-04 is accepted: change 2\n"
-    assert flock_desk.good("parents", "calf", "--dam", "0").out == f"calf ({number}): the parents are accepted: change 3\n"
+    assert (
+        flock_desk.good("parents", "calf", "--dam", "0").out == f"calf ({number}): the parents are accepted: change 3\n"
+    )
     flock_desk.good("transfer", "calf", "--to", "farm 1", "--day", "2013-01-01")
     flock_desk.good("exit", "calf", "--day", "2014-01-01")
     assert flock_desk.commands()[-4:] == [

@@ -149,9 +149,7 @@ def test_sexes(desk: Desk) -> None:
     done = desk.take("id,born,sire,dam\na,2001-01-01,,\nb,2001-02-01,,\nc,2003-01-01,a,b\nd,2004-01-01,,\n")
     assert [number[6] for number in desk.numbers().values()] == ["M", "F", "F", "F"]
     assert " 4 inferred" in done.last
-    desk.take(
-        "id,born,sire,dam\na,2001-01-01,,\nb,2001-02-01,,\nc,2003-01-01,a,b\nd,2004-01-01,,\ne,2008-01-01,d,c\n"
-    )
+    desk.take("id,born,sire,dam\na,2001-01-01,,\nb,2001-02-01,,\nc,2003-01-01,a,b\nd,2004-01-01,,\ne,2008-01-01,d,c\n")
     assert desk.numbers()["d"] == "HOLGBRM000000000004"
     done = desk.take(
         "id,sex,born,sire,dam\na,M,2001-01-01,,\nb,F,2001-02-01,,\nc,M,2003-01-01,a,b\nd,M,2004-01-01,,\n"
@@ -216,7 +214,11 @@ def test_named_parents(desk: Desk) -> None:
     assert " 8 inferred, 1 left out (1 parent), 4 added, 0 gone" in done.last
     parents = desk.parents()
     wanted = {
-        "L1": ("R2", "E3"), "L2": ("R1", "Lotte"), "L3": ("Leo", "Moritz"), "L4": ("Rosi", ""), "L6": ("Leo", "E4"),
+        "L1": ("R2", "E3"),
+        "L2": ("R1", "Lotte"),
+        "L3": ("Leo", "Moritz"),
+        "L4": ("Rosi", ""),
+        "L6": ("Leo", "E4"),
     }
     assert wanted.items() <= parents.items()
     # a later animal of the name doesn't change what is in the book, but a new calf may be of either

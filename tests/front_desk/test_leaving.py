@@ -144,7 +144,10 @@ def test_corrections(desk: Desk) -> None:
 def test_dropped(desk: Desk) -> None:
     """With --drop-gone animals without a row leave the book, unless one that has a row descends from them."""
     rows = [
-        "a,M,2001-01-01,,,x", "b,F,2001-02-01,,,x", "c,F,2004-01-01,a,b,x", "wrong,M,2005-01-01,import,c,y",
+        "a,M,2001-01-01,,,x",
+        "b,F,2001-02-01,,,x",
+        "c,F,2004-01-01,a,b,x",
+        "wrong,M,2005-01-01,import,c,y",
         "d,F,2006-01-01,a,c,y",
     ]
 

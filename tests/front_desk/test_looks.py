@@ -47,7 +47,9 @@ def test_castrated_sire(desk: Desk) -> None:
     done.tells("line 2: w: to look at: it is the sire of c1 (line 5) and of 1 more, and its sex is 'Hammel'")
     for _ in range(2):
         assert [row["id"] for row in desk.listed("mating", "--dam", "d")] == ["r", "c1"]
-        desk.take("id;birth;sire;dam\nw;2001-03-01;;\nr;2001-03-01;;\nd;2001-03-02;;\nc1;2003-03-01;w;d\nc2;2003-03-01;w;d\n")
+        desk.take(
+            "id;birth;sire;dam\nw;2001-03-01;;\nr;2001-03-01;;\nd;2001-03-02;;\nc1;2003-03-01;w;d\nc2;2003-03-01;w;d\n"
+        )
 
 
 def test_old_animal_as_living(desk: Desk) -> None:

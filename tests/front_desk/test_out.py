@@ -8,7 +8,7 @@ import pytest
 from front_desk.desk import Desk
 from front_desk.whole import FLOCK
 
-ODD = 'id,name,sex,born,sire,dam\n@SUM(A1),+x,F,2001-01-01,,\nA 1,\x1b[31mred,F,2001-01-01,,\nA-1,,F,2001-01-01,,\nA/1,,M,2001-01-01,,\n'
+ODD = "id,name,sex,born,sire,dam\n@SUM(A1),+x,F,2001-01-01,,\nA 1,\x1b[31mred,F,2001-01-01,,\nA-1,,F,2001-01-01,,\nA/1,,M,2001-01-01,,\n"
 
 
 @pytest.fixture
@@ -17,7 +17,9 @@ def flock_desk(desk: Desk) -> Desk:
     return desk
 
 
-@pytest.mark.parametrize("name", ["book/book.sqlite", "book/commands.csv", "book/ids.csv", "book/owners.csv", "book/old/x"])
+@pytest.mark.parametrize(
+    "name", ["book/book.sqlite", "book/commands.csv", "book/ids.csv", "book/owners.csv", "book/old/x"]
+)
 def test_never_onto_the_book(flock_desk: Desk, name: str) -> None:
     (flock_desk.room / "book/old").mkdir()
     flock_desk.wrong("is a file of the book, and is never written over", "list", "--out", name, "--force")

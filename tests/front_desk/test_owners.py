@@ -139,7 +139,10 @@ def test_numbers_of_a_first_taking(desk: Desk) -> None:
     assert "written anew" in done.out
     assert "edition 2" in desk.good("history", "3").out
     assert list(desk.numbers().values()) == ["SKUDEUM000000000001", "SKUDEUF000000000002"]
-    assert "the numbers begin" not in desk.take(TITLES + PARENTS, "--breed", "A" * 3, "--country", "B" * 3, "--book", "o").out
+    assert (
+        "the numbers begin"
+        not in desk.take(TITLES + PARENTS, "--breed", "A" * 3, "--country", "B" * 3, "--book", "o").out
+    )
 
 
 def test_preview(desk: Desk) -> None:
@@ -150,7 +153,9 @@ def test_preview(desk: Desk) -> None:
     assert desk.files() == before
     desk.good("take", sheet)
     history = desk.good("history").out
-    changed = desk.write("sheet.csv", TITLES + PARENTS.replace("d;F;2001-03-02", "d;F;2002-03-02") + "c;F;2002-05-01;s;d;;\n")
+    changed = desk.write(
+        "sheet.csv", TITLES + PARENTS.replace("d;F;2001-03-02", "d;F;2002-03-02") + "c;F;2002-05-01;s;d;;\n"
+    )
     commands = desk.commands()
     done = desk.good("take", changed, "--preview")
     done.tells(

@@ -4,7 +4,7 @@ from __future__ import annotations
 import pathlib
 
 import pytest
-import scipy.io  # type: ignore[import]
+import scipy.io
 
 import reference
 from front_desk.desk import Desk
@@ -108,7 +108,9 @@ def test_sires_that_are_dams(desk: Desk) -> None:
 
 def test_odd_pedigree(desk: Desk) -> None:
     """Cycles, one parent twice, and couples that no choice of sexes fits."""
-    done = desk.good("take", "--pedigree", desk.write("odd.txt", "a b 0\nb a 0\nc a a\nd a b\ne b c\nf c a\n"), "--leave-out")
+    done = desk.good(
+        "take", "--pedigree", desk.write("odd.txt", "a b 0\nb a 0\nc a a\nd a b\ne b c\nf c a\n"), "--leave-out"
+    )
     done.tells(
         "line 3: c: its dam a is left out: a is its sire too, and no calf has one parent twice",
         "line 2: b: its sire a is left out: b would be its own ancestor (b > a > b)",

@@ -78,7 +78,9 @@ def test_common_ancestors(desk: Desk) -> None:
     letters = {}
     for id in "x", "calf", "y", "d":
         desk.good("certificate", id, "--force", "--out", "page.html")
-        boxes = [(classed(box, "letter"), words(next(box.iter(f"{XHTML}b")))) for box in classed(pages(desk)[0], "common")]
+        boxes = [
+            (classed(box, "letter"), words(next(box.iter(f"{XHTML}b")))) for box in classed(pages(desk)[0], "common")
+        ]
         letters[id] = [(words(letter), name) for (letter,), name in boxes]
     # in the order of the lines: the dam's sire and dam, with their own parents
     assert letters["x"] == [("A", "a"), ("B", "far"), ("C", "b"), ("A", "a"), ("C", "b")]

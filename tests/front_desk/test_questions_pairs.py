@@ -29,7 +29,9 @@ def test_kinship(society_desk: Desk) -> None:
             assert Fraction(row["relationship"]) == value and Fraction(row["kinship"]) == value / 2
             assert abs(Fraction(row["kinship_decimal"]) - value / 2) <= Fraction(1, 2 * 10**10)
     with_some = society_desk.listed("kinship", "GK-10/294b", "GK-09/271b", "--with", "some.txt")
-    assert [(row["id"], row["with"]) for row in with_some] == list(itertools.product(["GK-10/294b", "GK-09/271b"], SOME))
+    assert [(row["id"], row["with"]) for row in with_some] == list(
+        itertools.product(["GK-10/294b", "GK-09/271b"], SOME)
+    )
     assert all(Fraction(row["relationship"]) == entry(numbers[row["id"]], numbers[row["with"]]) for row in with_some)
 
 

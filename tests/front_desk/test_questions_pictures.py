@@ -17,7 +17,9 @@ def full_sibs(generations: int) -> str:
     rows = ["id,name,sex,birth,sire,dam"]
     for at in range(generations + 1):
         parents = f"{LONG}{at - 1}m,{LONG}{at - 1}f" if at else ","
-        rows += [f"{LONG}{at}{sex},Wilhelmine von der Wiese WWWWWWWWWW,{sex},{1990 + 2 * at}-01-01,{parents}" for sex in "mf"]
+        rows += [
+            f"{LONG}{at}{sex},Wilhelmine von der Wiese WWWWWWWWWW,{sex},{1990 + 2 * at}-01-01,{parents}" for sex in "mf"
+        ]
     return "\n".join(rows) + "\n"
 
 
@@ -34,7 +36,11 @@ def test_pages(desk: Desk, generations: int, pages: int) -> None:
     for picture in pictures:
         width, height = (float(text) for text in picture.attrib["viewBox"].split()[2:])
         assert width <= 1046 and height <= 718
-        boxes = [[float(box.attrib[side]) for side in ("x", "y", "width", "height")] for box in picture.iter(f"{SVG}svg") if box.get("x")]
+        boxes = [
+            [float(box.attrib[side]) for side in ("x", "y", "width", "height")]
+            for box in picture.iter(f"{SVG}svg")
+            if box.get("x")
+        ]
         for x, y, wide, high in boxes:
             assert 0 <= x and x + wide <= width and 50 <= y and y + high <= height - 60 and high >= 14
         for one, other in zip(sorted(boxes), sorted(boxes)[1:]):
@@ -42,7 +48,9 @@ def test_pages(desk: Desk, generations: int, pages: int) -> None:
         drawn |= {title.text.split(" ")[0] for title in picture.iter(f"{SVG}title") if title.text}
     assert len(drawn) == 2 * generations + 1
     if pages > 1:
-        desk.wrong("stand on several pages", "pedigree", f"{LONG}10f", "--generations", str(generations), "--out", "x.svg")
+        desk.wrong(
+            "stand on several pages", "pedigree", f"{LONG}10f", "--generations", str(generations), "--out", "x.svg"
+        )
 
 
 def test_text_in_a_box(desk: Desk) -> None:

@@ -200,13 +200,10 @@ def test_unknown_words(desk: Desk) -> None:
 
 
 def test_unknown_words_in_a_sheet(desk: Desk) -> None:
-    done = desk.take(
-        "id,born,sire,dam\na,2001,fremd,fremd\nb,2002,fremd,\nc,2003,n b,n b\nd,2004,x,x\ne,2005,n b,\n"
-    )
+    done = desk.take("id,born,sire,dam\na,2001,fremd,fremd\nb,2002,fremd,\nc,2003,n b,n b\nd,2004,x,x\ne,2005,n b,\n")
     assert (
         "fremd has no row, and is the sire of 2 and the dam of 1: if it means an unknown parent, take this again "
-        "with --unknown=fremd --drop-gone"
-        in done.out
+        "with --unknown=fremd --drop-gone" in done.out
     )
     assert "with --unknown='n b' --drop-gone" in done.out
     assert "x has no row, and is" not in done.out
@@ -223,8 +220,7 @@ def test_long_paths(desk: Desk) -> None:
     )
     assert (
         "the longest path has 76 steps, 16 more than 60, from a76 (line 77) up to a0 (line 1); its oldest 16 "
-        "animals are a0 (line 1), a1 (line 2), "
-        in done.err
+        "animals are a0 (line 1), a1 (line 2), " in done.err
     )
     assert "set the parents of this animal to unknown, and no path is too long: a16 (line 17)." in done.err
 

@@ -29,7 +29,10 @@ def test_error_values(desk: Desk) -> None:
         broken = broken.replace(f"a{at};F;2004-01-01;s;", f"a{at};F;2004-01-01;s;{word}")
     done = desk.take(TITLES + broken.replace("a0;F;2004-01-01;s;", "a0;F;2004-01-01;#REF!;"))
     assert desk.parents() == before
-    assert "15 cells with an error of the spreadsheet in 'sire', 'dam', the first in line 3: '#REF!', '#BEZUG!'" in done.out
+    assert (
+        "15 cells with an error of the spreadsheet in 'sire', 'dam', the first in line 3: '#REF!', '#BEZUG!'"
+        in done.out
+    )
     assert " 15 left out (15 cells)" in done.last
 
 

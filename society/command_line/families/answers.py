@@ -36,12 +36,21 @@ def add_words(words: Words) -> None:
     mating.add_argument("--all", action="store_true", help="all living males, as where no sire is named")
     mating.add_argument("--left", action="store_true", help="with the males that left too")
     mating.add_argument(
-        "--dams", type=pathlib.Path, metavar="FILE", help="the dams that a file names, one id a line [all living females]"
+        "--dams",
+        type=pathlib.Path,
+        metavar="FILE",
+        help="the dams that a file names, one id a line [all living females]",
     )
     mating.add_argument(
-        "--sires", dest="sires_in", type=pathlib.Path, metavar="FILE", help="the sires that a file names [all living males]"
+        "--sires",
+        dest="sires_in",
+        type=pathlib.Path,
+        metavar="FILE",
+        help="the sires that a file names [all living males]",
     )
-    mating.add_argument("--matrix", action="store_true", help="a line for each dam, and a column of percentages for each sire")
+    mating.add_argument(
+        "--matrix", action="store_true", help="a line for each dam, and a column of percentages for each sire"
+    )
     for one in listing, mating:
         one.add_argument("--semicolons", action="store_true", help="semicolons between cells, and commas in decimals")
         one.add_argument("--out", type=file, metavar="FILE", help="write to this file, not to the screen")

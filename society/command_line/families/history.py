@@ -28,7 +28,9 @@ def add_words(words: Words) -> None:
         "undo", do_undo, "bring back the state before the last change, as a new change", "Nothing is lost by it."
     )
     back.add_argument("--to", type=whole_number, metavar="N", help="the state after this change, 0 for the empty book")
-    settings = words.add("settings", do_settings, "keep what the society says of itself, or write it", "Certificates show it.")
+    settings = words.add(
+        "settings", do_settings, "keep what the society says of itself, or write it", "Certificates show it."
+    )
     for setting in Setting:
         settings.add_argument(f"--{setting}", metavar="TEXT", help=f"the society's {setting}, '' for none [as it is]")
     words.add_for_book(

@@ -12,9 +12,7 @@ from society.mistake import counted
 
 
 def add_words(words: Words) -> None:
-    inverse = words.add_for_book(
-        "inverse", do_inverse, "write the summed inverse of the numerator relationship matrix"
-    )
+    inverse = words.add_for_book("inverse", do_inverse, "write the summed inverse of the numerator relationship matrix")
     inverse.add_argument(
         "--matrix-market", type=file, required=True, metavar="FILE",
         help="its lower triangle; the ids of the rows go to FILE.ids",

@@ -28,11 +28,16 @@ from society.pages.trend_picture import trend_picture
 
 def add_words(words: Words) -> None:
     certificate = words.add_for_book(
-        "certificate", do_certificate, "write certificates, a page for each animal in one file for the printer",
-        "They show what `settings` says of the society.", Group.PAGES,
+        "certificate",
+        do_certificate,
+        "write certificates, a page for each animal in one file for the printer",
+        "They show what `settings` says of the society.",
+        Group.PAGES,
     )
     certificate.add_argument("ids", nargs="*", metavar="ID", help="the animals, by id, name or number")
-    certificate.add_argument("--among", type=pathlib.Path, metavar="FILE", help="those that a file names, one id a line")
+    certificate.add_argument(
+        "--among", type=pathlib.Path, metavar="FILE", help="those that a file names, one id a line"
+    )
     add_choice(certificate)
     certificate.add_argument(
         "--day", type=day, default=datetime.date.today(), metavar="DAY", help="the day of issue [today]"

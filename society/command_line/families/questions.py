@@ -26,12 +26,20 @@ def add_words(words: Words) -> None:
         "kinship", do_kinship, "write relationships and kinships: of all pairs, an animal with itself too"
     )
     kinship.add_argument("ids", nargs="*", metavar="ID", help="the animals, by id, name or number")
-    kinship.add_argument("--among", type=pathlib.Path, metavar="FILE", help="the animals that a file names, one id a line")
     kinship.add_argument(
-        "--with", dest="others", type=pathlib.Path, metavar="FILE", help="each of the animals with each of those of a file"
+        "--among", type=pathlib.Path, metavar="FILE", help="the animals that a file names, one id a line"
     )
     kinship.add_argument(
-        "--matrix", choices=("kinship", "relationship"), help="a matrix of kinships or relationships, not a table of pairs"
+        "--with",
+        dest="others",
+        type=pathlib.Path,
+        metavar="FILE",
+        help="each of the animals with each of those of a file",
+    )
+    kinship.add_argument(
+        "--matrix",
+        choices=("kinship", "relationship"),
+        help="a matrix of kinships or relationships, not a table of pairs",
     )
     export = words.add_for_book("export", do_export, "write the whole pedigree by the society's ids, in age order")
     export.add_argument("--triples", action="store_true", help="lines of `id sire dam`, as R's packages read them")
