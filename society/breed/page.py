@@ -90,8 +90,7 @@ def breed_page(state: State, breed: Breed, language: str, of_whom: str) -> str:
 
 
 def measure_row(measure: Measure, words: Words) -> MeasureRow:
-    meaning = MEANINGS.get(measure.name)
-    return MeasureRow(words.of(NAMES[measure.name]), words.value(measure), words.of(meaning) if meaning else "")
+    return MeasureRow(words.of(NAMES[measure.name]), words.value(measure), words.of(MEANINGS[measure.name]))
 
 
 def plots_of(state: State, words: Words) -> Iterable[str]:

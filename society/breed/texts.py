@@ -146,6 +146,26 @@ MEANINGS: dict[Name, Three] = {
         "L'âge des parents, en années, à la naissance de descendants qui en ont eux-mêmes : la moyenne de quatre "
         "voies (James 1972).",
     ),
+    Name.GENERATION_INTERVAL_SIRE_TO_SON: (
+        "Sires' age at the birth of sons that have offspring.",
+        "Das Alter der Väter bei der Geburt von Söhnen, die Nachkommen haben.",
+        "L'âge des pères à la naissance de fils qui ont des descendants.",
+    ),
+    Name.GENERATION_INTERVAL_SIRE_TO_DAUGHTER: (
+        "Sires' age at the birth of daughters that have offspring.",
+        "Das Alter der Väter bei der Geburt von Töchtern, die Nachkommen haben.",
+        "L'âge des pères à la naissance de filles qui ont des descendants.",
+    ),
+    Name.GENERATION_INTERVAL_DAM_TO_SON: (
+        "Dams' age at the birth of sons that have offspring.",
+        "Das Alter der Mütter bei der Geburt von Söhnen, die Nachkommen haben.",
+        "L'âge des mères à la naissance de fils qui ont des descendants.",
+    ),
+    Name.GENERATION_INTERVAL_DAM_TO_DAUGHTER: (
+        "Dams' age at the birth of daughters that have offspring.",
+        "Das Alter der Mütter bei der Geburt von Töchtern, die Nachkommen haben.",
+        "L'âge des mères à la naissance de filles qui ont des descendants.",
+    ),
     Name.RATE_OF_INBREEDING: (
         "The mean of each animal's increase a generation, by its equivalent generations (Gutiérrez, Cervantes and "
         "Goyache 2009).",
@@ -159,6 +179,11 @@ MEANINGS: dict[Name, Three] = {
         "Eine ideale Population von so vielen Tieren würde ebenso schnell ingezüchtet.",
         "Une population idéale d'autant d'animaux deviendrait consanguine aussi vite.",
     ),
+    Name.EFFECTIVE_SIZE_STANDARD_ERROR: (
+        "How far the effective size may be off, by how much the animals' increases differ.",
+        "Wie weit die effektive Größe danebenliegen kann, danach, wie sehr sich die Zunahmen der Tiere unterscheiden.",
+        "De combien la taille efficace peut s'écarter, selon les différences entre les accroissements des animaux.",
+    ),
     Name.RATE_OF_INBREEDING_A_YEAR: (
         "From the regression of the logarithm of 1 - F on birth years (Pérez-Enciso 1995).",
         "Aus der Regression des Logarithmus von 1 - F auf die Geburtsjahre (Pérez-Enciso 1995).",
@@ -168,6 +193,11 @@ MEANINGS: dict[Name, Three] = {
         "The rate a year over a generation interval.",
         "Die Rate je Jahr über ein Generationsintervall.",
         "Le taux par an sur un intervalle de génération.",
+    ),
+    Name.EFFECTIVE_SIZE_BY_YEARS: (
+        "The effective size that goes with that rate.",
+        "Die effektive Größe, die zu dieser Rate gehört.",
+        "La taille efficace qui va avec ce taux.",
     ),
 }
 
