@@ -4,7 +4,7 @@ from __future__ import annotations
 import re
 
 # how spreadsheets know a formula, also in the wide letters of East Asia
-FORMULA = tuple("=+-@\t\r＝＋－＠")
+FORMULA = frozenset("=+-@\t\r＝＋－＠")
 # an apostrophe before a cell says that it is text
 TEXT = "'"
 # characters of control but tabs and ends of lines, halves of characters, and marks that turn the direction of what
@@ -14,7 +14,7 @@ ACTING = re.compile("[\x00-\x08\x0b-\x1f\x7f-\x9f\ud800-\udfff\u061c\u200e\u200f
 
 def for_spreadsheets(cell: str) -> str:
     """A cell that no spreadsheet takes for a formula."""
-    return TEXT + cell if cell.startswith(FORMULA) else cell
+    return TEXT + cell if cell[:1] in FORMULA else cell
 
 
 def for_terminals(text: str) -> str:

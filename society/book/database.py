@@ -1,5 +1,5 @@
-"""The file `book.sqlite`, opened to be read or to be changed. What is wrong with it is a sentence, and nothing is touched
-then."""
+"""The file `book.sqlite`, opened to be read or to be changed. Where something is wrong with it a sentence says so, and
+nothing is touched."""
 from __future__ import annotations
 
 import contextlib

@@ -20,7 +20,7 @@ def table(titles: list[str], rows: Iterable[Sequence[object]], semicolons: bool 
     text = io.StringIO()
     writer = csv.writer(text, delimiter=";" if semicolons else ",", lineterminator="\n")
     writer.writerow(titles)
-    writer.writerows([for_spreadsheets(str(cell)) for cell in row] for row in rows)
+    writer.writerows([for_spreadsheets(cell) if isinstance(cell, str) else cell for cell in row] for row in rows)
     return text.getvalue().encode("utf-8-sig" if semicolons else "utf-8")
 
 

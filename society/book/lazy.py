@@ -1,9 +1,12 @@
-"""A mapping that reads what is asked for: one value, or all of them where it is gone through."""
+"""A mapping that reads what is asked for: one value, or all of them where many are asked for."""
 from __future__ import annotations
 
 from typing import Callable, Iterator, Mapping, TypeVar
 
 Value = TypeVar("Value")
+
+# after so many values that are read one by one all are read at once
+MOST_ONE_BY_ONE = 300
 
 
 class Lazy(Mapping[str, Value]):
@@ -13,9 +16,13 @@ class Lazy(Mapping[str, Value]):
         self.one, self.all = one, all
         self.kept: dict[str, Value] = {}
         self.is_whole = False
+        self.left = MOST_ONE_BY_ONE
 
     def __getitem__(self, key: str) -> Value:
         if key not in self.kept and not self.is_whole:
+            self.left -= 1
+            if self.left < 0:
+                return self.whole()[key]
             found = self.one(key)
             if found is not None:
                 self.kept[key] = found

@@ -55,7 +55,7 @@ def to_change(folder: pathlib.Path, program: Herdbook) -> Iterator[Book]:
     take_over(folder, program)
     with changing(folder) as connection:
         book = Book(folder, connection)
-        verify(book, program)
+        verify(book, program, quickly=True)
         yield book
 
 

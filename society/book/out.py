@@ -1,5 +1,5 @@
-"""Writes the files that somebody asks for: never onto a sheet that was taken or a file of the book, and onto another one
-only where that is wished."""
+"""Writes the files that somebody asks for: never onto a sheet that was taken or a file of the book, and onto another
+one only where that is wished."""
 from __future__ import annotations
 
 import contextlib

@@ -11,6 +11,7 @@ NOW = "until IS NULL"
 # the state after a change
 THEN = "since <= :change AND (until IS NULL OR until > :change)"
 CELL_FIELDS = tuple(field for field in Field if field is not Field.ID)
+CELL_NAMES = tuple(str(field.value) for field in CELL_FIELDS)
 CELL_COLUMNS = "id, " + ", ".join(f"cell_{field.value}" for field in CELL_FIELDS)
 
 # a row of a table without the changes between which it holds; its first values are its key

@@ -16,11 +16,11 @@ from society.refusals import Refusal
 MOST_FAULTS = 9
 
 
-def verify(book: Book, program: Herdbook, path: pathlib.Path | None = None) -> None:
+def verify(book: Book, program: Herdbook, path: pathlib.Path | None = None, quickly: bool = False) -> None:
     """A mistake with each fault, which names the file: that of the book, or the one of which it is a copy."""
     if book.connection is None:
         return
-    faults = faults_of_file(book.connection)
+    faults = faults_of_file(book.connection, quickly)
     if not faults and book.journal.length:
         faults = [*faults_of_replies(book, book.connection, program), *faults_of_state(book)]
         faults += faults_of_coefficients(book, book.connection, program)
@@ -29,8 +29,10 @@ def verify(book: Book, program: Herdbook, path: pathlib.Path | None = None) -> N
         raise Mistake(*(f"{path or book.path}: {fault}" for fault in faults), whole)
 
 
-def faults_of_file(connection: sqlite3.Connection) -> list[str]:
-    found = [text for (text,) in connection.execute(f"PRAGMA integrity_check({MOST_FAULTS})") if text != "ok"]
+def faults_of_file(connection: sqlite3.Connection, quickly: bool) -> list[str]:
+    """Faults of tables, and but for a quick look those of indexes."""
+    check = "quick_check" if quickly else "integrity_check"
+    found = [text for (text,) in connection.execute(f"PRAGMA {check}({MOST_FAULTS})") if text != "ok"]
     if not found:
         broken = connection.execute("PRAGMA foreign_key_check").fetchmany(MOST_FAULTS)
         found = [f"a row of the table {table} names one of {parent} that isn't there" for table, _, parent, _ in broken]

@@ -9,7 +9,7 @@ from society.book.commands import Record, record_after, replay
 from society.book.exports import SEMICOLONS
 from society.book.journal import accepted_commands
 from society.book.kinds import ChangeKind
-from society.book.state import CELL_FIELDS, Values
+from society.book.state import CELL_NAMES, Values
 from society.book.writing import Filed, Rows, State, animal_rows, write
 from society.herdbook import Herdbook
 from society.taking.next_book import NextBook
@@ -60,12 +60,12 @@ def records_after(book: Book, filed: Filed) -> dict[str, Record]:
 def cell_rows(next_book: NextBook) -> dict[Values, Values]:
     """The last cells of each animal; those of a column that the sheet doesn't have stay."""
     kept = dict(next_book.book.cells)
-    nothing = (None,) * (1 + len(CELL_FIELDS))
+    nothing = (None,) * (1 + len(CELL_NAMES))
     for id, animal in next_book.animals.items():
         if animal.line:
             before = kept.get((id,), nothing)[1:]
-            cells = (animal.cells.get(one.value, cell) for one, cell in zip(CELL_FIELDS, before))
-            kept[id,] = (id, *cells)
+            cells = animal.cells
+            kept[id,] = (id, *[cells.get(name, cell) for name, cell in zip(CELL_NAMES, before)])
     return kept
 
 
