@@ -7,39 +7,58 @@ from dataclasses import dataclass
 
 from society.book.book import Book
 from society.book.coefficients import kept_coefficients
-from society.book.inferred import BirthSource
+from society.book.inferred import BirthSource, ExitSource
+from society.book.kinds import Standing
 from society.book.known import Known
+from society.book.rows import Row, known_of
 from society.breed.pedigree import COEFFICIENT_BITS, UNKNOWN, Pedigree
 from society.mistake import Mistake
 
 
 @dataclass(frozen=True)
 class Breed:
-    """A book's animals by rank, and their pedigree."""
+    """A book's animals by rank, as its rows have them, and their pedigree."""
 
     book: Book
-    animals: list[Known]
+    rows: list[Row]
     ranks: dict[str, int]
     pedigree: Pedigree
 
+    def known(self, rank: int) -> Known:
+        return known_of(self.rows[rank])
+
+    def born(self, rank: int) -> datetime.date:
+        """Its birth day, which may be inferred."""
+        return day_of(self.rows[rank])
+
+    def is_living(self, rank: int) -> bool:
+        """Is it there, and one that the society has a row for?"""
+        row = self.rows[rank]
+        has_left = row.departed is not None or row.exit_source == ExitSource.UNKNOWN_DAY.value
+        return Standing(row.standing).is_listed() and not has_left
+
+
+def day_of(row: Row) -> datetime.date:
+    return datetime.date.fromisoformat(row.born or "")
+
 
 def breed_of(book: Book) -> Breed:
-    names, records = dict(book.by_number()), dict(book.records)
+    by_number = {row.number: row for row in book.all_rows}
     inbred = kept_coefficients(book)
     ranks = {number: rank for rank, number in enumerate(inbred)}
-    animals = [names[number] for number in ranks]
-    found = [records[number] for number in ranks]
+    rows = [by_number[number] for number in ranks]
+    given = BirthSource.GIVEN.value
     return Breed(
         book,
-        animals,
+        rows,
         ranks,
         Pedigree(
-            [known.id for known in animals],
-            [ranks[one.sire] if one.sire else UNKNOWN for one in found],
-            [ranks[one.dam] if one.dam else UNKNOWN for one in found],
+            [row.id for row in rows],
+            [ranks[row.sire] if row.sire else UNKNOWN for row in rows],
+            [ranks[row.dam] if row.dam else UNKNOWN for row in rows],
             [units_of(one.fraction) for one in inbred.values()],
-            [one.born if known.birth.source is BirthSource.GIVEN else None for one, known in zip(found, animals)],
-            [known.is_male for known in animals],
+            [day_of(row) if row.birth_source == given else None for row in rows],
+            [row.number[6] == "M" for row in rows],
         ),
     )
 
@@ -52,20 +71,14 @@ def units_of(fraction: str) -> int:
 
 def living(breed: Breed) -> list[int]:
     """The living animals that the society has a row for."""
-    return [
-        rank
-        for rank, known in enumerate(breed.animals)
-        if known.standing.is_listed() and not breed.book.has_left(known)
-    ]
+    return [rank for rank in range(len(breed.rows)) if breed.is_living(rank)]
 
 
 def born_between(breed: Breed, first: datetime.date, last: datetime.date) -> list[int]:
     """The animals born in these days; of an inferred birth day at least the year is known."""
-    records = breed.book.records
+    with_year = (BirthSource.GIVEN.value, BirthSource.PERIOD.value)
     return [
-        rank
-        for rank, known in enumerate(breed.animals)
-        if known.birth.has_year() and first <= records[known.number].born <= last
+        rank for rank, row in enumerate(breed.rows) if row.birth_source in with_year and first <= day_of(row) <= last
     ]
 
 
@@ -74,8 +87,7 @@ def owned_by(breed: Breed, owner: str) -> list[int]:
     herd = breed.book.owners.get(owner)
     if herd is None:
         raise Mistake(f"the book has no owner '{owner}': write the name as the sheet has it")
-    records = breed.book.records
-    return [rank for rank in living(breed) if records[breed.animals[rank].number].herd == herd]
+    return [rank for rank in living(breed) if breed.rows[rank].herd == herd]
 
 
 def among(breed: Breed, animals: Collection[Known]) -> list[int]:

@@ -40,7 +40,7 @@ def candidates_of(
     breed: Breed, dams: Sequence[Known] | None, sires: Sequence[Known] | None, youngest: datetime.date
 ) -> Candidates:
     """Those that are named, or else the living ones, but for animals born after a day."""
-    records, alive = breed.book.records, [breed.animals[rank] for rank in living(breed)]
+    alive = [breed.known(rank) for rank in living(breed)] if dams is None or sires is None else []
     found = []
     for what, is_male, named in (("dam", False, dams), ("sire", True, sires)):
         wrong = [known.id for known in named or () if known.is_male is not is_male]
@@ -48,7 +48,7 @@ def candidates_of(
             sex = "female" if is_male else "male"
             raise Mistake(f"{some_of(wrong)}: no {what} can be {sex}: take these out of the file")
         chosen = [known for known in alive if known.is_male is is_male] if named is None else named
-        old = [known.number for known in chosen if records[known.number].born <= youngest]
+        old = [known.number for known in chosen if breed.born(breed.ranks[known.number]) <= youngest]
         if not old:
             raise Mistake(f"there is no {what} to be mated: name some in a file, as --{what}s FILE")
         found.append(sorted(old, key=breed.ranks.__getitem__))
@@ -103,9 +103,8 @@ def table_of(breed: Breed, found: Planned, all_pairs: bool, semicolons: bool) ->
     writer = csv.writer(text, delimiter=";" if semicolons else ",", lineterminator="\n")
     chosen = {(mating.dam, mating.sire): mating.coefficient for mating in found.plan.matings}
     writer.writerow(["dam", "sire", "coefficient", "decimal", "percent"] + ["planned"] * all_pairs)
-    names = breed.book.by_number()
     for (dam, sire), coefficient in (found.coefficients if all_pairs else chosen).items():
-        ids = [for_spreadsheets(names[number].id) for number in (dam, sire)]
+        ids = [for_spreadsheets(breed.rows[breed.ranks[number]].id) for number in (dam, sire)]
         figures = [decimal(coefficient), percent(coefficient)]
         figures = [figure.replace(".", ",") for figure in figures] if semicolons else figures
         marks = ["yes" if (dam, sire) in chosen else ""] * all_pairs
@@ -121,10 +120,10 @@ def percent(value: Fraction) -> str:
 
 def told_of(breed: Breed, found: Planned) -> list[str]:
     """How good the plan is, and who isn't mated."""
-    names, plan = breed.book.by_number(), found.plan
+    plan = found.plan
     told = []
     for why in Unmated:
-        dams = [names[dam].id for dam, reason in plan.unmated.items() if reason is why]
+        dams = [breed.rows[breed.ranks[dam]].id for dam, reason in plan.unmated.items() if reason is why]
         if dams:
             told.append(f"not mated, since {why.value}: {counted(len(dams), 'dam')}: {some_of(dams)}")
     if plan.mean is not None and plan.mean_of_allowed is not None:

@@ -81,7 +81,7 @@ def breed_page(state: State, breed: Breed, language: str, of_whom: str) -> str:
         founders=share_rows(sorted(state.founders, key=lambda one: -one.share), breed, words),
         ancestors=share_rows(state.ancestors.ancestors, breed, words),
         kinships=[
-            (breed.animals[rank].id, breed.animals[rank].name, words.percent(kinship))
+            (breed.rows[rank].id, breed.rows[rank].name, words.percent(kinship))
             for rank, kinship in state.mean_kinships[:MOST_ROWS]
         ],
         more=words.word("more").format(words.language.count(max(0, len(state.mean_kinships) - MOST_ROWS))),
@@ -131,7 +131,7 @@ def share_rows(contributions: Sequence[Contribution], breed: Breed, words: Words
     so_far = Fraction(0)
     for one in contributions[:MOST_ROWS]:
         so_far += one.share
-        id = breed.animals[one.rank].id
+        id = breed.rows[one.rank].id
         who = words.word("unknown parent").format(id) if one.is_parent_of else id
         rows.append(ShareRow(who, words.percent(one.share), words.percent(so_far)))
     return rows

@@ -98,7 +98,7 @@ def contributions_table(contributions: Iterable[Contribution], breed: Breed, by_
     so_far = Fraction(0)
     for one in sorted(contributions, key=lambda one: -one.share) if by_share else contributions:
         so_far += one.share
-        known = breed.animals[one.rank]
+        known = breed.rows[one.rank]
         who = "unknown parent of" if one.is_parent_of else ""
         rows.append((for_spreadsheets(known.id), who, decimal(one.share), str(one.share), decimal(so_far)))
     return ("id", "is", "contribution", "exact", "contribution_so_far"), rows
@@ -113,13 +113,12 @@ def animals_table(state: State, breed: Breed) -> Table:
     indices, generations = maccluer_indices(state.pedigree), state.generations
     rows = []
     for rank, kinship in state.mean_kinships:
-        known = breed.animals[rank]
-        record = breed.book.records[known.number]
+        known = breed.known(rank)
         coefficient = Fraction(state.pedigree.coefficients[rank], 1 << COEFFICIENT_BITS)
         rows.append(
             (
                 for_spreadsheets(known.id), for_spreadsheets(known.name), known.number, known.number[6],
-                f"{record.born}{known.birth.mark()}", str(coefficient), decimal(kinship), str(kinship),
+                f"{breed.born(rank)}{known.birth.mark()}", str(coefficient), decimal(kinship), str(kinship),
                 decimal(generations.equivalent(rank)), generations.full[rank], generations.greatest[rank],
                 decimal(indices[rank]),
             )
