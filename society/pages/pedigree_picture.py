@@ -14,7 +14,7 @@ from society.pages.languages import Language
 from society.pages.pedigree_box import Box, Drawn, Place
 from society.pages.pedigree_tree import Node, depth_of, grow, nodes_of
 from society.pages.picture import FONT, GREY, INBRED, INBRED_INK, INK, LINE, PAPER, escape, svg, text_at
-from society.pages.text_width import fitted
+from society.pages.text_width import fitted, in_two_lines
 from society.pedigree_order import ancestors
 
 # what is printed on a page of A4 in landscape format, in pixels of which an inch has 96
@@ -104,6 +104,7 @@ class Pedigree:
         here = {self.letters[node.number]: node.number for node in nodes if node.number in self.letters}
         letters = {number: letter for letter, number in sorted(here.items(), key=lambda pair: (len(pair[0]), pair[0]))}
         common = texts["common note"].format(letters_named(letters)) if letters else ""
+        first, second = in_two_lines(common, width - 2 * MARGIN, 10)
         return [
             text_at(
                 MARGIN, 36, fitted(title, width - 2 * MARGIN - 110 * self.is_long, 20, True), INK, 20, weight="bold"
@@ -113,7 +114,8 @@ class Pedigree:
             'stroke-width="2"/>',
             text_at(MARGIN + 28, y, texts["tree key"], GREY, 13),
             text_at(MARGIN, y + 18, self.note() + ".", GREY, 13),
-            text_at(MARGIN, y + 34, fitted(common, width - 2 * MARGIN, 10), GREY, 10),
+            text_at(MARGIN, y + 31, first, GREY, 10),
+            text_at(MARGIN, y + 42, second, GREY, 10),
         ]
 
     def note(self) -> str:

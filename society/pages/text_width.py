@@ -34,6 +34,15 @@ def fitted(text: str, width: float, size: float, is_bold: bool = False) -> str:
     return text + "…"
 
 
+def in_two_lines(text: str, width: float, size: float) -> tuple[str, str]:
+    """The text with as many of its words in the first line as fit; what doesn't fit in the second ends with dots."""
+    words = text.split(" ")
+    count = len(words)
+    while count > 1 and width_of(" ".join(words[:count]), size) > width:
+        count -= 1
+    return fitted(" ".join(words[:count]), width, size), fitted(" ".join(words[count:]), width, size)
+
+
 def fitted_id(id: str, width: float, size: float, is_bold: bool = False) -> str:
     """An id, or its beginning and end with dots between them: ids that begin alike stay apart."""
     keep = len(id)
