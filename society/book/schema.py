@@ -144,6 +144,8 @@ CREATE UNIQUE INDEX animal_id ON animal (id) WHERE until IS NULL;
 CREATE UNIQUE INDEX animal_number ON animal (number) WHERE until IS NULL;
 CREATE INDEX animal_folded_id ON animal (folded_id) WHERE until IS NULL;
 CREATE INDEX animal_folded_name ON animal (folded_name) WHERE until IS NULL AND folded_name <> '';
+CREATE INDEX animal_sire ON animal (sire) WHERE until IS NULL AND sire IS NOT NULL;
+CREATE INDEX animal_dam ON animal (dam) WHERE until IS NULL AND dam IS NOT NULL;
 
 -- the cells of the last sheet that had a row for an animal, as they were written; none where it had no such column
 CREATE TABLE cell (
