@@ -18,7 +18,7 @@ from society.breed.founders import (
     effective_number,
     founder_contributions,
 )
-from society.breed.intervals import Path, generation_interval, intervals_of
+from society.breed.intervals import generation_interval, intervals_of
 from society.breed.kinship import Kinship
 from society.breed.measures import Lack, Name
 from society.breed.pedigree import UNKNOWN, Pedigree
@@ -245,8 +245,3 @@ def test_years(pedigree: Pedigree) -> None:
         dams = [pedigree.dams[rank] for rank in ranks if pedigree.dams[rank] != UNKNOWN]
         assert (year.dams.in_use, year.dams.offspring) == (len(set(dams)), len(dams))
         assert year.dams.most == max(map(dams.count, dams), default=0)
-
-
-def test_paths_have_names() -> None:
-    """Each path has a measure of its own."""
-    assert {Name(f"generation_interval_{path.value}") for path in Path} <= set(Name)
