@@ -5,7 +5,7 @@ from collections.abc import Sequence
 from typing import NamedTuple
 
 from society.answers.choice import Choice, chosen
-from society.answers.columns import USUAL, Column, animals_table
+from society.answers.list_columns import USUAL, Column, animals_table
 from society.answers.table import Cell, Decimal, Table
 from society.book.book import Book
 from society.book.coefficients import Coefficient

@@ -3,7 +3,7 @@ from __future__ import annotations
 
 from collections.abc import Iterator, Mapping, Sequence
 
-from society.answers.columns import exit_of
+from society.answers.list_columns import exit_of
 from society.answers.own_history import history_of
 from society.answers.relatives import Relatives, relatives_of
 from society.book.book import Book

@@ -10,12 +10,12 @@ import time
 
 from society.book.book import Book
 from society.book.changes import Change, Made
+from society.book.book_read import opened_to_read
 from society.book.database import (
     DAMAGED,
     companions,
     connect,
     migrate,
-    opened_to_read,
     path_of,
     primary,
     told,

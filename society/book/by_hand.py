@@ -17,7 +17,7 @@ from society.book.writing import Filed, Rows, State, write
 from society.herdbook import Herdbook
 from society.mistake import Mistake
 from society.refusals import Refusal
-from society.taking.findings import CommandRefused, NewAnimal, ValueChanged
+from society.taking.animal_findings import CommandRefused, NewAnimal, ValueChanged
 from society.taking.report import Entry, Finding
 from society.taking.stored_findings import told_of
 

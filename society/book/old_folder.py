@@ -12,7 +12,8 @@ from typing import Iterator
 from society.book.book import Book
 from society.book.changes import Made, Source
 from society.book.commands import Command, read_commands, replay
-from society.book.database import changing, path_of
+from society.book.book_changed import changing
+from society.book.database import path_of
 from society.book.files import digest_of, put
 from society.book.journal import Step
 from society.book.inferred import OwnerDay

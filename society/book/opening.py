@@ -7,7 +7,8 @@ import shlex
 from typing import Iterator
 
 from society.book.book import Book
-from society.book.database import changing, reading, up_to_date
+from society.book.book_changed import changing, up_to_date
+from society.book.book_read import reading
 from society.book.exports import are_fresh, refresh
 from society.book.old_folder import take_over
 from society.book.verify import verify

@@ -9,7 +9,7 @@ import sqlite3
 from collections.abc import Mapping
 
 from society.book.book import Book
-from society.book.database import changing, checkpoint
+from society.book.book_changed import changing, checkpoint
 from society.book.opening import no_book
 
 

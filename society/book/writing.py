@@ -10,7 +10,7 @@ from society.book.book import Book
 from society.book.changes import Change, Made
 from society.book.coefficients import computed, write_coefficients
 from society.book.commands import Record
-from society.book.database import commit, creating
+from society.book.book_changed import commit, creating
 from society.book.history import last_change, next_number, now, write_change
 from society.book.journal import Journal, Step, append, begin_edition, command_file
 from society.book.known import Known

@@ -12,7 +12,7 @@ from society.breed.founders import Contribution
 from society.breed.from_book import Breed
 from society.breed.measures import Measure
 from society.breed.pedigree import COEFFICIENT_BITS
-from society.breed.state import State
+from society.breed.breed_state import State
 from society.breed.years import Parents, Year
 
 PLACES = 10

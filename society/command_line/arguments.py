@@ -7,7 +7,7 @@ import pathlib
 import re
 from fractions import Fraction
 
-from society.answers.columns import USUAL, Column
+from society.answers.list_columns import USUAL, Column
 from society.reading.days import FIRST_DAY, LAST_DAY, Unreadable, read_span
 
 

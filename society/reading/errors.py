@@ -6,7 +6,7 @@ import collections
 from society.book.kinds import Field
 from society.mistake import counted
 from society.reading.animal import Animal
-from society.reading.findings import ErrorValue
+from society.reading.cell_findings import ErrorValue
 from society.reading.sheet import Sheet
 from society.reading.words import is_error_value
 from society.taking.report import Report

@@ -10,7 +10,7 @@ from society.book.kinds import Field
 from society.mistake import Mistake, counted
 from society.reading.animal import Animal
 from society.reading.days import ANY_DAY, Unreadable, read_span
-from society.reading.findings import DayLeftOut, LineAgain, SexUnread
+from society.reading.cell_findings import DayLeftOut, LineAgain, SexUnread
 from society.reading.pedigree_lines import STANDARD_INPUT, Line, read_lines
 from society.reading.pedigree_titles import Columns, are_titles, columns_read, find_pedigree_columns
 from society.reading.sexes import Sexes

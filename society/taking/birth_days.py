@@ -7,7 +7,7 @@ from society.book.inferred import GIVEN_BIRTH, BirthBasis, BirthSource
 from society.pedigree_order import in_order, offspring
 from society.reading.animal import Animal, parents_of_all
 from society.reading.days import ANY_DAY, FIRST_DAY, Span
-from society.taking.findings import BirthDayInferred
+from society.taking.animal_findings import BirthDayInferred
 from society.taking.report import Report
 
 # days between a parent's birth and a calf's, where only one of the two is known

@@ -4,7 +4,7 @@ from __future__ import annotations
 import collections
 
 from society.refusals import Refusal
-from society.taking.findings import SEXES
+from society.taking.animal_findings import SEXES
 from society.taking.parent_findings import WRONG, ParentRefused
 from society.taking.report import Entry
 

@@ -9,7 +9,7 @@ from society.book.writing import Filed
 from society.herdbook import Herdbook
 from society.mistake import Mistake
 from society.taking.causes import sentences_of
-from society.taking.changes import Filing
+from society.taking.sheet_commands import Filing
 from society.taking.early_exits import leave_out_early_exits
 from society.taking.faulty_parents import leave_out_faulty_parents
 from society.taking.lost_links import refuse_lost_links

@@ -14,7 +14,7 @@ from society.mistake import Mistake, counted
 from society.reading.animal import Animal
 from society.reading.columns import Columns, find_columns
 from society.reading.options import read_given, read_sexes
-from society.reading.rows import Rows
+from society.reading.sheet_animals import Rows
 from society.reading.sheet import Sheet, read_bytes, read_sheet
 from society.reading.titles import known_titles
 from society.reading.unknown import UnknownParents

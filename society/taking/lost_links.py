@@ -2,7 +2,7 @@
 from __future__ import annotations
 
 from society.mistake import MOST_NAMED, Mistake, counted
-from society.reading.findings import IdAgain
+from society.reading.cell_findings import IdAgain
 from society.taking.report import Entry, Part, Report, What
 
 

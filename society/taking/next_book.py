@@ -16,7 +16,7 @@ from society.reading.animal import Animal
 from society.reading.days import ANY_DAY, Span
 from society.taking.birth_days import Days
 from society.taking.cycles import cut_cycles
-from society.taking.findings import KeptByHand, KeptFromBook, SexInferred, SexNotKnown
+from society.taking.animal_findings import KeptByHand, KeptFromBook, SexInferred, SexNotKnown
 from society.taking.near_ids import NearIds
 from society.taking.parent_names import Names
 from society.taking.report import Report

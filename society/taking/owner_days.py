@@ -13,7 +13,7 @@ from society.book.journal import accepted_commands
 from society.book.kinds import Field
 from society.reading.animal import Animal
 from society.reading.days import DayFault
-from society.reading.findings import DayLeftOut
+from society.reading.cell_findings import DayLeftOut
 from society.taking.report import Finding, Report
 from society.taking.row_findings import OwnerDayMoved
 

@@ -7,7 +7,7 @@ from dataclasses import dataclass
 from society.book.inferred import SexSource
 from society.book.role import Role
 from society.refusals import Refusal
-from society.taking.findings import SEXES
+from society.taking.animal_findings import SEXES
 from society.taking.report import Finding, LeftOut, Part, What
 
 

@@ -6,7 +6,7 @@ from society.book.kinds import Standing
 from society.pedigree_order import ancestors
 from society.reading.animal import Animal
 from society.reading.days import ANY_DAY, Span
-from society.taking.findings import RowIsGone
+from society.taking.animal_findings import RowIsGone
 from society.taking.report import Report
 
 

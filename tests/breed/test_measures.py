@@ -22,7 +22,7 @@ from society.breed.intervals import generation_interval, intervals_of
 from society.breed.kinship import Kinship
 from society.breed.measures import Lack, Name
 from society.breed.pedigree import UNKNOWN, Pedigree
-from society.breed.state import state_of
+from society.breed.breed_state import state_of
 from society.breed.years import years_of
 
 SEEDS = range(8)

@@ -14,7 +14,7 @@ import pytest
 
 from front_desk.desk import Desk
 from front_desk.whole import FLOCK, GROWN, changes_of, run
-from society.book import database, schema
+from society.book import book_changed, database, schema
 
 # who has no rights: nobody
 NOBODY = 65534
@@ -90,11 +90,12 @@ def test_migration(flock_desk: Desk, monkeypatch: pytest.MonkeyPatch) -> None:
         ("CREATE TABLE added (one TEXT) STRICT;", True),
     ):
         monkeypatch.setattr(database, "MIGRATIONS", (*schema.MIGRATIONS, script))
-        monkeypatch.setattr(database, "VERSION", schema.VERSION + 1)
+        for module in database, book_changed:
+            monkeypatch.setattr(module, "VERSION", schema.VERSION + 1)
         with contextlib.ExitStack() as stack:
             if not is_made:
                 stack.enter_context(pytest.raises(Exception, match="nothing is changed"))
-            database.up_to_date(folder)
+            book_changed.up_to_date(folder)
         with contextlib.closing(sqlite3.connect(folder / "book.sqlite")) as connection:
             version = connection.execute("PRAGMA user_version").fetchone()[0]
             tables = connection.execute("SELECT count(*) FROM sqlite_schema WHERE name = 'added'").fetchone()[0]

@@ -5,7 +5,7 @@ import argparse
 import pathlib
 
 from society.answers.choice import Choice
-from society.answers.columns import USUAL, Column
+from society.answers.list_columns import USUAL, Column
 from society.answers.listing import advise, animals_listed
 from society.book.book import Book
 from society.book.role import Role

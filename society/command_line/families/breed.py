@@ -75,8 +75,8 @@ def add_population(word: argparse.ArgumentParser) -> None:
 
 def do_breed(asked: argparse.Namespace, book: Book, program: Herdbook) -> None:
     from society.breed.from_book import breed_of
-    from society.breed.page import breed_page
-    from society.breed.state import state_of
+    from society.breed.breed_page import breed_page
+    from society.breed.breed_state import state_of
     from society.breed.tables import files_of
 
     if asked.csv and not asked.csv.is_dir():
@@ -103,7 +103,7 @@ def do_breed(asked: argparse.Namespace, book: Book, program: Herdbook) -> None:
 def population_of(asked: argparse.Namespace, breed: Breed) -> tuple[list[int], str]:
     """The ranks of the reference population, and who it is in the language of the page."""
     from society.breed import from_book
-    from society.breed.page import Words as PageWords
+    from society.breed.breed_page import Words as PageWords
 
     words = PageWords(asked.language)
     if asked.born:

@@ -64,7 +64,7 @@ def do_show(asked: argparse.Namespace, book: Book, program: Herdbook) -> None:
 
 
 def do_find(asked: argparse.Namespace, book: Book, program: Herdbook) -> None:
-    from society.answers.columns import FOUND, animals_table
+    from society.answers.list_columns import FOUND, animals_table
     from society.answers.finding import found
 
     give_table(asked, book, animals_table(book, found(book, asked.text), FOUND))

@@ -5,7 +5,7 @@ import argparse
 import datetime
 import pathlib
 
-from society.book.database import anew_where_a_book_came
+from society.book.book_changed import anew_where_a_book_came
 from society.command_line.arguments import day, days, three_letters
 from society.command_line.output import tell
 from society.command_line.parser import Words

@@ -12,7 +12,7 @@ from society.breed.from_book import Breed
 from society.breed.meanings import MEANINGS
 from society.breed.measures import Measure, Name
 from society.breed.plots import INBREEDING, Line, bar_plot, line_plot
-from society.breed.state import State
+from society.breed.breed_state import State
 from society.breed.texts import LACKS, NAMES, WORDS, Three
 from society.pages.languages import LANGUAGES, Language
 from society.pages.page import rendered

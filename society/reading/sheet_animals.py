@@ -16,7 +16,7 @@ from society.reading.encodings import Letters
 from society.reading.errors import ErrorValues
 from society.reading.exits import exit_word, lives, word_fault
 
-from society.reading.findings import (
+from society.reading.cell_findings import (
     DAYS, DayLeftOut, EmbryoUnread, ExitInferred, IdAgain, NoId, SexUnread, TooManyCells,
 )  # fmt: skip
 from society.reading.order import Order

@@ -14,7 +14,7 @@ from society.mistake import Mistake
 from society.reading.animal import Animal
 from society.refusals import Refusal
 from society.taking.early_exits import leave_out_exit
-from society.taking.findings import NewAnimal, ValueChanged
+from society.taking.animal_findings import NewAnimal, ValueChanged
 from society.taking.next_book import NextBook
 from society.taking.owner_days import OwnerDays
 from society.taking.row_findings import CommandLeftOut

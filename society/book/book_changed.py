@@ -1,0 +1,155 @@
+"""A book as it is changed: by one at a time, whole or not at all."""
+from __future__ import annotations
+
+import contextlib
+import pathlib
+import sqlite3
+import time
+from typing import Callable, Iterator, TypeVar
+
+from society.book.database import TRIES, connect, is_empty, migrate, path_of, primary, told, version_of
+from society.book.book_read import reading
+from society.book.schema import VERSION
+from society.mistake import CALLED, Mistake
+
+Value = TypeVar("Value")
+
+
+class BookCame(Exception):
+    """Where there was no book when a change began there is one now: the change has to begin again, with that book."""
+
+
+def anew_where_a_book_came(change: Callable[[], Value]) -> Value:
+    """Makes a change, anew where meanwhile somebody else made the book that wasn't there."""
+    while True:
+        with contextlib.suppress(BookCame):
+            return change()
+
+
+@contextlib.contextmanager
+def changing(folder: pathlib.Path) -> Iterator[sqlite3.Connection | None]:
+    """The book of a folder, which nobody else changes until this ends; none where there is no book. Other changes are
+    waited for. Without `commit` the book stays as it was."""
+    path = path_of(folder)
+    if not path.exists():
+        yield None
+        return
+    try:
+        with contextlib.closing(connect(path, "rw")) as connection:
+            if version_of(connection, path) == 0:
+                yield None
+                return
+            begin_to_change(connection)
+            version = version_of(connection, path)
+            if version < VERSION:
+                migrate(connection, version)
+            yield connection
+    except sqlite3.Error as error:
+        raise told(error, path) from None
+
+
+@contextlib.contextmanager
+def creating(folder: pathlib.Path) -> Iterator[sqlite3.Connection]:
+    """A new book in a folder, which is made where only its own name isn't there yet; raises `BookCame`."""
+    path = path_of(folder)
+    made = make_folder(folder)
+    try:
+        with contextlib.closing(connect(path, "rwc")) as connection:
+            version_of(connection, path)
+            begin_to_change(connection)
+            if version_of(connection, path):
+                raise BookCame
+            migrate(connection, 0)
+            yield connection
+    except sqlite3.Error as error:
+        if made:
+            with contextlib.suppress(OSError):
+                folder.rmdir()
+        raise told(error, path) from None
+
+
+def up_to_date(folder: pathlib.Path) -> None:
+    """Makes of a book of an earlier version one of this version."""
+    with reading(folder) as connection:
+        if connection is None or version_of(connection, path_of(folder)) == VERSION:
+            return
+    with changing(folder) as connection:
+        if connection is not None:
+            connection.execute("COMMIT")
+
+
+def make_folder(folder: pathlib.Path) -> bool:
+    """Was the folder made? It isn't where it is there; that in which it is to be has to be there."""
+    try:
+        folder.mkdir()
+    except FileExistsError:
+        if folder.is_dir():
+            return False
+        raise Mistake(f"the folder {folder} can't be written ({folder} is a file): nothing is changed") from None
+    except FileNotFoundError:
+        raise Mistake(f"the folder {folder.parent} isn't there: make it, or name another folder by --book") from None
+    except OSError as error:
+        raise Mistake(f"the folder {folder} can't be written ({error.strerror or error}): nothing is changed") from None
+    return True
+
+
+def begin_to_change(connection: sqlite3.Connection) -> None:
+    """Waits until nobody else changes the book."""
+    if connection.execute("PRAGMA journal_mode").fetchone()[0] != "wal":
+        set_write_ahead(connection)
+    connection.execute("PRAGMA synchronous = FULL")
+    connection.execute("PRAGMA wal_autocheckpoint = 0")
+    connection.execute("BEGIN IMMEDIATE")
+
+
+def set_write_ahead(connection: sqlite3.Connection) -> None:
+    """Readers don't wait then. Two that make the same book at once may be in each other's way here for a moment."""
+    for _ in range(TRIES):
+        try:
+            connection.execute("PRAGMA journal_mode = WAL")
+            return
+        except sqlite3.OperationalError as error:
+            if primary(error) != sqlite3.SQLITE_BUSY:
+                raise
+            time.sleep(0.05)
+    connection.execute("PRAGMA journal_mode = WAL")
+
+
+def commit(connection: sqlite3.Connection, folder: pathlib.Path, change: int, time_of_change: int) -> None:
+    """Ends a change: from here on it is in the book, or a mistake says that it isn't."""
+    path = path_of(folder)
+    try:
+        connection.execute("COMMIT")
+    except sqlite3.Error as error:
+        with contextlib.suppress(sqlite3.Error):
+            connection.execute("ROLLBACK")
+        connection.close()
+        if not is_made(path, change, time_of_change):
+            raise told(error, path) from None
+        return
+    with contextlib.suppress(sqlite3.Error):
+        checkpoint(connection)
+
+
+def checkpoint(connection: sqlite3.Connection) -> None:
+    """Puts what was changed into the file itself, unless somebody reads for long: then a later change does it."""
+    connection.execute("PRAGMA busy_timeout = 1000")
+    connection.execute("PRAGMA wal_checkpoint(TRUNCATE)")
+
+
+def is_made(path: pathlib.Path, change: int, time_of_change: int) -> bool:
+    """Is a change in the book of which the end failed? What of it stands beside the file alone is put into it, or
+    dropped."""
+    try:
+        with contextlib.closing(connect(path, "rw")) as connection:
+            with contextlib.suppress(sqlite3.Error):
+                checkpoint(connection)
+            if is_empty(connection):
+                return False
+            found = connection.execute("SELECT 1 FROM change WHERE (change, time) = (?, ?)", (change, time_of_change))
+            return found.fetchone() is not None
+    except sqlite3.Error as error:
+        raise Mistake(
+            f"{path} can't be written or read any more ({error}). Whether change {change} is in it can't be seen now: "
+            f"mend the disk, and ask by {CALLED} history"
+        ) from None

@@ -1,0 +1,83 @@
+"""A book as it is read: one moment of it, whatever is changed meanwhile, also in a folder without rights."""
+from __future__ import annotations
+
+import contextlib
+import pathlib
+import shutil
+import sqlite3
+import tempfile
+import time
+from typing import Iterator
+
+from society.book.database import CLOSED, TRIES, companions, connect, path_of, primary, told, version_of
+from society.mistake import Mistake
+
+
+@contextlib.contextmanager
+def reading(folder: pathlib.Path) -> Iterator[sqlite3.Connection | None]:
+    """The book of a folder as it is now, whatever is changed meanwhile; none where there is no book."""
+    path = path_of(folder)
+    if not path.exists():
+        yield None
+        return
+    with contextlib.ExitStack() as stack:
+        try:
+            connection = stack.enter_context(opened_to_read(path))
+            yield None if version_of(connection, path) == 0 else connection
+        except sqlite3.Error as error:
+            raise told(error, path) from None
+
+
+@contextlib.contextmanager
+def opened_to_read(path: pathlib.Path) -> Iterator[sqlite3.Connection]:
+    """A connection with a transaction that reads. In a folder without rights that is one to a copy."""
+    with contextlib.ExitStack() as stack:
+        try:
+            connection = stack.enter_context(contextlib.closing(connect(path, "rw")))
+            connection.execute("PRAGMA query_only = ON")
+            begin_to_read(connection)
+        except sqlite3.OperationalError as error:
+            if primary(error) not in CLOSED:
+                raise
+            room = stack.enter_context(tempfile.TemporaryDirectory(prefix="society-"))
+            connection = stack.enter_context(contextlib.closing(connect(copy_of(path, pathlib.Path(room)), "rw")))
+            begin_to_read(connection)
+        yield connection
+
+
+def begin_to_read(connection: sqlite3.Connection) -> None:
+    connection.execute("BEGIN")
+    connection.execute("SELECT count(*) FROM sqlite_schema").fetchone()
+
+
+def copy_of(path: pathlib.Path, room: pathlib.Path) -> pathlib.Path:
+    """A copy of a file and of what isn't in it yet, both of one moment, though others may be changing them."""
+    copy = room / path.name
+    for _ in range(TRIES):
+        before = marks(path)
+        try:
+            for one in companions(path)[:2]:
+                target = room / one.name
+                target.unlink(missing_ok=True)
+                if one.exists():
+                    shutil.copyfile(one, target)
+        except OSError as error:
+            raise Mistake(
+                f"{path} can't be read ({error.strerror or error}): who may read it has to allow it"
+            ) from None
+        if marks(path) == before:
+            return copy
+        time.sleep(0.05)
+    raise Mistake(f"{path} is changed all the time by somebody else: try again later")
+
+
+def marks(path: pathlib.Path) -> list[tuple[int, int, int] | None]:
+    """By which it is seen whether a file, or what isn't in it yet, was changed."""
+    found: list[tuple[int, int, int] | None] = []
+    for one in companions(path)[:2]:
+        try:
+            stat = one.stat()
+            found.append((stat.st_ino, stat.st_size, stat.st_mtime_ns))
+        except FileNotFoundError:
+            found.append(None)
+    return found
