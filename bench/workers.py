@@ -51,7 +51,7 @@ def measured(
     wrote: dict[str, str] = {}
     for _ in range(runs):
         for name, words in jobs.items():
-            used, took, status, told = ran(words, file, out)
+            used, took, status, told, _ = ran(words, file, out)
             if status:
                 sys.exit(f"{name} ended with status {status}: {told.strip()}")
             wall[name] = min(wall.get(name, 9e9), took)
