@@ -8,10 +8,14 @@ import shlex
 import signal
 import subprocess
 import sys
+from typing import TYPE_CHECKING
 
-from society.book.commands import Command, text_of
+from society.book.commands import Command, lines_of, text_of
 from society.mistake import Mistake, counted
 from society.refusals import Refusal
+
+if TYPE_CHECKING:
+    from society.book.book import Book
 
 TOP = pathlib.Path(__file__).resolve().parent.parent
 # how it is said where the built program is
@@ -114,3 +118,12 @@ class Herdbook:
             )
         refused = (line.split(",") for line in replies if not line.endswith(",accepted"))
         return {int(serial) - 1: Refusal(int(refusal)) for serial, _, refusal in refused}
+
+    def ask(self, words: list[str], book: Book) -> list[str]:
+        """The lines that it writes of a book's journal."""
+        return self.lines(words, book.command_file())
+
+    def reply(self, command: Command, book: Book) -> Refusal | None:
+        """Why it refuses a command behind a book's journal; none where it accepts it."""
+        length = book.journal.length
+        return self.file_text(book.command_file() + lines_of([command]), length + 1).get(length)

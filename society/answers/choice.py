@@ -36,6 +36,12 @@ class Choice:
 
 def chosen(book: Book, choice: Choice) -> list[Row]:
     """The animals, in age order."""
+    conditions, values = conditions_of(book, choice)
+    return book.rows(f"{' AND '.join(conditions)} {AGE_ORDER}", *values)
+
+
+def conditions_of(book: Book, choice: Choice) -> tuple[list[str], list[object]]:
+    """What holds for the row of each of the animals, with the values for its question marks."""
     conditions, values = ["true"], list[object]()
     if choice.living:
         conditions.append(LIVING)
@@ -48,7 +54,7 @@ def chosen(book: Book, choice: Choice) -> list[Row]:
     if choice.born:
         conditions.append(BORN_BETWEEN)
         values += [day.isoformat() for day in choice.born]
-    return book.rows(f"{' AND '.join(conditions)} {AGE_ORDER}", *values)
+    return conditions, values
 
 
 def herd_of(book: Book, owner: str) -> int:

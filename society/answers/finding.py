@@ -12,7 +12,16 @@ from society.mistake import Mistake
 
 def found(book: Book, words: Sequence[str]) -> list[Row]:
     """The animals in which each of the words stands, with capitals or without, in age order."""
-    conditions, values = [], list[object]()
+    conditions, values = conditions_of(book, words)
+    rows = book.rows(f"{' AND '.join(conditions)} {AGE_ORDER}", *values)
+    if not rows:
+        raise nothing_found(book, words)
+    return rows
+
+
+def conditions_of(book: Book, words: Sequence[str]) -> tuple[list[str], list[object]]:
+    """What holds for the row of an animal that is found, with the values for its question marks."""
+    conditions, values = list[str](), list[object]()
     for word in words:
         text = " ".join(word.split()).casefold()
         if not text:
@@ -23,10 +32,7 @@ def found(book: Book, words: Sequence[str]) -> list[Row]:
             f" OR herd IN ({', '.join(map(str, herds))}))"
         )
         values += [text, text, text.upper()]
-    rows = book.rows(f"{' AND '.join(conditions)} {AGE_ORDER}", *values)
-    if not rows:
-        raise nothing_found(book, words)
-    return rows
+    return conditions, values
 
 
 def nothing_found(book: Book, words: Sequence[str]) -> Mistake:

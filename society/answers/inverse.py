@@ -17,7 +17,7 @@ def summed(book: Book, program: Herdbook) -> tuple[list[str], dict[int, int]]:
     order: list[str] = []
     rank: dict[str, int] = {}
     elements: dict[int, int] = {}
-    for line in program.lines(["inverse"], book.command_file()):
+    for line in program.ask(["inverse"], book):
         animal, row, column, value = line.split(",")
         if animal not in rank:
             rank[animal] = len(order)

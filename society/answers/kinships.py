@@ -40,12 +40,11 @@ def related(book: Book, program: Herdbook, animals: Sequence[Known], others: Seq
 def answered(
     book: Book, program: Herdbook, animals: Sequence[Known], others: Sequence[Known] | None
 ) -> Iterator[Related]:
-    text = book.command_file()
     numbers = [known.number for known in animals]
     parts = [numbers[first : first + AT_ONCE] for first in range(0, len(numbers), AT_ONCE)]
     behind = [] if others is None else ["--with", *(known.number for known in others)]
     for part in parts:
-        for line in program.lines(["relationships", *part, *behind], text):
+        for line in program.ask(["relationships", *part, *behind], book):
             one, other, value = line.split(",")
             yield Related(one, other, Fraction(value))
 

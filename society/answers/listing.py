@@ -51,12 +51,11 @@ def advise(book: Book, program: Herdbook, dam: Known, sires: list[Known], also_l
             raise Mistake(f"the book has no {what}{': ' * bool(hints)}{', and '.join(hints)}")
     numbers = list(dict.fromkeys(known.number for known in sires))
     names = book.by_number()
-    book_text = book.command_file()
     found: list[tuple[str, Coefficient]] = []
     refused: list[tuple[str, MatingFault]] = []
     for first in range(0, len(numbers), SIRES_AT_ONCE):
         words = ["mating", "--dam", dam.number, *numbers[first : first + SIRES_AT_ONCE]]
-        for line in program.lines(words, book_text):
+        for line in program.ask(words, book):
             number, fraction, percent = line.split(",")
             if fraction == "refused":
                 refused.append((names[number].id, MatingFault(int(percent))))

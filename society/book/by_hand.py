@@ -6,7 +6,7 @@ from dataclasses import dataclass, field, replace
 
 from society.book.book import NO_OWNER, Book
 from society.book.changes import Change, Made, Option, Told
-from society.book.commands import Command, Record, birth, leave, lines_of, parents, record_after, transfer
+from society.book.commands import Command, Record, birth, leave, parents, record_after, transfer
 from society.book.inferred import GIVEN_EXIT
 from society.book.journal import Step
 from society.book.kinds import ChangeKind, Field, Standing
@@ -138,8 +138,7 @@ def id_of(book: Book, number: str) -> str:
 
 def file(book: Book, program: Herdbook, one: ByHand) -> tuple[Change, Refusal | None]:
     """Files a command as a change of its own, with the program's reply: why it is refused, or none."""
-    length = book.journal.length
-    refusal = program.file_text(book.command_file() + lines_of([one.command]), length + 1).get(length)
+    refusal = program.reply(one.command, book)
     rows = Rows({}, {}) if refusal else rows_of(book, one)
     findings = (CommandRefused(one.kind, one.command.day, refusal),) if refusal else one.findings
     state = State(rows, new_owners={} if refusal else one.new_owners)

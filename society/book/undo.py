@@ -29,4 +29,4 @@ def undo(book: Book, program: Herdbook, to: int | None) -> Change:
     edition = begin_edition(book.connection, journal)
     write_change(book.connection, number, moment, edition, Made(ChangeKind.UNDO, undone_to=target))
     bring_back(book.connection, number, target)
-    return end(book, book.connection, program, edition, number, moment)
+    return end(book, book.connection, program, number, moment)

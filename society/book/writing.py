@@ -11,8 +11,8 @@ from society.book.changes import Change, Made
 from society.book.coefficients import computed, write_coefficients
 from society.book.commands import Record
 from society.book.book_changed import commit, creating
-from society.book.history import last_change, next_number, now, write_change
-from society.book.journal import Journal, Step, append, begin_edition, command_file
+from society.book.history import next_number, now, write_change
+from society.book.journal import Journal, Step, append, begin_edition
 from society.book.known import Known
 from society.book.rows import row_of
 from society.book.state import ANIMALS, CELLS, REMEMBERED, Meaning, Values, remembered_rows, rows_now, write_rows
@@ -71,7 +71,7 @@ def write_within(
     if state.remembered is not None:
         before = rows_now(connection, REMEMBERED)
         write_rows(connection, REMEMBERED, number, before, remembered_rows(state.remembered))
-    return end(book, connection, program, journal, number, moment)
+    return end(book, connection, program, number, moment)
 
 
 def written_journal(connection: sqlite3.Connection, journal: Journal, filed: Filed) -> Journal:
@@ -81,13 +81,11 @@ def written_journal(connection: sqlite3.Connection, journal: Journal, filed: Fil
     return append(connection, journal, filed.steps)
 
 
-def end(
-    book: Book, connection: sqlite3.Connection, program: Herdbook, journal: Journal, number: int, moment: int
-) -> Change:
+def end(book: Book, connection: sqlite3.Connection, program: Herdbook, number: int, moment: int) -> Change:
     """Computes what is kept of the new state, and ends the change."""
-    lines = program.lines(["inbreeding"], command_file(connection, journal))
-    write_coefficients(connection, computed(lines))
-    change = last_change(connection)
+    after = Book(book.folder, connection)
+    write_coefficients(connection, computed(program.ask(["inbreeding"], after)))
+    change = after.change
     assert change is not None and change.number == number
     stop_no_more()
     commit(connection, book.folder, number, moment)

@@ -70,24 +70,33 @@ class Words:
 
 
 def breed_page(state: State, breed: Breed, language: str, of_whom: str) -> str:
+    return rendered("breed.html", **said(state, breed, language, of_whom))
+
+
+def breed_part(state: State, breed: Breed, language: str, of_whom: str) -> str:
+    """What stands on the page, as a part of another one."""
+    return rendered("breed_part.html", **said(state, breed, language, of_whom))
+
+
+def said(state: State, breed: Breed, language: str, of_whom: str) -> dict[str, object]:
+    """What the templates say."""
     words = Words(language)
-    return rendered(
-        "breed.html",
-        language=language,
-        of_whom=of_whom,
-        words={what: words.word(what) for what in WORDS},
-        measures=[measure_row(measure, words) for measure in state.measures.values()],
-        plots=[Markup(plot) for plot in plots_of(state, words)],
-        years=year_rows(state, words),
-        founders=share_rows(sorted(state.founders, key=lambda one: -one.share), breed, words),
-        ancestors=share_rows(state.ancestors.ancestors, breed, words),
-        kinships=[
+    return {
+        "language": language,
+        "of_whom": of_whom,
+        "words": {what: words.word(what) for what in WORDS},
+        "measures": [measure_row(measure, words) for measure in state.measures.values()],
+        "plots": [Markup(plot) for plot in plots_of(state, words)],
+        "years": year_rows(state, words),
+        "founders": share_rows(sorted(state.founders, key=lambda one: -one.share), breed, words),
+        "ancestors": share_rows(state.ancestors.ancestors, breed, words),
+        "kinships": [
             (breed.rows[rank].id, breed.rows[rank].name, words.percent(kinship))
             for rank, kinship in state.mean_kinships[:MOST_ROWS]
         ],
-        more=words.word("more").format(words.language.count(max(0, len(state.mean_kinships) - MOST_ROWS))),
-        has_more=len(state.mean_kinships) > MOST_ROWS,
-    )
+        "more": words.word("more").format(words.language.count(max(0, len(state.mean_kinships) - MOST_ROWS))),
+        "has_more": len(state.mean_kinships) > MOST_ROWS,
+    }
 
 
 def measure_row(measure: Measure, words: Words) -> MeasureRow:
