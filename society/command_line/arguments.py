@@ -7,9 +7,6 @@ import pathlib
 import re
 from fractions import Fraction
 
-from society.answers.list_columns import USUAL, Column
-from society.reading.days import FIRST_DAY, LAST_DAY, Unreadable, read_span
-
 
 def three_letters(text: str) -> str:
     if not re.fullmatch("[A-Z]{3}", text):
@@ -38,6 +35,8 @@ def sex(text: str) -> str:
 
 def birth_days(text: str) -> tuple[datetime.date, datetime.date]:
     """The first and the last day of `FROM..TO`: each a year, a month or a day, or nothing where there is no bound."""
+    from society.reading.days import FIRST_DAY, LAST_DAY, Unreadable, read_span
+
     first, dots, last = text.partition("..")
     try:
         begin = read_span(first).first if first else FIRST_DAY
@@ -46,17 +45,6 @@ def birth_days(text: str) -> tuple[datetime.date, datetime.date]:
         forms = "2010..2019, 2010.. or 2010-03-01..2010-08-31"
         raise argparse.ArgumentTypeError(f"'{text}' isn't written as {forms}") from None
     return begin, end
-
-
-def columns(text: str) -> list[Column]:
-    """The columns of a list; with + in front those of a usual one and these."""
-    words = [
-        "_".join(word.casefold().replace("-", " ").replace("_", " ").split()) for word in text.lstrip("+").split(",")
-    ]
-    wrong = [word for word in words if word not in list(Column)]
-    if wrong:
-        raise argparse.ArgumentTypeError(f"there is no column '{wrong[0]}': there are {', '.join(Column)}")
-    return list(dict.fromkeys([*USUAL * text.startswith("+"), *map(Column, words)]))
 
 
 def coefficient(text: str) -> Fraction:
@@ -91,6 +79,12 @@ def generations(text: str) -> int:
     if not text.isdigit() or not 1 <= int(text) <= 10:
         raise argparse.ArgumentTypeError(f"'{text}' isn't 1 to 10")
     return int(text)
+
+
+def add_choice(word: argparse.ArgumentParser) -> None:
+    """The options that choose animals by what they are."""
+    word.add_argument("--living", action="store_true", help="only living animals that have a row")
+    word.add_argument("--owner", default="", metavar="NAME", help="only the animals of an owner")
 
 
 def add_force(word: argparse.ArgumentParser) -> None:

@@ -11,7 +11,6 @@ from society.book.known import Known
 from society.book.out import write_outs
 from society.book.search import find
 from society.mistake import MOST_NAMED, Mistake, counted
-from society.reading.id_lists import read_ids
 
 
 def give_table(asked: argparse.Namespace, book: Book, table: Table) -> None:
@@ -27,6 +26,8 @@ def give_table(asked: argparse.Namespace, book: Book, table: Table) -> None:
 
 def named_in(path: pathlib.Path, book: Book) -> list[Known]:
     """The animals that a file names, one id a line."""
+    from society.reading.id_lists import read_ids
+
     found: list[Known] = []
     faults: list[str] = []
     for id in read_ids(path, book.known.__contains__):

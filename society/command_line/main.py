@@ -6,7 +6,7 @@ import os
 import sys
 from typing import TextIO, cast
 
-from society.command_line.families import all_words
+from society.command_line.families import words_for
 from society.command_line.parser import joined
 from society.command_line.output import Harmless
 from society.mistake import Mistake
@@ -18,7 +18,8 @@ def main(words: list[str]) -> int:
             stream.reconfigure(encoding="utf-8", errors="backslashreplace")
     sys.stdout, sys.stderr = cast(TextIO, Harmless(sys.stdout)), cast(TextIO, Harmless(sys.stderr))
     try:
-        asked = all_words().parser.read(joined(words))
+        call = joined(words)
+        asked = words_for(call).parser.read(call)
         asked.does(asked)
         sys.stdout.flush()
         return 0

@@ -5,13 +5,19 @@ import dataclasses
 import datetime
 import enum
 import functools
+import importlib
+import pkgutil
 import typing
 from collections.abc import Iterator
 from typing import Any
 
+import society.reading
+import society.taking
 from society.book.changes import Told
-from society.taking.report import KINDS, Entry
+from society.taking.report import KINDS, Entry, Finding
 
+# how the names of modules end in which kinds of findings stand
+FINDINGS = "_findings"
 YES, NO = "yes", "no"
 
 
@@ -21,7 +27,30 @@ def told_of(entry: Entry) -> Told:
 
 
 def entry_of(told: Told) -> Entry:
-    return Entry(told.line, told.id, value_of(KINDS[told.kind], "", dict(told.fields)))
+    return Entry(told.line, told.id, value_of(kind_named(told.kind), "", dict(told.fields)))
+
+
+def kind_named(name: str) -> type[Finding]:
+    if name not in KINDS:
+        import_kind(name)
+    return KINDS[name]
+
+
+def import_kind(name: str) -> None:
+    """Imports modules of findings, up to the one that has a kind."""
+    for module in modules_of_findings():
+        importlib.import_module(module)
+        if name in KINDS:
+            return
+
+
+def modules_of_findings() -> list[str]:
+    return [
+        f"{package.__name__}.{module.name}"
+        for package in (society.taking, society.reading)
+        for module in pkgutil.iter_modules(package.__path__)
+        if module.name.endswith(FINDINGS)
+    ]
 
 
 def within(name: str, part: str) -> str:

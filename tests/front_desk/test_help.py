@@ -4,11 +4,16 @@ from __future__ import annotations
 import pytest
 
 from front_desk.desk import CALLED, Desk
+from society.command_line.families import FAMILIES, words_for
 
-WORDS = [
-    "take", "list", "certificate", "mating", "trend", "pedigree", "inverse", "birth", "parents", "transfer", "exit",
-    "history", "undo", "verify", "backup", "restore", "show", "find", "kinship", "export", "settings",
-]  # fmt: skip
+WORDS = [word for words in FAMILIES.values() for word in words]
+
+
+def test_families() -> None:
+    """A call has the words of one family alone, which are those that its module adds."""
+    for words in FAMILIES.values():
+        assert tuple(words_for([words[-1], "--help"]).words.choices) == words
+    assert list(words_for(["--help"]).words.choices) == WORDS
 
 
 @pytest.mark.parametrize("word", WORDS)

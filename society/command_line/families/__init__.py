@@ -1,14 +1,31 @@
-"""The families of words, in the order in which help shows them: a module for each, with `add_words`."""
+"""The families of words, in the order in which help shows them: a module for each, with `add_words`.
+
+A module is imported where a word of its own is called, or where all words are shown: so a call doesn't wait for what
+other words need."""
 from __future__ import annotations
 
-from society.command_line.families import answers, breed, filing, matrices, pages, questions, taking, whole_book
+import importlib
+from collections.abc import Sequence
+
 from society.command_line.parser import Words
 
-FAMILIES = (taking, filing, questions, answers, pages, breed, matrices, whole_book)
+# the words that each module adds
+FAMILIES = {
+    "taking": ("take",),
+    "filing": ("birth", "parents", "transfer", "exit"),
+    "questions": ("show", "find", "kinship", "export"),
+    "answers": ("list", "mating"),
+    "pages": ("certificate", "pedigree", "trend"),
+    "breed": ("breed", "plan"),
+    "matrices": ("inverse",),
+    "whole_book": ("history", "undo", "settings", "verify", "backup", "restore"),
+}
 
 
-def all_words() -> Words:
+def words_for(call: Sequence[str]) -> Words:
+    """The words of the family that has the called one; all of them where no family has it, as for help."""
+    called = [family for family, names in FAMILIES.items() if call and call[0] in names]
     words = Words()
-    for family in FAMILIES:
-        family.add_words(words)
+    for family in called or FAMILIES:
+        importlib.import_module(f"{__name__}.{family}").add_words(words)
     return words

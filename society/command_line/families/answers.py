@@ -4,16 +4,14 @@ from __future__ import annotations
 import argparse
 import pathlib
 
-from society.answers.choice import Choice
 from society.answers.list_columns import USUAL, Column
-from society.answers.listing import advise, animals_listed
 from society.book.book import Book
 from society.book.role import Role
 from society.book.search import find
-from society.command_line.arguments import add_force, birth_days, columns, file, sex
+from society.command_line.arguments import add_choice, add_force, birth_days, file, sex
 from society.command_line.giving import give_table, named_in
 from society.command_line.output import some, tell
-from society.command_line.parser import Parser, Words
+from society.command_line.parser import Words
 from society.herdbook import Herdbook
 from society.mistake import Mistake
 
@@ -57,13 +55,21 @@ def add_words(words: Words) -> None:
         add_force(one)
 
 
-def add_choice(word: Parser) -> None:
-    """The options that choose animals by what they are."""
-    word.add_argument("--living", action="store_true", help="only living animals that have a row")
-    word.add_argument("--owner", default="", metavar="NAME", help="only the animals of an owner")
+def columns(text: str) -> list[Column]:
+    """The columns of a list; with + in front those of a usual one and these."""
+    words = [
+        "_".join(word.casefold().replace("-", " ").replace("_", " ").split()) for word in text.lstrip("+").split(",")
+    ]
+    wrong = [word for word in words if word not in list(Column)]
+    if wrong:
+        raise argparse.ArgumentTypeError(f"there is no column '{wrong[0]}': there are {', '.join(Column)}")
+    return list(dict.fromkeys([*USUAL * text.startswith("+"), *map(Column, words)]))
 
 
 def do_list(asked: argparse.Namespace, book: Book, program: Herdbook) -> None:
+    from society.answers.choice import Choice
+    from society.answers.listing import animals_listed
+
     choice = Choice(asked.living, asked.sex or "", asked.owner, asked.born)
     give_table(asked, book, animals_listed(book, choice, asked.columns or USUAL))
     without_row = [] if asked.living else book.without_row()
@@ -72,6 +78,8 @@ def do_list(asked: argparse.Namespace, book: Book, program: Herdbook) -> None:
 
 
 def do_mating(asked: argparse.Namespace, book: Book, program: Herdbook) -> None:
+    from society.answers.listing import advise
+
     if asked.dams or asked.sires_in:
         do_many_matings(asked, book, program)
         return

@@ -9,16 +9,14 @@ from fractions import Fraction
 from typing import TYPE_CHECKING
 
 from society.book.book import Book
-from society.book.known import Known
 from society.book.out import write_outs, write_page
-from society.book.search import find
 from society.command_line.arguments import add_force, birth_days, coefficient, days, file, positive
+from society.command_line.giving import named_in
 from society.command_line.output import tell
 from society.command_line.parser import Words
 from society.herdbook import Herdbook
 from society.mistake import Mistake, counted
 from society.packages import Group
-from society.reading.id_lists import read_ids
 
 if TYPE_CHECKING:
     from society.breed.from_book import Breed
@@ -113,7 +111,7 @@ def population_of(asked: argparse.Namespace, breed: Breed) -> tuple[list[int], s
     if asked.owner:
         return from_book.owned_by(breed, asked.owner), words.word("owner").format(asked.owner)
     if asked.among:
-        ranks = from_book.among(breed, named(asked.among, breed.book) or [])
+        ranks = from_book.among(breed, named_in(asked.among, breed.book))
         return ranks, words.word("among").format(asked.among.name)
     return from_book.living(breed), words.word("living")
 
@@ -127,7 +125,8 @@ def do_plan(asked: argparse.Namespace, book: Book, program: Herdbook) -> None:
     youngest = datetime.date.max
     if asked.minimum_age is not None:
         youngest = datetime.date.today() - datetime.timedelta(days=asked.minimum_age)
-    candidates = candidates_of(breed, named(asked.dams, book), named(asked.sires, book), youngest)
+    dams, sires = (named_in(path, book) if path else None for path in (asked.dams, asked.sires))
+    candidates = candidates_of(breed, dams, sires, youngest)
     found = best_plan(breed, program, candidates, asked.most_for_a_sire, asked.at_most, asked.kinship_weight)
     text = table_of(breed, found, asked.table, asked.semicolons)
     if asked.out:
@@ -137,7 +136,3 @@ def do_plan(asked: argparse.Namespace, book: Book, program: Herdbook) -> None:
         print(text, end="")
     for sentence in told_of(breed, found):
         tell(sentence)
-
-
-def named(path: pathlib.Path | None, book: Book) -> list[Known] | None:
-    return None if path is None else [find(book, id) for id in read_ids(path, book.known.__contains__)]

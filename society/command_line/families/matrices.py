@@ -3,7 +3,6 @@ from __future__ import annotations
 
 import argparse
 
-from society.answers.inverse import write_inverse
 from society.book.book import Book
 from society.command_line.arguments import add_force, file
 from society.command_line.parser import Words
@@ -21,6 +20,8 @@ def add_words(words: Words) -> None:
 
 
 def do_inverse(asked: argparse.Namespace, book: Book, program: Herdbook) -> None:
+    from society.answers.inverse import write_inverse
+
     rows, elements, ids = write_inverse(book, program, asked.matrix_market, asked.force)
     print(
         f"{asked.matrix_market}: {counted(rows, 'row')}, {counted(elements, 'element')} of the lower triangle; "

@@ -5,25 +5,20 @@ import argparse
 import datetime
 import pathlib
 
-from society.answers.choice import Choice, chosen
 from society.book.book import Book
 from society.book.coefficients import kept_coefficients
 from society.book.known import Known
 from society.book.out import write_outs, write_page
-from society.book.rows import known_of
 from society.book.search import find
 from society.book.settings import Setting, settings_of
-from society.command_line.arguments import add_force, day, file, generations
-from society.command_line.families.answers import add_choice
+from society.command_line.arguments import add_choice, add_force, day, file, generations
 from society.command_line.giving import named_in
 from society.command_line.parser import Words
 from society.herdbook import Herdbook
 from society.mistake import Mistake, counted
 from society.packages import Group
 from society.pages.languages import LANGUAGES, Language
-from society.pages.pedigree_picture import Pedigree
 from society.pages.picture import file_name
-from society.pages.trend_picture import trend_picture
 
 
 def add_words(words: Words) -> None:
@@ -73,6 +68,9 @@ def do_certificate(asked: argparse.Namespace, book: Book, program: Herdbook) -> 
 
 def animals_asked_for(asked: argparse.Namespace, book: Book) -> list[Known]:
     """Those that are named, or those of an owner or that live; each once."""
+    from society.answers.choice import Choice, chosen
+    from society.book.rows import known_of
+
     choice = Choice(asked.living, "", asked.owner)
     named = [find(book, id) for id in asked.ids] + (named_in(asked.among, book) if asked.among else [])
     if named and not choice.is_everything:
@@ -86,6 +84,8 @@ def animals_asked_for(asked: argparse.Namespace, book: Book) -> list[Known]:
 
 
 def do_pedigree(asked: argparse.Namespace, book: Book, program: Herdbook) -> None:
+    from society.pages.pedigree_picture import Pedigree
+
     known = find(book, asked.id)
     drawn = Pedigree(book, known, kept_coefficients(book), asked.generations, Language(asked.language))
     if drawn.is_long and asked.out and asked.out.suffix.lower() == ".svg":
@@ -95,6 +95,8 @@ def do_pedigree(asked: argparse.Namespace, book: Book, program: Herdbook) -> Non
 
 
 def do_trend(asked: argparse.Namespace, book: Book, program: Herdbook) -> None:
+    from society.pages.trend_picture import trend_picture
+
     give(asked, book, trend_picture(book, kept_coefficients(book), Language(asked.language)), "trend.svg")
 
 

@@ -4,6 +4,7 @@ from __future__ import annotations
 import argparse
 import datetime
 import pathlib
+from typing import TYPE_CHECKING
 
 from society.book.book_changed import anew_where_a_book_came
 from society.command_line.arguments import day, days, three_letters
@@ -11,9 +12,9 @@ from society.command_line.output import tell
 from society.command_line.parser import Words
 from society.mistake import Mistake
 from society.packages import Group, need
-from society.taking.from_pedigree import take_pedigree
-from society.taking.from_sheet import take_sheet
-from society.taking.wishes import Wishes
+
+if TYPE_CHECKING:
+    from society.taking.wishes import Wishes
 
 
 def add_words(words: Words) -> None:
@@ -96,6 +97,8 @@ def add_words(words: Words) -> None:
 
 
 def do_take(asked: argparse.Namespace) -> None:
+    from society.taking.wishes import Wishes
+
     if (asked.sheet is None) == (asked.pedigree is None):
         raise Mistake("take reads one file: name a sheet, or a pedigree with --pedigree")
     if asked.pedigree and asked.sexes:
@@ -114,7 +117,13 @@ def do_take(asked: argparse.Namespace) -> None:
 
 
 def taken(asked: argparse.Namespace, wishes: Wishes) -> list[str]:
-    return take_sheet(asked.sheet, wishes) if asked.sheet else take_pedigree(asked.pedigree, wishes)
+    if asked.sheet:
+        from society.taking.from_sheet import take_sheet
+
+        return take_sheet(asked.sheet, wishes)
+    from society.taking.from_pedigree import take_pedigree
+
+    return take_pedigree(asked.pedigree, wishes)
 
 
 def is_workbook(path: pathlib.Path) -> bool:
