@@ -24,6 +24,8 @@ SAY = "say where it is, as export HERDBOOK=/home/me/herdbook"
 
 # so much memory and time a run may use
 MOST_BYTES, MOST_SECONDS = 4 << 30, 1200
+# so many numbers of animals may stand in one call: a command line has an end
+MOST_NUMBERS = os.sysconf("SC_ARG_MAX") // 40
 
 
 def limit() -> None:

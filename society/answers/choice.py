@@ -14,8 +14,9 @@ from society.mistake import Mistake
 # by birth day, and on the same day by number, as the program orders them
 AGE_ORDER = "ORDER BY born, number"
 LISTED = f"standing IN ('{Standing.ROW.value}', '{Standing.FILED.value}')"
+HAS_LEFT = f"(departed IS NOT NULL OR exit_source = '{ExitSource.UNKNOWN_DAY.value}')"
 # the living animals of the society
-LIVING = f"{LISTED} AND departed IS NULL AND exit_source <> '{ExitSource.UNKNOWN_DAY.value}'"
+LIVING = f"{LISTED} AND NOT {HAS_LEFT}"
 # of an inferred birth day at least the year has to be known
 BORN_BETWEEN = f"born BETWEEN ? AND ? AND birth_source IN ('{BirthSource.GIVEN.value}', '{BirthSource.PERIOD.value}')"
 

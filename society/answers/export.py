@@ -1,64 +1,74 @@
 """The whole pedigree as a file, by the society's ids and in age order."""
 from __future__ import annotations
 
+import json
 import re
-from collections.abc import Collection, Iterable, Sequence
+from collections.abc import Iterable, Sequence
 
-from society.answers.choice import AGE_ORDER
-from society.answers.table import Cell, Decimal, Table
+from society.answers.list_columns import Column, LIST_COLUMNS, parent
+from society.answers.made_columns import as_it_is, each, made_table
+from society.answers.table import Kind, Table
 from society.book.book import Book
-from society.book.coefficients import kept_coefficients
 from society.book.known import Known
 from society.book.old_words import STANDINGS
-from society.book.rows import Row, known_of
+from society.book.rows import SEX_SOURCES, birth_basis, exit_basis
+from society.book.selecting import known_parents
 from society.pedigree_order import ancestors
 
-TITLES = [
-    "id", "name", "sex", "birth", "sire", "dam", "owner", "exit", "embryo", "herdbook_number", "coefficient", "decimal",
-    "row_in_sheet", "birth_from", "exit_from", "sex_from",
-]  # fmt: skip
+
+def sex_letter(number: str) -> str:
+    return number[6]
+
+
+WORDS_OF_STANDING = {standing.value: words for standing, words in STANDINGS.items()}
+COLUMNS = (
+    as_it_is("id", "id"),
+    as_it_is("name", "name"),
+    each("sex", Kind.TEXT, ("number",), sex_letter),
+    as_it_is("birth", "born"),
+    parent("sire"),
+    parent("dam"),
+    LIST_COLUMNS[Column.OWNER],
+    each("exit", Kind.TEXT, ("departed",), lambda departed: departed or ""),
+    each("embryo", Kind.TEXT, ("embryo",), lambda is_one: "1" if is_one else ""),
+    as_it_is("herdbook_number", "number"),
+    LIST_COLUMNS[Column.COEFFICIENT],
+    LIST_COLUMNS[Column.DECIMAL],
+    each("row_in_sheet", Kind.TEXT, ("standing",), WORDS_OF_STANDING.__getitem__),
+    each("birth_from", Kind.TEXT, ("birth_source", "birth_period", "birth_no_such_day"), lambda *of: birth_basis(*of).words()),
+    each("exit_from", Kind.TEXT, ("exit_source", "exit_period", "exit_no_such_day", "exit_text"), lambda *of: exit_basis(*of).words()),
+    each("sex_from", Kind.TEXT, ("sex_source",), lambda source: SEX_SOURCES[source].words()),
+)  # fmt: skip
 # what stands for an unknown parent: R reads it as none
 UNKNOWN = "NA"
 
 
-def exported(book: Book, kept: Collection[Known] | None) -> list[Row]:
-    """All animals, or those that are to be kept with their ancestors."""
-    rows = book.rows(f"true {AGE_ORDER}")
+def conditions_of(book: Book, kept: Iterable[Known] | None) -> tuple[list[str], list[object]]:
+    """What holds for all animals, or for those that are to be kept and their ancestors; with the values for its
+    question marks."""
     if kept is None:
-        return rows
-    parents = {row.number: [parent for parent in (row.sire, row.dam) if parent] for row in rows}
-    numbers = [known.number for known in kept]
-    wanted = ancestors(numbers, parents.__getitem__) | set(numbers)
-    return [row for row in rows if row.number in wanted]
+        return [], []
+    numbers = {known.number for known in kept}
+    wanted = sorted(ancestors(numbers, known_parents(book).__getitem__) | numbers)
+    return ["number IN (SELECT value FROM json_each(?))"], [json.dumps(wanted)]
 
 
-def export_table(book: Book, rows: Sequence[Row]) -> Table:
+def export_table(book: Book, kept: Iterable[Known] | None) -> Table:
     """A sheet that can be taken again, with what each inferred day and sex comes from."""
-    ids = {row.number: row.id for row in rows}
-    coefficients = dict(kept_coefficients(book))
-    cells: list[list[Cell]] = []
-    for row in rows:
-        known, coefficient = known_of(row), coefficients[row.number]
-        cells.append([
-            row.id, row.name, row.number[6], row.born or "", ids.get(row.sire or "", ""), ids.get(row.dam or "", ""),
-            book.owner_of(row.herd or 0), row.departed or "", "1" if row.embryo else "", row.number,
-            coefficient.fraction, Decimal(coefficient.decimal()), STANDINGS[known.standing], known.birth.words(),
-            known.exit.words(), known.sex.words(),
-        ])  # fmt: skip
-    return Table(TITLES, cells)
+    return made_table(book, COLUMNS, *conditions_of(book, kept))
 
 
-def triples_text(rows: Iterable[Row]) -> str:
+def triples(book: Book, kept: Iterable[Known] | None) -> list[tuple[str, str, str]]:
+    """The id of each animal, its sire's and its dam's, empty for an unknown one."""
+    found = made_table(book, [LIST_COLUMNS[Column.ID], parent("sire"), parent("dam")], *conditions_of(book, kept))
+    return [(str(id), str(sire), str(dam)) for id, sire, dam in found.rows]
+
+
+def triples_text(rows: Sequence[tuple[str, str, str]]) -> str:
     """Lines of `id sire dam` below these titles, as `read.table` of R reads them."""
-    lines = ["id sire dam"]
-    names: dict[str, str] = {}
-    for row in rows:
-        names[row.number] = quoted(row.id)
-        lines.append(
-            f"{names[row.number]} {names[row.sire] if row.sire else UNKNOWN} "
-            f"{names[row.dam] if row.dam else UNKNOWN}"
-        )
-    return "\n".join(lines) + "\n"
+    names = {id: quoted(id) for id, _, _ in rows} | {"": UNKNOWN}
+    lines = [f"{names[id]} {names[sire]} {names[dam]}" for id, sire, dam in rows]
+    return "\n".join(["id sire dam", *lines]) + "\n"
 
 
 def quoted(id: str) -> str:

@@ -4,19 +4,18 @@ from __future__ import annotations
 from collections.abc import Sequence
 
 from society.alike import closest
-from society.answers.choice import AGE_ORDER
+from society.answers.list_columns import FOUND, animals_table
+from society.answers.table import Table
 from society.book.book import NO_OWNER, Book
-from society.book.rows import Row
 from society.mistake import Mistake
 
 
-def found(book: Book, words: Sequence[str]) -> list[Row]:
+def animals_found(book: Book, words: Sequence[str]) -> Table:
     """The animals in which each of the words stands, with capitals or without, in age order."""
-    conditions, values = conditions_of(book, words)
-    rows = book.rows(f"{' AND '.join(conditions)} {AGE_ORDER}", *values)
-    if not rows:
+    found = animals_table(book, *conditions_of(book, words), FOUND)
+    if not found.rows:
         raise nothing_found(book, words)
-    return rows
+    return found
 
 
 def conditions_of(book: Book, words: Sequence[str]) -> tuple[list[str], list[object]]:

@@ -37,7 +37,7 @@ def write_inverse(book: Book, program: Herdbook, path: pathlib.Path, force: bool
     """Writes the matrix and, beside it, the ids of its rows, one a line. Answers how many rows and elements there
     are."""
     order, elements = summed(book, program)
-    names = book.by_number()
+    ids_of = book.ids
     unit = 1 << BITS
     lines = [
         "%%MatrixMarket matrix coordinate real symmetric\n",
@@ -46,6 +46,6 @@ def write_inverse(book: Book, program: Herdbook, path: pathlib.Path, force: bool
     ]
     lines += [f"{(at >> 16) + 1} {(at & 0xFFFF) + 1} {elements[at] / unit!r}\n" for at in sorted(elements)]
     ids = path.with_name(path.name + ".ids")
-    rows = "".join(names[number].id + "\n" for number in order)
+    rows = "".join(ids_of[number] + "\n" for number in order)
     write_outs(book, {path: "".join(lines).encode(), ids: rows.encode()}, force)
     return len(order), len(elements), ids

@@ -5,13 +5,17 @@ from collections.abc import Iterator, Sequence
 from fractions import Fraction
 from typing import NamedTuple
 
-from society.answers.table import Cell, Decimal, Table
+from society.answers.table import Cell, Kind, Table
 from society.book.book import Book
 from society.book.known import Known
+from society.decimals import decimal
 from society.herdbook import Herdbook
 from society.mistake import Mistake
 
-TITLES = ["id", "with", "relationship", "relationship_decimal", "kinship", "kinship_decimal"]
+COLUMNS = (
+    ("id", Kind.TEXT), ("with", Kind.TEXT), ("relationship", Kind.TEXT), ("relationship_decimal", Kind.DECIMAL),
+    ("kinship", Kind.TEXT), ("kinship_decimal", Kind.DECIMAL),
+)  # fmt: skip
 # so many are asked for at once: a command line has an end
 AT_ONCE = 5_000
 MOST_PAIRS = 2_000_000
@@ -50,15 +54,15 @@ def answered(
 
 
 def kinship_table(book: Book, pairs: Sequence[Related]) -> Table:
-    names = book.by_number()
-    rows: list[list[Cell]] = [
-        [
-            names[pair.one].id, names[pair.other].id, str(pair.relationship), Decimal.of(pair.relationship),
-            str(pair.kinship), Decimal.of(pair.kinship),
-        ]
+    ids = book.ids
+    rows = [
+        (
+            ids[pair.one], ids[pair.other], str(pair.relationship), decimal(pair.relationship), str(pair.kinship),
+            decimal(pair.kinship),
+        )
         for pair in pairs
     ]  # fmt: skip
-    return Table(TITLES, rows)
+    return Table(COLUMNS, rows)
 
 
 def kinship_matrix(
@@ -69,10 +73,10 @@ def kinship_matrix(
     values = {(pair.one, pair.other): pair.kinship if kinships else pair.relationship for pair in pairs}
     if others is None:
         values |= {(other, one): value for (one, other), value in values.items()}
-    rows: list[list[Cell]] = [
-        [one.id, *(Decimal.of(values[one.number, other.number]) for other in columns)] for one in animals
+    rows: list[Sequence[Cell]] = [
+        (one.id, *(decimal(values[one.number, other.number]) for other in columns)) for one in animals
     ]
-    return Table(["id", *(known.id for known in columns)], rows)
+    return Table([("id", Kind.TEXT), *((known.id, Kind.DECIMAL) for known in columns)], rows)
 
 
 def each_once(animals: Sequence[Known]) -> list[Known]:

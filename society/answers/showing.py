@@ -50,7 +50,7 @@ class Shown:
             ("number", known.number),
             ("sex", SEXES[known.number[6]] + known.sex.mark() + ", castrated" * known.castrated),
             ("born", f"{row.born}{basis(known.birth.words())}" + ", from a stored embryo" * bool(row.embryo)),
-            ("exit", exit_of(row) or "none"),
+            ("exit", exit_of_row(row) or "none"),
             ("owner", f"{owner}{since}" if owner else "not known"),
             ("coefficient", f"{coefficient.fraction} = {coefficient.decimal()} ({coefficient.percent}%)"),
         ]
@@ -69,7 +69,7 @@ class Shown:
         known, coefficient = known_of(row), self.coefficients[row.number]
         facts = [f"born {row.born}{known.birth.mark()}", SEXES[row.number[6]]]
         facts += [f"F {coefficient.percent}%"] * coefficient.is_inbred
-        facts += [f"exit {exit_of(row)}"] * bool(exit_of(row))
+        facts += [f"exit {exit_of_row(row)}"] * bool(exit_of_row(row))
         return f"{f'{row.id}  {row.name}'.rstrip()}  ({', '.join(facts)})"
 
     def of_offspring(self, offspring: Mapping[str, Sequence[Row]]) -> Iterator[str]:
@@ -107,3 +107,7 @@ def basis(words: str) -> str:
     if not words or words == "invented":
         return f" ({words})" * bool(words)
     return f" (inferred, {words})"
+
+
+def exit_of_row(row: Row) -> str:
+    return exit_of(row.departed, row.exit_source, row.exit_period, row.exit_no_such_day, row.exit_text)

@@ -2,54 +2,51 @@
 from __future__ import annotations
 
 import csv
+import enum
 import io
 from collections.abc import Iterable, Sequence
 from dataclasses import dataclass
-from fractions import Fraction
 
 from society.book.cells import for_spreadsheets
-from society.book.coefficients import decimal
-
-
-@dataclass(frozen=True, slots=True)
-class Decimal:
-    """A number that is shown rounded."""
-
-    text: str
-
-    @classmethod
-    def of(cls, value: Fraction) -> Decimal:
-        """Rounded to ten places."""
-        return cls(decimal(value.numerator, value.denominator))
-
 
 # what stands in a cell
-Cell = str | int | Decimal
+Cell = str | int
+
+
+class Kind(enum.Enum):
+    """What stands in a column."""
+
+    TEXT = enum.auto()
+    # numbers that are shown rounded, each as a text
+    DECIMAL = enum.auto()
+    COUNT = enum.auto()
 
 
 @dataclass(frozen=True)
 class Table:
-    """Rows below their titles."""
+    """Rows below the titles of the columns, each with what stands in it."""
 
-    titles: Sequence[str]
+    columns: Sequence[tuple[str, Kind]]
     rows: Sequence[Sequence[Cell]]
+
+    @property
+    def titles(self) -> list[str]:
+        return [title for title, _ in self.columns]
 
     def text(self, semicolons: bool) -> str:
         """With semicolons decimals have a comma, as such spreadsheets want them."""
         text = io.StringIO()
         writer = csv.writer(text, delimiter=";" if semicolons else ",", lineterminator="\n")
-        writer.writerow(self.titles)
-        writer.writerows(map(written_with_comma if semicolons else written, self.rows))
+        writer.writerow(map(for_spreadsheets, self.titles))
+        cells = (written(kind, column, semicolons) for (_, kind), column in zip(self.columns, zip(*self.rows)))
+        writer.writerows(zip(*cells))
         return text.getvalue()
 
 
-def written(cells: Iterable[Cell]) -> list[str | int]:
-    return [cell.text if isinstance(cell, Decimal) else guarded(cell) for cell in cells]
-
-
-def written_with_comma(cells: Iterable[Cell]) -> list[str | int]:
-    return [cell.text.replace(".", ",") if isinstance(cell, Decimal) else guarded(cell) for cell in cells]
-
-
-def guarded(cell: str | int) -> str | int:
-    return for_spreadsheets(cell) if isinstance(cell, str) else cell
+def written(kind: Kind, cells: Iterable[Cell], semicolons: bool) -> Iterable[Cell]:
+    """The cells of a column as they are written."""
+    if kind is Kind.TEXT:
+        return (for_spreadsheets(str(cell)) for cell in cells)
+    if kind is Kind.DECIMAL and semicolons:
+        return (str(cell).replace(".", ",") for cell in cells)
+    return cells

@@ -4,7 +4,7 @@ from __future__ import annotations
 import functools
 import pathlib
 import sqlite3
-from typing import Mapping
+from typing import Iterable, Mapping
 
 from society.book.changes import Change
 from society.book.commands import Record
@@ -15,7 +15,7 @@ from society.book.kinds import Remembered, Standing
 from society.book.known import Known
 from society.book.lazy import Lazy
 from society.book.rows import Row, known_of, record_of
-from society.book.state import CELLS, Meaning, Values, read_remembered, rows_now, select_rows
+from society.book.state import CELLS, NOW, Meaning, Values, read_remembered, rows_now, select_rows
 
 NO_OWNER = 99_999_999
 # animals of the book, in place of those that were dropped from it
@@ -37,6 +37,8 @@ class Book:
         # by its number
         self.names: Mapping[str, Known] = Lazy(self.read_numbered, self.read_all_numbered)
         self.records: Mapping[str, Record] = Lazy(self.read_record, self.read_all_records)
+        # the ids by numbers
+        self.ids: Mapping[str, str] = Lazy(self.read_id, self.read_all_ids)
 
     @property
     def path(self) -> pathlib.Path:
@@ -71,6 +73,16 @@ class Book:
 
     def read_record(self, number: str) -> Record | None:
         return next((record_of(row) for row in self.rows("number = ?", number)), None)
+
+    def read_id(self, number: str) -> str | None:
+        return next((id for _, id in self.numbers_and_ids("number = ?", number)), None)
+
+    def read_all_ids(self) -> dict[str, str]:
+        return dict(self.numbers_and_ids("true"))
+
+    def numbers_and_ids(self, where: str, *values: object) -> Iterable[tuple[str, str]]:
+        wanted = f"SELECT number, id FROM animal WHERE {NOW} AND {IN_BOOK} AND {where}"
+        return self.connection.execute(wanted, values) if self.connection else ()
 
     @functools.cached_property
     def every_row(self) -> list[Row]:

@@ -7,8 +7,9 @@ from typing import Iterable, Mapping, NamedTuple
 
 from society.book.book import Book
 from society.book.lazy import Lazy
+from society.decimals import decimal_of_text, rounded
 
-PLACES = 10
+UNIT_BITS = 120
 
 
 class Coefficient(NamedTuple):
@@ -25,22 +26,24 @@ class Coefficient(NamedTuple):
     def is_inbred(self) -> bool:
         return self.fraction != "0"
 
+    @property
+    def units(self) -> int:
+        """In units of 2^-120, in which each coefficient is whole."""
+        numerator, _, denominator = self.fraction.partition("/")
+        return (int(numerator) << UNIT_BITS) // int(denominator or 1)
+
     def decimal(self) -> str:
         """Rounded to ten places."""
-        numerator, _, denominator = self.fraction.partition("/")
-        return decimal(int(numerator), int(denominator or 1))
+        return decimal_of_text(self.fraction)
 
 
-def decimal(numerator: int, denominator: int) -> str:
-    """A fraction that isn't negative, rounded to ten places."""
-    scaled = (numerator * 10**PLACES * 2 + denominator) // (2 * denominator)
-    return f"{scaled // 10**PLACES}.{scaled % 10**PLACES:0{PLACES}}".rstrip("0").rstrip(".")
-
-
-def percent(value: Fraction) -> str:
-    """Hundredths of a percent, halves rounded up, as the program writes them."""
-    hundredths = (value.numerator * 20_000 + value.denominator) // (2 * value.denominator)
-    return f"{hundredths // 100}.{hundredths % 100:02}"
+def of_calf(relationship: str) -> Coefficient:
+    """That of a calf of two animals: half of their relationship, of which the program prints the fraction."""
+    numerator, _, denominator = relationship.partition("/")
+    above, below = int(numerator), 2 * int(denominator or 1)
+    if above % 2 == 0:
+        above, below = above // 2, below // 2
+    return Coefficient(f"{above}/{below}" if below > 1 else str(above), rounded(100 * above, below, 2))
 
 
 def kept_coefficients(book: Book) -> Mapping[str, Coefficient]:

@@ -14,6 +14,7 @@ from society.breed.measures import Measure, Name
 from society.breed.plots import INBREEDING, Line, bar_plot, line_plot
 from society.breed.breed_state import State
 from society.breed.texts import LACKS, NAMES, WORDS, Three
+from society.decimals import fixed, percent
 from society.pages.languages import LANGUAGES, Language
 from society.pages.page import rendered
 
@@ -55,7 +56,7 @@ class Words:
         return self.of(WORDS[what])
 
     def percent(self, value: Fraction | float, places: int = 2) -> str:
-        return self.language.percent(f"{float(value) * 100:.{places}f}")
+        return self.language.percent(percent(value, places))
 
     def value(self, measure: Measure) -> str:
         """The value, rounded as it is shown, or why there is none."""
@@ -66,7 +67,7 @@ class Words:
             return self.language.count(int(value))
         if measure.name in SHARES:
             return self.percent(value, 3)
-        return self.language.decimal(f"{float(value):.2f}")
+        return self.language.decimal(fixed(value))
 
 
 def breed_page(state: State, breed: Breed, language: str, of_whom: str) -> str:

@@ -3,25 +3,56 @@ from __future__ import annotations
 
 import itertools
 from collections.abc import Iterator, Sequence
-from fractions import Fraction
+from dataclasses import dataclass
 
 from society.book.book import Book
+from society.book.coefficients import Coefficient, of_calf
+from society.book.selecting import known_parents
+from society.breed.pedigree import MOST_STEPS
 from society.breed.plan import Pair
-from society.herdbook import Herdbook
-
-# so many dams are asked for at once: a command line has an end
-DAMS_AT_ONCE = 5_000
+from society.herdbook import MOST_NUMBERS, Herdbook
+from society.pedigree_order import longest_paths
 
 
-def calf_coefficients(book: Book, program: Herdbook, dams: Sequence[str], sires: Sequence[str]) -> dict[Pair, Fraction]:
-    """By the numbers of a dam and a sire half of their relationship, dam by dam."""
-    found: dict[Pair, Fraction] = {}
-    for first in range(0, len(dams), DAMS_AT_ONCE):
-        words = ["relationships", *sires, "--with", *dams[first : first + DAMS_AT_ONCE]]
-        for line in program.ask(words, book):
-            sire, dam, value = line.split(",")
-            found[dam, sire] = Fraction(value) / 2
+@dataclass(frozen=True)
+class Pairs:
+    """The coefficients by the numbers of the dam and the sire, dam by dam, and the pairs that the program refuses, which
+    have none."""
+
+    coefficients: dict[Pair, Coefficient]
+    refused: list[Pair]
+
+
+def pairs_of(book: Book, program: Herdbook, dams: Sequence[str], sires: Sequence[str]) -> Pairs:
+    """All pairs of some dams and sires, by their numbers."""
+    found = calf_coefficients(book, program, dams, sires)
+    refused = list(refused_pairs(book, program, too_deep(book, dams, sires)))
+    for pair in refused:
+        del found[pair]
+    return Pairs(found, refused)
+
+
+def calf_coefficients(
+    book: Book, program: Herdbook, dams: Sequence[str], sires: Sequence[str]
+) -> dict[Pair, Coefficient]:
+    """By the numbers of a dam and a sire, dam by dam."""
+    # the program goes through the pedigree once for each of those that it is given first
+    few, many = (dams, sires) if len(dams) < len(sires) else (sires, dams)
+    found: dict[Pair, Coefficient] = {}
+    at_once = max(1, MOST_NUMBERS - len(few))
+    for first in range(0, len(many), at_once):
+        for line in program.ask(["relationships", *few, "--with", *many[first : first + at_once]], book):
+            one, other, relationship = line.split(",")
+            found[(one, other) if few is dams else (other, one)] = of_calf(relationship)
     return {(dam, sire): found[dam, sire] for dam in dams for sire in sires}
+
+
+def too_deep(book: Book, dams: Sequence[str], sires: Sequence[str]) -> list[Pair]:
+    """The pairs whose calf may have a path of parents that is too long: the program decides."""
+    parents = known_parents(book)
+    depth = longest_paths(parents, parents.__getitem__)
+    deep = {number for number in (*dams, *sires) if depth[number] >= MOST_STEPS}
+    return [(dam, sire) for dam in dams for sire in sires if dam in deep or sire in deep] if deep else []
 
 
 def refused_pairs(book: Book, program: Herdbook, pairs: Sequence[Pair]) -> Iterator[Pair]:

@@ -14,17 +14,10 @@ from society.breed.measures import Measure
 from society.breed.pedigree import COEFFICIENT_BITS
 from society.breed.breed_state import State
 from society.breed.years import Parents, Year
+from society.decimals import decimal
 
-PLACES = 10
 Cell = str | int
 Table = tuple[Sequence[str], Iterable[Sequence[Cell]]]
-
-
-def decimal(value: Fraction | float) -> str:
-    """Rounded to ten places."""
-    scaled = round(Fraction(value) * 10**PLACES)
-    sign, scaled = "-" * (scaled < 0), abs(scaled)
-    return f"{sign}{scaled // 10**PLACES}.{scaled % 10**PLACES:0{PLACES}}".rstrip("0").rstrip(".")
 
 
 def files_of(state: State, breed: Breed) -> dict[str, bytes]:

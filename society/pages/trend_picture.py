@@ -8,6 +8,7 @@ from typing import Callable, Mapping, NamedTuple
 
 from society.book.coefficients import Coefficient
 from society.book.book import Book
+from society.decimals import percent
 from society.mistake import Mistake
 from society.pages.languages import Language
 from society.pages.picture import GREY, INBRED_INK, INK, PAPER, escape, svg, text_at
@@ -80,7 +81,7 @@ def curve(years: list[Year], at: dict[int, tuple[float, float]], language: Langu
         if x1 != x2:
             ends = f'x1="{x1:.1f}" y1="{y1:.1f}" x2="{x2:.1f}" y2="{y2:.1f}"'
             lines.append(f'<line {ends} stroke="{INBRED_INK}" stroke-width="2.5"/>')
-        mean = language.percent(f"{float(one.mean) * 100:.2f}")
+        mean = language.percent(percent(one.mean))
         tip = f"{one.year}: {language.texts['mean of'].format(mean, language.count(one.animals))}"
         dots.append(dot(x1, y1, f"<title>{escape(tip)}</title>"))
     return lines + dots

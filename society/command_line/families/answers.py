@@ -94,15 +94,17 @@ def do_mating(asked: argparse.Namespace, book: Book, program: Herdbook) -> None:
     give_table(asked, book, advice.table)
     for sentence in advice.refused:
         tell(sentence)
-    if advice.left:
-        tell(f"males that left: {advice.left} aren't listed: --left lists them too")
-    if advice.without_row:
-        tell(f"males without a row in the sheet: {some(advice.without_row)} aren't listed: name one, if it lives")
+    if advice.sires.left:
+        tell(f"males that left: {advice.sires.left} aren't listed: --left lists them too")
+    for sentence in advice.sires.told():
+        tell(sentence)
 
 
 def do_many_matings(asked: argparse.Namespace, book: Book, program: Herdbook) -> None:
     """A table of all pairs."""
-    from society.answers.mates import mates_matrix, mates_of, mates_table, pairs_of, told_of_refused
+    from society.answers.candidates import candidates_of
+    from society.answers.mates import mates_matrix, mates_table, told_of_refused
+    from society.breed.relationships import pairs_of
 
     if asked.dam and asked.dams or asked.sires and asked.sires_in:
         raise Mistake("mating takes animals that are named, or those of a file, not both")
@@ -112,8 +114,8 @@ def do_many_matings(asked: argparse.Namespace, book: Book, program: Herdbook) ->
         Role.DAM: [find(book, asked.dam)] if asked.dam else named_in(asked.dams, book) if asked.dams else None,
         Role.SIRE: named_in(asked.sires_in, book) if asked.sires_in else [find(book, id) for id in asked.sires] or None,
     }
-    dams, sires = (mates_of(book, role, named[role]) for role in (Role.DAM, Role.SIRE))
-    found, refused = pairs_of(book, program, dams, sires)
-    give_table(asked, book, (mates_matrix if asked.matrix else mates_table)(dams, sires, found))
-    for sentence in told_of_refused(book, refused):
+    dams, sires = (candidates_of(book, role, named[role]) for role in (Role.DAM, Role.SIRE))
+    pairs = pairs_of(book, program, dams.numbers, sires.numbers)
+    give_table(asked, book, (mates_matrix if asked.matrix else mates_table)(dams, sires, pairs))
+    for sentence in told_of_refused(book, pairs) + dams.told() + sires.told():
         tell(sentence)

@@ -10,8 +10,9 @@ from typing import TYPE_CHECKING
 
 from society.book.book import Book
 from society.book.out import write_outs, write_page
+from society.book.role import Role
 from society.command_line.arguments import add_force, birth_days, coefficient, days, file, positive
-from society.command_line.giving import named_in
+from society.command_line.giving import give_table, named_in
 from society.command_line.output import tell
 from society.command_line.parser import Words
 from society.herdbook import Herdbook
@@ -117,22 +118,19 @@ def population_of(asked: argparse.Namespace, breed: Breed) -> tuple[list[int], s
 
 
 def do_plan(asked: argparse.Namespace, book: Book, program: Herdbook) -> None:
-    from society.breed.from_book import breed_of
-    from society.breed.mated import best_plan, candidates_of, table_of, told_of
+    from society.answers.candidates import candidates_of
+    from society.breed.mated import best_plan, old_enough, plan_table, told_of
+    from society.breed.plan import Rules
 
-    breed = breed_of(book)
-    # days that are invented for a long pedigree may lie after today
-    youngest = datetime.date.max
+    named = {Role.DAM: asked.dams, Role.SIRE: asked.sires}
+    dams, sires = (candidates_of(book, role, named_in(path, book) if path else None) for role, path in named.items())
+    passed_over = dams.told() + sires.told()
+    # days that are invented for a long pedigree may lie after today, so none is asked where that isn't wished
     if asked.minimum_age is not None:
         youngest = datetime.date.today() - datetime.timedelta(days=asked.minimum_age)
-    dams, sires = (named_in(path, book) if path else None for path in (asked.dams, asked.sires))
-    candidates = candidates_of(breed, dams, sires, youngest)
-    found = best_plan(breed, program, candidates, asked.most_for_a_sire, asked.at_most, asked.kinship_weight)
-    text = table_of(breed, found, asked.table, asked.semicolons)
-    if asked.out:
-        write_outs(book, {asked.out: text.encode("utf-8-sig" if asked.semicolons else "utf-8")}, asked.force)
-        print(f"{asked.out}: {counted(len(found.plan.matings), 'mating')}")
-    else:
-        print(text, end="")
-    for sentence in told_of(breed, found):
+        dams, sires = old_enough(dams, youngest), old_enough(sires, youngest)
+    rules = Rules(asked.most_for_a_sire, asked.at_most, asked.kinship_weight)
+    found = best_plan(book, program, dams, sires, rules)
+    give_table(asked, book, plan_table(book, found, asked.table))
+    for sentence in told_of(book, found) + passed_over:
         tell(sentence)

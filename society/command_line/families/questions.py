@@ -64,10 +64,9 @@ def do_show(asked: argparse.Namespace, book: Book, program: Herdbook) -> None:
 
 
 def do_find(asked: argparse.Namespace, book: Book, program: Herdbook) -> None:
-    from society.answers.list_columns import FOUND, animals_table
-    from society.answers.finding import found
+    from society.answers.finding import animals_found
 
-    give_table(asked, book, animals_table(book, found(book, asked.text), FOUND))
+    give_table(asked, book, animals_found(book, asked.text))
 
 
 def do_kinship(asked: argparse.Namespace, book: Book, program: Herdbook) -> None:
@@ -86,15 +85,16 @@ def do_kinship(asked: argparse.Namespace, book: Book, program: Herdbook) -> None
 
 
 def do_export(asked: argparse.Namespace, book: Book, program: Herdbook) -> None:
-    from society.answers.export import export_table, exported, triples_text
+    from society.answers.export import export_table, triples, triples_text
 
     if asked.triples and asked.semicolons:
         raise Mistake("--triples has blanks between its cells: leave out --semicolons")
     kept: list[Known] | None = named_in(asked.keep, book) if asked.keep else None
-    rows = exported(book, kept)
     if not asked.triples:
-        give_table(asked, book, export_table(book, rows))
-    elif asked.out:
+        give_table(asked, book, export_table(book, kept))
+        return
+    rows = triples(book, kept)
+    if asked.out:
         write_outs(book, {asked.out: triples_text(rows).encode()}, asked.force)
         print(f"{asked.out}: {counted(len(rows), 'animal')}")
     else:

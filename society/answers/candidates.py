@@ -1,0 +1,108 @@
+"""Who may be mated: one rule for advice on a dam, tables of pairs and plans."""
+from __future__ import annotations
+
+import json
+from collections.abc import Sequence
+from dataclasses import dataclass
+from typing import NamedTuple
+
+from society.answers.choice import HAS_LEFT, LISTED
+from society.answers.list_columns import BIRTH_OF, birth_of
+from society.book.book import Book
+from society.book.known import Known
+from society.book.role import Role
+from society.book.selecting import selected
+from society.mistake import Mistake, counted, some_of
+
+# so many ids of animals that are passed over are named
+MOST_NAMED = 9
+SEXES = {Role.SIRE: "male", Role.DAM: "female"}
+OF_CANDIDATE = ("number", "id", "name", *BIRTH_OF)
+OTHERS = {Role.SIRE: "female", Role.DAM: "male"}
+
+
+class Candidate(NamedTuple):
+    """An animal that may be mated; `birth` is its birth day as lists show it."""
+
+    number: str
+    id: str
+    name: str
+    born: str
+    birth: str
+
+
+@dataclass(frozen=True)
+class Candidates:
+    """Those that may be a parent, and who was passed over: the ids of castrated ones and of those without a row, and
+    how many left."""
+
+    role: Role
+    animals: list[Candidate]
+    castrated: Sequence[str] = ()
+    without_row: Sequence[str] = ()
+    left: int = 0
+
+    @property
+    def numbers(self) -> list[str]:
+        return [one.number for one in self.animals]
+
+    def told(self) -> list[str]:
+        """Who was passed over though it may have been meant; how many left is told where they can be asked for."""
+        sex, sentences = SEXES[self.role], []
+        for what, ids, hint in (
+            (f"{sex}s without a row in the sheet", self.without_row, "name one, if it lives"),
+            (f"castrated {sex}s", self.castrated, "name one, if its semen is stored"),
+        ):
+            if ids:
+                sentences.append(f"{what}: {len(ids)} ({some_of(ids, MOST_NAMED)}) aren't listed: {hint}")
+        return sentences
+
+    def needed(self, hint: str) -> Candidates:
+        """These; a mistake where there is none."""
+        if self.animals:
+            return self
+        passed = [f"{self.left} left"] * bool(self.left)
+        passed += [f"{counted(len(self.castrated), 'castrated one')}"] * bool(self.castrated)
+        passed += [f"{len(self.without_row)} without a row"] * bool(self.without_row)
+        among = f" (passed over: {', '.join(passed)})" if passed else ""
+        raise Mistake(f"the book has no living {SEXES[self.role]} that may be a {self.role}{among}: {hint}")
+
+
+def candidates_of(book: Book, role: Role, named: Sequence[Known] | None) -> Candidates:
+    """Those that are named, each of which has to have the sex; where none is, all that there are."""
+    wrong = [known.id for known in named or () if known.number[6] != role.sex]
+    if wrong:
+        raise Mistake(f"{some_of(wrong)}: no {role} can be {OTHERS[role]}: take these out of --{role}s")
+    found = all_candidates(book, role) if named is None else named_candidates(book, role, named)
+    return found.needed(f"name some in a file, as --{role}s FILE")
+
+
+def named_candidates(book: Book, role: Role, named: Sequence[Known]) -> Candidates:
+    """In the order in which they are named, whatever they are."""
+    numbers = list(dict.fromkeys(known.number for known in named))
+    rows = selected(book, OF_CANDIDATE, ["number IN (SELECT value FROM json_each(?))"], [json.dumps(numbers)])
+    found = {row[0]: candidate(*row) for row in rows}
+    return Candidates(role, [found[number] for number in numbers])
+
+
+def candidate(
+    number: str, id: str, name: str, born: str, source: str, period: str | None, no_such_day: str | None
+) -> Candidate:
+    return Candidate(number, id, name, born, birth_of(born, source, period, no_such_day))
+
+
+def all_candidates(book: Book, role: Role, also_left: bool = False) -> Candidates:
+    """The living ones that have a row and aren't castrated, in age order; or those that left too."""
+    animals, castrated, without_row, left = [], [], [], 0
+    wanted = (*OF_CANDIDATE, LISTED, HAS_LEFT, "castrated")
+    for *row, is_listed, has_left, is_castrated in selected(book, wanted, ["substr(number, 7, 1) = ?"], [role.sex]):
+        one = candidate(*row)
+        if not is_listed:
+            without_row.append(one.id)
+        elif has_left and not also_left:
+            left += 1
+        elif is_castrated:
+            castrated.append(one.id)
+        else:
+            animals.append(one)
+    return Candidates(role, animals, castrated, sorted(without_row), left)
