@@ -22,22 +22,22 @@ def sex_letter(number: str) -> str:
 
 WORDS_OF_STANDING = {standing.value: words for standing, words in STANDINGS.items()}
 COLUMNS = (
-    as_it_is("id", "id"),
-    as_it_is("name", "name"),
-    each("sex", Kind.TEXT, ("number",), sex_letter),
+    as_it_is("id", "id", Kind.TEXT),
+    as_it_is("name", "name", Kind.TEXT),
+    each("sex", Kind.PLAIN, ("number",), sex_letter),
     as_it_is("birth", "born"),
     parent("sire"),
     parent("dam"),
     LIST_COLUMNS[Column.OWNER],
-    each("exit", Kind.TEXT, ("departed",), lambda departed: departed or ""),
-    each("embryo", Kind.TEXT, ("embryo",), lambda is_one: "1" if is_one else ""),
+    each("exit", Kind.PLAIN, ("departed",), lambda departed: departed or ""),
+    each("embryo", Kind.PLAIN, ("embryo",), lambda is_one: "1" if is_one else ""),
     as_it_is("herdbook_number", "number"),
     LIST_COLUMNS[Column.COEFFICIENT],
     LIST_COLUMNS[Column.DECIMAL],
-    each("row_in_sheet", Kind.TEXT, ("standing",), WORDS_OF_STANDING.__getitem__),
-    each("birth_from", Kind.TEXT, ("birth_source", "birth_period", "birth_no_such_day"), lambda *of: birth_basis(*of).words()),
+    each("row_in_sheet", Kind.PLAIN, ("standing",), WORDS_OF_STANDING.__getitem__),
+    each("birth_from", Kind.PLAIN, ("birth_source", "birth_period", "birth_no_such_day"), lambda *of: birth_basis(*of).words()),
     each("exit_from", Kind.TEXT, ("exit_source", "exit_period", "exit_no_such_day", "exit_text"), lambda *of: exit_basis(*of).words()),
-    each("sex_from", Kind.TEXT, ("sex_source",), lambda source: SEX_SOURCES[source].words()),
+    each("sex_from", Kind.PLAIN, ("sex_source",), lambda source: SEX_SOURCES[source].words()),
 )  # fmt: skip
 # what stands for an unknown parent: R reads it as none
 UNKNOWN = "NA"

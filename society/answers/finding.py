@@ -13,7 +13,7 @@ from society.mistake import Mistake
 def animals_found(book: Book, words: Sequence[str]) -> Table:
     """The animals in which each of the words stands, with capitals or without, in age order."""
     found = animals_table(book, *conditions_of(book, words), FOUND)
-    if not found.rows:
+    if not len(found):
         raise nothing_found(book, words)
     return found
 

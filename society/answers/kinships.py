@@ -13,8 +13,8 @@ from society.herdbook import Herdbook
 from society.mistake import Mistake
 
 COLUMNS = (
-    ("id", Kind.TEXT), ("with", Kind.TEXT), ("relationship", Kind.TEXT), ("relationship_decimal", Kind.DECIMAL),
-    ("kinship", Kind.TEXT), ("kinship_decimal", Kind.DECIMAL),
+    ("id", Kind.TEXT), ("with", Kind.TEXT), ("relationship", Kind.PLAIN), ("relationship_decimal", Kind.DECIMAL),
+    ("kinship", Kind.PLAIN), ("kinship_decimal", Kind.DECIMAL),
 )  # fmt: skip
 # so many are asked for at once: a command line has an end
 AT_ONCE = 5_000
@@ -62,7 +62,7 @@ def kinship_table(book: Book, pairs: Sequence[Related]) -> Table:
         )
         for pair in pairs
     ]  # fmt: skip
-    return Table(COLUMNS, rows)
+    return Table.of_rows(COLUMNS, rows)
 
 
 def kinship_matrix(
@@ -76,7 +76,7 @@ def kinship_matrix(
     rows: list[Sequence[Cell]] = [
         (one.id, *(decimal(values[one.number, other.number]) for other in columns)) for one in animals
     ]
-    return Table([("id", Kind.TEXT), *((known.id, Kind.DECIMAL) for known in columns)], rows)
+    return Table.of_rows([("id", Kind.TEXT), *((known.id, Kind.DECIMAL) for known in columns)], rows)
 
 
 def each_once(animals: Sequence[Known]) -> list[Known]:

@@ -10,7 +10,7 @@ from society.answers.made_columns import Made, as_it_is, each, made_table
 from society.answers.table import Kind, Table
 from society.book.book import Book
 from society.book.rows import SEX_SOURCES, birth_basis, exit_basis
-from society.book.selecting import PLACE
+from society.book.selecting import FRACTION, PERCENT, PLACE
 from society.decimals import decimal, decimal_of_text
 
 
@@ -75,22 +75,22 @@ def computed(title: str, number: Callable[[Facts, int], Fraction]) -> Made:
 
 
 LIST_COLUMNS = {
-    Column.ID: as_it_is(Column.ID, "id"),
-    Column.NAME: as_it_is(Column.NAME, "name"),
+    Column.ID: as_it_is(Column.ID, "id", Kind.TEXT),
+    Column.NAME: as_it_is(Column.NAME, "name", Kind.TEXT),
     Column.NUMBER: as_it_is(Column.NUMBER, "number"),
-    Column.SEX: each(Column.SEX, Kind.TEXT, ("number", "sex_source"), sex_of),
-    Column.BIRTH: each(Column.BIRTH, Kind.TEXT, BIRTH_OF, birth_of),
+    Column.SEX: each(Column.SEX, Kind.PLAIN, ("number", "sex_source"), sex_of),
+    Column.BIRTH: each(Column.BIRTH, Kind.PLAIN, BIRTH_OF, birth_of),
     Column.SIRE: parent(Column.SIRE),
     Column.DAM: parent(Column.DAM),
     Column.OWNER: Made(Column.OWNER, Kind.TEXT, ("herd",), lambda facts, herds: map(facts.book.owner_of, herds)),
     Column.EXIT: each(Column.EXIT, Kind.TEXT, EXIT_OF, exit_of),
-    Column.COEFFICIENT: as_it_is(Column.COEFFICIENT, "fraction"),
-    Column.DECIMAL: each(Column.DECIMAL, Kind.DECIMAL, ("fraction",), decimal_of_text),
-    Column.PERCENT: as_it_is(Column.PERCENT, "percent", Kind.DECIMAL),
-    Column.OFFSPRING: as_it_is(Column.OFFSPRING, OFFSPRING, Kind.COUNT),
+    Column.COEFFICIENT: as_it_is(Column.COEFFICIENT, FRACTION),
+    Column.DECIMAL: each(Column.DECIMAL, Kind.DECIMAL, (FRACTION,), decimal_of_text),
+    Column.PERCENT: as_it_is(Column.PERCENT, PERCENT, Kind.DECIMAL),
+    Column.OFFSPRING: as_it_is(Column.OFFSPRING, OFFSPRING),
     Column.EQUIVALENT_GENERATIONS: computed(Column.EQUIVALENT_GENERATIONS, Facts.equivalent_generations),
     Column.FULL_GENERATIONS: Made(
-        Column.FULL_GENERATIONS, Kind.COUNT, (PLACE,), lambda facts, places: map(facts.full_generations, places)
+        Column.FULL_GENERATIONS, Kind.PLAIN, (PLACE,), lambda facts, places: map(facts.full_generations, places)
     ),
     Column.MEAN_KINSHIP: computed(Column.MEAN_KINSHIP, Facts.mean_kinship),
     Column.SAMPLING_VARIANCE: computed(Column.SAMPLING_VARIANCE, Facts.sampling_variance),

@@ -78,4 +78,4 @@ def advice_table(found: Sequence[tuple[Candidate, Coefficient]]) -> Table:
     rows = [
         (sire.id, sire.name, sire.number, sire.birth, one.fraction, one.decimal(), one.percent) for sire, one in found
     ]
-    return Table([(LIST_COLUMNS[column].title, LIST_COLUMNS[column].kind) for column in USUAL], rows)
+    return Table.of_rows([(LIST_COLUMNS[column].title, LIST_COLUMNS[column].kind) for column in USUAL], rows)

@@ -21,7 +21,7 @@ class Made:
     cells: Callable[..., Iterable[Cell]]
 
 
-def as_it_is(title: str, of: str, kind: Kind = Kind.TEXT) -> Made:
+def as_it_is(title: str, of: str, kind: Kind = Kind.PLAIN) -> Made:
     return Made(title, kind, (of,), unchanged)
 
 
@@ -41,4 +41,4 @@ def made_table(book: Book, columns: Sequence[Made], conditions: Sequence[str], v
     found: dict[str, Sequence[Any]] = dict(zip(wanted, zip(*selected(book, wanted, conditions, values))))
     facts = Facts(book)
     cells = [column.cells(facts, *(found.get(name, ()) for name in column.of)) for column in columns]
-    return Table([(column.title, column.kind) for column in columns], list(zip(*cells)))
+    return Table([(column.title, column.kind) for column in columns], [list(one) for one in cells])

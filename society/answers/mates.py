@@ -11,7 +11,7 @@ from society.mistake import some_of
 from society.refusals import MatingFault
 
 COLUMNS = (
-    ("dam", Kind.TEXT), ("sire", Kind.TEXT), ("coefficient", Kind.TEXT), ("decimal", Kind.DECIMAL),
+    ("dam", Kind.TEXT), ("sire", Kind.TEXT), ("coefficient", Kind.PLAIN), ("decimal", Kind.DECIMAL),
     ("percent", Kind.DECIMAL),
 )  # fmt: skip
 
@@ -23,7 +23,7 @@ def mates_table(dams: Candidates, sires: Candidates, pairs: Pairs) -> Table:
         of_dam = [(sire.id, pairs.coefficients.get((dam.number, sire.number))) for sire in sires.animals]
         found = sorted((one.units, sire, one) for sire, one in of_dam if one)
         rows += [(dam.id, sire, one.fraction, one.decimal(), one.percent) for _, sire, one in found]
-    return Table(COLUMNS, rows)
+    return Table.of_rows(COLUMNS, rows)
 
 
 def mates_matrix(dams: Candidates, sires: Candidates, pairs: Pairs) -> Table:
@@ -32,7 +32,7 @@ def mates_matrix(dams: Candidates, sires: Candidates, pairs: Pairs) -> Table:
     for dam in dams.animals:
         values = [pairs.coefficients.get((dam.number, sire.number)) for sire in sires.animals]
         rows.append((dam.id, *(one.percent if one else "" for one in values)))
-    return Table([("percent", Kind.TEXT), *((sire.id, Kind.DECIMAL) for sire in sires.animals)], rows)
+    return Table.of_rows([("percent", Kind.TEXT), *((sire.id, Kind.DECIMAL) for sire in sires.animals)], rows)
 
 
 def told_of_refused(book: Book, pairs: Pairs) -> list[str]:

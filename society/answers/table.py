@@ -16,37 +16,51 @@ Cell = str | int
 class Kind(enum.Enum):
     """What stands in a column."""
 
+    # what somebody wrote, which may begin as a formula does
     TEXT = enum.auto()
+    # numbers of animals, days, fractions and counts
+    PLAIN = enum.auto()
     # numbers that are shown rounded, each as a text
     DECIMAL = enum.auto()
-    COUNT = enum.auto()
 
 
 @dataclass(frozen=True)
 class Table:
-    """Rows below the titles of the columns, each with what stands in it."""
+    """Columns, each with a title and what stands in it, and the cells of each."""
 
     columns: Sequence[tuple[str, Kind]]
-    rows: Sequence[Sequence[Cell]]
+    cells: Sequence[Sequence[Cell]]
+
+    @classmethod
+    def of_rows(cls, columns: Sequence[tuple[str, Kind]], rows: Iterable[Sequence[Cell]]) -> Table:
+        return cls(columns, list(zip(*rows)) or [()] * len(columns))
 
     @property
     def titles(self) -> list[str]:
         return [title for title, _ in self.columns]
+
+    @property
+    def rows(self) -> list[tuple[Cell, ...]]:
+        return list(zip(*self.cells))
+
+    def __len__(self) -> int:
+        """How many rows there are."""
+        return len(self.cells[0])
 
     def text(self, semicolons: bool) -> str:
         """With semicolons decimals have a comma, as such spreadsheets want them."""
         text = io.StringIO()
         writer = csv.writer(text, delimiter=";" if semicolons else ",", lineterminator="\n")
         writer.writerow(map(for_spreadsheets, self.titles))
-        cells = (written(kind, column, semicolons) for (_, kind), column in zip(self.columns, zip(*self.rows)))
-        writer.writerows(zip(*cells))
+        written = (written_as(kind, cells, semicolons) for (_, kind), cells in zip(self.columns, self.cells))
+        writer.writerows(zip(*written))
         return text.getvalue()
 
 
-def written(kind: Kind, cells: Iterable[Cell], semicolons: bool) -> Iterable[Cell]:
+def written_as(kind: Kind, cells: Iterable[Cell], semicolons: bool) -> Iterable[Cell]:
     """The cells of a column as they are written."""
     if kind is Kind.TEXT:
-        return (for_spreadsheets(str(cell)) for cell in cells)
+        return map(for_spreadsheets, map(str, cells))
     if kind is Kind.DECIMAL and semicolons:
         return (str(cell).replace(".", ",") for cell in cells)
     return cells

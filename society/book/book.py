@@ -15,7 +15,7 @@ from society.book.kinds import Remembered, Standing
 from society.book.known import Known
 from society.book.lazy import Lazy
 from society.book.rows import Row, known_of, record_of
-from society.book.state import CELLS, NOW, Meaning, Values, read_remembered, rows_now, select_rows
+from society.book.state import ALL_ROWS, CELLS, NOW, Meaning, Values, read_remembered, rows_now, select_rows
 
 NO_OWNER = 99_999_999
 # animals of the book, in place of those that were dropped from it
@@ -75,14 +75,15 @@ class Book:
         return next((record_of(row) for row in self.rows("number = ?", number)), None)
 
     def read_id(self, number: str) -> str | None:
-        return next((id for _, id in self.numbers_and_ids("number = ?", number)), None)
+        return next((row.id for row in self.rows("number = ?", number)), None)
 
     def read_all_ids(self) -> dict[str, str]:
         return dict(self.numbers_and_ids("true"))
 
-    def numbers_and_ids(self, where: str, *values: object) -> Iterable[tuple[str, str]]:
-        wanted = f"SELECT number, id FROM animal WHERE {NOW} AND {IN_BOOK} AND {where}"
-        return self.connection.execute(wanted, values) if self.connection else ()
+    def numbers_and_ids(self, where: str) -> Iterable[tuple[str, str]]:
+        """Those of the animals for which a condition holds, in no order."""
+        wanted = f"SELECT number, id FROM {ALL_ROWS} WHERE {NOW} AND {IN_BOOK} AND {where}"
+        return self.connection.execute(wanted) if self.connection else ()
 
     @functools.cached_property
     def every_row(self) -> list[Row]:
@@ -132,7 +133,7 @@ class Book:
 
     def without_row(self) -> list[str]:
         """The ids of the added parents, and of those that are gone."""
-        return sorted(row.id for row in self.rows("standing IN ('gone', 'parent')"))
+        return sorted(id for _, id in self.numbers_and_ids("standing IN ('gone', 'parent')"))
 
     # -- owners, and what is remembered
 

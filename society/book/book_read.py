@@ -12,6 +12,9 @@ from typing import Iterator
 from society.book.database import CLOSED, TRIES, companions, connect, path_of, primary, told, version_of
 from society.mistake import Mistake
 
+# so much of a book is kept in memory
+MOST_KILOBYTES = 64_000
+
 
 @contextlib.contextmanager
 def reading(folder: pathlib.Path) -> Iterator[sqlite3.Connection | None]:
@@ -35,6 +38,8 @@ def opened_to_read(path: pathlib.Path) -> Iterator[sqlite3.Connection]:
         try:
             connection = stack.enter_context(contextlib.closing(connect(path, "rw")))
             connection.execute("PRAGMA query_only = ON")
+            # else the whole of a large book is read again for each question
+            connection.execute(f"PRAGMA cache_size = {-MOST_KILOBYTES}")
             begin_to_read(connection)
         except sqlite3.OperationalError as error:
             if primary(error) not in CLOSED:

@@ -1,6 +1,7 @@
 """The journal of commands, which is what the book is: each command with the reply that the program gave to it."""
 from __future__ import annotations
 
+import operator
 import sqlite3
 from typing import Iterable, Iterator, NamedTuple
 
@@ -69,8 +70,7 @@ def parts_of(connection: sqlite3.Connection, journal: Journal) -> list[Part]:
 def lines_of(connection: sqlite3.Connection, journal: Journal) -> Iterator[str]:
     """The journal's commands as lines of a command file."""
     for part in parts_of(connection, journal):
-        for (line,) in connection.execute(f"SELECT {TEXT} {WITHIN}", part):
-            yield line
+        yield from map(operator.itemgetter(0), connection.execute(f"SELECT {TEXT} {WITHIN}", part))
 
 
 def command_file(connection: sqlite3.Connection, journal: Journal) -> bytes:

@@ -6,7 +6,7 @@ from typing import Callable, Iterator, Mapping, TypeVar
 Value = TypeVar("Value")
 
 # after so many values that are read one by one all are read at once
-MOST_ONE_BY_ONE = 300
+MOST_ONE_BY_ONE = 2_000
 
 
 class Lazy(Mapping[str, Value]):

@@ -5,10 +5,12 @@ from collections.abc import Sequence
 from typing import Any
 
 from society.book.book import IN_BOOK, Book
-from society.book.state import NOW
+from society.book.state import ALL_ROWS, NOW
 
-# where an animal stands in age order
-PLACE = "place"
+# where an animal stands in age order, and its coefficient
+PLACE, FRACTION, PERCENT = "place", "fraction", "percent"
+WITH_COEFFICIENT = f"{ALL_ROWS} CROSS JOIN coefficient USING (number)"
+ALL_WITH_COEFFICIENT = "coefficient CROSS JOIN animal USING (number)"
 
 
 def selected(
@@ -18,10 +20,12 @@ def selected(
     expression."""
     if book.connection is None:
         return []
+    source, order = ALL_ROWS, "born, number"
+    if {PLACE, FRACTION, PERCENT} & set(wanted):
+        source, order = WITH_COEFFICIENT if conditions else ALL_WITH_COEFFICIENT, PLACE
     where = " AND ".join([NOW, IN_BOOK, *conditions])
-    columns = ", ".join(wanted)
     return book.connection.execute(
-        f"SELECT {columns} FROM animal JOIN coefficient USING (number) WHERE {where} ORDER BY {PLACE}", values
+        f"SELECT {', '.join(wanted)} FROM {source} WHERE {where} ORDER BY {order}", values
     ).fetchall()
 
 

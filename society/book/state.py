@@ -8,6 +8,8 @@ from society.book.kinds import Field, Remembered
 from society.book.rows import COLUMNS, Row
 
 NOW = "until IS NULL"
+# all animals in the order in which their rows lie there: by an index each would be looked for, which takes far longer
+ALL_ROWS = "animal NOT INDEXED"
 # the state after a change
 THEN = "since <= :change AND (until IS NULL OR until > :change)"
 CELL_FIELDS = tuple(field for field in Field if field is not Field.ID)

@@ -50,13 +50,13 @@ def mean_kinships(book: Book, sires: Sequence[str]) -> dict[str, Fraction]:
 
 def plan_table(book: Book, found: Planned, all_pairs: bool) -> Table:
     """The plan's matings, or all pairs with a mark at those of the plan."""
-    planned = {(mating.dam, mating.sire): True for mating in found.plan.matings}
+    planned = [(mating.dam, mating.sire) for mating in found.plan.matings]
+    marks = dict.fromkeys(planned, "yes")
     rows: list[Sequence[Cell]] = []
-    for dam, sire in found.pairs.coefficients if all_pairs else planned:
-        one = found.pairs.coefficients[dam, sire]
-        marks = ["yes" if (dam, sire) in planned else ""] * all_pairs
-        rows.append((book.ids[dam], book.ids[sire], one.fraction, one.decimal(), one.percent, *marks))
-    return Table([*COLUMNS, *[("planned", Kind.TEXT)] * all_pairs], rows)
+    for pair in list(found.pairs.coefficients) if all_pairs else planned:
+        one, ids = found.pairs.coefficients[pair], (book.ids[number] for number in pair)
+        rows.append((*ids, one.fraction, one.decimal(), one.percent, *[marks.get(pair, "")] * all_pairs))
+    return Table.of_rows([*COLUMNS, *[("planned", Kind.PLAIN)] * all_pairs], rows)
 
 
 def told_of(book: Book, found: Planned) -> list[str]:

@@ -7,11 +7,10 @@ from dataclasses import dataclass
 
 from society.book.book import Book
 from society.book.coefficients import Coefficient, of_calf
-from society.book.selecting import known_parents
+from society.book.selecting import selected
 from society.breed.pedigree import MOST_STEPS
 from society.breed.plan import Pair
 from society.herdbook import MOST_NUMBERS, Herdbook
-from society.pedigree_order import longest_paths
 
 
 @dataclass(frozen=True)
@@ -49,10 +48,18 @@ def calf_coefficients(
 
 def too_deep(book: Book, dams: Sequence[str], sires: Sequence[str]) -> list[Pair]:
     """The pairs whose calf may have a path of parents that is too long: the program decides."""
-    parents = known_parents(book)
-    depth = longest_paths(parents, parents.__getitem__)
+    depth = depths(book)
     deep = {number for number in (*dams, *sires) if depth[number] >= MOST_STEPS}
     return [(dam, sire) for dam in dams for sire in sires if dam in deep or sire in deep] if deep else []
+
+
+def depths(book: Book) -> dict[str, int]:
+    """The longest path of known parents of each animal, by its number."""
+    found: dict[str, int] = {}
+    for number, sire, dam in selected(book, ("number", "sire", "dam")):
+        by_sire, by_dam = found[sire] + 1 if sire else 0, found[dam] + 1 if dam else 0
+        found[number] = by_sire if by_sire > by_dam else by_dam
+    return found
 
 
 def refused_pairs(book: Book, program: Herdbook, pairs: Sequence[Pair]) -> Iterator[Pair]:

@@ -21,7 +21,7 @@ def give_table(asked: argparse.Namespace, book: Book, table: Table) -> None:
         return
     # spreadsheets that want semicolons tell UTF-8 by a byte-order mark
     write_outs(book, {asked.out: text.encode("utf-8-sig" if asked.semicolons else "utf-8")}, asked.force)
-    print(f"{asked.out}: {counted(len(table.rows), 'row')}")
+    print(f"{asked.out}: {counted(len(table), 'row')}")
 
 
 def named_in(path: pathlib.Path, book: Book) -> list[Known]:

@@ -119,3 +119,35 @@ def test_export_of_some(society_desk: Desk) -> None:
         assert {sire, dam} <= seen and parents[id] == (sire.replace("NA", ""), dam.replace("NA", ""))
         seen.add(id)
     assert {row["id"] for row in society_desk.listed("export", "--keep", "keep.txt")} == wanted
+
+
+def test_who_may_be_mated(desk: Desk) -> None:
+    """Advice, tables and plans take the same animals: living ones that have a row, and no castrated ones, which are told;
+    whoever is named is taken."""
+    rows = """
+        id,sex,birth,sire,dam,exit
+        dam,ewe,2001-03-01,,,
+        ram,ram,2001-03-01,,,
+        wether,Hammel,2001-03-01,,,
+        gone,ram,2001-03-01,,,2010-01-01
+        calf,ram,2003-03-01,added,dam,
+        old,ewe,2001-03-01,,,2010-01-01
+    """
+    desk.take("\n".join(line.strip() for line in rows.strip().splitlines()))
+    told = ["males without a row in the sheet: 1 (added) aren't listed", "castrated males: 1 (wether) aren't listed"]
+    for words, sires in (("mating --dam dam", "id"), ("mating --dams dams.txt", "sire"), ("plan --table", "sire")):
+        desk.write("dams.txt", "dam\n")
+        done = desk.good(*words.split())
+        assert {row[sires] for row in csv.DictReader(io.StringIO(done.out))} == {"ram", "calf"}, words
+        assert all(f"society: {sentence}: name one" in done.err for sentence in told), words
+    assert [row["id"] for row in desk.listed("mating", "--dam", "dam", "wether", "added", "gone")] == [
+        "added",
+        "gone",
+        "wether",
+    ]
+    desk.good("exit", "ram", "--day", "2020-01-01")
+    desk.good("exit", "calf", "--day", "2020-01-01")
+    told_of_none = "no living male that may be a sire (passed over: 3 left, 1 castrated one, 1 without a row)"
+    desk.wrong(f"{told_of_none}: name one, or ask for those that left too by --left", "mating", "--dam", "dam")
+    for word in "mating --dams dams.txt", "plan":
+        desk.wrong(f"{told_of_none}: name some in a file, as --sires FILE", *word.split())
