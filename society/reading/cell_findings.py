@@ -2,12 +2,13 @@
 from __future__ import annotations
 
 import datetime
-import shlex
 from dataclasses import dataclass
+from typing import Hashable
 
 from society.book.inferred import ExitBasis
 from society.book.kinds import Field
 from society.reading.days import DayFault
+from society.taking.harm import Harm
 from society.taking.report import Finding, LeftOut, Part, What
 
 # what the columns of days have, in words
@@ -16,6 +17,7 @@ DAYS = {Field.BIRTH: "birth day", Field.SINCE: "first day with its owner", Field
 
 class RowLeftOut(LeftOut):
     part = Part.ROW
+    harm = Harm.ANIMALS
 
     def thing(self) -> str:
         return "the row"
@@ -77,6 +79,10 @@ class LineAgain(IdAgain):
 class CellLeftOut(LeftOut):
     part = Part.CELL
 
+    def summed_up_as(self) -> Field | None:
+        """The field whose cells that can't be read a finding of the sheet as a whole sums up."""
+        return None
+
 
 @dataclass(frozen=True, slots=True)
 class SexUnread(CellLeftOut):
@@ -86,8 +92,10 @@ class SexUnread(CellLeftOut):
         return "its sex"
 
     def why(self) -> str:
-        words = [shlex.quote(f"{self.text}={sex}") for sex in "mf"]
-        return f"'{self.text}' isn't known: write M or F, or name it as --sexes {' or '.join(words)}"
+        return f"'{self.text}' isn't known: write M or F, or name it by --sexes"
+
+    def summed_up_as(self) -> Field:
+        return Field.SEX
 
 
 @dataclass(frozen=True, slots=True)
@@ -105,6 +113,13 @@ class DayLeftOut(CellLeftOut):
     def why(self) -> str:
         return self.fault.words(self.text) + "; the animal counts as gone" * self.is_gone
 
+    def theme(self) -> Hashable:
+        return self.field, self.fault
+
+    def summed_up_as(self) -> Field | None:
+        """A text that can't be read is one of those of its column; a day that can't be isn't."""
+        return None if self.fault in (DayFault.AFTER_TODAY, DayFault.BEFORE_BIRTH) else self.field
+
 
 @dataclass(frozen=True, slots=True)
 class EmbryoUnread(CellLeftOut):
@@ -115,6 +130,9 @@ class EmbryoUnread(CellLeftOut):
 
     def why(self) -> str:
         return f"'{self.text}' isn't known: write 1 or nothing"
+
+    def summed_up_as(self) -> Field:
+        return Field.EMBRYO
 
 
 @dataclass(frozen=True, slots=True)

@@ -4,13 +4,18 @@ from __future__ import annotations
 from dataclasses import dataclass, field
 from typing import Collection, Container, Mapping
 
+from society.alike import closest
 from society.book.kinds import Field
+
+from society.reading.column_findings import (
+    ColumnsLack, LikelierColumn, NamedColumnLacks, SheetFinding, TellsNoExits, TitleTwice,
+)  # fmt: skip
 from society.reading.days import is_span
 from society.reading.id_column import IdColumn
 from society.reading.sheet import Sheet
 
 from society.reading.titles import (
-    KNOWN_DOUBTFUL, KNOWN_PAIRS, KNOWN_TITLES, NEEDED, TITLES, title_list,
+    KNOWN_DOUBTFUL, KNOWN_PAIRS, KNOWN_TITLES, NEEDED, TITLES,
 )  # fmt: skip
 from society.reading.words import KNOWN_EXITS, KNOWN_STAYS, has_word, plain
 
@@ -23,10 +28,10 @@ class Columns:
 
     sheet: Sheet
     found: dict[str, int] = field(default_factory=dict)
-    faults: list[str] = field(default_factory=list)
+    faults: list[SheetFinding] = field(default_factory=list)
     # the title of the book's ids, where no column has these
     lacks_ids: str = ""
-    notes: list[str] = field(default_factory=list)
+    notes: list[SheetFinding] = field(default_factory=list)
 
     def cells(self, at: int) -> list[str]:
         return [row.cells[at] if at < len(row.cells) else "" for row in self.sheet.rows]
@@ -45,11 +50,8 @@ class Columns:
     def in_order(self) -> dict[str, int]:
         return {name: self.found[name] for name in TITLES if name in self.found}
 
-    def words(self) -> str:
-        """Which are read from which titles, and which aren't read."""
-        used = [f"{name} from '{self.title(at)}'" for name, at in self.in_order().items()]
-        unread = [f"'{title}'" for at, title in enumerate(self.sheet.titles) if title and self.is_free(at)]
-        return f"columns: {', '.join(used)}" + (f"; not read: {', '.join(unread)}" if unread else "")
+    def titles_not_read(self) -> tuple[str, ...]:
+        return tuple(title for at, title in enumerate(self.sheet.titles) if title and self.is_free(at))
 
     def titles_found(self) -> list[tuple[str, str]]:
         """The fields with their titles, as the book remembers them."""
@@ -90,10 +92,10 @@ def name_column(columns: Columns, name: str, title: str) -> None:
     if places:
         columns.found[name] = places[0]
         return
-    columns.faults.append(
-        f"line {columns.sheet.line}: there is no column '{title}', which --columns names for {name}. The titles are "
-        f"{title_list(columns.sheet.titles)}"
-    )
+    titles = columns.sheet.titles
+    meant = closest(title, [one for one in titles if one], 1)
+    lacks = NamedColumnLacks(columns.sheet.line, Field(name), title, tuple(titles), meant[0] if meant else "")
+    columns.faults.append(lacks)
 
 
 def usual_column(columns: Columns, name: str) -> None:
@@ -108,10 +110,7 @@ def tells_exits(columns: Columns, at: int) -> bool:
     cells = [cell for cell in columns.cells(at) if cell]
     known = sum(is_span(cell) or has_word(cell, KNOWN_EXITS) or has_word(cell, KNOWN_STAYS) for cell in cells)
     if 2 * known <= len(cells) and known:
-        columns.notes.append(
-            f"the column '{columns.title(at)}' isn't read, since most of its cells tell of no exit: if it has the "
-            f"exits, take this again with --columns 'exit={columns.title(at)}'"
-        )
+        columns.notes.append(TellsNoExits(columns.title(at)))
     return 2 * known > len(cells)
 
 
@@ -128,10 +127,8 @@ def tell_doubles(columns: Columns) -> None:
     for title in dict.fromkeys(plain(title) for title in titles if plain(title)):
         places = [at for at, one in enumerate(titles) if plain(one) == title]
         if len(places) > 1:
-            numbers = " and ".join(str(at + 1) for at in places)
             same = all(columns.cells(at) == columns.cells(places[0]) for at in places)
-            what = "which have the same cells" if same else "with other cells: only the first can be read"
-            columns.notes.append(f"the title '{titles[places[0]]}' stands in the columns {numbers}, {what}")
+            columns.notes.append(TitleTwice(titles[places[0]], tuple(at + 1 for at in places), same))
 
 
 def tell_likelier(columns: Columns, given: Mapping[str, str], before: Mapping[str, str]) -> None:
@@ -141,11 +138,8 @@ def tell_likelier(columns: Columns, given: Mapping[str, str], before: Mapping[st
         title = plain(columns.title(columns.found[name]))
         likelier = columns.titled(usual[: usual.index(title)] if title in usual else usual)
         if likelier:
-            other = columns.title(likelier[0])
-            columns.notes.append(
-                f"{name} is read from '{columns.title(columns.found[name])}', as at the last time, and '{other}' "
-                f"isn't: if that is the one, take this again with --columns '{name}={other}'"
-            )
+            title = columns.title(columns.found[name])
+            columns.notes.append(LikelierColumn(Field(name), title, columns.title(likelier[0])))
 
 
 def tell_missing(columns: Columns, named: Mapping[str, str]) -> None:
@@ -153,9 +147,4 @@ def tell_missing(columns: Columns, named: Mapping[str, str]) -> None:
     # a title that is named and isn't there is told already
     missing = [name for name in missing if not (named.get(name) and columns.faults)]
     if missing:
-        columns.faults.append(
-            f"line {columns.sheet.line}: no column for {' or '.join(missing)} is found. The titles are "
-            f"{title_list(columns.sheet.titles)}. Say which it is, as --columns "
-            f"{','.join(f'{name}=TITLE' for name in missing)}"
-            + (f" (or {missing[-1]}= where there is none)" if missing != [Field.ID] else "")
-        )
+        columns.faults.append(ColumnsLack(columns.sheet.line, tuple(missing), tuple(columns.sheet.titles)))

@@ -5,7 +5,9 @@ import pathlib
 import re
 from typing import NamedTuple
 
-from society.mistake import Mistake, counted
+from society.mistake import Mistake
+from society.reading.column_findings import SheetFinding
+from society.reading.file_findings import DecodedTwice, LettersLost, StrayBytes, TextInLine
 
 # how files begin that are no text
 NOT_TEXT = {
@@ -18,8 +20,6 @@ SEVERAL_BYTES = re.compile(rb"[\xc2-\xdf][\x80-\xbf]|[\xe0-\xef][\x80-\xbf]{2}|[
 # letters outside of ASCII that follow one another
 FOREIGN = re.compile(r"[^\x00-\x7f]+")
 LOST = "\ufffd"
-# so many words are shown
-MOST_SHOWN = 5
 
 
 class Decoded(NamedTuple):
@@ -27,7 +27,7 @@ class Decoded(NamedTuple):
 
     text: str
     encoding: str
-    fault: str = ""
+    fault: StrayBytes | None = None
 
 
 def decoding(path: pathlib.Path, data: bytes) -> Decoded:
@@ -53,7 +53,7 @@ def decoded(path: pathlib.Path, data: bytes) -> tuple[str, str]:
     """A file's text and encoding, where each of its bytes is right."""
     found = decoding(path, data)
     if found.fault:
-        raise Mistake(found.fault)
+        raise Mistake(found.fault.words())
     return found.text, found.encoding
 
 
@@ -79,19 +79,13 @@ def stray(data: bytes) -> list[int]:
     return list(re.sub(rb"[\x00-\x7f]+", b"", SEVERAL_BYTES.sub(b"", data)))
 
 
-def stray_bytes(path: pathlib.Path, data: bytes, error: UnicodeDecodeError) -> str:
+def stray_bytes(path: pathlib.Path, data: bytes, error: UnicodeDecodeError) -> StrayBytes:
     """Where the first byte stands that isn't UTF-8, and how many more there are."""
     # a byte-order mark isn't counted in the place of the error
-    before = data.removeprefix(b"\xef\xbb\xbf")[: error.start]
-    lines = re.split(rb"\r\n|\n|\r", before)
-    byte = data.removeprefix(b"\xef\xbb\xbf")[error.start]
-    more = len(stray(data)) - 1
-    others = f", nor are {counted(more, 'more byte')}" if more > 0 else ""
-    beginning = lines[-1].decode("utf-8", errors="replace")[-30:]
-    return (
-        f"{path}: line {len(lines)}, byte {len(lines[-1]) + 1} of the line, behind '{beginning}': the byte {byte:02X} "
-        f"isn't UTF-8, as the rest of the file is{others}: write this letter anew, and save the sheet as CSV in UTF-8"
-    )
+    bare = data.removeprefix(b"\xef\xbb\xbf")
+    lines = re.split(rb"\r\n|\n|\r", bare[: error.start])
+    behind = lines[-1].decode("utf-8", errors="replace")[-30:]
+    return StrayBytes(str(path), len(lines), len(lines[-1]) + 1, behind, bare[error.start], len(stray(data)) - 1)
 
 
 def decoded_twice(text: str) -> str:
@@ -126,20 +120,12 @@ class Letters:
         elif mended := decoded_twice(text):
             self.twice.setdefault(text, (line, mended))
 
-    def told(self) -> list[str]:
-        found = []
+    def told(self) -> list[SheetFinding]:
+        found: list[SheetFinding] = []
         if self.twice:
-            texts = [f"'{text}' for '{mended}' (line {line})" for text, (line, mended) in self.twice.items()]
             found.append(
-                f"letters were decoded twice in {counted(len(texts), 'text')}: {shortened(texts)}: save the sheet anew "
-                "from the spreadsheet in which the letters are right, as CSV in UTF-8"
+                DecodedTwice(tuple(TextInLine(text, line, mended) for text, (line, mended) in self.twice.items()))
             )
         if self.lost:
-            texts = [f"'{text}' (line {line})" for text, line in self.lost.items()]
-            found.append(f"letters are lost in {counted(len(texts), 'text')}: {shortened(texts)}: write them anew")
+            found.append(LettersLost(tuple(TextInLine(text, line) for text, line in self.lost.items())))
         return found
-
-
-def shortened(texts: list[str]) -> str:
-    more = f" and {len(texts) - MOST_SHOWN} more" if len(texts) > MOST_SHOWN else ""
-    return f"{', '.join(texts[:MOST_SHOWN])}{more}"

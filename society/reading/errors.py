@@ -4,15 +4,13 @@ from __future__ import annotations
 import collections
 
 from society.book.kinds import Field
-from society.mistake import counted
 from society.reading.animal import Animal
 from society.reading.cell_findings import ErrorValue
+from society.reading.column_findings import SheetFinding
 from society.reading.sheet import Sheet
+from society.reading.sheet_findings import ErrorCells, ErrorColumn
 from society.reading.words import is_error_value
 from society.taking.report import Report
-
-# so many different values are shown
-MOST_SHOWN = 5
 
 
 class ErrorValues:
@@ -45,27 +43,19 @@ class ErrorValues:
             id = animal.id if animal else ""
             report.add(line, id, ErrorValue(self.title(at), text))
 
-    def told(self) -> list[str]:
+    def told(self) -> list[SheetFinding]:
         if not self.found:
             return []
-        texts = [f"'{text}'" for text in dict.fromkeys(text for _, _, text in self.found)][:MOST_SHOWN]
-        titles = [f"'{self.title(at)}'" for at in dict.fromkeys(at for _, at, _ in self.found)]
-        line = self.found[0][0]
-        return [
-            f"{counted(len(self.found), 'cell')} with an error of the spreadsheet in {', '.join(titles)}, the first in "
-            f"line {line}: {', '.join(texts)}: each counts as empty, and what the book has stays; mend the formulas, "
-            "and take the sheet again"
-        ]
+        texts = tuple(dict.fromkeys(text for _, _, text in self.found))
+        titles = tuple(self.title(at) for at in dict.fromkeys(at for _, at, _ in self.found))
+        return [ErrorCells(len(self.found), titles, self.found[0][0], texts)]
 
-    def mostly(self) -> list[str]:
+    def mostly(self) -> list[SheetFinding]:
         """A column is a mistake where most of its cells are error values, and at least three."""
         counts = collections.Counter(at for _, at, _ in self.found)
-        faults = []
+        faults: list[SheetFinding] = []
         for name, at in self.columns.items():
             filled = sum(1 for _, cells in self.sheet.rows if at < len(cells) and cells[at])
             if counts[at] > max(2, filled // 2):
-                faults.append(
-                    f"{counts[at]} of {filled} cells of the column '{self.title(at)}' ({Field(name)}) show an error of "
-                    "the spreadsheet: mend its formulas, save the sheet, and take that"
-                )
+                faults.append(ErrorColumn(Field(name), self.title(at), counts[at], filled))
         return faults

@@ -5,6 +5,7 @@ from __future__ import annotations
 from typing import TYPE_CHECKING, Collection, Container, NamedTuple
 
 from society.book.kinds import Field
+from society.reading.column_findings import IdsFromOther, IdsMoved
 from society.reading.ids import nearly
 from society.reading.titles import KNOWN_TITLES
 from society.reading.words import plain
@@ -67,9 +68,7 @@ class IdColumn:
         best = max(free, key=lambda at: (matches[at], at in titled), default=None)
         if best is not None and 2 * matches[best] >= min(len(columns.sheet.rows), len(self.ids)):
             if best not in titled and self.before:
-                columns.notes.append(
-                    f"the ids of the book are in the column '{columns.title(best)}': they were in '{self.before}'"
-                )
+                columns.notes.append(IdsMoved(columns.title(best), self.before))
             return best
         if titled:
             return titled[0]
@@ -95,11 +94,7 @@ class IdColumn:
         if other and 2 * other.found > self.links(other) and other.found > 9 * (best.found if best else 0):
             best = other
         if best and usual and best.at != usual[0]:
-            columns.notes.append(
-                f"the ids are read from '{columns.title(best.at)}', since {best.found} of the parents' cells are found "
-                f"there, and not from '{columns.title(usual[0])}': if these are the ids, take this again with "
-                f"--columns 'id={columns.title(usual[0])}'"
-            )
+            columns.notes.append(IdsFromOther(columns.title(best.at), best.found, columns.title(usual[0])))
         return best
 
     def fit(self, at: int, likely: int) -> Fit:

@@ -4,6 +4,8 @@ from __future__ import annotations
 import collections
 import re
 
+from society.reading.column_findings import SheetFinding
+from society.reading.sheet_findings import SexWord, SexWordsShort, TextCount
 from society.reading.words import KNOWN_CASTRATED, KNOWN_SEXES, has_word, plain, sex_word
 
 
@@ -46,8 +48,8 @@ class Sexes:
         self.taken_for[text, word] += 1
         return sex
 
-    def told(self) -> list[str]:
+    def told(self) -> list[SheetFinding]:
         """Which words are taken for others."""
         counts = sorted(self.taken_for.items())
-        taken = [f"'{text}'{f' ({count} times)' if count > 1 else ''} for '{whole}'" for (text, whole), count in counts]
-        return [f"words for sexes are taken for longer ones of the same column: {', '.join(taken)}"] if taken else []
+        taken = tuple(SexWord(TextCount(text, count), whole) for (text, whole), count in counts)
+        return [SexWordsShort(taken)] if taken else []

@@ -7,6 +7,7 @@ import pathlib
 from typing import Callable, NamedTuple
 
 from society.mistake import Mistake
+from society.reading.column_findings import SheetFinding
 from society.reading.encodings import decoding
 from society.reading.words import clean
 from society.reading.workbook import read_workbook
@@ -34,13 +35,14 @@ class Sheet(NamedTuple):
     titles: list[str]
     rows: list[Row]
     how: str
-    faults: list[str]
+    faults: list[SheetFinding]
 
 
 def read_sheet(path: pathlib.Path, score: Score, worksheet: str = "") -> Sheet:
     """Reads a file. `score` says how many titles of a row are known: the separator that gives most is taken, and the
     worksheet where none is named."""
     data = read_bytes(path)
+    faults: list[SheetFinding]
     if data.startswith(b"PK") and path.suffix.lower() == ".ods":
         raise Mistake(f"{path} is an .ods file: save the sheet as CSV or .xlsx, and take that")
     if data.startswith(b"PK"):
@@ -52,7 +54,7 @@ def read_sheet(path: pathlib.Path, score: Score, worksheet: str = "") -> Sheet:
         text, encoding, fault = decoding(path, data)
         rows, separator = read_text(text, score)
         how = f"{encoding}, cells separated by " + {";": "semicolons", "\t": "tabs", ",": "commas"}[separator]
-        faults = [fault] * bool(fault)
+        faults = [fault] if fault else []
     if not rows:
         raise Mistake(f"{path} is empty: its first row has to have the titles of the columns")
     at = title_row([row.cells for row in rows[:BEGINNING]], score)

@@ -9,7 +9,6 @@ from typing import Container, Mapping
 from society.book.inferred import GIVEN_EXIT, ExitBasis, ExitSource
 from society.book.kinds import Field
 from society.book.role import Role
-from society.mistake import counted
 from society.reading.animal import ROLES, Animal
 from society.reading.days import ANY_DAY, DayFault, Span, Unreadable, is_span, read_span, span_within
 from society.reading.encodings import Letters
@@ -19,9 +18,11 @@ from society.reading.exits import exit_word, lives, word_fault
 from society.reading.cell_findings import (
     DAYS, DayLeftOut, EmbryoUnread, ExitInferred, IdAgain, NoId, SexUnread, TooManyCells,
 )  # fmt: skip
+from society.reading.column_findings import SheetFinding
 from society.reading.order import Order
 from society.reading.sexes import Sexes
 from society.reading.sheet import Sheet
+from society.reading.sheet_findings import CutNumber, FormulaCell, Place
 from society.reading.unread import Unread
 from society.reading.words import KNOWN_NO, KNOWN_SUMS, KNOWN_YES, plain
 from society.taking.look_findings import LikeASum
@@ -57,8 +58,8 @@ class Rows:
         self.unread = Unread({name: sheet.titles[at] for name, at in columns.items()})
         self.letters = Letters()
         # what keeps the sheet from being taken, and what may be wrong
-        self.faults: list[str] = []
-        self.notes: list[str] = []
+        self.faults: list[SheetFinding] = []
+        self.notes: list[SheetFinding] = []
 
     def texts(self, name: str) -> list[str]:
         return [self.cell(cells, name) for _, cells in self.sheet.rows]
@@ -96,13 +97,11 @@ class Rows:
                 self.report.add(animal.line, animal.id, LikeASum())
         places = [(name, line, cells) for name in DAYS if name in self.columns for line, cells in self.sheet.rows]
         slashed = [(*place, text) for place in places if Order.may_show(text := self.cell(place[2], place[0]))]
-        order = Order(
-            (f"line {line}: {self.cell(cells, Field.ID)}: {DAYS[name]}", text) for name, line, cells, text in slashed
-        )
-        self.faults += [order.fault(self.month_first), *self.cut_numbers()]
-        self.faults += [*self.unread.mostly(), *self.errors.mostly()]
-        self.notes += [*self.letters.told(), *self.errors.told(), order.note(self.month_first)]
-        self.faults, self.notes = [one for one in self.faults if one], [one for one in self.notes if one]
+        order = Order(Place(line, self.cell(cells, Field.ID), DAYS[name], text) for name, line, cells, text in slashed)
+        fault, note = order.fault(self.month_first), order.note(self.month_first)
+        self.faults += [*([fault] if fault else []), *self.cut_numbers(), *self.unread.mostly(), *self.errors.mostly()]
+        self.notes += [*self.letters.told(), *self.errors.told(), *([note] if note else [])]
+        self.notes += [*self.unread.found(), *self.sexes.told()]
 
     def cell(self, cells: list[str], name: str) -> str:
         at = self.columns.get(name)
@@ -236,21 +235,14 @@ class Rows:
 
     # -- of the sheet as a whole
 
-    def cut_numbers(self) -> list[str]:
+    def cut_numbers(self) -> list[SheetFinding]:
         """Ids that the spreadsheet has cut, and formulas in place of their values."""
-        found = []
-        for pattern, what in (CUT, CUT_TOLD), (FORMULA, FORMULA_TOLD):
+        found: list[SheetFinding] = []
+        kinds: tuple[type[CutNumber | FormulaCell], ...] = (CutNumber, FormulaCell)
+        for pattern, kind in zip((CUT, FORMULA), kinds):
             names = (Field.ID, *ROLES) if pattern is CUT else self.columns
             columns = [at for name in names if (at := self.columns.get(name)) is not None]
             places = [(line, cells[at]) for line, cells in self.sheet.rows for at in columns if at < len(cells)]
             those = [(line, text) for line, text in places if text and pattern.fullmatch(text)]
-            more = f" ({counted(len(those), 'such cell')})" if len(those) > 1 else ""
-            found += [f"line {line}: '{text}' {what}{more}" for line, text in those[:1]]
+            found += [kind(line, text, len(those)) for line, text in those[:1]]
         return found
-
-
-CUT_TOLD = (
-    "is a long number that the spreadsheet has cut: give the columns of ids the format text, or number without "
-    "decimals, save the sheet again, and take that"
-)
-FORMULA_TOLD = "is a formula without its value: open the file in the spreadsheet, save it there, and take that"

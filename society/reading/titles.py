@@ -1,6 +1,8 @@
 """What a column of a sheet may have, and the usual titles in English, German and French."""
 from __future__ import annotations
 
+from typing import Iterable
+
 from society.book.kinds import Field
 from society.reading.words import listed, plain
 
@@ -85,5 +87,5 @@ def known_titles(titles: list[str]) -> int:
     return sum(plain(title) in known for title in titles)
 
 
-def title_list(titles: list[str]) -> str:
+def title_list(titles: Iterable[str]) -> str:
     return ", ".join(f"'{title}'" for title in titles if title)

@@ -7,8 +7,11 @@ import pathlib
 import re
 from typing import Any, Callable, NamedTuple
 
-from society.mistake import Mistake, counted
+from society.mistake import Mistake
+from society.reading.column_findings import SheetFinding
+from society.reading.file_findings import DigitsLost, FormulasWithoutValue, WorksheetLacks, WorksheetUnclear
 from society.reading.words import clean
+from society.taking.report import CantBeTaken
 
 # a number with more digits than a spreadsheet keeps
 TOO_LONG = 10**15
@@ -22,7 +25,7 @@ class Worksheet(NamedTuple):
 
     rows: list[list[str]]
     how: str
-    faults: list[str]
+    faults: list[SheetFinding]
 
 
 def read_workbook(path: pathlib.Path, data: bytes, score: Score, most: int, named: str) -> Worksheet:
@@ -56,17 +59,14 @@ def opened(path: pathlib.Path, data: bytes, values: bool) -> Any:
 
 def chosen(path: pathlib.Path, workbook: Any, score: Score, most: int, named: str) -> str:
     titles: list[str] = [sheet.title for sheet in workbook.worksheets]
-    shown = ", ".join(f"'{title}'" for title in titles)
     if named and named not in titles:
-        raise Mistake(f"{path} has no worksheet '{named}', which --worksheet names: it has {shown}")
+        raise CantBeTaken(WorksheetLacks(str(path), named, tuple(titles)))
     if named or len(titles) == 1:
         return named or titles[0]
     scores = {sheet.title: best_score(sheet, score, most) for sheet in workbook.worksheets}
     best: list[str] = [title for title, points in scores.items() if points == max(scores.values())]
     if len(best) > 1:
-        fit = f"{len(best)} worksheets have titles that fit" if max(scores.values()) else "no worksheet has such titles"
-        names = ", ".join(f"'{title}'" for title in best)
-        raise Mistake(f"{path}: {fit} ({names}): say which one is taken, as --worksheet '{best[0]}'")
+        raise CantBeTaken(WorksheetUnclear(str(path), tuple(best), max(scores.values()) > 0))
     return best[0]
 
 
@@ -75,7 +75,7 @@ def best_score(sheet: Any, score: Score, most: int) -> int:
     return max((score(row) for row in rows), default=0)
 
 
-def faults(values: Any, texts: Any) -> list[str]:
+def faults(values: Any, texts: Any) -> list[SheetFinding]:
     """Formulas without a value, and long numbers that have lost digits."""
     without, long = [], []
     for row in texts.iter_rows():
@@ -84,18 +84,11 @@ def faults(values: Any, texts: Any) -> list[str]:
                 without.append(cell.coordinate)
             elif isinstance(cell.value, (int, float)) and abs(cell.value) >= TOO_LONG:
                 long.append(cell.coordinate)
-    found = []
+    found: list[SheetFinding] = []
     if without:
-        found.append(
-            f"the worksheet '{values.title}' has {counted(len(without), 'formula')} without a value, the first in the "
-            f"cell {without[0]}: open the file in the spreadsheet, save it there, and take that"
-        )
+        found.append(FormulasWithoutValue(values.title, len(without), without[0]))
     if long:
-        found.append(
-            f"the worksheet '{values.title}' has {counted(len(long), 'number')} of more than 15 digits, of which a "
-            f"spreadsheet loses the last, the first in the cell {long[0]}: give the column the format text, and write "
-            "these anew"
-        )
+        found.append(DigitsLost(values.title, len(long), long[0]))
     return found
 
 

@@ -7,6 +7,7 @@ from dataclasses import dataclass
 from society.book.inferred import BirthBasis, SexSource
 from society.book.kinds import ChangeKind, Field
 from society.refusals import Refusal
+from society.taking.harm import Harm
 from society.taking.report import Finding, LeftOut, Part, What
 
 SEXES = {"M": "male", "F": "female"}
@@ -17,6 +18,7 @@ class SexNotKnown(LeftOut):
     """Neither its cell nor the book nor any offspring says the sex of an animal."""
 
     part = Part.ROW
+    harm = Harm.ANIMALS
 
     def thing(self) -> str:
         return "the row"
@@ -140,6 +142,7 @@ class CommandRefused(Finding):
     refusal: Refusal
 
     what = What.LEFT_OUT
+    harm = Harm.FACTS
 
     def words(self) -> str:
         on = f" on {self.day}" if self.day else ""

@@ -2,10 +2,12 @@
 from __future__ import annotations
 
 from society.book.role import Role
-from society.mistake import Mistake, counted, some_of
+from society.mistake import some_of
 from society.reading.animal import Animal
+from society.taking.obstacles import SiresAndDams
 from society.taking.parent_findings import SameParentTwice
-from society.taking.report import Report
+from society.taking.parent_names import may_be_unknown
+from society.taking.report import CantBeTaken, Report
 
 
 def refuse_both(animals: dict[str, Animal], report: Report) -> None:
@@ -18,14 +20,7 @@ def refuse_both(animals: dict[str, Animal], report: Report) -> None:
     if not both:
         return
     named = some_of([told(id, first[Role.SIRE][id], first[Role.DAM][id]) for id in both])
-    are = "is" if len(both) == 1 else "are"
-    raise Mistake(
-        f"{counted(len(both), 'animal')} {are} both sire and dam: {named}",
-        "nothing is taken: a book has each animal as a male or as a female, and a link that is left out changes "
-        "coefficients. With --leave-out it is taken all the same: parents are exchanged where that changes no "
-        "coefficient, and links that no choice of sexes fits are left out, each told",
-        *report.advice,
-    )
+    raise CantBeTaken(SiresAndDams(len(both), named), *may_be_unknown(report))
 
 
 def leave_out_same_parent(animals: dict[str, Animal], report: Report) -> None:

@@ -1,29 +1,26 @@
 """From the rows of a sheet to all animals that are to stand in the book, unless the sheet looks like another one."""
 from __future__ import annotations
 
-from society.mistake import Mistake
 from society.reading.columns import Columns
 from society.taking.guards import Guards
 from society.taking.next_book import NextBook
+from society.taking.report import CantBeTaken
 from society.taking.used_tags import leave_out_used_tags
 from society.taking.wishes import Wishes
-
-
-NOT_TAKEN = "nothing is taken: where it is right all the same, take this again with --anyway"
 
 
 def complete(next_book: NextBook, columns: Columns, wishes: Wishes) -> None:
     """Adds what the book and the parents' cells have besides, and finds sexes and days; a mistake where the sheet
     looks like another one, and it isn't wished anyway."""
-    guards = Guards(next_book.book, dict(next_book.animals), columns.lacks_ids)
+    guards = Guards(next_book.book, dict(next_book.animals), columns)
     found = guards.of_rows()
     if not wishes.anyway:
         next_book.used_again = leave_out_used_tags(next_book.animals, next_book.book, next_book.report)
     next_book.complete(wishes.drop_gone)
     found += guards.behind(next_book.animals)
     if found and not wishes.anyway:
-        next_book.guards = [*(guard.words() for guard in found), NOT_TAKEN]
+        next_book.obstacles += found
         if not wishes.preview:
-            raise Mistake(*next_book.guards)
+            raise CantBeTaken(*found)
     next_book.find_sexes()
     next_book.find_days()

@@ -1,44 +1,52 @@
 """The end of a taking: the book is filed, saved where nothing is refused, and told."""
 from __future__ import annotations
 
+import itertools
 from dataclasses import dataclass
 
 from society.book.changes import Source
 from society.book.opening import export
 from society.book.writing import Filed
 from society.herdbook import Herdbook
-from society.mistake import Mistake
-from society.taking.causes import sentences_of
+from society.mistake import MOST_NAMED
 from society.taking.sheet_commands import Filing
 from society.taking.early_exits import leave_out_early_exits
 from society.taking.faulty_parents import leave_out_faulty_parents
 from society.taking.lost_links import refuse_lost_links
 from society.taking.looks import Limits, Looks
 from society.taking.next_book import BREED, COUNTRY, NextBook
-from society.taking.outcome import Outcome
+from society.taking.obstacles import StrictlyNothing
+from society.taking.outcome import BookAfter, Outcome
 from society.taking.owner_days import OwnerDays
-from society.taking.report import What
+from society.taking.parent_names import may_be_unknown
+from society.taking.report import CantBeTaken, What
 from society.taking.respelt_owners import tell_respelt_owners
 from society.taking.saving import save
+from society.taking.screen import lines_of
+from society.taking.sentences import sentences_of
+from society.taking.suggestions import Call
+from society.taking.understood import Understood
 from society.taking.wishes import Wishes
 
 
 @dataclass(frozen=True)
 class About:
-    """What is told of a file as a whole: how it was read, and what may be wrong of it; and how many sexes and days are
-    invented."""
+    """How `take` was called, how the file was read, in sentences, and of a sheet as data; what parents' ages are looked
+    at for, and how many sexes and days of a pedigree are invented."""
 
+    call: Call
     read: list[str]
-    notes: list[str]
-    invented: int = 0
+    understood: Understood | None = None
     limits: Limits = Limits()
+    invented: int = 0
 
 
 def finish(next_book: NextBook, program: Herdbook, wishes: Wishes, source: Source, about: About) -> Outcome:
     """Files the book, and writes it where nothing keeps it from being taken, and no preview is wished."""
     filed, outcome = file(next_book, program, wishes, about)
     if not wishes.preview:
-        save(next_book, filed, program, wishes, source, outcome.new)
+        assert outcome.after
+        save(next_book, filed, program, wishes, source, outcome.after.new)
         next_book.book.notes += export(next_book.book.folder)
     return outcome
 
@@ -58,19 +66,32 @@ def file(next_book: NextBook, program: Herdbook, wishes: Wishes, about: About) -
     filing = Filing(next_book, OwnerDays(book, report, wishes.day))
     filed = filing.filed(program)
     tell_respelt_owners(next_book, owners_before)
-    left_out = [entry for entry in report.in_order() if entry.what is What.LEFT_OUT]
-    if wishes.strict and left_out:
-        raise Mistake(*sentences_of(left_out), *report.advice, f"{report.left_out()}: with --strict nothing is taken")
+    if wishes.strict and any(entry.what is What.LEFT_OUT for entry in report.entries):
+        refuse_left_out(next_book, wishes)
     filing.tell_changes()
     new = sum(1 for animal in next_book.animals.values() if animal.line and animal.id not in book.known)
     is_first = not before and not next_book.is_pedigree and not (wishes.breed and wishes.country)
     begin = (wishes.breed or BREED) + (wishes.country or COUNTRY)
-    return filed, Outcome(
-        book.folder, about.read, about.notes, next_book.guards, report, len(next_book.animals), new, about.invented,
-        bool(before and filed.keeps is not None), begin * is_first, wishes.drop_gone,
+    after = BookAfter(
+        len(next_book.animals), new, about.invented, bool(before and filed.keeps is not None), begin * is_first,
+        wishes.drop_gone,
     )  # fmt: skip
+    return filed, Outcome(
+        book.folder, about.call.after(), about.understood, tuple(about.read), tuple(next_book.obstacles), report, after
+    )
 
 
-def tell(outcome: Outcome, wishes: Wishes) -> None:
+def refuse_left_out(next_book: NextBook, wishes: Wishes) -> None:
+    report = next_book.report
+    obstacle = StrictlyNothing(report.left_out())
+    if wishes.preview:
+        next_book.obstacles.append(obstacle)
+        return
+    left_out = [entry for entry in report.in_order() if entry.what is What.LEFT_OUT]
+    told = [sentence.text for sentence in itertools.islice(sentences_of(left_out), MOST_NAMED)]
+    raise CantBeTaken(obstacle, *may_be_unknown(report), told=told)
+
+
+def tell(outcome: Outcome) -> None:
     """Prints what a taking made, or would make."""
-    print("\n".join(outcome.preview() if wishes.preview else [*outcome.lines(), outcome.summary()]))
+    print("\n".join(lines_of(outcome)))

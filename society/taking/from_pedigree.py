@@ -22,19 +22,23 @@ from society.taking.invented_sexes import invent_sexes
 from society.taking.kept_animals import keep_with_ancestors
 from society.taking.lost_links import refuse_lost_links
 from society.taking.next_book import NextBook
+from society.taking.outcome import Outcome
 from society.taking.report import Report
+from society.taking.screen import told_with
+from society.taking.suggestions import Call
 from society.taking.wishes import Wishes
 
 
 def take_pedigree(path: pathlib.Path, wishes: Wishes) -> list[str]:
     """Takes a pedigree; answers what is to be told besides."""
-    program = Herdbook()
+    program, call = Herdbook(), wishes.call("--pedigree", str(path))
     with to_look_at(wishes.book, program) if wishes.preview else to_change(wishes.book, program) as book:
-        take_into(book, path, wishes, program)
+        with told_with(call):
+            tell(take_into(book, path, wishes, program, call))
     return book.notes
 
 
-def take_into(book: Book, path: pathlib.Path, wishes: Wishes, program: Herdbook) -> None:
+def take_into(book: Book, path: pathlib.Path, wishes: Wishes, program: Herdbook, call: Call) -> Outcome:
     report = Report()
     source = source_of(path, read_bytes(path))
     triples = read_triples(path, given_columns(wishes.columns), UnknownParents(wishes.unknown), report)
@@ -56,7 +60,7 @@ def take_into(book: Book, path: pathlib.Path, wishes: Wishes, program: Herdbook)
     missing = [field for field in (Field.SEX, Field.BIRTH) if field not in triples.columns]
     what = "standard input" if path == STANDARD_INPUT else str(path)
     about += [invented(what, len(animals), missing)] * bool(missing)
-    tell(finish(next_book, program, wishes, source, About(about, [], len(animals) if missing else 0)), wishes)
+    return finish(next_book, program, wishes, source, About(call, about, invented=len(animals) if missing else 0))
 
 
 def given_columns(words: list[str]) -> dict[Field, str]:

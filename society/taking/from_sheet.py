@@ -5,12 +5,13 @@ import pathlib
 from dataclasses import dataclass, replace
 
 from society.book.book import Book
+from society.book.changes import Option
 from society.book.files import source_of
 from society.book.kinds import Field, Remembered
 from society.book.opening import to_change, to_look_at
 from society.book.state import Meaning
 from society.herdbook import Herdbook
-from society.mistake import Mistake, counted
+from society.mistake import MOST_NAMED
 from society.reading.animal import Animal
 from society.reading.columns import Columns, find_columns
 from society.reading.options import read_given, read_sexes
@@ -21,25 +22,33 @@ from society.reading.unknown import UnknownParents
 from society.taking.completing import complete
 from society.taking.finish import About, finish, tell
 from society.taking.next_book import NextBook
+from society.taking.obstacles import NoRowTaken
 from society.taking.outcome import Outcome
 from society.taking.remembering import Words, again, limits_of, remember, rename_owners
-from society.taking.report import Report
+from society.taking.report import CantBeTaken, Report
+from society.taking.screen import told_with
+from society.taking.understood import ColumnRead, Understood
 from society.taking.wishes import Wishes
 
 
 def take_sheet(path: pathlib.Path, wishes: Wishes) -> list[str]:
     """Takes a sheet, or tells what would be taken; answers what is to be told besides."""
-    program = Herdbook()
+    program, call = Herdbook(), wishes.call(str(path))
     with to_look_at(wishes.book, program) if wishes.preview else to_change(wishes.book, program) as book:
-        tell(take_into(book, path, wishes, program), wishes)
+        with told_with(call):
+            tell(take_into(book, path, wishes, program))
     return book.notes
 
 
 def preview_sheet(path: pathlib.Path, wishes: Wishes) -> Outcome:
-    """What a sheet would change, and what may be wrong of it. Nothing is written."""
-    program = Herdbook()
+    """What a sheet would change, and what may be wrong of it. Nothing is written. A mistake where the file can't be
+    opened, or an option can't be understood."""
+    program, wishes = Herdbook(), replace(wishes, preview=True)
     with to_look_at(wishes.book, program) as book:
-        return take_into(book, path, replace(wishes, preview=True), program)
+        try:
+            return take_into(book, path, wishes, program)
+        except CantBeTaken as mistake:
+            return Outcome(book.folder, wishes.call(str(path)), about=mistake.told, obstacles=mistake.obstacles)
 
 
 def take_into(book: Book, path: pathlib.Path, wishes: Wishes, program: Herdbook) -> Outcome:
@@ -49,15 +58,18 @@ def take_into(book: Book, path: pathlib.Path, wishes: Wishes, program: Herdbook)
     read = read_animals(path, wishes, book, words)
     next_book = NextBook(book, read.animals, set(read.columns.found), read.report)
     complete(next_book, read.columns, wishes)
-    rows = counted(len(read.sheet.rows), "row")
-    how = [
-        f"{path}: {rows} below the titles in line {read.sheet.line}, {read.sheet.how}",
-        read.columns.words(),
-        *again(words, wishes),
-    ]
-    notes = [*read.rows.notes, *read.columns.notes, *read.rows.unread.summaries(), *read.rows.sexes.told()]
     book.remembered += [Meaning(Remembered.COLUMN, *pair) for pair in read.columns.titles_found()]
-    return finish(next_book, program, wishes, source, About(how, notes, limits=limits_of(words)))
+    understood = understood_of(path, read, again(words, wishes))
+    about = About(wishes.call(str(path)), understood.lines(), understood, limits_of(words))
+    return finish(next_book, program, wishes, source, about)
+
+
+def understood_of(path: pathlib.Path, read: ReadSheet, remembered: list[Option]) -> Understood:
+    sheet, columns = read.sheet, read.columns
+    titles = tuple(ColumnRead(Field(name), title) for name, title in columns.titles_found())
+    return Understood(
+        str(path), len(sheet.rows), sheet.line, sheet.how, titles, columns.titles_not_read(), tuple(remembered)
+    )
 
 
 @dataclass
@@ -86,9 +98,11 @@ def read_animals(path: pathlib.Path, wishes: Wishes, book: Book, words: Words) -
     animals = rows.animals() if Field.ID in columns.found else {}
     faults = [*sheet.faults, *columns.faults, *rows.faults]
     if faults:
-        raise Mistake(*faults)
+        raise CantBeTaken(*faults)
+    for finding in [*columns.notes, *rows.notes]:
+        report.add(0, "", finding)
     if not animals:
-        raise Mistake(f"{path} has no row that can be taken", *(entry.sentence() for entry in report.entries[:9]))
+        raise CantBeTaken(NoRowTaken(str(path)), told=[entry.sentence() for entry in report.entries[:MOST_NAMED]])
     return ReadSheet(sheet, columns, rows, animals, report)
 
 

@@ -1,81 +1,40 @@
 """What keeps a sheet from being taken unless it is wished `--anyway`: it looks like another one than the book's."""
 from __future__ import annotations
 
-import enum
-from dataclasses import dataclass
+import functools
 
 from society.book.book import Book
 from society.book.kinds import Standing
-from society.mistake import counted
+from society.book.known import Known
 from society.reading.animal import Animal
+from society.reading.columns import Columns
+
+from society.taking.obstacles import (
+    Changed, Guard, IdsLack, LooksLike, ManyDropped, ManyGone, ManyOthers, ParentsLack, RowOf,
+)  # fmt: skip
 
 # more than a tenth of the animals, and at least so many, are gone
 TENTH, LEAST_GONE = 10, 10
-# more than so many animals, and more than 2 of 100, have another name and birth day
+# more than so many animals, and more than 2 of 100, have another birth day, the name of another, or another parent
 MOST_OTHERS, PER_HUNDRED = 5, 2
 # so many parents without a row are few
 FEW_PARENTS = 10
 
 
-class LooksLike(enum.Enum):
-    """What a sheet looks like."""
-
-    ANOTHER_FLOCK = "another flock"
-    ANOTHER_ID = "another id"
-    OLDER_SHEET = "older sheet"
-    PART = "part"
-    PARENTS_BY_NAME = "parents by name"
-    PARENTS_BY_ANOTHER_ID = "parents by another id"
-
-    def words(self) -> str:
-        return LIKE_WORDS[self]
-
-
-LIKE_WORDS = {
-    LooksLike.ANOTHER_FLOCK: "it looks like the sheet of another flock: name its book, as --book FOLDER",
-    LooksLike.ANOTHER_ID: (
-        "it looks like the same animals with another id: name the column that has the book's ids, as --columns id=TITLE"
-    ),
-    LooksLike.OLDER_SHEET: "it looks like an older sheet: each of its animals is in the book, and the youngest lack",
-    LooksLike.PART: "it looks like a part of the flock",
-    LooksLike.PARENTS_BY_NAME: (
-        "it looks like parents that are written by their names: name the column that has the animals' names, as "
-        "--columns name=TITLE"
-    ),
-    LooksLike.PARENTS_BY_ANOTHER_ID: (
-        "it looks like another id than that of the column that is read: name the one in which the parents' cells are "
-        "found, as --columns id=TITLE, or the parents' columns"
-    ),
-}
-
-
-@dataclass(frozen=True, slots=True)
-class Guard:
-    """Why a sheet isn't taken, and what it looks like."""
-
-    why: str
-    like: LooksLike
-
-    def words(self) -> str:
-        return f"{self.why}: {self.like.words()}"
-
-
 class Guards:
     """Compares the rows of a sheet with a book, before anything of the book is added to them."""
 
-    def __init__(self, book: Book, rows: dict[str, Animal], lacks_ids: str) -> None:
-        self.book, self.rows, self.lacks_ids = book, rows, lacks_ids
+    def __init__(self, book: Book, rows: dict[str, Animal], columns: Columns) -> None:
+        self.book, self.rows, self.columns = book, rows, columns
 
     def of_rows(self) -> list[Guard]:
         """The ids, and what animals are as the rows have them."""
-        found = [self.missing_column(), self.gone(), self.others()]
+        found = [self.missing_column(), self.gone(), self.other_animals(), self.other_parents()]
         return [guard for guard in found if guard]
 
     def missing_column(self) -> Guard | None:
-        if not self.lacks_ids:
-            return None
-        why = f"the sheet lacks the column '{self.lacks_ids}', which had the book's ids, and no other column has them"
-        return Guard(why, self.like())
+        lacks = self.columns.lacks_ids
+        return IdsLack(lacks, self.like()) if lacks else None
 
     def had_row(self) -> list[str]:
         """The animals that had a row in the last sheet."""
@@ -86,9 +45,7 @@ class Guards:
         gone = [id for id in had_row if id not in self.rows]
         if len(gone) < LEAST_GONE or len(gone) * TENTH <= len(had_row):
             return None
-        count = counted(len(had_row), "animal")
-        why = f"{len(gone)} of the {count} that had a row in the last sheet have none in this one"
-        return Guard(why, self.like())
+        return ManyGone(len(gone), len(had_row), self.like())
 
     def like(self) -> LooksLike:
         in_book = [id for id in self.rows if id in self.book.known]
@@ -112,23 +69,48 @@ class Guards:
         here = [(row.name.casefold(), row.birth.first) for row in self.rows.values() if row.has_day()]
         return bool(here) and 2 * sum(one in days for one in here) > len(here)
 
-    def others(self) -> Guard | None:
-        """Animals that have another name and another birth day than in the book."""
-        both = [(row, known) for id, row in self.rows.items() if (known := self.book.known.get(id))]
-        days = [(row, known) for row, known in both if row.has_day() and not known.birth.is_inferred]
-        changed = [
-            row
-            for row, known in days
-            if row.birth.first != self.book.records[known.number].born
-            and (not row.name or not known.name or row.name.casefold() != known.name.casefold())
-        ]
-        if len(changed) <= MOST_OTHERS or len(changed) * 100 <= PER_HUNDRED * len(both):
-            return None
-        lines = ", ".join(f"{row.id} (line {row.line})" for row in changed[:3])
-        names = "names and birth days" if any(row.name for row in changed) else "birth days"
-        count = counted(len(both), "animal")
-        why = f"{len(changed)} of {count} have other {names} than in the book, the first are {lines}"
-        return Guard(why, LooksLike.ANOTHER_FLOCK)
+    @functools.cached_property
+    def both(self) -> list[tuple[Animal, Known]]:
+        """The rows of animals that the book has, with what it knows of them."""
+        return [(row, known) for id, row in self.rows.items() if (known := self.book.known.get(id))]
+
+    def other_animals(self) -> Guard | None:
+        """Animals that have another birth day than in the book, or the name of another one: an ordinary correction is
+        of a few, and columns that were sorted one without the other change many."""
+        days = [row for row, known in self.both if self.has_other_day(row, known)]
+        ids = {known.name.casefold(): known.id for known in self.book.known.values() if known.name}
+        named = [row for row, known in self.both if ids.get(row.name.casefold(), known.id) != known.id]
+        named = [row for row in named if row.name.casefold() != self.book.known[row.id].name.casefold()]
+        renamed = [row for row in days if row.name.casefold() != self.book.known[row.id].name.casefold()]
+        if self.are_many(days):
+            what = Changed.NAMES_AND_BIRTH_DAYS if self.are_many(renamed) else Changed.BIRTH_DAYS
+            return self.of_many(what, days)
+        return self.of_many(Changed.NAMES, named) if self.are_many(named) else None
+
+    def has_other_day(self, row: Animal, known: Known) -> bool:
+        """Do both say another day? One that was inferred says nothing."""
+        return row.has_day() and not known.birth.is_inferred and row.birth.first != self.book.records[known.number].born
+
+    def other_parents(self) -> Guard | None:
+        """Animals that have another animal with a row as a parent than in the book. A parent that is added, taken away
+        or written by another id is an ordinary correction."""
+        had_row = {known.number: known.id for known in self.book.known.values() if known.standing.had_row()}
+        changed = []
+        for row, known in self.both:
+            record = self.book.records[known.number]
+            pairs = [(had_row.get(record.parent(role)), parent) for role, parent in row.parents()]
+            if any(before and before != now and now in self.rows for before, now in pairs):
+                changed.append(row)
+        return self.of_many(Changed.PARENTS, changed) if self.are_many(changed) else None
+
+    def are_many(self, changed: list[Animal]) -> bool:
+        return len(changed) > MOST_OTHERS and len(changed) * 100 > PER_HUNDRED * len(self.both)
+
+    def of_many(self, what: Changed, changed: list[Animal]) -> ManyOthers:
+        first = tuple(RowOf(row.id, row.line) for row in changed[:3])
+        is_other = what is Changed.NAMES_AND_BIRTH_DAYS
+        like = LooksLike.ANOTHER_FLOCK if is_other else LooksLike.SORTED_APART
+        return ManyOthers(what, len(changed), len(self.both), first, like)
 
     def behind(self, animals: dict[str, Animal]) -> list[Guard]:
         """What is seen where parents are found by their names, and all animals are there that are to stand in the
@@ -142,8 +124,7 @@ class Guards:
         dropped = [id for id in had_row if id not in animals]
         if len(dropped) < LEAST_GONE or len(dropped) * TENTH <= len(had_row) or self.gone():
             return None
-        why = f"{len(dropped)} of the {counted(len(had_row), 'animal')} that had a row would be dropped from the book"
-        return Guard(why, self.like())
+        return ManyDropped(len(dropped), len(had_row), self.like())
 
     def parents(self) -> Guard | None:
         """Most parents have neither a row nor a place in the book."""
@@ -155,5 +136,13 @@ class Guards:
         ids = sum(any(map(str.isdigit, id)) for id in self.rows)
         is_name = 2 * words > len(lost) and 2 * ids > len(self.rows)
         like = LooksLike.PARENTS_BY_NAME if is_name else LooksLike.PARENTS_BY_ANOTHER_ID
-        texts = ", ".join(f"'{parent}'" for parent in list(dict.fromkeys(lost))[:3])
-        return Guard(f"{len(lost)} of {len(links)} parents have no row, the first are {texts}", like)
+        texts = tuple(dict.fromkeys(lost))[:3]
+        return ParentsLack(len(lost), len(links), texts, like, self.column_of({*lost}))
+
+    def column_of(self, parents: set[str]) -> str:
+        """The title of a column that isn't read, and in which most of these parents are found."""
+        titles = self.columns.sheet.titles
+        free = [at for at, title in enumerate(titles) if title and self.columns.is_free(at)]
+        found = {at: len(parents & {*self.columns.cells(at)}) for at in free}
+        best = max(free, key=lambda at: found[at], default=None)
+        return titles[best] if best is not None and 2 * found[best] > len(parents) else ""

@@ -2,16 +2,19 @@
 from __future__ import annotations
 
 import datetime
-import shlex
 from dataclasses import dataclass
 
+from society.book.changes import Option
 from society.book.role import Role
 from society.mistake import counted
+from society.taking.harm import Harm
 from society.taking.report import Finding, What
+from society.taking.suggestions import DROP_GONE, Suggestion
 
 
 class Look(Finding):
     what = What.LOOK
+    harm = Harm.FACTS
 
 
 def at_line(id: str, line: int) -> str:
@@ -24,6 +27,8 @@ class IdsAlike(Look):
 
     other: str
     line: int
+
+    harm = Harm.ANIMALS
 
     def words(self) -> str:
         where = f"line {self.line}" if self.line else "in the book"
@@ -40,11 +45,16 @@ class YoungParent(Look):
     days: int
     limit: int
 
+    harm = Harm.PARENTS
+
     def words(self) -> str:
         return (
             f"its {self.role} {at_line(self.parent, self.line)} was {counted(self.days, 'day')} old at its birth, less "
-            f"than {self.limit}: if that can be, say --youngest {max(self.days, 0)}"
+            f"than {self.limit}"
         )
+
+    def suggestions(self) -> tuple[Suggestion, ...]:
+        return (Suggestion("if that can be", (Option("--youngest", str(max(self.days, 0))),)),)
 
 
 @dataclass(frozen=True, slots=True)
@@ -57,11 +67,16 @@ class BirthsTooNear(Look):
     days: int
     limit: int
 
+    harm = Harm.PARENTS
+
     def words(self) -> str:
         return (
             f"its dam {self.dam} bore {at_line(self.other, self.line)} {counted(self.days, 'day')} before, less than "
-            f"{self.limit}: if that can be, say --apart {self.days}"
+            f"{self.limit}"
         )
+
+    def suggestions(self) -> tuple[Suggestion, ...]:
+        return (Suggestion("if that can be", (Option("--apart", str(self.days)),)),)
 
 
 @dataclass(frozen=True, slots=True)
@@ -70,6 +85,8 @@ class SireLeftLongBefore(Look):
     line: int
     left: datetime.date
     born: datetime.date
+
+    harm = Harm.PARENTS
 
     def words(self) -> str:
         return (
@@ -86,6 +103,8 @@ class CastratedSire(Look):
     calves: int
     first: str
     line: int
+
+    harm = Harm.PARENTS
 
     def words(self) -> str:
         more = f" and of {self.calves - 1} more" if self.calves > 1 else ""
@@ -108,8 +127,24 @@ class OldAsLiving(Look):
 
 
 @dataclass(frozen=True, slots=True)
+class ManyOldAsLiving(Look):
+    """Many animals without an exit were born decades before the others."""
+
+    animals: int
+    years: int
+
+    def words(self) -> str:
+        return (
+            f"{self.animals} animals count as living that were born {self.years} years and more before half of the "
+            "others that do: does the column of exits lack theirs?"
+        )
+
+
+@dataclass(frozen=True, slots=True)
 class LikeASum(Look):
     """A row that seems to count or to sum up."""
+
+    harm = Harm.ANIMALS
 
     def words(self) -> str:
         return (
@@ -126,8 +161,42 @@ class OwnerRespelt(Look):
     animals: int
 
     def words(self) -> str:
+        return f"the {counted(self.animals, 'animal')} of '{self.before}' are now of '{self.now}', whom the book didn't have"
+
+    def suggestions(self) -> tuple[Suggestion, ...]:
+        option = Option("--owner", f"{self.before}={self.now}")
+        return (Suggestion("if the name is only written otherwise", (option,), undoes=True),)
+
+
+@dataclass(frozen=True, slots=True)
+class MayBeUnknown(Look):
+    """A parent without a row, of several animals, that may be a word for an unknown one."""
+
+    word: str
+    sire_of: int
+    dam_of: int
+
+    harm = Harm.PARENTS
+
+    def words(self) -> str:
+        counts = (Role.SIRE, self.sire_of), (Role.DAM, self.dam_of)
+        roles = " and ".join(f"the {role} of {count}" for role, count in counts if count)
+        return f"{self.word} has no row, and is {roles}"
+
+    def suggestions(self) -> tuple[Suggestion, ...]:
+        return (Suggestion("if it means an unknown parent", (Option("--unknown", self.word), DROP_GONE)),)
+
+
+@dataclass(frozen=True, slots=True)
+class MoreMayBeUnknown(Look):
+    """More such parents than are told one by one."""
+
+    count: int
+
+    harm = Harm.PARENTS
+
+    def words(self) -> str:
         return (
-            f"the {counted(self.animals, 'animal')} of '{self.before}' are now of '{self.now}', whom the book didn't "
-            "have: if the name is only written otherwise, undo this, and take the sheet with --owner "
-            f"{shlex.quote(f'{self.before}={self.now}')}"
+            f"{self.count} more parents without a row are no numbers, and of several animals: the report has all that "
+            "were added"
         )

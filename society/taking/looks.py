@@ -9,7 +9,10 @@ from dataclasses import dataclass
 
 from society.book.role import Role
 from society.reading.animal import Animal
-from society.taking.look_findings import BirthsTooNear, CastratedSire, OldAsLiving, SireLeftLongBefore, YoungParent
+
+from society.taking.look_findings import (
+    BirthsTooNear, CastratedSire, ManyOldAsLiving, OldAsLiving, SireLeftLongBefore, YoungParent,
+)  # fmt: skip
 from society.taking.report import Report
 
 YOUNGEST, APART = 180, 100
@@ -91,10 +94,7 @@ class Looks:
         median = int(statistics.median(one.born.year for one in dated))
         old = [animal for animal in dated if animal.born.year <= median - DECADES]
         if len(old) > max(FEW_OLD, len(dated) // 50):
-            self.report.advice.append(
-                f"{len(old)} animals count as living that were born {DECADES} years and more before half of the others that "
-                "do: does the column of exits lack theirs?"
-            )
+            self.report.add(0, "", ManyOldAsLiving(len(old), DECADES))
             return
         for animal in old:
             found = OldAsLiving(animal.born, median - animal.born.year, median)

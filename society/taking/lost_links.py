@@ -1,9 +1,10 @@
 """Links of a pedigree that would be left out: each changes coefficients, so nothing is taken unless that is wished."""
 from __future__ import annotations
 
-from society.mistake import MOST_NAMED, Mistake, counted
+from society.mistake import MOST_NAMED
 from society.reading.cell_findings import IdAgain
-from society.taking.report import Entry, Part, Report, What
+from society.taking.obstacles import LinksLost
+from society.taking.report import CantBeTaken, Entry, Part, Report, What
 
 
 def refuse_lost_links(report: Report) -> None:
@@ -11,12 +12,7 @@ def refuse_lost_links(report: Report) -> None:
     if not lost:
         return
     more = [f"and {len(lost) - MOST_NAMED} more"] * (len(lost) > MOST_NAMED)
-    raise Mistake(
-        *lost[:MOST_NAMED],
-        *more,
-        f"nothing is taken, since that changes coefficients ({counted(len(lost), 'link')}): mend these lines, or take "
-        "the pedigree without these links by --leave-out",
-    )
+    raise CantBeTaken(LinksLost(len(lost)), told=[*lost[:MOST_NAMED], *more])
 
 
 def is_lost_link(entry: Entry) -> bool:

@@ -19,7 +19,7 @@ from society.taking.cycles import cut_cycles
 from society.taking.animal_findings import KeptByHand, KeptFromBook, SexInferred, SexNotKnown
 from society.taking.near_ids import NearIds
 from society.taking.parent_names import Names
-from society.taking.report import Report
+from society.taking.report import Finding, Report
 from society.taking.without_row import add_gone, animals_of_book
 
 MOST_ANIMALS = 60_000
@@ -41,7 +41,7 @@ class NextBook:
         # the ids of rows that are left out, since the book has them for other animals, which stay
         self.used_again: set[str] = set()
         # why it isn't taken but by --anyway
-        self.guards: list[str] = []
+        self.obstacles: list[Finding] = []
         # the parents as the sheet writes them, by an animal's id and `sire` or `dam`
         self.texts: dict[tuple[str, Role], str] = {}
         # the fields that were filed by hand and that the sheet says otherwise now than before

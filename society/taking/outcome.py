@@ -1,71 +1,75 @@
 """What a taking makes of a book, or would make of it: data, which a page can show as well as a terminal."""
 from __future__ import annotations
 
+import collections
 import pathlib
-from dataclasses import dataclass
+from dataclasses import dataclass, field
 
-from society.book.exports import COMMANDS, REPORT
+from society.book.exports import REPORT
 from society.mistake import counted
-from society.taking.report import Entry, Report, What
-from society.taking.shown_report import lines_of
+from society.taking.animal_findings import ValueChanged
+from society.taking.report import Entry, Finding, Report, What
+from society.taking.suggestions import Call
+from society.taking.understood import Understood
+
+
+@dataclass(frozen=True, slots=True)
+class BookAfter:
+    """The book after a taking: how many animals it has, how many of them are new, and of how many sexes or days are
+    invented; whether its journal begins a new edition; with what numbers begin, where that wasn't wished and it is the
+    first taking; and whether those that are gone are dropped."""
+
+    animals: int
+    new: int
+    invented: int
+    is_anew: bool
+    numbers_begin: str
+    drops_gone: bool
 
 
 @dataclass(frozen=True)
 class Outcome:
-    """`about` is how the sheet was read, `notes` what may be wrong of it as a whole, `guards` why it isn't taken but by
-    `--anyway`."""
+    """What a preview tells, and what a taking did. A terminal shows it by `screen`, a page as it likes:
+
+    - `call`: how `take` was called; `call.command(suggestion)` is a whole command to be typed;
+    - `understood`: the rows of a sheet, and which columns have what; none of a pedigree, or where a sheet can't be read;
+    - `about`: how the file was read, in sentences;
+    - `obstacles`: why nothing is taken, each a finding with `words()` and `suggestions()`; where there is one, a taking
+      wrote nothing, and a preview tells what would be taken all the same, if the sheet can be read;
+    - `report.entries`: what was found, each with the sheet's line, the animal's id and a finding; `by_kind()` sorts them
+      by what they are about, and `finding.does()` tells how much harm each can do;
+    - `after`: the book after it, none where the sheet can't be read."""
 
     folder: pathlib.Path
-    about: list[str]
-    notes: list[str]
-    guards: list[str]
-    report: Report
-    animals: int
-    new: int
-    invented: int
-    # the journal begins a new edition
-    is_anew: bool
-    # the beginning of numbers that weren't wished, in a first taking
-    numbers_begin: str
-    drops_gone: bool
+    call: Call
+    understood: Understood | None = None
+    about: tuple[str, ...] = ()
+    obstacles: tuple[Finding, ...] = ()
+    report: Report = field(default_factory=Report)
+    after: BookAfter | None = None
 
     def by_kind(self) -> dict[What, list[Entry]]:
-        """What would change, by kind; what may be wrong comes first."""
+        """What was found, by kind; what may be wrong comes first."""
         entries = self.report.in_order()
         return {what: [entry for entry in entries if entry.what is what] for what in What}
 
-    def counts(self) -> dict[What, int]:
-        return {what: len(entries) for what, entries in self.by_kind().items()}
+    def counts(self) -> collections.Counter[What]:
+        return self.report.counts()
 
-    def lines(self) -> list[str]:
-        """A screen: first how it was read and what may be wrong."""
-        lines = [*self.about, *self.guards, *self.notes, *lines_of(self.report, self.folder / REPORT)]
-        if self.is_anew:
-            lines.append(f"{self.folder / COMMANDS} is written anew, since something in it was corrected or dropped")
-        if self.counts()[What.GONE] and not self.drops_gone:
-            lines.append(
-                "those that are gone stay: with --drop-gone they are dropped, but for the ancestors of animals that have "
-                "a row"
-            )
-        lines += self.report.advice
-        if self.numbers_begin:
-            lines.append(
-                f"the numbers begin with {self.numbers_begin}, since --breed and --country aren't both given: give them as "
-                "--breed SKU --country DEU, now or later, which begins a new edition of the journal"
-            )
-        return lines
+    def changed(self) -> collections.Counter[str]:
+        """How many values of each field are changed."""
+        findings = (entry.finding for entry in self.report.entries)
+        return collections.Counter(one.name for one in findings if isinstance(one, ValueChanged))
 
     def summary(self) -> str:
-        counts = self.counts()
-        inferred = [f"{self.invented} invented"] * bool(self.invented)
-        inferred += [f"{counts[What.INFERRED]} inferred"] * bool(counts[What.INFERRED] or not self.invented)
-        each = f": {self.folder / REPORT} has each" if self.report.entries else ""
+        assert self.after
+        counts, after = self.counts(), self.after
+        inferred = [f"{after.invented} invented"] * bool(after.invented)
+        inferred += [f"{counts[What.INFERRED]} inferred"] * bool(counts[What.INFERRED] or not after.invented)
         return (
-            f"{self.folder}: {counted(self.animals, 'animal')}, {self.new} new, {counts[What.CHANGED]} changed, "
-            f"{', '.join(inferred)}, {self.report.left_out()}, {counts[What.ADDED]} added, {counts[What.GONE]} gone{each}"
+            f"{self.folder}: {counted(after.animals, 'animal')}, {after.new} new, {counts[What.CHANGED]} changed, "
+            f"{', '.join(inferred)}, {self.report.left_out()}, {counts[What.ADDED]} added, {counts[What.GONE]} gone"
         )
 
-    def preview(self) -> list[str]:
-        """What is printed where nothing is written."""
-        summary = self.summary().removesuffix(f": {self.folder / REPORT} has each")
-        return [*self.lines(), f"a preview, nothing is written: {summary}"]
+    def report_file(self) -> pathlib.Path:
+        return self.folder / REPORT

@@ -3,11 +3,13 @@ from __future__ import annotations
 
 import datetime
 from dataclasses import dataclass
+from typing import Hashable
 
 from society.book.inferred import SexSource
 from society.book.role import Role
 from society.refusals import Refusal
 from society.taking.animal_findings import SEXES
+from society.taking.harm import Harm
 from society.taking.report import Finding, LeftOut, Part, What
 
 
@@ -67,9 +69,13 @@ class AddedAsParent(Finding):
             return f" ({len(self.named)} animals have this name, {ids}: write the id of the one that is meant)"
         return f" (is {self.meant} meant?)" if self.meant else ""
 
+    def does(self) -> Harm:
+        return Harm.PARENTS if self.meant or self.named else Harm.NONE
+
 
 class ParentLeftOut(LeftOut):
     part = Part.PARENT
+    harm = Harm.PARENTS
 
 
 @dataclass(frozen=True, slots=True)
@@ -133,6 +139,9 @@ class ParentRefused(ParentLeftOut):
     left: DayFact | None
     calf: str
     calf_born: DayFact
+
+    def theme(self) -> Hashable:
+        return self.refusal
 
     def is_of_sex(self) -> bool:
         return self.refusal in (Refusal.SIRE_NOT_MALE, Refusal.DAM_NOT_FEMALE)

@@ -3,14 +3,14 @@ from __future__ import annotations
 
 import collections
 import functools
-import shlex
 
 from society.alike import SameLetters
 from society.book.book import Book
 from society.book.role import Role
 from society.reading.animal import Animal
+from society.taking.look_findings import MayBeUnknown, MoreMayBeUnknown
 from society.taking.parent_findings import AddedAsParent, FoundByName
-from society.taking.report import Report
+from society.taking.report import Finding, Report
 
 # of so many links a parent without a row that is a sire and a dam is told
 MANY = 3
@@ -87,12 +87,9 @@ class Names:
             if may_be and not has_row and "," not in parent:
                 told.append((-sum(counts.values()), parent, counts))
         for _, parent, counts in sorted(told, key=lambda one: one[:2])[:MOST_WORDS]:
-            self.report.advice.append(unknown_advice(parent, counts))
+            self.report.add(0, "", MayBeUnknown(parent, counts[Role.SIRE], counts[Role.DAM]))
         if len(told) > MOST_WORDS:
-            self.report.advice.append(
-                f"{len(told) - MOST_WORDS} more parents without a row are no numbers, and of several animals: the "
-                "report has all that were added"
-            )
+            self.report.add(0, "", MoreMayBeUnknown(len(told) - MOST_WORDS))
 
     @functools.cached_property
     def same_letters(self) -> SameLetters:
@@ -109,12 +106,10 @@ class Names:
         return (alike if alike != calf.id else ""), ()
 
 
-def unknown_advice(parent: str, counts: dict[Role, int]) -> str:
-    roles = " and ".join(f"the {role} of {count}" for role, count in counts.items() if count)
-    return (
-        f"{parent} has no row, and is {roles}: if it means an unknown parent, take this again with "
-        f"--unknown={shlex.quote(parent)} --drop-gone"
-    )
+def may_be_unknown(report: Report) -> list[Finding]:
+    """What was told of words that may mean an unknown parent: these may be why a file can't be taken."""
+    findings = [entry.finding for entry in report.entries]
+    return [one for one in findings if isinstance(one, (MayBeUnknown, MoreMayBeUnknown))]
 
 
 def can_be(parent: Animal, role: Role, calf: Animal) -> bool:

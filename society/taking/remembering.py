@@ -2,6 +2,7 @@
 from __future__ import annotations
 
 from society.book.book import Book
+from society.book.changes import Option
 from society.book.kinds import Remembered
 from society.book.state import Meaning
 from society.mistake import Mistake
@@ -25,6 +26,8 @@ def remember(book: Book, wishes: Wishes) -> Words:
     # a word is known or unknown, as it is said now
     both[Remembered.UNKNOWN] = without(both[Remembered.UNKNOWN], wishes.known)
     both[Remembered.KNOWN] = without(both[Remembered.KNOWN], wishes.unknown)
+    if wishes.day_first:
+        both[Remembered.MONTH_FIRST] = []
     others = [one for one in book.remembered if one.what not in now]
     book.remembered = others + [Meaning(kind, word) for kind, words in both.items() for word in words]
     return both
@@ -49,12 +52,11 @@ def given_now(wishes: Wishes) -> Words:
     }
 
 
-def again(words: Words, wishes: Wishes) -> list[str]:
-    """Which options are used that weren't given, in a sentence."""
+def again(words: Words, wishes: Wishes) -> list[Option]:
+    """The options that are used though they weren't given."""
     now = given_now(wishes)
     used = [(kind, word) for kind, those in words.items() for word in those if word not in now[kind]]
-    shown = ", ".join(f"--{kind.value}" + f" {word}" * (kind is not Remembered.MONTH_FIRST) for kind, word in used)
-    return [f"as at the last time: {shown} (the book remembers these)"] if used else []
+    return [Option(f"--{kind.value}", word * (kind is not Remembered.MONTH_FIRST)) for kind, word in used]
 
 
 def limits_of(words: Words) -> Limits:
@@ -72,13 +74,25 @@ def rename_owners(book: Book, wishes: Wishes) -> None:
         if before not in book.owners:
             raise Mistake(f"--owner {word}: the book has no owner '{before}': its owners are {names(book)}")
         if now in book.owners:
-            raise Mistake(
-                f"--owner {word}: the book has '{now}' too, as another owner: undo the taking that brought it, and then "
-                "say this again"
-            )
-        book.owners[now] = book.owners.pop(before)
-        book.names_of_herds = {}
-        book.remembered = [*book.remembered, Meaning(Remembered.OWNER, before, now)]
+            free_name(book, word, now)
+        rename(book, before, now)
+
+
+def free_name(book: Book, word: str, name: str) -> None:
+    """An owner of this name, whom no command of the book names, as after an undo, gives it away."""
+    herd = book.owners[name]
+    if any(str(herd) in (step.command.giver, step.command.taker) for step in book.steps):
+        raise Mistake(
+            f"--owner {word}: the book has '{name}' too, as another owner: undo the taking that brought it, and then say "
+            "this again"
+        )
+    rename(book, name, f"{name} (herd {herd})")
+
+
+def rename(book: Book, before: str, now: str) -> None:
+    book.owners[now] = book.owners.pop(before)
+    book.names_of_herds = {}
+    book.remembered = [*book.remembered, Meaning(Remembered.OWNER, before, now)]
 
 
 def names(book: Book) -> str:

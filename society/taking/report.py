@@ -5,9 +5,11 @@ import collections
 import enum
 import re
 from dataclasses import dataclass
-from typing import ClassVar
+from typing import ClassVar, Hashable, Sequence
 
-from society.mistake import counted
+from society.mistake import Mistake, counted
+from society.taking.harm import Harm
+from society.taking.suggestions import Suggestion
 
 
 class What(enum.StrEnum):
@@ -34,8 +36,6 @@ class Part(enum.StrEnum):
 
 INFERRED = What.INFERRED
 ROW, LINE, CELL = Part.ROW, Part.LINE, Part.CELL
-# so many of a kind are printed; the report has all
-MOST_SHOWN = 25
 
 
 class Finding:
@@ -43,6 +43,7 @@ class Finding:
 
     what: ClassVar[What]
     part: ClassVar[Part | None] = None
+    harm: ClassVar[Harm] = Harm.NONE
 
     def __init_subclass__(cls) -> None:
         KINDS[cls.kind()] = cls
@@ -55,6 +56,18 @@ class Finding:
     def words(self) -> str:
         raise NotImplementedError
 
+    def suggestions(self) -> tuple[Suggestion, ...]:
+        """What to call `take` with, case by case."""
+        return ()
+
+    def does(self) -> Harm:
+        """The harm that it can do."""
+        return self.harm
+
+    def theme(self) -> Hashable:
+        """Findings of one kind and theme are told together."""
+        return None
+
 
 # the kinds of findings by their names
 KINDS: dict[str, type[Finding]] = {}
@@ -64,6 +77,7 @@ class LeftOut(Finding):
     """A row, a cell or a parent is left out."""
 
     what = What.LEFT_OUT
+    harm = Harm.FACTS
 
     def thing(self) -> str:
         """What is left out, in words."""
@@ -94,12 +108,30 @@ class Entry:
 
     @property
     def why(self) -> str:
-        return self.finding.words()
+        """What is told of it, with the options that are suggested."""
+        suggested = [suggestion.words() for suggestion in self.finding.suggestions()]
+        return self.finding.words() + (f": {'; '.join(suggested)}" if suggested else "")
+
+    def words(self) -> str:
+        """What was found, in a sentence, without what is suggested."""
+        return self.sentence_of(self.finding.words())
 
     def sentence(self) -> str:
+        """The same with the options that are suggested."""
+        return self.sentence_of(self.why)
+
+    def sentence_of(self, told: str) -> str:
         where = f"line {self.line}: " if self.line else ""
         name = f"{self.id}: " if self.id else ""
-        return f"{where}{name}{self.why if self.part else f'{self.what}: {self.why}'}"
+        return f"{where}{name}{told if self.part else f'{self.what}: {told}'}"
+
+
+class CantBeTaken(Mistake):
+    """What keeps a sheet or a pedigree from being taken, as data; `told` are sentences of what it is about."""
+
+    def __init__(self, *obstacles: Finding, told: Sequence[str] = ()) -> None:
+        super().__init__(*told, *(one.words() for one in obstacles))
+        self.obstacles, self.told = obstacles, tuple(told)
 
 
 class Report:
@@ -107,8 +139,6 @@ class Report:
 
     def __init__(self) -> None:
         self.entries: list[Entry] = []
-        # what to do about more than one entry
-        self.advice: list[str] = []
 
     def add(self, line: int, id: str, finding: Finding) -> None:
         self.entries.append(Entry(line, id, finding))

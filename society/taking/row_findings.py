@@ -3,10 +3,13 @@ from __future__ import annotations
 
 import datetime
 from dataclasses import dataclass
+from typing import Hashable
 
 from society.book.kinds import CommandKind
 from society.refusals import Refusal
+from society.taking.harm import Harm
 from society.taking.report import Finding, LeftOut, Part, What
+from society.taking.suggestions import ANYWAY, Suggestion
 
 
 @dataclass(frozen=True, slots=True)
@@ -21,6 +24,7 @@ class IdUsedAgain(LeftOut):
     named_in: tuple[int, ...]
 
     part = Part.ROW
+    harm = Harm.ANIMALS
 
     def thing(self) -> str:
         return "the row"
@@ -31,9 +35,11 @@ class IdUsedAgain(LeftOut):
         means = f"; as a parent in line {lines} it means the first" if self.named_in else ""
         return (
             f"the book has this id for another animal ({there}born {self.born_there}; here {here}born {self.born_here})"
-            f"{means}: if the tag was used again, give this one another id; if it is the same animal, take this again "
-            "with --anyway"
+            f"{means}: if the tag was used again, give this one another id"
         )
+
+    def suggestions(self) -> tuple[Suggestion, ...]:
+        return (Suggestion("if it is the same animal", (ANYWAY,)),)
 
 
 @dataclass(frozen=True, slots=True)
@@ -56,6 +62,9 @@ class CommandLeftOut(LeftOut):
         gone = "; the animal counts as gone" if self.command is CommandKind.EXIT else ""
         return f"{self.refusal.words()}{named} (refusal {self.refusal}){gone}"
 
+    def theme(self) -> Hashable:
+        return self.command, self.refusal
+
 
 @dataclass(frozen=True, slots=True)
 class OwnerDayMoved(Finding):
@@ -66,6 +75,7 @@ class OwnerDayMoved(Finding):
     now: datetime.date
 
     what = What.LOOK
+    harm = Harm.FACTS
 
     def words(self) -> str:
         return (

@@ -1,12 +1,9 @@
 """Saves the book that a taking makes, as a change."""
 from __future__ import annotations
 
-from typing import Iterable
-
 from society.book.book import Book
-from society.book.changes import Change, Made, Option, Source
+from society.book.changes import Change, Made, Source
 from society.book.commands import Record, record_after, replay
-from society.book.exports import SEMICOLONS
 from society.book.journal import accepted_commands
 from society.book.kinds import ChangeKind
 from society.book.state import CELL_NAMES, Values
@@ -30,7 +27,7 @@ def save(next_book: NextBook, filed: Filed, program: Herdbook, wishes: Wishes, s
     made = Made(
         ChangeKind.PEDIGREE if next_book.is_pedigree else ChangeKind.TAKE,
         source,
-        tuple(options_of(wishes)),
+        wishes.options(),
         (
             ("animals", len(next_book.animals)),
             ("new", new),
@@ -67,21 +64,3 @@ def cell_rows(next_book: NextBook) -> dict[Values, Values]:
             cells = animal.cells
             kept[id,] = (id, *[cells.get(name, cell) for name, cell in zip(CELL_NAMES, before)])
     return kept
-
-
-def options_of(wishes: Wishes) -> Iterable[Option]:
-    """The options that were given."""
-    for name, words in ("--columns", wishes.columns), ("--unknown", wishes.unknown), ("--sexes", wishes.sexes):
-        for word in words:
-            yield Option(name, word)
-    for name, text in (
-        ("--breed", wishes.breed),
-        ("--country", wishes.country),
-        ("--day", wishes.day and str(wishes.day)),
-    ):
-        if text:
-            yield Option(name, text)
-    flags = ("--strict", wishes.strict), ("--drop-gone", wishes.drop_gone), (SEMICOLONS, wishes.semicolons)
-    for name, is_given in flags:
-        if is_given:
-            yield Option(name)

@@ -5,6 +5,10 @@ import datetime
 import pathlib
 from dataclasses import dataclass, field
 
+from society.book.changes import Option
+from society.book.exports import SEMICOLONS
+from society.taking.suggestions import Call
+
 
 @dataclass
 class Wishes:
@@ -34,3 +38,27 @@ class Wishes:
     apart: int | None = None
     known: list[str] = field(default_factory=list)
     owners: list[str] = field(default_factory=list)
+    # days with / have the day first, whatever the book remembers
+    day_first: bool = False
+
+    def options(self) -> tuple[Option, ...]:
+        """The options as they were given, but for the book."""
+        repeated = {
+            "--columns": self.columns, "--unknown": self.unknown, "--known": self.known, "--sexes": self.sexes,
+            "--owner": self.owners,
+        }  # fmt: skip
+        texts = {
+            "--breed": self.breed, "--country": self.country, "--day": self.day, "--keep": self.keep,
+            "--worksheet": self.worksheet, "--youngest": self.youngest, "--apart": self.apart,
+        }  # fmt: skip
+        flags = {
+            "--strict": self.strict, "--drop-gone": self.drop_gone, SEMICOLONS: self.semicolons,
+            "--leave-out": self.leave_out, "--month-first": self.month_first, "--day-first": self.day_first,
+            "--anyway": self.anyway, "--preview": self.preview,
+        }  # fmt: skip
+        found = [Option(name, word) for name, words in repeated.items() for word in words]
+        found += [Option(name, str(text)) for name, text in texts.items() if text not in (None, "")]
+        return tuple(found + [Option(name) for name, is_given in flags.items() if is_given])
+
+    def call(self, *file: str) -> Call:
+        return Call(file, self.book, self.options())

@@ -28,6 +28,8 @@ class Done:
     status: int
     out: str
     err: str
+    # the sentences of the book's report after it
+    report: tuple[str, ...] = ()
 
     def __repr__(self) -> str:
         return f"status {self.status}, output {self.out[-500:]!r}, error {self.err[-500:]!r}"
@@ -36,10 +38,24 @@ class Done:
     def last(self) -> str:
         return self.out.splitlines()[-1] if self.out else ""
 
+    @property
+    def told(self) -> str:
+        """What is told on the screen and in the report, each sentence in a line of its own."""
+        return "\n".join([self.out, *self.report])
+
     def tells(self, *sentences: str) -> None:
-        """Each of these is a line of the output."""
+        """Each of these is a line of the screen, or a sentence of the report."""
         for sentence in sentences:
-            assert sentence in self.out.splitlines(), f"{sentence!r} isn't told: {self.out}"
+            assert sentence in self.told.splitlines(), f"{sentence!r} isn't told: {self.told}"
+
+    def shows(self, *sentences: str) -> None:
+        """Each of these is a line of the screen."""
+        for sentence in sentences:
+            assert sentence in self.out.splitlines(), f"{sentence!r} isn't shown: {self.out}"
+
+    def commands(self) -> list[str]:
+        """The commands that are suggested, each in a line of its own."""
+        return [line.strip() for line in (self.out + self.err).splitlines() if line.startswith(f"    {CALLED} ")]
 
 
 class Desk:
@@ -61,15 +77,37 @@ class Desk:
         }  # fmt: skip
         command = [str(TOP / "society/society"), *words]
         done = subprocess.run(command, cwd=self.room, env=known, capture_output=True, timeout=SECONDS)
-        found = Done(done.returncode, done.stdout.decode(), done.stderr.decode())
+        found = Done(done.returncode, done.stdout.decode(), done.stderr.decode(), self.report(words))
         is_well = "Traceback" not in found.err and "fault of the front desk" not in found.err
         assert is_well, f"{words}: {found}"
         return found
+
+    def report(self, words: tuple[str, ...]) -> tuple[str, ...]:
+        """The sentences of the report of the book that the words name."""
+        path = self.room / (words[words.index("--book") + 1] if "--book" in words else "book") / "report.csv"
+        if words[:1] != ("take",) or not path.is_file():
+            return ()
+        text = path.read_text(encoding="utf-8-sig")
+        rows = csv.DictReader(io.StringIO(text), delimiter=text[4])
+        return tuple(
+            (f"line {row['line']}: " if row["line"] else "")
+            + (f"{row['id']}: " if row["id"] else "")
+            + (f"{row['what']}: " if row["what"] != "left out" else "")
+            + row["why"]
+            for row in rows
+        )
 
     def good(self, *words: str) -> Done:
         done = self.run(*words)
         assert done.status == 0, f"{words}: {done}"
         return done
+
+    def typed(self, command: str) -> Done:
+        """A command as it is suggested, typed into a shell."""
+        known = {"PATH": os.environ["PATH"], "HERDBOOK": self.program, "LANG": "C"}
+        done = subprocess.run(["sh", "-c", command], cwd=self.room, env=known, capture_output=True, timeout=SECONDS)
+        assert done.returncode == 0, f"{command}: {done.stderr.decode()}"
+        return Done(done.returncode, done.stdout.decode(), done.stderr.decode())
 
     def write(self, name: str, text: str | bytes) -> str:
         (self.room / name).write_bytes(text if isinstance(text, bytes) else textwrap.dedent(text).encode())

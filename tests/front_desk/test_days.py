@@ -52,13 +52,12 @@ def test_texts_without_a_day(desk: Desk) -> None:
 def test_month_first(desk: Desk) -> None:
     """The option is told where a day shows that it is needed; it stays with the book."""
     sheet = TITLES + "a;F;03/25/2001;;;\nb;F;04/05/2004;;;\n"
-    desk.wrong(
-        "line 2: a: birth day: '03/25/2001' has the month first, so days with / can't be told from months: take this "
-        "again with --month-first",
+    done = desk.wrong(
+        "line 2: a: birth day: '03/25/2001' has the month first, so days with / can't be told from months",
         "take",
         desk.write("sheet.csv", sheet),
     )
-    desk.take(sheet, "--month-first")
+    desk.typed(done.commands()[0])
     assert desk.born() == {"a": "2001-03-25", "b": "2004-04-05"}
     assert "as at the last time: --month-first" in desk.take(sheet).out
     assert desk.born() == {"a": "2001-03-25", "b": "2004-04-05"}

@@ -21,7 +21,7 @@ def test_stray_byte_with_other_obstacles(desk: Desk) -> None:
     )
     done = desk.wrong("the byte FC isn't UTF-8", "take", desk.write("sheet.csv", data))
     assert "line 1: no column for dam is found" in done.err
-    assert len(done.err.splitlines()) == 2
+    assert len(done.err.partition("society: nothing is taken")[0].splitlines()) == 2
 
 
 def test_windows_letters_stay(desk: Desk) -> None:

@@ -32,8 +32,8 @@ def test_her_sheet(her: Secretary, desk: Desk) -> None:
     )
     assert f"line {her.line_of(her.grandsire)}: {her.grandsire}: {dam}" in done.out
     assert dam.count(">") == 2
-    assert f"line {her.line_of(her.undated)}: {her.undated}: inferred: birth day" in done.out
-    assert f"{her.imported}: added: the sire of " in done.out
+    assert f"line {her.line_of(her.undated)}: {her.undated}: inferred: birth day" in done.told
+    assert f"{her.imported}: added: the sire of " in done.told
 
 
 def test_her_list(her: Secretary, secretary_desk: Desk) -> None:
@@ -188,8 +188,8 @@ def test_ten_more_rows(her: Secretary, secretary_desk: Desk) -> None:
     assert ", 10 new, " in done.last
     assert ", 1 gone" in done.last
     done.tells(f"{gone['Ohrmarke']}: gone: it has no row any more, and stays in the book as it is")
-    assert "owner: Neuer Hof, Übersee, before " in done.out
-    assert "exit: 2020-12-31, before none" in done.out
+    assert "owner: Neuer Hof, Übersee, before " in done.told
+    assert "exit: 2020-12-31, before none" in done.told
     counts = re.findall(r"(\d+) (?:new|changed|inferred|left|added|gone)", done.last)
     # what is to be looked at is told, and not counted
     counted = [row for row in desk.table("book/report.csv") if row["what"] != "to look at"]

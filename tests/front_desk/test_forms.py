@@ -6,7 +6,7 @@ import datetime
 import openpyxl
 import pytest
 
-from front_desk.desk import Desk, NewDesk
+from front_desk.desk import CALLED, Desk, NewDesk
 
 
 GERMAN_TITLES = "Ohrmarke;Rufname;Geschlecht;geb. am;Vater;Mutter;Eigentümer;Abgangsdatum"
@@ -179,9 +179,10 @@ def test_named_words_for_sexes(desk: Desk) -> None:
     )
     told = (
         "3 of 4 cells that say something in the column 'sex' can't be read, the first in line 2: 'Schf' (2 "
-        "times), 'Bk': write M or F, or say which sex each word is, as --sexes Schf=m or Schf=f"
+        "times), 'Bk': write M or F, or say which sex each word is by --sexes"
     )
-    desk.wrong(told, "take", sheet, "--book", "own")
+    done = desk.wrong(told, "take", sheet, "--book", "own")
+    assert done.commands() == [f"{CALLED} take own.csv --book own --sexes Schf={sex}" for sex in "mf"]
     done = desk.good("take", sheet, "--book", "own", "--sexes", "bk=m,Schf=F", "--sexes", "0=m")
     sexes = [row["number"][6] for row in desk.table("own/ids.csv")]
     assert sorted(sexes) == list("FFFMM")

@@ -47,7 +47,7 @@ def test_goats(desk: Desk) -> None:
     done = desk.take(GOATS)
     done.tells(
         (
-            "words for sexes are taken for longer ones of the same column: 'B' for 'Bock', 'B.' for 'Bock', 'Z' for"
+            "to look at: words for sexes are taken for longer ones of the same column: 'B' for 'Bock', 'B.' for 'Bock', 'Z' for"
             " 'Ziege'"
         ),
         (
@@ -62,11 +62,12 @@ def test_goats(desk: Desk) -> None:
         ),
         "CH 120.1150.8: inferred: birth day 2016-05-09, from its offspring (line 6 names it)",
         (
-            "1 of 9 cells that say something in the column 'Geschlecht' can't be read, the first in line 10: "
-            "'Q': write M or F, or say which sex each word is, as --sexes Q=m or Q=f"
+            "to look at: 1 of 9 cells that say something in the column 'Geschlecht' can't be read, the first in line 10: "
+            "'Q': write M or F, or say which sex each word is by --sexes: if 'Q' is male, say --sexes Q=m; if 'Q' is "
+            "female, say --sexes Q=f"
         ),
         (
-            "an exit without a day stands in 1 of 2 cells that tell of an exit in the column 'Abgang', the "
+            "to look at: an exit without a day stands in 1 of 2 cells that tell of an exit in the column 'Abgang', the "
             f"first in line 6: 'verkauft': {without_day('verkauft')}"
         ),
         "line 10: CH 120.1160.5: the row is left out: its sex can't be read, and no animal has it as a parent",
@@ -191,7 +192,7 @@ def test_exits_in_words(desk: Desk) -> None:
         id = f"a{at}"
         found = left.get(desk.numbers()[id], "gone" if id in unknown else "")
         assert found == wanted, f"exit {cell!r}: {found!r}; wanted {wanted!r}"
-        assert (f": {id}: " in done.out) == bool(wanted and cell[:4] != "2021"), f"exit {cell!r} is told: {done}"
+        assert (f": {id}: " in done.told) == bool(wanted and cell[:4] != "2021"), f"exit {cell!r} is told: {done}"
     done.tells(
         (
             "line 13: a11: its exit is left out: '12.11.22' has two digits of the year: write all four; the "
@@ -206,13 +207,13 @@ def test_exits_in_words(desk: Desk) -> None:
             "counts as gone"
         ),
         (
-            "2 of 15 cells that tell of an exit in the column 'exit' can't be read, the first in line 13: "
+            "to look at: 2 of 15 cells that tell of an exit in the column 'exit' can't be read, the first in line 13: "
             "'12.11.22', 'about 1950': write days as 2001-03-01 or 01.03.2001, a word such as sold, verkauft or "
             "vendu where the day isn't known, and nothing or alive, lebt or vivant where the animal hasn't left; "
-            "or name another column, as --columns exit=TITLE, or none, as --columns exit="
+            "or name another column by --columns: if no column tells of exits, say --columns exit="
         ),
         (
-            "an exit without a day stands in 5 of 15 cells that tell of an exit in the column 'exit', the "
+            "to look at: an exit without a day stands in 5 of 15 cells that tell of an exit in the column 'exit', the "
             "first in line 10: 'sold 3.4.2020, died 5.6.2021', 'tot', 'sold for 2020 EUR', 'verkauft 12.11.22', "
             f"'ja': {without_day('sold')}"
         ),
@@ -233,7 +234,7 @@ def test_exits_in_words_alone(desk: Desk) -> None:
 
     done = desk.take(sheet("verkauft", "tot", "verkauft", "sold", "vendu", "lebt", "alive", "vivant", ""))
     done.tells(
-        "an exit without a day stands in 5 of 5 cells that tell of an exit in the column 'Abgang', the "
+        "to look at: an exit without a day stands in 5 of 5 cells that tell of an exit in the column 'Abgang', the "
         f"first in line 2: 'verkauft' (2 times), 'tot', 'sold', 'vendu': {without_day('verkauft')}"
     )
     assert "can't be read" not in done.out
@@ -267,18 +268,19 @@ def test_remembered(desk: Desk) -> None:
 
 
 def test_many_lines(desk: Desk) -> None:
-    """Of more than 25 lines of a kind the rest stands in the report, which a German spreadsheet opens."""
+    """The report has all lines of a kind, and a German spreadsheet opens it."""
     rows = (
         "".join(f"{at};F;2001-01-01;;;sold {at}\n" for at in range(40))
         + "mate;F;2001-01-01;dam;;\ndam;F;1999-01-01;;;\n"
     )
     done = desk.take("id;sex;born;sire;dam;exit\n" + rows, "--semicolons")
     done.tells(
-        "and 14 more left out (cells): book/report.csv has all 39",
+        "line 41: 39: its exit is left out: 'sold 39' has no single day with a year of four digits; the animal counts as "
+        "gone",
         "line 42: mate: its sire dam (line 43) is left out: it isn't male (refusal 5)",
     )
     text = (desk.room / "book/report.csv").read_bytes()
-    assert text.startswith(b"\xef\xbb\xbfline;id;what;why;change\n2;0;left out;")
+    assert text.startswith(b"\xef\xbb\xbfline;id;what;why;change\n;;to look at;") and b"\n2;0;left out;" in text
     assert text.count(b";left out;") == 41
     shown = "id;name;sex;born;sire;dam\n1;Max;M;2001-01-01;;\n2;Max;M;2001-01-01;;\n3;;F;2005-01-01;Max;\n"
     desk.take(shown, "--book", "names")

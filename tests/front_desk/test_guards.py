@@ -1,9 +1,11 @@
 """Sheets that look like another one than the book's aren't taken, but by `--anyway`."""
 from __future__ import annotations
 
+import shlex
+
 import pytest
 
-from front_desk.desk import Desk
+from front_desk.desk import CALLED, Desk
 
 TITLES = "Ohrmarke;Name;Geburtsdatum;Vater;Mutter"
 
@@ -26,8 +28,9 @@ def refused(desk: Desk, text: str, *told: str, words: tuple[str, ...] = ()) -> N
     name = desk.write("other.csv", text)
     done = desk.wrong(told[0], "take", name, *words)
     assert all(one in done.err for one in told), done
-    assert "take this again with --anyway" in done.err
-    desk.good("take", name, "--anyway", *words)
+    anyway = done.commands()[-1]
+    assert anyway == f"{CALLED} take {shlex.join([name, *words])} --anyway"
+    desk.typed(anyway)
 
 
 @pytest.fixture
@@ -40,7 +43,7 @@ def taken(desk: Desk) -> Desk:
 def test_another_flock(taken: Desk, words: tuple[str, ...]) -> None:
     refused(
         taken, sheet(flock("B")), "60 of the 60 animals that had a row in the last sheet have none in this one: it looks "
-        "like the sheet of another flock: name its book, as --book FOLDER", words=words,
+        "like the sheet of another flock: name its book by --book", words=words,
     )  # fmt: skip
 
 
@@ -48,7 +51,8 @@ def test_another_id(taken: Desk) -> None:
     """The same animals, with another column of ids under the same title, and without the book's column."""
     others = [row.replace("A", "Z", 1) for row in flock("A")]
     told = (
-        "it looks like the same animals with another id: name the column that has the book's ids, as --columns id=TITLE"
+        "it looks like the same animals with another id: name the column that has the book's ids by --columns, with id= "
+        "and its title"
     )
     refused(taken, sheet(others), told)
 

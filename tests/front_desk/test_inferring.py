@@ -1,7 +1,7 @@
 """What is inferred where a sheet doesn't give it."""
 from __future__ import annotations
 
-from front_desk.desk import Desk
+from front_desk.desk import CALLED, Desk
 
 
 def test_inferred_days(desk: Desk) -> None:
@@ -241,7 +241,7 @@ def test_named_parent_that_comes_later(desk: Desk) -> None:
         f"Hans: gone: {stays}",
     )
     assert ", 1 gone: " in done.last
-    assert "with --drop-gone they are dropped" in done.out
+    assert done.commands() == [f"{CALLED} take sheet.csv --drop-gone"]
     why = "as in the book, where it was inferred: from its offspring"
     done.tells(f"Hans: inferred: birth day 2002-01-01, {why}")
     assert desk.numbers()["Hans"] == "HOLGBRM000000000001"

@@ -1,7 +1,7 @@
 """What is taken as it stands, and told for somebody to look at."""
 from __future__ import annotations
 
-from front_desk.desk import Desk
+from front_desk.desk import CALLED, Desk
 
 TITLES = "id;sex;birth;sire;dam;exit\n"
 PARENTS = "s;M;2001-03-01;;;\nd;F;2001-03-02;;;\n"
@@ -10,23 +10,29 @@ PARENTS = "s;M;2001-03-01;;;\nd;F;2001-03-02;;;\n"
 def test_young_parents(desk: Desk) -> None:
     rows = PARENTS + "c;M;2001-07-29;s;d;\n"
     done = desk.take(TITLES + rows)
-    done.tells(
-        "line 4: c: to look at: its sire s (line 2) was 150 days old at its birth, less than 180: if that can be, say --youngest 150",
-        "line 4: c: to look at: its dam d (line 3) was 149 days old at its birth, less than 180: if that can be, say --youngest 149",
+    done.shows(
+        "line 4: c: to look at: its sire s (line 2) was 150 days old at its birth, less than 180",
+        "line 4: c: to look at: its dam d (line 3) was 149 days old at its birth, less than 180",
     )
     assert desk.parents()["c"] == ("s", "d")
     assert "to look at" not in desk.take(TITLES + rows, "--youngest", "149").out
     # the limit stays with the book
     assert "to look at" not in desk.take(TITLES + rows).out
-    assert "less than 300: if that can be, say --youngest 149" in desk.take(TITLES + rows, "--youngest", "300").out
+    done = desk.take(TITLES + rows, "--youngest", "300")
+    done.tells(
+        "line 4: c: to look at: its dam d (line 3) was 149 days old at its birth, less than 300: if that can be, say "
+        "--youngest 149"
+    )
+    # the one command is for both parents, and takes back what was said
+    assert done.commands() == [f"{CALLED} take sheet.csv --youngest 149"]
 
 
 def test_births_of_one_dam(desk: Desk) -> None:
     """Twins are born on one day or nearly; other births are months apart."""
     rows = PARENTS + "c1;M;2003-03-01;s;d;\nc2;F;2003-03-02;s;d;\nc3;F;2003-05-30;s;d;\n"
     done = desk.take(TITLES + rows)
-    told = "line 6: c3: to look at: its dam d bore c2 (line 5) 89 days before, less than 100: if that can be, say --apart 89"
-    done.tells(told)
+    done.shows("line 6: c3: to look at: its dam d bore c2 (line 5) 89 days before, less than 100")
+    assert done.commands() == [f"{CALLED} take sheet.csv --apart 89"]
     assert done.out.count("to look at") == 1
     assert "to look at" not in desk.take(TITLES + rows, "--apart", "60").out
 
@@ -42,7 +48,10 @@ def test_sire_that_left(desk: Desk) -> None:
 
 def test_castrated_sire(desk: Desk) -> None:
     """It is told, and advice passes it over, also where a later sheet has no column for the sex."""
-    rows = "w;Hammel;2001-03-01;;;\nr;ram;2001-03-01;;;\nd;ewe;2001-03-02;;;\nc1;ram;2003-03-01;w;d;\nc2;ewe;2003-03-01;w;d;\n"
+    rows = (
+        "w;Hammel;2001-03-01;;;\nr;ram;2001-03-01;;;\nd;ewe;2001-03-02;;;\nc1;ram;2003-03-01;w;d;\n"
+        "c2;ewe;2003-03-01;w;d;\n"
+    )
     done = desk.take(TITLES + rows)
     done.tells("line 2: w: to look at: it is the sire of c1 (line 5) and of 1 more, and its sex is 'Hammel'")
     for _ in range(2):
@@ -63,11 +72,20 @@ def test_old_animal_as_living(desk: Desk) -> None:
 
 
 def test_what_may_be_wrong_comes_first(desk: Desk) -> None:
-    """No more than a screen is printed; the rest is in the report."""
+    """A screen is printed, 24 rows of 80 letters: what does most harm stands first, then a sentence of each kind, and
+    how many more there are. The rest is in the report."""
     rows = "".join(f"a{at};F;20{at % 20:02};;;sold\n" for at in range(60)) + PARENTS + "c;M;2001-07-29;s;d;\n"
+    rows += "".join(f"n{at};F;2001-08-01;s;d;\n" for at in range(30)) + "s;M;2001-03-01;;;\n;M;2001;;;\n"
     done = desk.take(TITLES + rows)
     lines = done.out.splitlines()
-    assert "to look at" in next(line for line in lines if line.startswith("line "))
-    assert len(lines) < 50
-    assert any(line.endswith(" more inferred: book/report.csv has all 60") for line in lines)
-    assert len(desk.table("book/report.csv")) == 122
+    assert sum(-(-len(line) // 80) for line in lines) <= 24
+    kinds = [
+        "line 95: s: the row is left out",
+        "line 96: the row is left out",
+        "line 64: c: to look at: its sire s (line 62)",
+    ]
+    places = [next(at for at, line in enumerate(lines) if line.startswith(kind)) for kind in kinds]
+    assert places == sorted(places) and places[0] == 0
+    exits = next(at for at, line in enumerate(lines) if "an exit without a day stands in" in line)
+    assert exits > places[-1]
+    assert sum(row["what"] == "left out" for row in desk.table("book/report.csv")) == 62

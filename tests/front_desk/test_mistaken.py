@@ -16,8 +16,8 @@ SHEETS: list[tuple[str | bytes, str]] = [
     (
         "id,born\na,2001\n",
         (
-            "line 1: no column for sire or dam is found. The titles are 'id', 'born'. Say which it is, as "
-            "--columns sire=TITLE,dam=TITLE"
+            "line 1: no column for sire or dam is found. The titles are 'id', 'born'. Say which it is by --columns, "
+            "with the field, = and its title"
         ),
     ),
     ("ab,cd\n1,2\n", "line 1: no column for id or birth or sire or dam is found"),

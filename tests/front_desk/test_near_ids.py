@@ -27,7 +27,10 @@ def test_more_than_one_is_meant(desk: Desk) -> None:
 
 def test_rows_that_are_alike(desk: Desk) -> None:
     """They are told at each taking."""
-    told = "line 4: de 08: to look at: its id differs from DE 8 (line 3) in case, blanks or zeros alone: are they one animal?"
+    told = (
+        "line 4: de 08: to look at: its id differs from DE 8 (line 3) in case, blanks or zeros alone: are they one "
+        "animal?"
+    )
     for _ in range(2):
         desk.take(TITLES + FLOCK + "de 08;Eva;F;2001-03-02;;\n").tells(told)
 
@@ -35,13 +38,10 @@ def test_rows_that_are_alike(desk: Desk) -> None:
 def test_words_for_parents(desk: Desk) -> None:
     """A word that is no id and stands for parents of several animals is told at each taking, with the option."""
     rows = FLOCK + "c1;;F;2004-01-01;Fremdbock;DE 8\nc2;;F;2004-01-02;Fremdbock;\nc3;;F;2004-01-02;X1;\n"
-    told = (
-        "Fremdbock has no row, and is the sire of 2: if it means an unknown parent, take this again with "
-        "--unknown=Fremdbock --drop-gone"
-    )
     for _ in range(2):
-        desk.take(TITLES + rows).tells(told)
-    done = desk.take(TITLES + rows, "--unknown=Fremdbock", "--drop-gone")
+        done = desk.take(TITLES + rows)
+        done.shows("to look at: Fremdbock has no row, and is the sire of 2", "  if it means an unknown parent:")
+    done = desk.typed(done.commands()[0])
     assert "Fremdbock has no row" not in done.out
     assert desk.parents()["c1"] == ("", "DE 8")
     done = desk.take(TITLES + rows, "--known", "Fremdbock")
@@ -59,7 +59,7 @@ def test_tag_used_again(desk: Desk) -> None:
         done.tells(
             "line 3: DE 8: the row is left out: the book has this id for another animal ('Eva', born 2001-03-02; here "
             "'Ida', born 2012-03-02); as a parent in line 5 it means the first: if the tag was used again, give this one "
-            "another id; if it is the same animal, take this again with --anyway"
+            "another id: if it is the same animal, say --anyway"
         )
         assert desk.parents()["c1"] == ("DE 007", "DE 8")
         assert desk.born()["DE 8"] == "2001-03-02"

@@ -3,7 +3,7 @@ from __future__ import annotations
 
 import datetime
 
-from front_desk.desk import Desk
+from front_desk.desk import CALLED, Desk
 
 TITLES = "id;sex;birth;sire;dam;owner;exit\n"
 PARENTS = "s;M;2001-03-01;;;Meier;\nd;F;2001-03-02;;;Meier;\n"
@@ -80,8 +80,13 @@ def test_owner_is_written_otherwise(desk: Desk) -> None:
                "--owner", "Maier=Meyer")  # fmt: skip
     renamed = TITLES + PARENTS.replace("Meier", "Meyer")
     done = desk.good("take", desk.write("sheet.csv", renamed), "--preview")
-    assert "the 2 animals of 'Meier' are now of 'Meyer', whom the book didn't have: if the name is only" in done.out
-    done = desk.take(renamed, "--owner", "Meier=Meyer")
+    told = "to look at: the 2 animals of 'Meier' are now of 'Meyer', whom the book didn't have"
+    done.shows(told, "  if the name is only written otherwise:")
+    assert done.commands() == [f"{CALLED} take sheet.csv --preview --owner Meier=Meyer"]
+    # what is taken is undone first
+    done = desk.good("take", "sheet.csv")
+    done.shows(told)
+    done = desk.typed(done.commands()[0])
     assert " 0 changed" in done.last
     assert transfers(desk) == []
     assert " 0 changed" in desk.take(renamed).last
@@ -159,7 +164,7 @@ def test_preview(desk: Desk) -> None:
     commands = desk.commands()
     done = desk.good("take", changed, "--preview")
     done.tells(
-        "line 4: c: to look at: its dam d (line 3) was 60 days old at its birth, less than 180: if that can be, say --youngest 60",
+        "line 4: c: to look at: its dam d (line 3) was 60 days old at its birth, less than 180",
         "line 3: d: changed: birth day: 2002-03-02, before 2001-03-02",
     )
     assert "a preview, nothing is written: book: 3 animals, 1 new, 1 changed" in done.last
@@ -172,5 +177,5 @@ def test_preview_of_another_flock(desk: Desk) -> None:
     other = rows.replace("a", "b").replace("2001", "2002")
     done = desk.good("take", desk.write("other.csv", TITLES + other), "--preview")
     assert "it looks like the sheet of another flock" in done.out
-    assert "nothing is taken: where it is right all the same" in done.out
+    done.shows("nothing is taken", "  if it is right all the same:")
     assert "a preview, nothing is written: book: 40 animals, 20 new, " in done.last

@@ -3,7 +3,7 @@ from __future__ import annotations
 
 import pytest
 
-from front_desk.desk import Desk
+from front_desk.desk import CALLED, Desk
 
 SHEETS = {
     "dogs": (
@@ -50,7 +50,7 @@ def test_obstacles_together(desk: Desk) -> None:
     rows = "".join(f"a{at};q;03/25/2001;;sold\n" for at in range(3))
     sheet = desk.write("sheet.csv", f"id;sex;birth;sire;exit\n{rows}b;F;2004-01-01;2,76E+14;\n")
     done = desk.wrong("line 1: no column for dam is found", "take", sheet)
-    told = done.err.splitlines()
+    told = done.err.partition("society: nothing is taken")[0].splitlines()
     assert len(told) == 4
     assert any("line 2: a0: birth day: '03/25/2001' has the month first (3 such days)" in one for one in told)
     assert any("'2,76E+14' is a long number that the spreadsheet has cut" in one for one in told)
@@ -96,7 +96,8 @@ def test_likelier_column_comes_later(desk: Desk) -> None:
     """What the book remembers of the other columns is used again, and a likelier one is told."""
     desk.take("id;birth;sire;dam;Abgang\na;2001-01-01;;;01.02.2010\n")
     done = desk.take("id;birth;sire;dam;Abgangsdatum;Abgang\na;2001-01-01;;;;01.02.2010\n")
-    assert "exit is read from 'Abgang', as at the last time, and 'Abgangsdatum' isn't: if that is the one" in done.out
+    done.shows("to look at: exit is read from 'Abgang', as at the last time, and 'Abgangsdatum' isn't")
+    assert done.commands() == [f"{CALLED} take sheet.csv --columns exit=Abgangsdatum"]
     assert sum(line.startswith("exit") for line in desk.commands()) == 1
 
 

@@ -7,7 +7,7 @@ import re
 
 import pytest
 
-from front_desk.desk import TOP, Desk, Done
+from front_desk.desk import CALLED, TOP, Desk, Done
 from society.reading.animal import Animal
 from society.taking.long_paths import Paths
 
@@ -56,10 +56,8 @@ def test_random_pedigrees(desk: Desk) -> None:
     swaps = lost = couples = 0
     for seed in range(40):
         rows = random_rows(seed)
-        # no more than 25 of a kind are printed
         pedigree = desk.write("random.txt", text_of(rows))
         done = desk.good("take", "--pedigree", pedigree, "--book", f"book{seed}", "--leave-out")
-        assert "and " not in [line[:4] for line in done.out.splitlines()], f"{seed}: too many are told"
         counts = as_told(desk, rows, done, f"book{seed}")
         swaps, lost, couples = swaps + counts[0], lost + counts[1], couples + counts[2]
     assert swaps > 9
@@ -69,14 +67,14 @@ def test_random_pedigrees(desk: Desk) -> None:
 
 def as_told(desk: Desk, rows: Rows, done: Done, book: str) -> tuple[int, int, int]:
     """Compares what is told with the file's lines and with the book's parents; counts swaps and lost links."""
-    told = {row[0]: row[1:] for row in rows}
-    lost = LOST.findall(done.out)
+    told, report = {row[0]: row[1:] for row in rows}, "\n".join(done.report)
+    lost = LOST.findall(report)
     for line, id, role, parent in lost:
         at = ["sire", "dam"].index(role)
         assert rows[int(line) - 1][0] == id, f"{book}: line {line} has no {role} {parent}: {rows}"
         assert rows[int(line) - 1][1 + at] == parent, f"{book}: line {line} has no {role} {parent}: {rows}"
         told[id] = [parent if at != place else "0" for place, parent in enumerate(told[id])]
-    taken = TAKEN.findall(done.out)
+    taken = TAKEN.findall(report)
     for line, id, sire, dam, both, mate, as_sire, as_dam in taken:
         assert rows[int(line) - 1][0] == id, f"{book}: {id}: {told[id]} was taken with {sire}, {dam}"
         assert [dam, sire] == [one.replace("0", "unknown") if one == "0" else one for one in told[id]]
@@ -84,7 +82,7 @@ def as_told(desk: Desk, rows: Rows, done: Done, book: str) -> tuple[int, int, in
         assert rows[int(as_sire) - 1][1] == both == rows[int(as_dam) - 1][2]
         told[id].reverse()
     assert {id: tuple(pair) for id, pair in told.items()} == parents_in(desk, book)
-    fits = [line for line in done.out.splitlines() if "no choice of sexes fits all of the couples " in line]
+    fits = [line for line in done.report if "no choice of sexes fits all of the couples " in line]
     for line in fits:
         couples = COUPLE.findall(line.split("couples ")[1].replace(",", ""))
         right = all({one, other} == set(rows[int(at) - 1][1:]) for one, other, at in couples)
@@ -179,13 +177,14 @@ def test_id_in_several_lines(desk: Desk) -> None:
 def test_unknown_words(desk: Desk) -> None:
     """A parent without a row that is a sire and a dam of many may mean an unknown one; `--unknown` takes it."""
     pedigree = desk.write("nine.txt", "a -7 -7\nb -7 -7\nc a b\nd 07 b\n")
-    advice = (
-        "-7 has no row, and is the sire of 2 and the dam of 2: if it means an unknown parent, take this again with "
-        "--unknown=-7 --drop-gone"
-    )
-    assert advice in desk.wrong("1 animal is both sire and dam: -7", "take", "--pedigree", pedigree).err
+    advice = "-7 has no row, and is the sire of 2 and the dam of 2"
+    command = f"{CALLED} take --pedigree nine.txt --unknown=-7 --drop-gone"
+    done = desk.wrong("1 animal is both sire and dam: -7", "take", "--pedigree", pedigree)
+    assert advice in done.err and command in done.commands()
     taken = "take", "--pedigree", pedigree, "--leave-out"
-    desk.good(*taken).tells(advice)
+    done = desk.good(*taken)
+    done.shows(f"to look at: {advice}")
+    assert command.replace("--unknown", "--leave-out --unknown") in done.commands()
     done = desk.wrong("2 left out (2 parents): with --strict nothing is taken", *taken, "--strict")
     assert advice in done.err
     done = desk.good("take", "--pedigree", pedigree, "--unknown=-7,07", "--drop-gone")
@@ -201,11 +200,9 @@ def test_unknown_words(desk: Desk) -> None:
 
 def test_unknown_words_in_a_sheet(desk: Desk) -> None:
     done = desk.take("id,born,sire,dam\na,2001,fremd,fremd\nb,2002,fremd,\nc,2003,n b,n b\nd,2004,x,x\ne,2005,n b,\n")
-    assert (
-        "fremd has no row, and is the sire of 2 and the dam of 1: if it means an unknown parent, take this again "
-        "with --unknown=fremd --drop-gone" in done.out
-    )
-    assert "with --unknown='n b' --drop-gone" in done.out
+    done.shows("to look at: fremd has no row, and is the sire of 2 and the dam of 1")
+    commands = [f"{CALLED} take sheet.csv --unknown {word} --drop-gone" for word in ("fremd", "'n b'")]
+    assert done.commands() == commands
     assert "x has no row, and is" not in done.out
 
 

@@ -44,11 +44,12 @@ def test_two_worksheets_fit(desk: Desk, workbook: openpyxl.Workbook) -> None:
     for row in [TITLES, ROWS[0]]:
         other.append(row)
     save(desk, workbook)
-    told = "2 worksheets have titles that fit ('Tiere', 'Stand 2019'): say which one is taken, as --worksheet 'Tiere'"
-    desk.wrong(told, "take", "sheet.xlsx")
-    desk.wrong("has no worksheet 'Schafe', which --worksheet names: it has 'Deckblatt', 'Tiere', 'Stand 2019'",
-               "take", "sheet.xlsx", "--worksheet", "Schafe")  # fmt: skip
-    assert "1 animal" in desk.good("take", "sheet.xlsx", "--worksheet", "Stand 2019").last
+    told = "2 worksheets have titles that fit ('Tiere', 'Stand 2019'): say which one is taken by --worksheet"
+    done = desk.wrong(told, "take", "sheet.xlsx")
+    assert len(done.commands()) == 2
+    lacks = "has no worksheet 'Schafe', which --worksheet names: it has 'Deckblatt', 'Tiere', 'Stand 2019'"
+    done = desk.wrong(lacks, "take", "sheet.xlsx", "--worksheet", "Schafe")
+    assert "1 animal" in desk.typed(done.commands()[2]).last
 
 
 def test_formula_without_value(desk: Desk, workbook: openpyxl.Workbook) -> None:

@@ -68,6 +68,9 @@ def add_words(words: Words) -> None:
         "--month-first", action="store_true", help="days such as 03/25/2001 have the month first [the day], also later"
     )
     take.add_argument(
+        "--day-first", action="store_true", help="such days have the day first: takes back --month-first of before"
+    )
+    take.add_argument(
         "--anyway", action="store_true",
         help="take the sheet though it looks like another one than the book's: another flock, another id, an older one",
     )  # fmt: skip
@@ -109,6 +112,7 @@ def do_take(asked: argparse.Namespace) -> None:
         asked.book, asked.columns, asked.unknown, asked.sexes, asked.breed or "", asked.country or "", asked.day,
         asked.strict, asked.drop_gone, asked.semicolons, asked.keep, asked.leave_out, asked.worksheet,
         asked.month_first, asked.anyway, asked.preview, asked.youngest, asked.apart, asked.known, asked.owner,
+        asked.day_first,
     )  # fmt: skip
     if asked.sheet and is_workbook(asked.sheet):
         need(Group.WORKBOOKS, ": or save the sheet as CSV, and take that")

@@ -1,0 +1,141 @@
+"""What is found of a sheet's titles and columns: each kind as data, and in words."""
+from __future__ import annotations
+
+from dataclasses import dataclass
+
+from society.book.changes import Option
+from society.book.kinds import Field
+from society.reading.titles import title_list
+from society.taking.harm import Harm
+from society.taking.report import Finding, What
+from society.taking.suggestions import Suggestion
+
+
+class SheetFinding(Finding):
+    """Of a sheet as a whole: it is taken as it stands, and may be wrong, or it keeps the sheet from being taken."""
+
+    what = What.LOOK
+    harm = Harm.FACTS
+
+
+def column(field: str, title: str) -> Option:
+    return Option("--columns", f"{field}={title}")
+
+
+@dataclass(frozen=True, slots=True)
+class TitleTwice(SheetFinding):
+    """Columns, counted from 1, that have one title."""
+
+    title: str
+    columns: tuple[int, ...]
+    have_same_cells: bool
+
+    def words(self) -> str:
+        numbers = " and ".join(map(str, self.columns))
+        what = "which have the same cells" if self.have_same_cells else "with other cells: only the first can be read"
+        return f"the title '{self.title}' stands in the columns {numbers}, {what}"
+
+
+@dataclass(frozen=True, slots=True)
+class TellsNoExits(SheetFinding):
+    """A column whose title may be that of exits, and whose cells mostly tell of none."""
+
+    title: str
+
+    def words(self) -> str:
+        return f"the column '{self.title}' isn't read, since most of its cells tell of no exit"
+
+    def suggestions(self) -> tuple[Suggestion, ...]:
+        return (Suggestion("if it has the exits", (column(Field.EXIT, self.title),)),)
+
+
+@dataclass(frozen=True, slots=True)
+class LikelierColumn(SheetFinding):
+    """A column is read as at the last time, and the sheet has one besides whose title is likelier."""
+
+    field: Field
+    title: str
+    other: str
+
+    def words(self) -> str:
+        return f"{self.field} is read from '{self.title}', as at the last time, and '{self.other}' isn't"
+
+    def suggestions(self) -> tuple[Suggestion, ...]:
+        return (Suggestion(f"if '{self.other}' is the one", (column(self.field, self.other),)),)
+
+
+@dataclass(frozen=True, slots=True)
+class IdsMoved(SheetFinding):
+    """The ids of the book are in a column that had another title."""
+
+    title: str
+    before: str
+
+    harm = Harm.ANIMALS
+
+    def words(self) -> str:
+        return f"the ids of the book are in the column '{self.title}': they were in '{self.before}'"
+
+
+@dataclass(frozen=True, slots=True)
+class IdsFromOther(SheetFinding):
+    """The parents' cells are found in another column than that whose title is the likeliest for ids."""
+
+    title: str
+    found: int
+    usual: str
+
+    harm = Harm.ANIMALS
+
+    def words(self) -> str:
+        return (
+            f"the ids are read from '{self.title}', since {self.found} of the parents' cells are found there, and not "
+            f"from '{self.usual}'"
+        )
+
+    def suggestions(self) -> tuple[Suggestion, ...]:
+        return (Suggestion(f"if '{self.usual}' has the ids", (column(Field.ID, self.usual),)),)
+
+
+@dataclass(frozen=True, slots=True)
+class NamedColumnLacks(SheetFinding):
+    """A title that an option names isn't there; `meant` is the one that is nearest to it, if one is near."""
+
+    line: int
+    field: Field
+    title: str
+    titles: tuple[str, ...]
+    meant: str
+
+    def words(self) -> str:
+        return (
+            f"line {self.line}: there is no column '{self.title}', which --columns names for {self.field}. The titles are "
+            f"{title_list(self.titles)}"
+        )
+
+    def suggestions(self) -> tuple[Suggestion, ...]:
+        if not self.meant:
+            return ()
+        return (Suggestion(f"if '{self.meant}' is meant", (column(self.field, self.meant),)),)
+
+
+@dataclass(frozen=True, slots=True)
+class ColumnsLack(SheetFinding):
+    """No column is found for fields that a sheet has to have."""
+
+    line: int
+    fields: tuple[Field, ...]
+    titles: tuple[str, ...]
+
+    def words(self) -> str:
+        return (
+            f"line {self.line}: no column for {' or '.join(self.fields)} is found. The titles are "
+            f"{title_list(self.titles)}. Say which it is by --columns, with the field, = and its title"
+        )
+
+    def suggestions(self) -> tuple[Suggestion, ...]:
+        if Field.ID in self.fields:
+            return ()
+        none = ",".join(f"{field}=" for field in self.fields)
+        which = "there is none" if len(self.fields) == 1 else "there are none"
+        return (Suggestion(f"if {which}", (Option("--columns", none),)),)
