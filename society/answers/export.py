@@ -1,6 +1,7 @@
 """The whole pedigree as a file, by the society's ids and in age order."""
 from __future__ import annotations
 
+import functools
 import json
 import re
 from collections.abc import Iterable, Sequence
@@ -9,36 +10,51 @@ from society.answers.list_columns import Column, LIST_COLUMNS, parent
 from society.answers.made_columns import as_it_is, each, made_table
 from society.answers.table import Kind, Table
 from society.book.book import Book
+from society.book.inferred import SexSource
 from society.book.known import Known
 from society.book.old_words import STANDINGS
-from society.book.rows import SEX_SOURCES, birth_basis, exit_basis
+from society.book.rows import birth_basis, exit_basis
 from society.book.selecting import known_parents
 from society.pedigree_order import ancestors
 
 
-def sex_letter(number: str) -> str:
+# words by what a row of the table has
+STANDING_WORDS = {standing.value: words for standing, words in STANDINGS.items()}
+SEX_WORDS = {source.value: source.words() for source in SexSource}
+
+
+def sex_of(number: str) -> str:
     return number[6]
 
 
-WORDS_OF_STANDING = {standing.value: words for standing, words in STANDINGS.items()}
+@functools.lru_cache(maxsize=4096)
+def birth_words(source: str, period: str | None, no_such_day: str | None) -> str:
+    return birth_basis(source, period, no_such_day).words()
+
+
+@functools.lru_cache(maxsize=4096)
+def exit_words(source: str, period: str | None, no_such_day: str | None, text: str | None) -> str:
+    return exit_basis(source, period, no_such_day, text).words()
+
+
 COLUMNS = (
     as_it_is("id", "id", Kind.TEXT),
     as_it_is("name", "name", Kind.TEXT),
-    each("sex", Kind.PLAIN, ("number",), sex_letter),
+    each("sex", Kind.PLAIN, ("number",), sex_of),
     as_it_is("birth", "born"),
     parent("sire"),
     parent("dam"),
     LIST_COLUMNS[Column.OWNER],
-    each("exit", Kind.PLAIN, ("departed",), lambda departed: departed or ""),
-    each("embryo", Kind.PLAIN, ("embryo",), lambda is_one: "1" if is_one else ""),
+    as_it_is("exit", "ifnull(departed, '')"),
+    as_it_is("embryo", "iif(embryo, '1', '')"),
     as_it_is("herdbook_number", "number"),
     LIST_COLUMNS[Column.COEFFICIENT],
     LIST_COLUMNS[Column.DECIMAL],
-    each("row_in_sheet", Kind.PLAIN, ("standing",), WORDS_OF_STANDING.__getitem__),
-    each("birth_from", Kind.PLAIN, ("birth_source", "birth_period", "birth_no_such_day"), lambda *of: birth_basis(*of).words()),
-    each("exit_from", Kind.TEXT, ("exit_source", "exit_period", "exit_no_such_day", "exit_text"), lambda *of: exit_basis(*of).words()),
-    each("sex_from", Kind.PLAIN, ("sex_source",), lambda source: SEX_SOURCES[source].words()),
-)  # fmt: skip
+    each("row_in_sheet", Kind.PLAIN, ("standing",), STANDING_WORDS.__getitem__),
+    each("birth_from", Kind.PLAIN, ("birth_source", "birth_period", "birth_no_such_day"), birth_words),
+    each("exit_from", Kind.TEXT, ("exit_source", "exit_period", "exit_no_such_day", "exit_text"), exit_words),
+    each("sex_from", Kind.PLAIN, ("sex_source",), SEX_WORDS.__getitem__),
+)
 # what stands for an unknown parent: R reads it as none
 UNKNOWN = "NA"
 

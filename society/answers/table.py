@@ -7,7 +7,7 @@ import io
 from collections.abc import Iterable, Sequence
 from dataclasses import dataclass
 
-from society.book.cells import for_spreadsheets
+from society.book.cells import FORMULA, for_spreadsheets
 
 # what stands in a cell
 Cell = str | int
@@ -57,9 +57,9 @@ class Table:
         return text.getvalue()
 
 
-def written_as(kind: Kind, cells: Iterable[Cell], semicolons: bool) -> Iterable[Cell]:
+def written_as(kind: Kind, cells: Sequence[Cell], semicolons: bool) -> Iterable[Cell]:
     """The cells of a column as they are written."""
-    if kind is Kind.TEXT:
+    if kind is Kind.TEXT and not FORMULA.isdisjoint({str(cell)[:1] for cell in cells}):
         return map(for_spreadsheets, map(str, cells))
     if kind is Kind.DECIMAL and semicolons:
         return (str(cell).replace(".", ",") for cell in cells)
