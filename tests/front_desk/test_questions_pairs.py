@@ -6,9 +6,14 @@ import io
 import itertools
 from fractions import Fraction
 
-import reference
-from front_desk.desk import Desk
+import pytest
 
+import reference
+from breed.drawn import drawn
+from front_desk.desk import Desk
+from society.breed.pedigree import UNKNOWN
+
+TITLES = ("id", "sex", "birth", ("sire", "dam"))
 SOME = ["GK-17/472c", "GK-02/119b", "GK-11/332b", "GK-98/005c", "GK-14/391c", "GK-18/487c", "IMP-7 (imported)"]
 
 
@@ -33,6 +38,42 @@ def test_kinship(society_desk: Desk) -> None:
         itertools.product(["GK-10/294b", "GK-09/271b"], SOME)
     )
     assert all(Fraction(row["relationship"]) == entry(numbers[row["id"]], numbers[row["with"]]) for row in with_some)
+
+
+@pytest.mark.parametrize("seed", range(2))
+def test_drawn_book(desk: Desk, seed: int) -> None:
+    """Each question on a drawn book, whose ids are no numbers, and whose animals are inbred."""
+    pedigree = drawn(seed, 24, back=8)
+    parents = {
+        f"No. {at}": tuple("" if rank == UNKNOWN else f"No. {rank}" for rank in ranks)
+        for at, ranks in enumerate(zip(pedigree.sires, pedigree.dams))
+    }
+    facts = zip(parents, ("FM"[male] for male in pedigree.are_male), map(str, pedigree.births), parents.values())
+    desk.take("".join(f"{','.join((id, sex, day, *both))}\n" for id, sex, day, both in [TITLES, *facts]))
+    numbers, entry = entries(desk)
+    ids = list(parents)
+    pairs = desk.listed("kinship", *ids)
+    assert [(row["id"], row["with"]) for row in pairs] == list(itertools.combinations_with_replacement(ids, 2))
+    for row in pairs:
+        assert Fraction(row["relationship"]) == entry(numbers[row["id"]], numbers[row["with"]])
+    coefficients = {id: str(entry(numbers[id], numbers[id]) - 1) for id in ids}
+    assert {row["id"]: row["coefficient"] for row in desk.listed("list")} == coefficients and len(
+        {*coefficients.values()}
+    ) > 3
+    matings = desk.listed(
+        "mating", "--dams", desk.write("dams.txt", "\n".join(id for id in ids if numbers[id][6] == "F"))
+    )
+    assert len(matings) == sum(pedigree.are_male) * (len(ids) - sum(pedigree.are_male))
+    for row in matings:
+        assert Fraction(row["coefficient"]) == entry(numbers[row["dam"]], numbers[row["sire"]]) / 2
+    most = max(ids, key=lambda id: Fraction(coefficients[id]))
+    advice = desk.listed("mating", "--dam", matings[0]["dam"])
+    assert [row["id"] for row in advice] == [row["sire"] for row in matings if row["dam"] == matings[0]["dam"]]
+    shown = desk.good("show", most).out
+    assert f"  coefficient   {coefficients[most]} = " in shown and f"  sire          {parents[most][0]}  " in shown
+    assert [row["id"] for row in desk.listed("find", "o. 1")] == [id for id in ids if id.startswith("No. 1")]
+    exported = {row["id"]: (row["sire"], row["dam"]) for row in desk.listed("export")}
+    assert exported == parents and list(exported) == ids
 
 
 def test_kinship_matrix(society_desk: Desk) -> None:
