@@ -51,8 +51,6 @@ class IdAgain(RowLeftOut):
     parents_there: tuple[str, str]
     parents_here: tuple[str, str]
     differing: tuple[tuple[str, str, str], ...]
-    # the one was born years after the other
-    is_used_again: bool = False
 
     def why(self) -> str:
         told = f"line {self.line} has this id too"
@@ -62,8 +60,7 @@ class IdAgain(RowLeftOut):
             )
             told += f", with other parents, which are taken ({there}; here they are {here})"
         cells = "; ".join(f"{name} '{here}', there '{there}'" for name, here, there in self.differing)
-        again = ": if the tag was used again, give one of them another id" if self.is_used_again else ""
-        return told + (f" ({cells})" if cells else "") + again
+        return told + (f" ({cells})" if cells else "")
 
 
 @dataclass(frozen=True, slots=True)

@@ -27,11 +27,10 @@ from society.reading.unread import Unread
 from society.reading.words import KNOWN_NO, KNOWN_SUMS, KNOWN_YES, plain
 from society.taking.look_findings import LikeASum
 from society.taking.report import Finding, Report
+from society.taking.used_tags import YEARS_LATER, tell_used_again
 
 # how a spreadsheet shows a long number that it has cut
 CUT = re.compile(r"\d[.,]?\d*E\+\d+", re.IGNORECASE)
-# animals of one id that are born so many days from one another are others
-YEARS_APART = 700
 # a formula in place of its value
 FORMULA = re.compile(r"=.+", re.DOTALL)
 
@@ -68,6 +67,8 @@ class Rows:
         """The animals by id, in the order of the rows."""
         found: dict[str, Animal] = {}
         first: dict[str, list[str]] = {}
+        # animals of other years that have the id of another one
+        others: list[Animal] = []
         titles = len(self.sheet.titles)
         # many sheets have empty cells at the end of all rows
         lengths = collections.Counter(len(cells) for _, cells in self.sheet.rows)
@@ -78,16 +79,28 @@ class Rows:
                 self.report.add(line, id, TooManyCells(len(cells), titles))
             elif id in self.unknown:
                 self.report.add(line, id, NoId(id))
-            elif id in found and self.is_of_book(id, cells) and not self.is_of_book(id, first[id]):
+            elif id not in found:
+                found[id], first[id] = self.animal(line, id, cells), cells
+            elif self.are_years_apart(found[id], cells):
+                others.append(self.of_two(found, self.animal(line, id, cells)))
+            elif self.is_of_book(id, cells) and not self.is_of_book(id, first[id]):
                 former, cells_before = found[id], first[id]
                 found[id], first[id] = self.animal(line, id, cells), cells
                 self.report.add(former.line, id, self.id_again(found[id], cells, cells_before))
-            elif id in found:
-                self.report.add(line, id, self.id_again(found[id], first[id], cells))
             else:
-                found[id], first[id] = self.animal(line, id, cells), cells
+                self.report.add(line, id, self.id_again(found[id], first[id], cells))
+        tell_used_again(found, others, self.report)
         self.look_at_all(found)
         return found
+
+    def of_two(self, found: dict[str, Animal], second: Animal) -> Animal:
+        """Of two animals with one id the one that the book has is taken, else the one that was born first; answers the
+        other."""
+        first = found[second.id]
+        days = [animal.birth.first for animal in (first, second)]
+        if self.born.get(second.id) == days[1] or (self.born.get(second.id) != days[0] and days[1] < days[0]):
+            found[second.id], second = second, first
+        return second
 
     def look_at_all(self, animals: dict[str, Animal]) -> None:
         """What is told of the sheet as a whole, and of rows that seem to count or to sum up."""
@@ -122,7 +135,7 @@ class Rows:
         pairs = [(name, self.cell(cells, name), self.cell(first, name)) for name in fields]
         differing = tuple((name, here, there) for name, here, there in pairs if here != there)
         here = self.parent(cells, Role.SIRE), self.parent(cells, Role.DAM)
-        return IdAgain(animal.line, (animal.sire, animal.dam), here, differing, self.are_years_apart(animal, cells))
+        return IdAgain(animal.line, (animal.sire, animal.dam), here, differing)
 
     def are_years_apart(self, animal: Animal, cells: list[str]) -> bool:
         """Was the animal of a second row of an id born years before or after that of the first?"""
@@ -131,7 +144,7 @@ class Rows:
         except Unreadable:
             return False
         is_known = here.is_day and animal.has_day()
-        return is_known and abs((here.first - animal.birth.first).days) >= YEARS_APART
+        return is_known and abs((here.first - animal.birth.first).days) >= YEARS_LATER
 
     def animal(self, line: int, id: str, cells: list[str]) -> Animal:
         said = {name: self.cell(cells, name) for name in self.columns}

@@ -26,6 +26,7 @@ from society.taking.screen import lines_of
 from society.taking.sentences import sentences_of
 from society.taking.suggestions import Call
 from society.taking.understood import Understood
+from society.taking.withdrawn_exits import tell_withdrawn_exits
 from society.taking.wishes import Wishes
 
 
@@ -60,12 +61,15 @@ def file(next_book: NextBook, program: Herdbook, wishes: Wishes, about: About) -
     if next_book.is_pedigree and not wishes.leave_out:
         refuse_lost_links(report)
     if not next_book.is_pedigree:
-        Looks(next_book.animals, about.limits, report).tell("exit" in next_book.given)
+        looks = Looks(next_book.animals, about.limits, report)
+        looks.tell_births(book)
+        looks.tell("exit" in next_book.given)
     before = len(book.records)
     owners_before = set(book.owners)
     filing = Filing(next_book, OwnerDays(book, report, wishes.day))
     filed = filing.filed(program)
     tell_respelt_owners(next_book, owners_before)
+    tell_withdrawn_exits(next_book)
     if wishes.strict and any(entry.what is What.LEFT_OUT for entry in report.entries):
         refuse_left_out(next_book, wishes)
     filing.tell_changes()

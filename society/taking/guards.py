@@ -9,8 +9,9 @@ from society.book.known import Known
 from society.reading.animal import Animal
 from society.reading.columns import Columns
 
+from society.taking.look_findings import RowOf
 from society.taking.obstacles import (
-    Changed, Guard, IdsLack, LooksLike, ManyDropped, ManyGone, ManyOthers, ParentsLack, RowOf,
+    Changed, Guard, IdsLack, LooksLike, ManyDropped, ManyGone, ManyOthers, ParentsLack,
 )  # fmt: skip
 
 # more than a tenth of the animals, and at least so many, are gone

@@ -5,6 +5,7 @@ import datetime
 from dataclasses import dataclass
 
 from society.book.changes import Option
+from society.book.kinds import Field
 from society.book.role import Role
 from society.mistake import counted
 from society.taking.harm import Harm
@@ -19,6 +20,17 @@ class Look(Finding):
 
 def at_line(id: str, line: int) -> str:
     return f"{id} (line {line})" if line else id
+
+
+@dataclass(frozen=True, slots=True)
+class RowOf:
+    """An animal and its line."""
+
+    id: str
+    line: int
+
+    def words(self) -> str:
+        return at_line(self.id, self.line)
 
 
 @dataclass(frozen=True, slots=True)
@@ -108,7 +120,8 @@ class CastratedSire(Look):
 
     def words(self) -> str:
         more = f" and of {self.calves - 1} more" if self.calves > 1 else ""
-        return f"it is the sire of {at_line(self.first, self.line)}{more}, and its sex is '{self.word}'"
+        sex = f"its sex is '{self.word}'" if self.word else "the book has it as castrated"
+        return f"it is the sire of {at_line(self.first, self.line)}{more}, and {sex}"
 
 
 @dataclass(frozen=True, slots=True)
@@ -137,6 +150,42 @@ class ManyOldAsLiving(Look):
         return (
             f"{self.animals} animals count as living that were born {self.years} years and more before half of the "
             "others that do: does the column of exits lack theirs?"
+        )
+
+
+@dataclass(frozen=True, slots=True)
+class ExitsWithdrawn(Look):
+    """Animals that had left count as living again: how many, and the first of them."""
+
+    animals: int
+    first: tuple[RowOf, ...]
+
+    def words(self) -> str:
+        first = ", ".join(one.words() for one in self.first)
+        return (
+            f"{self.animals} animals that had left count as living again, the first are {first}: does the column of exits "
+            "lack theirs?"
+        )
+
+    def suggestions(self) -> tuple[Suggestion, ...]:
+        option = Option("--columns", f"{Field.EXIT}=")
+        return (Suggestion("if the sheet doesn't tell of exits", (option,), undoes=True),)
+
+
+@dataclass(frozen=True, slots=True)
+class BirthMovedByYears(Look):
+    """The birth day of the book and that of the sheet are years apart, and nothing else tells that these are two
+    animals."""
+
+    before: datetime.date
+    now: datetime.date
+
+    harm = Harm.ANIMALS
+
+    def words(self) -> str:
+        return (
+            f"its birth day is {self.now}, and was {self.before}: is this another animal, whose tag was used again? Then "
+            "undo this, and give it an id of its own, also where its offspring name it"
         )
 
 

@@ -7,13 +7,16 @@ import datetime
 import statistics
 from dataclasses import dataclass
 
+from society.book.book import Book
+from society.book.kinds import Field
 from society.book.role import Role
 from society.reading.animal import Animal
 
 from society.taking.look_findings import (
-    BirthsTooNear, CastratedSire, ManyOldAsLiving, OldAsLiving, SireLeftLongBefore, YoungParent,
+    BirthMovedByYears, BirthsTooNear, CastratedSire, ManyOldAsLiving, OldAsLiving, SireLeftLongBefore, YoungParent,
 )  # fmt: skip
 from society.taking.report import Report
+from society.taking.used_tags import YEARS_LATER
 
 YOUNGEST, APART = 180, 100
 # births of one litter or of twins may be so many days from one another
@@ -40,6 +43,15 @@ class Looks:
 
     def __init__(self, animals: dict[str, Animal], limits: Limits, report: Report) -> None:
         self.animals, self.limits, self.report = animals, limits, report
+
+    def tell_births(self, book: Book) -> None:
+        """Birth days that are years from those of the book."""
+        for animal in self.animals.values():
+            known = book.known.get(animal.id) if animal.line and animal.has_day() else None
+            if known and not known.birth.is_inferred:
+                before = book.records[known.number].born
+                if abs((animal.born - before).days) >= YEARS_LATER:
+                    self.report.add(animal.line, animal.id, BirthMovedByYears(before, animal.born))
 
     def tell(self, exits_are_given: bool) -> None:
         for animal in self.animals.values():
@@ -83,7 +95,7 @@ class Looks:
                 calves[animal.sire].append(animal)
         for sire, its in calves.items():
             animal = self.animals[sire]
-            found = CastratedSire(animal.cells.get("sex", ""), len(its), its[0].id, its[0].line)
+            found = CastratedSire(animal.cells.get(Field.SEX, ""), len(its), its[0].id, its[0].line)
             self.report.add(animal.line, sire, found)
 
     def look_at_living(self) -> None:

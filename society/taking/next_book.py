@@ -13,7 +13,7 @@ from society.book.role import Role
 from society.book.state import CELL_FIELDS
 from society.mistake import Mistake
 from society.reading.animal import Animal
-from society.reading.days import ANY_DAY, Span
+from society.reading.days import Span
 from society.taking.birth_days import Days
 from society.taking.cycles import cut_cycles
 from society.taking.animal_findings import KeptByHand, KeptFromBook, SexInferred, SexNotKnown
@@ -109,9 +109,12 @@ class NextBook:
         if owner and not animal.owner:
             animal.owner = owner
             self.tell_kept(animal, Field.OWNER, owner)
-        if animal.birth == ANY_DAY and not known.birth.is_inferred:
+        is_within = not animal.has_day() and animal.birth.first <= record.born <= animal.birth.last
+        if is_within and not known.birth.is_inferred:
             animal.birth = Span(record.born, record.born)
             self.tell_kept(animal, Field.BIRTH, str(record.born))
+        if Field.SEX not in self.given or not animal.cells.get(Field.SEX):
+            animal.castrated = known.castrated
         if not animal.sex and not known.sex.is_inferred:
             animal.sex = record.number[6]
             self.tell_kept(animal, Field.SEX, animal.sex)
@@ -256,8 +259,6 @@ class NextBook:
             elif before and before.standing is Standing.FILED:
                 standing = Standing.FILED
             inferred = animal.birth_basis, animal.exit_basis, animal.sex_source
-            is_said = animal.line and Field.SEX in self.given
-            castrated = animal.castrated if is_said else before is not None and before.castrated
             texts = written.get((id, Role.SIRE), ""), written.get((id, Role.DAM), "")
             by_hand = before.by_hand - self.overridden.get(id, NO_FIELDS) if before else NO_FIELDS
             kept[id] = Known(
@@ -266,7 +267,7 @@ class NextBook:
                 animal.name,
                 standing,
                 *inferred,
-                castrated,
+                animal.castrated,
                 *texts,
                 by_hand,
                 self.owner_day_of(animal, before),

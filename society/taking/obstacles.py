@@ -6,6 +6,7 @@ from dataclasses import dataclass
 
 from society.book.changes import Option
 from society.mistake import counted
+from society.taking.look_findings import RowOf
 from society.taking.report import Finding, What
 from society.taking.suggestions import ANYWAY, LEAVE_OUT, Suggestion
 
@@ -111,19 +112,8 @@ class Changed(enum.Enum):
     NAMES_AND_BIRTH_DAYS = "names and birth days"
     BIRTH_DAYS = "birth days"
     # the name of one is that of another in the book
-    NAMES = "names, which are those of others"
+    NAMES = "names, which are those of others,"
     PARENTS = "parents"
-
-
-@dataclass(frozen=True, slots=True)
-class RowOf:
-    """An animal and its line."""
-
-    id: str
-    line: int
-
-    def words(self) -> str:
-        return f"{self.id} (line {self.line})"
 
 
 @dataclass(frozen=True, slots=True)

@@ -110,7 +110,7 @@ class Entry:
     def why(self) -> str:
         """What is told of it, with the options that are suggested."""
         suggested = [suggestion.words() for suggestion in self.finding.suggestions()]
-        return self.finding.words() + (f": {'; '.join(suggested)}" if suggested else "")
+        return "; ".join([self.finding.words(), *suggested])
 
     def words(self) -> str:
         """What was found, in a sentence, without what is suggested."""

@@ -14,14 +14,17 @@ from society.taking.suggestions import ANYWAY, Suggestion
 
 @dataclass(frozen=True, slots=True)
 class IdUsedAgain(LeftOut):
-    """The id is that of an animal of the book that was born years before. `named_in` are the lines of animals that are
-    born later, and have this id as a parent: they mean the first."""
+    """The id is that of another animal, of the book or of another line of the sheet, that was born years before.
+    `named_in` are the lines of animals that are born later, and have this id as a parent: they are taken for offspring of
+    the first."""
 
     born_there: datetime.date
     name_there: str
     born_here: datetime.date
     name_here: str
     named_in: tuple[int, ...]
+    # the line of the other one, 0 where the book has it
+    line: int = 0
 
     part = Part.ROW
     harm = Harm.ANIMALS
@@ -33,13 +36,14 @@ class IdUsedAgain(LeftOut):
         there, here = (f"'{name}', " if name else "" for name in (self.name_there, self.name_here))
         lines = ", ".join(map(str, self.named_in))
         means = f"; as a parent in line {lines} it means the first" if self.named_in else ""
+        which = f"line {self.line}" if self.line else "the book"
         return (
-            f"the book has this id for another animal ({there}born {self.born_there}; here {here}born {self.born_here})"
-            f"{means}: if the tag was used again, give this one another id"
+            f"{which} has this id for another animal ({there}born {self.born_there}; here {here}born {self.born_here})"
+            f"{means}: if the tag was used again, give this one an id of its own, also where its offspring name it"
         )
 
     def suggestions(self) -> tuple[Suggestion, ...]:
-        return (Suggestion("if it is the same animal", (ANYWAY,)),)
+        return () if self.line else (Suggestion("if it is the same animal", (ANYWAY,)),)
 
 
 @dataclass(frozen=True, slots=True)

@@ -1,4 +1,4 @@
-"""Ids that are used again for other animals, born years later: the row is left out, and the book keeps the first."""
+"""Ids that are used again for other animals, born years later: the row is left out, and the first stays."""
 from __future__ import annotations
 
 from society.book.book import Book
@@ -18,13 +18,27 @@ def leave_out_used_tags(animals: dict[str, Animal], book: Book, report: Report) 
     for id, animal in list(animals.items()):
         known = book.known.get(id)
         if known and is_another(animal, known, book, calves.get(known.number)):
-            record = book.records[known.number]
-            calves_of_id = [one for one in animals.values() if id in (one.sire, one.dam)]
-            lines = tuple(one.line for one in calves_of_id if one.birth.last > animal.birth.first)
-            report.add(animal.line, id, IdUsedAgain(record.born, known.name, animal.birth.first, animal.name, lines))
+            born = book.records[known.number].born
+            lines = lines_that_name(animals, animal)
+            report.add(animal.line, id, IdUsedAgain(born, known.name, animal.birth.first, animal.name, lines))
             del animals[id]
             found.add(id)
     return found
+
+
+def lines_that_name(animals: dict[str, Animal], another: Animal) -> tuple[int, ...]:
+    """The lines of animals that have an id as a parent, and are born after the other animal that has it."""
+    calves = [one for one in animals.values() if another.id in (one.sire, one.dam)]
+    return tuple(one.line for one in calves if one.birth.last > another.birth.first)
+
+
+def tell_used_again(animals: dict[str, Animal], others: list[Animal], report: Report) -> None:
+    """The animals of a sheet, and those that have the id of another one there."""
+    for other in others:
+        first = animals[other.id]
+        lines = lines_that_name(animals, other)
+        found = IdUsedAgain(first.birth.first, first.name, other.birth.first, other.name, lines, first.line)
+        report.add(other.line, other.id, found)
 
 
 def earliest_calves(book: Book) -> dict[str, int]:

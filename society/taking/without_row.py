@@ -22,6 +22,7 @@ def animals_of_book(book: Book, animals: dict[str, Animal]) -> dict[str, Animal]
         animal.birth = ANY_DAY if known.birth.is_inferred else Span(record.born, record.born)
         animal.sire, animal.dam = ids.get(record.sire, ""), ids.get(record.dam, "")
         animal.owner, animal.embryo = book.owner_of(record.herd), record.embryo
+        animal.castrated = known.castrated
         animal.left, animal.exit_basis = record.left, known.exit
         gone[id] = animal
     return gone

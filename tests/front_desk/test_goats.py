@@ -63,7 +63,7 @@ def test_goats(desk: Desk) -> None:
         "CH 120.1150.8: inferred: birth day 2016-05-09, from its offspring (line 6 names it)",
         (
             "to look at: 1 of 9 cells that say something in the column 'Geschlecht' can't be read, the first in line 10: "
-            "'Q': write M or F, or say which sex each word is by --sexes: if 'Q' is male, say --sexes Q=m; if 'Q' is "
+            "'Q': write M or F, or say which sex each word is by --sexes; if 'Q' is male, say --sexes Q=m; if 'Q' is "
             "female, say --sexes Q=f"
         ),
         (
@@ -210,7 +210,7 @@ def test_exits_in_words(desk: Desk) -> None:
             "to look at: 2 of 15 cells that tell of an exit in the column 'exit' can't be read, the first in line 13: "
             "'12.11.22', 'about 1950': write days as 2001-03-01 or 01.03.2001, a word such as sold, verkauft or "
             "vendu where the day isn't known, and nothing or alive, lebt or vivant where the animal hasn't left; "
-            "or name another column by --columns: if no column tells of exits, say --columns exit="
+            "or name another column by --columns; if no column tells of exits, say --columns exit="
         ),
         (
             "to look at: an exit without a day stands in 5 of 15 cells that tell of an exit in the column 'exit', the "

@@ -94,6 +94,48 @@ def test_other_animals_with_the_same_ids(taken: Desk) -> None:
     assert " 0 left out" in taken.take(sheet(renamed)).last
 
 
+def shifted(count: int, field: int) -> list[str]:
+    """The flock, in which some animals have the cell of the animal three rows below."""
+    rows = [row.split(";") for row in flock("A")]
+    for row, below in zip(rows[20 : 20 + count], flock("A")[23:]):
+        row[field] = below.split(";")[field]
+    return [";".join(row) for row in rows]
+
+
+@pytest.mark.parametrize(("field", "what"), [
+    (1, "names, which are those of others,"), (2, "birth days"), (3, "parents"), (4, "parents"),
+])  # fmt: skip
+def test_columns_sorted_apart(taken: Desk, field: int, what: str) -> None:
+    """Five of sixty are an ordinary correction; six are told, whichever column they have otherwise."""
+    assert " 0 left out" in taken.take(sheet(shifted(5, field))).last
+    taken.take(sheet(flock("A")))
+    refused(
+        taken, sheet(shifted(6, field)),
+        f"6 of 60 animals have other {what} than in the book, the first are A20 (line 22), A21 (line 23), A22 (line 24): "
+        "it looks like a sheet in which some columns were sorted without the others",
+    )  # fmt: skip
+
+
+@pytest.mark.parametrize(("before", "now"), [
+    ("Aname", "Hof Aname"), ("A1;A6", ";A6"), ("A2;A7", "A2;import"), ("A3;A8", "import;A8"),
+])  # fmt: skip
+def test_ordinary_corrections(taken: Desk, before: str, now: str) -> None:
+    """Names of one's own, parents that are taken away, and parents that have no row."""
+    rows = [row.replace(before, now) for row in flock("A")]
+    assert sum(row not in flock("A") for row in rows) >= 10
+    taken.take(sheet(rows))
+    changed = len({row["id"] for row in taken.table("book/report.csv") if row["what"] == "changed"})
+    assert changed == sum(row not in flock("A") for row in rows)
+
+
+def test_years_alone(taken: Desk) -> None:
+    """A day of the book stays where a sheet has its year alone."""
+    rows = [row.split(";") for row in flock("A")]
+    done = taken.take(sheet([";".join([*row[:2], row[2][:4], *row[3:]]) for row in rows]))
+    assert " 0 changed" in done.last
+    assert taken.born() == {row[0]: row[2] for row in rows}
+
+
 def test_parents_by_name_without_names(desk: Desk) -> None:
     rows = [
         f"T{at};2001-01-{1 + at % 28:02};Sire of {'abcdefgh'[at % 8]};Dam of {'abcdefgh'[at % 7]}" for at in range(40)

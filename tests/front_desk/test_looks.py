@@ -20,7 +20,7 @@ def test_young_parents(desk: Desk) -> None:
     assert "to look at" not in desk.take(TITLES + rows).out
     done = desk.take(TITLES + rows, "--youngest", "300")
     done.tells(
-        "line 4: c: to look at: its dam d (line 3) was 149 days old at its birth, less than 300: if that can be, say "
+        "line 4: c: to look at: its dam d (line 3) was 149 days old at its birth, less than 300; if that can be, say "
         "--youngest 149"
     )
     # the one command is for both parents, and takes back what was said
@@ -56,9 +56,29 @@ def test_castrated_sire(desk: Desk) -> None:
     done.tells("line 2: w: to look at: it is the sire of c1 (line 5) and of 1 more, and its sex is 'Hammel'")
     for _ in range(2):
         assert [row["id"] for row in desk.listed("mating", "--dam", "d")] == ["r", "c1"]
-        desk.take(
+        done = desk.take(
             "id;birth;sire;dam\nw;2001-03-01;;\nr;2001-03-01;;\nd;2001-03-02;;\nc1;2003-03-01;w;d\nc2;2003-03-01;w;d\n"
         )
+        done.shows(
+            "line 2: w: to look at: it is the sire of c1 (line 5) and of 1 more, and the book has it as castrated"
+        )
+
+
+def test_exits_withdrawn(desk: Desk) -> None:
+    """Three are told in a sentence; the command that is suggested brings them back."""
+    rows = [f"a{at};F;2001-03-0{at};;;{'sold' if at < 3 else '2010-01-01'}" for at in range(1, 7)]
+    desk.take(TITLES + "\n".join(rows))
+    two = "\n".join(["a1;F;2001-03-01;;;", "a3;F;2001-03-03;;;lebt", *rows[1:2], *rows[3:]])
+    assert "count as living again" not in desk.take(TITLES + two).out
+    desk.take(TITLES + "\n".join(rows))
+    exits = [row["exit"] for row in desk.table("book/ids.csv")], desk.commands()
+    done = desk.take(TITLES + "\n".join([*(row.rpartition(";")[0] + ";" for row in rows[:3]), *rows[3:]]))
+    done.shows(
+        "to look at: 3 animals that had left count as living again, the first are a1 (line 2), a2 (line 3), a3 (line 4): "
+        "does the column of exits lack theirs?"
+    )
+    desk.typed(done.commands()[0])
+    assert ([row["exit"] for row in desk.table("book/ids.csv")], desk.commands()) == exits
 
 
 def test_old_animal_as_living(desk: Desk) -> None:

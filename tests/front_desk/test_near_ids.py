@@ -1,6 +1,8 @@
 """Ids that are written otherwise, words for parents without a row, and tags that are used again."""
 from __future__ import annotations
 
+import pytest
+
 from front_desk.desk import Desk
 
 TITLES = "id;name;sex;birth;sire;dam\n"
@@ -59,22 +61,53 @@ def test_tag_used_again(desk: Desk) -> None:
         done.tells(
             "line 3: DE 8: the row is left out: the book has this id for another animal ('Eva', born 2001-03-02; here "
             "'Ida', born 2012-03-02); as a parent in line 5 it means the first: if the tag was used again, give this one "
-            "another id: if it is the same animal, say --anyway"
+            "an id of its own, also where its offspring name it; if it is the same animal, say --anyway"
         )
         assert desk.parents()["c1"] == ("DE 007", "DE 8")
         assert desk.born()["DE 8"] == "2001-03-02"
         assert " 0 gone" in done.last
-    desk.take(sheet, "--anyway")
+    desk.typed(done.commands()[0])
     assert desk.born()["DE 8"] == "2012-03-02"
 
 
-def test_tag_twice_in_a_sheet(desk: Desk) -> None:
-    done = desk.take(TITLES + FLOCK + "DE 8;Ida;F;2012-03-02;;\n")
-    done.tells(
-        "line 4: DE 8: the row is left out: line 3 has this id too (name 'Ida', there 'Eva'; birth '2012-03-02', there "
-        "'2001-03-02'): if the tag was used again, give one of them another id"
+@pytest.mark.parametrize("is_first", [True, False])
+def test_tag_twice_in_a_sheet(desk: Desk, is_first: bool) -> None:
+    """The animal that was born first is taken, in whatever order the rows are; the other is told, with the lines that name
+    it, and is taken with an id of its own."""
+    eva, ida = FLOCK.splitlines()[1], "DE 8;Ida;F;2012-03-02;;"
+    rows = [FLOCK.splitlines()[0], *((eva, ida) if is_first else (ida, eva)), "c1;;F;2004-01-01;DE 007;DE 8"]
+    sheet = TITLES + "\n".join([*rows, "c2;;F;2015-01-01;;DE 8"]) + "\n"
+    here, there = (4, 3) if is_first else (3, 4)
+    for _ in range(2):
+        done = desk.take(sheet)
+        done.shows(
+            f"line {here}: DE 8: the row is left out: line {there} has this id for another animal ('Eva', born 2001-03-02; "
+            "here 'Ida', born 2012-03-02); as a parent in line 6 it means the first: if the tag was used again, give this "
+            "one an id of its own, also where its offspring name it"
+        )
+        assert not done.commands()
+        assert desk.born()["DE 8"] == "2001-03-02"
+    desk.take(sheet.replace("DE 8;Ida", "DE 8/12;Ida").replace("c2;;F;2015-01-01;;DE 8", "c2;;F;2015-01-01;;DE 8/12"))
+    assert desk.parents()["c1"] == ("DE 007", "DE 8") and desk.parents()["c2"] == ("", "DE 8/12")
+
+
+def test_tag_of_the_book_twice_in_a_sheet(desk: Desk) -> None:
+    """The animal of the book stays, though it was born after the other."""
+    desk.take(TITLES + FLOCK)
+    done = desk.take(TITLES + "DE 8;Uta;F;1981-03-02;;\n" + FLOCK)
+    assert (
+        "line 2: DE 8: the row is left out: line 4 has this id for another animal ('Eva', born 2001-03-02" in done.out
     )
     assert desk.born()["DE 8"] == "2001-03-02"
+
+
+def test_birth_that_moved_by_years(desk: Desk) -> None:
+    """Nothing but the day tells that it is another animal: it is taken, and told."""
+    desk.take(TITLES + FLOCK)
+    told = "line 3: DE 8: to look at: its birth day is 2003-03-02, and was 2001-03-02: is this another animal"
+    done = desk.take(TITLES + FLOCK.replace("2001-03-02", "2003-03-02"))
+    assert done.out.startswith(told)
+    assert "to look at" not in desk.take(TITLES + FLOCK.replace("2001-03-02", "2003-01-30")).out
 
 
 def test_sheet_that_is_sorted_again(desk: Desk) -> None:
