@@ -1,6 +1,7 @@
 """Runs `herdbook`, from which every refusal and coefficient comes."""
 from __future__ import annotations
 
+import contextlib
 import os
 import pathlib
 import resource
@@ -28,10 +29,13 @@ MOST_BYTES, MOST_SECONDS = 4 << 30, 1200
 MOST_NUMBERS = os.sysconf("SC_ARG_MAX") // 40
 
 
-def limit() -> None:
-    """Limits what the program uses, in its process."""
-    resource.setrlimit(resource.RLIMIT_AS, (MOST_BYTES, MOST_BYTES))
-    resource.setrlimit(resource.RLIMIT_CPU, (MOST_SECONDS, MOST_SECONDS + 1))
+def limit(process: subprocess.Popen[bytes], most_bytes: int, most_seconds: int | None) -> None:
+    """Limits what a process uses. From outside, since in a process of many threads little may be done before another
+    program is begun."""
+    with contextlib.suppress(ProcessLookupError):
+        resource.prlimit(process.pid, resource.RLIMIT_AS, (most_bytes, most_bytes))
+        if most_seconds is not None:
+            resource.prlimit(process.pid, resource.RLIMIT_CPU, (most_seconds, most_seconds + 1))
 
 
 class Herdbook:
@@ -64,12 +68,15 @@ class Herdbook:
             raise Mistake(f"{self.path} --version ended with status {done.returncode}: is it the program herdbook?")
         return text.decode(errors="replace").strip()
 
-    def start(self, words: list[str], given: int, errors: int | None) -> subprocess.Popen[bytes]:
+    def start(
+        self, words: list[str], given: int, errors: int | None, most_bytes: int = MOST_BYTES,
+        most_seconds: int | None = MOST_SECONDS,
+    ) -> subprocess.Popen[bytes]:  # fmt: skip
         try:
-            return subprocess.Popen(
-                [str(self.path), *words], stdin=given, stdout=subprocess.PIPE, stderr=errors,
-                preexec_fn=None if words == ["--version"] else limit,
-            )  # fmt: skip
+            process = subprocess.Popen([str(self.path), *words], stdin=given, stdout=subprocess.PIPE, stderr=errors)
+            if words != ["--version"]:
+                limit(process, most_bytes, most_seconds)
+            return process
         except OSError as error:
             allow = f"allow it, as chmod u+x {shlex.quote(str(self.path))}"
             hint = allow if isinstance(error, PermissionError) else SAY

@@ -42,6 +42,11 @@ def advise(book: Book, program: Herdbook, dam: Known, named: Sequence[Known], al
     answers = (
         by_mating(book, program, dam, sires) if named or dam.is_male else by_relationship(book, program, dam, sires)
     )
+    return advice_of(dam, sires, answers)
+
+
+def advice_of(dam: Known, sires: Candidates, answers: Sequence[Answer]) -> Advice:
+    """What is told of the program's answers on sires, in their order."""
     of_dam = [answer for answer in answers if isinstance(answer, MatingFault) and answer.is_of_dam()]
     if of_dam:
         raise Mistake(f"{dam.id}: {of_dam[0].words()} (fault {of_dam[0]}): name a female as the dam")

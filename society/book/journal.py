@@ -92,8 +92,13 @@ def steps_of(connection: sqlite3.Connection, journal: Journal) -> list[Step]:
     return [
         Step(Command(*line.split(",")), refusal)
         for part in parts_of(connection, journal)
-        for line, refusal in connection.execute(f"SELECT {TEXT}, refusal {WITHIN}", part)
+        for line, refusal in lines_with_refusals(connection, part)
     ]
+
+
+def lines_with_refusals(connection: sqlite3.Connection, part: Part) -> Iterator[tuple[str, int]]:
+    """The commands of a part as lines of a command file, each with its reply."""
+    return connection.execute(f"SELECT {TEXT}, refusal {WITHIN}", part)
 
 
 def accepted_commands(steps: Iterable[Step]) -> list[Command]:

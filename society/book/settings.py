@@ -11,12 +11,22 @@ from collections.abc import Mapping
 from society.book.book import Book
 from society.book.book_changed import changing, checkpoint
 from society.book.opening import no_book
+from society.mistake import Mistake
+
+
+LANGUAGES = ("en", "de", "fr")
 
 
 class Setting(enum.StrEnum):
     # the society's
     NAME = "name"
     ADDRESS = "address"
+    # of the numbers that the next sheets get, and words for an unknown parent in them
+    BREED = "breed"
+    COUNTRY = "country"
+    UNKNOWN = "unknown"
+    # of the desk in a browser
+    LANGUAGE = "language"
 
 
 def settings_of(book: Book) -> dict[Setting, str]:
@@ -27,12 +37,13 @@ def settings_of(book: Book) -> dict[Setting, str]:
 
 def change_settings(folder: pathlib.Path, given: Mapping[Setting, str]) -> None:
     """Keeps these with the book, each in place of the one before; an empty one is none. Others stay."""
+    kept = {setting: checked(setting, lines_of(text)) for setting, text in given.items()}
     with changing(folder) as connection:
         if connection is None:
             raise no_book(folder)
         connection.executemany(
             "INSERT INTO setting VALUES (?, ?) ON CONFLICT DO UPDATE SET value = excluded.value",
-            [(setting.value, lines_of(text)) for setting, text in given.items()],
+            [(setting.value, text) for setting, text in kept.items()],
         )
         connection.execute("COMMIT")
         with contextlib.suppress(sqlite3.Error):
@@ -43,3 +54,14 @@ def lines_of(text: str) -> str:
     """The lines of a text without blanks that do nothing."""
     lines = (" ".join(line.split()) for line in text.splitlines())
     return "\n".join(line for line in lines if line)
+
+
+def checked(setting: Setting, text: str) -> str:
+    """The value as it is kept; a mistake where it can't be such a one."""
+    if setting in (Setting.BREED, Setting.COUNTRY) and text:
+        if not (len(text) == 3 and text.isascii() and text.isalpha()):
+            raise Mistake(f"'{text}' isn't three letters A to Z, as the {setting} in numbers has to be")
+        return text.upper()
+    if setting is Setting.LANGUAGE and text not in ("", *LANGUAGES):
+        raise Mistake(f"'{text}' isn't one of the languages {', '.join(LANGUAGES)}")
+    return text

@@ -2,9 +2,8 @@
 from __future__ import annotations
 
 from society.book.coefficients import Coefficient
+from society.book.settings import LANGUAGES as LANGUAGES
 from society.pages.marks import Mark
-
-LANGUAGES = ("en", "de", "fr")
 
 TEXTS = {
     "title": ("Certificate of pedigree", "Abstammungsnachweis", "Certificat généalogique"),

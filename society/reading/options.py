@@ -1,13 +1,16 @@
 """Reads the options of `take` that say how cells are read."""
 from __future__ import annotations
 
+import csv
+
 from society.mistake import Mistake
 from society.reading.titles import TITLES
 from society.reading.words import KNOWN_SEXES, plain, sex_word
 
 
 def parts_of(words: list[str]) -> list[str]:
-    return [part for word in words for part in word.split(",")]
+    """The parts between commas; one that has a comma itself stands in quotation marks."""
+    return [part for word in words for part in next(csv.reader([word], skipinitialspace=True), [""])]
 
 
 def read_given(words: list[str]) -> dict[str, str]:

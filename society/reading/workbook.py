@@ -5,6 +5,7 @@ import datetime
 import io
 import pathlib
 import re
+import zipfile
 from typing import Any, Callable, NamedTuple
 
 from society.mistake import Mistake
@@ -15,6 +16,8 @@ from society.taking.report import CantBeTaken
 
 # a number with more digits than a spreadsheet keeps
 TOO_LONG = 10**15
+# so many bytes the parts of a file have at most, unpacked
+MOST_UNPACKED = 400_000_000
 # what stands between quotation marks, brackets or behind a backslash in a format isn't part of a date
 QUOTED = re.compile(r'"[^"]*"|\[[^\]]*\]|\\.')
 Score = Callable[[list[str]], int]
@@ -49,12 +52,27 @@ def opened(path: pathlib.Path, data: bytes, values: bool) -> Any:
             f"{path} is an .xlsx file, and openpyxl, which reads these, isn't installed: save the sheet as CSV, and "
             "take that"
         ) from None
+    check_size(path, data)
     try:
         return openpyxl.load_workbook(io.BytesIO(data), data_only=values)
     except Exception as error:  # openpyxl raises whatever its parts raise
         raise Mistake(
             f"{path} can't be read as an .xlsx file ({error}): save the sheet as CSV, and take that"
         ) from None
+
+
+def check_size(path: pathlib.Path, data: bytes) -> None:
+    """A mistake where a small file would become a very large one."""
+    try:
+        with zipfile.ZipFile(io.BytesIO(data)) as archive:
+            size = sum(one.file_size for one in archive.infolist())
+    except zipfile.BadZipFile:
+        return
+    if size > MOST_UNPACKED:
+        raise Mistake(
+            f"{path} would become {size / 1e6:,.0f} MB, and no more than {MOST_UNPACKED / 1e6:,.0f} MB are read: save the "
+            "sheet alone as CSV, and take that"
+        )
 
 
 def chosen(path: pathlib.Path, workbook: Any, score: Score, most: int, named: str) -> str:

@@ -24,7 +24,7 @@ from society.taking.finish import About, finish, tell
 from society.taking.next_book import NextBook
 from society.taking.obstacles import NoRowTaken
 from society.taking.outcome import Outcome
-from society.taking.remembering import Words, again, limits_of, remember, rename_owners
+from society.taking.remembering import Words, again, limits_of, remember, rename_owners, with_settings
 from society.taking.report import CantBeTaken, Report
 from society.taking.screen import told_with
 from society.taking.understood import ColumnRead, Understood
@@ -53,6 +53,7 @@ def preview_sheet(path: pathlib.Path, wishes: Wishes) -> Outcome:
 
 def take_into(book: Book, path: pathlib.Path, wishes: Wishes, program: Herdbook) -> Outcome:
     source = source_of(path, read_bytes(path))
+    wishes = with_settings(book, wishes)
     words = remember(book, wishes)
     rename_owners(book, wishes)
     read = read_animals(path, wishes, book, words)

@@ -1,9 +1,12 @@
 """What a book remembers of how its sheets are read: options that needn't be given again, and how owners are written."""
 from __future__ import annotations
 
+from dataclasses import replace
+
 from society.book.book import Book
 from society.book.changes import Option
 from society.book.kinds import Remembered
+from society.book.settings import Setting, settings_of
 from society.book.state import Meaning
 from society.mistake import Mistake
 from society.reading.words import clean, listed
@@ -13,6 +16,18 @@ from society.taking.wishes import Wishes
 Words = dict[Remembered, list[str]]
 # of these options the last word holds
 LAST_HOLDS = (Remembered.MONTH_FIRST, Remembered.YOUNGEST, Remembered.APART)
+
+
+def with_settings(book: Book, wishes: Wishes) -> Wishes:
+    """The wishes, and for those that aren't given what the society's settings say."""
+    settings = settings_of(book)
+    unknown = [settings[Setting.UNKNOWN]] * bool(settings[Setting.UNKNOWN])
+    return replace(
+        wishes,
+        breed=wishes.breed or settings[Setting.BREED],
+        country=wishes.country or settings[Setting.COUNTRY],
+        unknown=wishes.unknown or unknown,
+    )
 
 
 def remember(book: Book, wishes: Wishes) -> Words:

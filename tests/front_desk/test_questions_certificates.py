@@ -42,7 +42,7 @@ def test_society(society_desk: Desk) -> None:
     society_desk.good("certificate", "GK-17/472c", "--out", "bare.html")
     assert not classed(pages(society_desk, "bare.html")[0], "letterhead")
     told = society_desk.good("settings", "--name", "Goats <of> the Vale", "--address", "Church Lane\n  UV1 2AB ").out
-    assert told == "name: Goats <of> the Vale\naddress: Church Lane, UV1 2AB\n"
+    assert told.startswith("name: Goats <of> the Vale\naddress: Church Lane, UV1 2AB\n")
     society_desk.good("exit", "GK-18/486b", "--day", "2021-01-01")
     society_desk.good("undo")
     assert society_desk.good("settings", "--address", "Church Lane 1").out.startswith("name: Goats <of> the Vale\n")
@@ -51,7 +51,9 @@ def test_society(society_desk: Desk) -> None:
         assert words(classed(page, "letterhead")[0]) == "Goats <of> the Vale Church Lane 1"
         assert "Ausgestellt am 01.03.2026" in words(page)
         assert "Für den Zuchtverband: Goats <of> the Vale" in words(page)
-    assert society_desk.good("settings", "--name", "", "--address", "").out == "name: not said\naddress: not said\n"
+    assert society_desk.good("settings", "--name", "", "--address", "").out.startswith(
+        "name: not said\naddress: not said\n"
+    )
 
 
 def test_common_ancestors(desk: Desk) -> None:

@@ -1,0 +1,36 @@
+"""The word that opens the desk in a browser: `open`."""
+from __future__ import annotations
+
+import argparse
+
+from society.command_line.arguments import whole_number
+from society.command_line.parser import Words
+from society.mistake import Mistake
+from society.packages import Group, need
+
+LAST_PORT = 65_535
+
+
+def add_words(words: Words) -> None:
+    opened = words.add(
+        "open",
+        do_open,
+        "open the desk in a browser, until Ctrl-C",
+        "Sheets are taken there, commands filed, animals searched, certificates printed and matings planned.",
+    )
+    opened.add_argument("--port", type=whole_number, default=0, metavar="N", help="this port of the machine [a free one]")
+    opened.add_argument("--read-only", action="store_true", help="show everything, and change nothing")
+    opened.add_argument(
+        "--no-browser", action="store_true", help="start no browser: the link that is printed is opened in one"
+    )
+
+
+def do_open(asked: argparse.Namespace) -> None:
+    if asked.port > LAST_PORT:
+        raise Mistake(f"there is no port {asked.port}: name one up to {LAST_PORT}, or leave out --port")
+    need(Group.BROWSER)
+    need(Group.BREED)
+    from society.desk.office import Office
+    from society.desk.serving import serve
+
+    serve(asked.book, Office(), asked.port, asked.read_only, not asked.no_browser)

@@ -1,0 +1,77 @@
+"""The application of the desk: its pages, what each of them can say, and how mistakes are shown."""
+from __future__ import annotations
+
+from flask import Flask, render_template, request
+from flask.typing import ResponseReturnValue
+from flask_wtf.csrf import CSRFError
+from werkzeug.exceptions import HTTPException, RequestEntityTooLarge
+
+from society.book.cells import for_terminals
+from society.desk.desk import EXTENSION, Desk, the_desk
+from society.desk.routes import PAGES
+from society.desk.security import Gate, guard
+from society.desk.shown_mistakes import without_paths
+from society.desk.texts import TEXTS
+from society.desk.words import NAMES, the_words
+from society.mistake import Mistake
+from society.pages.page import finished
+from society.reading.sheet import MOST_BYTES
+
+# what stands above the pages, by their blueprints, and which of them only a desk has that isn't only to be read
+MENU = {
+    "start.page": "start", "animals.page": "animals", "sheet.page": "sheet", "filing.page": "filing",
+    "matings.page": "matings", "breed.page": "breed", "history.page": "history", "settings.page": "settings",
+}  # fmt: skip
+WRITING = ("sheet.page", "filing.page")
+# a form has something beside the sheet
+ROOM_BESIDE = 100_000
+
+
+def desk_app(desk: Desk, gate: Gate) -> Flask:
+    app = Flask("society.desk")
+    app.config["MAX_CONTENT_LENGTH"] = MOST_BYTES + ROOM_BESIDE
+    app.extensions[EXTENSION] = desk
+    app.jinja_options = {"trim_blocks": True, "lstrip_blocks": True, "finalize": finished}
+    guard(app, gate)
+    for page in PAGES:
+        app.register_blueprint(page)
+    app.context_processor(said)
+    app.register_error_handler(Mistake, show_mistake)
+    app.register_error_handler(HTTPException, show_refused)
+    app.register_error_handler(Exception, show_fault)
+    return app
+
+
+def said() -> dict[str, object]:
+    """What each template can say."""
+    desk = the_desk()
+    menu = [(to, name) for to, name in MENU.items() if not (desk.read_only and to in WRITING)]
+    here = (request.endpoint or "").partition(".")[0]
+    return {"say": the_words(), "menu": menu, "here": here, "languages": NAMES, "read_only": desk.read_only}
+
+
+def show_mistake(mistake: Mistake) -> ResponseReturnValue:
+    sentences = without_paths(mistake.sentences, the_desk())
+    return render_template("mistake.html", title="mistake", sentences=sentences), 400
+
+
+def show_refused(error: HTTPException) -> ResponseReturnValue:
+    """A request that isn't answered, with the reason in words."""
+    what = f"refused {error.code}"
+    if isinstance(error, CSRFError):
+        what = "refused form"
+    elif isinstance(error, RequestEntityTooLarge):
+        what = "refused size"
+    elif f"refused {error.description}" in TEXTS:
+        what = f"refused {error.description}"
+    words = the_words()
+    sentence = words(what if what in TEXTS else "refused other")
+    return render_template("mistake.html", title="not done", sentences=[sentence]), error.code or 500
+
+
+def show_fault(error: Exception) -> ResponseReturnValue:
+    """A fault of the desk itself: the terminal has what it is, the page doesn't."""
+    from flask import current_app
+
+    current_app.logger.error("%s: %s", type(error).__name__, for_terminals(str(error)), exc_info=error)
+    return render_template("mistake.html", title="mistake", sentences=[the_words()("fault")]), 500

@@ -1,0 +1,88 @@
+"""The breed's measures and the plan of matings, which are made in a process beside the server."""
+from __future__ import annotations
+
+import datetime
+import pathlib
+from collections.abc import Sequence
+from dataclasses import dataclass
+from fractions import Fraction
+
+from society.book.book import Book
+from society.book.opening import opened
+from society.breed import from_book
+from society.breed.breed_page import Words, breed_part
+from society.breed.breed_state import state_of
+from society.breed.from_book import Breed, breed_of
+from society.breed.kinship import Kinship
+from society.desk.beside import Tell
+from society.desk.desk import Desk
+from society.desk.jobs import Job, Stage
+from society.desk.kept import mark_of
+from society.herdbook import Herdbook
+from society.mistake import Mistake
+from society.pages.languages import LANGUAGES
+
+BREED = "breed"
+
+
+@dataclass(frozen=True)
+class Whom:
+    """The reference population: the living animals, those of an owner, or those that were born in some years."""
+
+    owner: str = ""
+    born: tuple[datetime.date, datetime.date] | None = None
+
+
+@dataclass(frozen=True)
+class Measured:
+    """The measures as a part of a page in each language, and each animal's mean kinship with the population; all of
+    the book after a change."""
+
+    change: int
+    parts: dict[str, str]
+    mean_kinships: dict[str, Fraction]
+
+
+def measures_of(desk: Desk, book: Book, whom: Whom) -> Job:
+    """The work on the measures of the book as it is now, which is begun where it wasn't."""
+    return desk.jobs.of((BREED, mark_of(book), whom), measured, (desk.folder, whom))
+
+
+def measured(folder: pathlib.Path, whom: Whom, tell: Tell) -> Measured:
+    with opened(folder, Herdbook()) as book:
+        breed = breed_of(book)
+        population = population_of(breed, whom)
+        if not population:
+            raise Mistake("the book has none of these animals: ask for others")
+        state = state_of(breed.pedigree, population, tell)
+        parts = {name: breed_part(state, breed, name, said_of(whom, Words(name))) for name in LANGUAGES}
+        of_each = Kinship.of(breed.pedigree).mean_of_each(population)
+        assert book.change is not None
+        return Measured(book.change.number, parts, {row.number: of_each[at] for at, row in enumerate(breed.rows)})
+
+
+def population_of(breed: Breed, whom: Whom) -> Sequence[int]:
+    if whom.owner:
+        return from_book.owned_by(breed, whom.owner)
+    if whom.born:
+        return from_book.born_between(breed, *whom.born)
+    return from_book.living(breed)
+
+
+def said_of(whom: Whom, words: Words) -> str:
+    """Who the population is, as the word `breed` says it."""
+    if whom.owner:
+        return words.word("owner").format(whom.owner)
+    if whom.born:
+        first, last = map(words.language.day, whom.born)
+        return words.word("born").format(f"{first} – {last}")
+    return words.word("living")
+
+
+def kinship_of(desk: Desk, book: Book, number: str) -> Fraction | None:
+    """An animal's mean kinship with the living ones; none where that isn't computed yet."""
+    job = desk.jobs.found((BREED, mark_of(book), Whom()))
+    if job is None or job.stage is not Stage.DONE:
+        return None
+    assert isinstance(job.value, Measured)
+    return job.value.mean_kinships.get(number)

@@ -1,0 +1,32 @@
+"""The book as a page changes it."""
+from __future__ import annotations
+
+import contextlib
+from collections.abc import Iterator
+
+from society.book.book import Book
+from society.book.book_changed import changing
+from society.book.opening import no_book
+from society.book.verify import verify
+from society.desk.desk import Desk
+from society.desk.kept import mark_of
+
+
+@contextlib.contextmanager
+def to_change(desk: Desk) -> Iterator[Book]:
+    """The book, which nobody else changes until this ends. It is seen before whether it is whole, unless nobody changed
+    it since that was seen."""
+    with changing(desk.folder) as connection:
+        if connection is None:
+            raise no_book(desk.folder)
+        book = Book(desk.folder, connection)
+        if mark_of(book) != desk.whole:
+            verify(book, desk.program, quickly=True)
+        try:
+            yield book
+        except BaseException:
+            # the session may have filed what isn't stored
+            desk.program.close()
+            raise
+    with desk.opened() as changed:
+        desk.whole = mark_of(changed) if changed else (0, 0)

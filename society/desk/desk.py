@@ -1,0 +1,65 @@
+"""The desk that a server shows in a browser: its book, the program that answers, and what is under way at it."""
+from __future__ import annotations
+
+import contextlib
+import functools
+import pathlib
+from collections.abc import Callable, Iterator
+from dataclasses import dataclass, field
+from typing import Concatenate, ParamSpec, cast
+
+from flask import current_app, redirect, url_for
+from werkzeug.wrappers import Response
+
+from society.book.book import Book
+from society.book.book_read import reading
+from society.desk.exporting import Exports
+from society.desk.jobs import Jobs
+from society.desk.kept import Kept
+from society.desk.office import Office
+from society.desk.uploads import Uploads
+
+EXTENSION = "desk"
+# what a page answers
+Answer = str | Response | tuple[str, int]
+Given = ParamSpec("Given")
+
+
+@dataclass
+class Desk:
+    """A book's folder with all that the pages need. One that is only to be read changes nothing."""
+
+    folder: pathlib.Path
+    program: Office
+    read_only: bool
+    uploads: Uploads
+    jobs: Jobs
+    exports: Exports
+    # what was computed of the book as it is after a change
+    kept: Kept = field(default_factory=Kept)
+    # the book as it was when it was last seen to be whole
+    whole: tuple[int, int] = (0, 0)
+
+    @contextlib.contextmanager
+    def opened(self) -> Iterator[Book | None]:
+        """The book as it is now, whoever changes it meanwhile; none where there is none."""
+        with reading(self.folder) as connection:
+            yield Book(self.folder, connection) if connection else None
+
+
+def the_desk() -> Desk:
+    """The desk of the server that answers."""
+    return cast(Desk, current_app.extensions[EXTENSION])
+
+
+def with_book(page: Callable[Concatenate[Book, Given], Answer]) -> Callable[Given, Answer]:
+    """A page of a book that is there; where there is none the start page says what to do."""
+
+    @functools.wraps(page)
+    def shown(*values: Given.args, **named: Given.kwargs) -> Answer:
+        with the_desk().opened() as book:
+            if book is None or book.change is None:
+                return redirect(url_for("start.page"))
+            return page(book, *values, **named)
+
+    return shown

@@ -1,0 +1,14 @@
+"""A pedigree drawn within a page."""
+from __future__ import annotations
+
+from society.pages.pedigree_picture import Pedigree
+from society.pages.picture import FONT, escape
+
+
+def drawn(pedigree: Pedigree, title: str) -> str:
+    """The first page of a pedigree as a picture, with a title for whoever doesn't see it."""
+    width, height, parts = pedigree.page(0)
+    return (
+        f'<svg xmlns="http://www.w3.org/2000/svg" viewBox="0 0 {width:.0f} {height:.0f}" role="img" '
+        f'aria-label="{escape(title)}" font-family="{escape(FONT)}">\n' + "\n".join(parts) + "\n</svg>"
+    )

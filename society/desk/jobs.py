@@ -1,0 +1,111 @@
+"""Work that goes on in processes beside the server: how far each is, and what came of it, kept with the state of the
+book that it is of."""
+from __future__ import annotations
+
+import enum
+import subprocess
+import threading
+import time
+from collections import OrderedDict
+from collections.abc import Callable
+
+from society.desk.beside import Failed, Made, Told, messages_of, started
+
+# so many results are kept, and so long a page waits for one that is there soon
+MOST = 12
+SOON = 1.5
+# so many processes work at once
+AT_ONCE = 2
+Key = tuple[object, ...]
+
+
+class Stage(enum.Enum):
+    UNDER_WAY = "under way"
+    DONE = "done"
+    FAILED = "failed"
+
+
+class Job:
+    """Some work: its stage, what it told last, and what came of it."""
+
+    def __init__(self, key: Key) -> None:
+        self.key, self.began = key, time.monotonic()
+        self.stage, self.told = Stage.UNDER_WAY, ""
+        self.value: object = None
+        self.failed = Failed(())
+        self.is_over = threading.Event()
+        self.process: subprocess.Popen[bytes] | None = None
+
+    @property
+    def seconds(self) -> int:
+        return int(time.monotonic() - self.began)
+
+    def do(self, work: Callable[..., object], values: tuple[object, ...]) -> None:
+        try:
+            self.process = started(work, values)
+            for message in messages_of(self.process):
+                self.take(message)
+        except OSError as error:
+            self.take(Failed((f"no process can be started ({error.strerror or error}): try again later",)))
+        finally:
+            self.is_over.set()
+
+    def take(self, message: object) -> None:
+        if isinstance(message, Told):
+            self.told = message.what
+        elif isinstance(message, Made):
+            self.value, self.stage = message.value, Stage.DONE
+        elif isinstance(message, Failed):
+            self.failed, self.stage = message, Stage.FAILED
+
+
+class Jobs:
+    """The work that was begun, by what it is."""
+
+    def __init__(self) -> None:
+        self.lock, self.room = threading.Lock(), threading.Semaphore(AT_ONCE)
+        self.jobs: OrderedDict[Key, Job] = OrderedDict()
+
+    def of(self, key: Key, work: Callable[..., object], values: tuple[object, ...]) -> Job:
+        """The work of a key, which is begun where it wasn't; the page waits a moment for its end."""
+        with self.lock:
+            job = self.jobs.get(key)
+            if job is None:
+                job = self.jobs[key] = Job(key)
+                threading.Thread(target=self.do, args=(job, work, values), daemon=True).start()
+                self.forget_old()
+        job.is_over.wait(SOON)
+        return job
+
+    def do(self, job: Job, work: Callable[..., object], values: tuple[object, ...]) -> None:
+        with self.room:
+            job.do(work, values)
+
+    def found(self, key: Key) -> Job | None:
+        with self.lock:
+            return self.jobs.get(key)
+
+    def latest(self, kind: str) -> Job | None:
+        """The last one of a kind that is done."""
+        with self.lock:
+            done = [job for job in self.jobs.values() if job.key[0] == kind and job.stage is Stage.DONE]
+        return done[-1] if done else None
+
+    def forget(self, key: Key) -> None:
+        with self.lock:
+            self.jobs.pop(key, None)
+
+    def forget_old(self) -> None:
+        """Of those that are over the oldest go first. The lock is held."""
+        over = [key for key, job in self.jobs.items() if job.is_over.is_set()]
+        for key in over[: max(0, len(self.jobs) - MOST)]:
+            del self.jobs[key]
+
+    def end(self, waits_for: str) -> None:
+        """Ends what is under way, but for work of a kind that changes the book: that is waited for."""
+        with self.lock:
+            under_way = [job for job in self.jobs.values() if not job.is_over.is_set()]
+        for job in under_way:
+            if job.key[0] != waits_for and job.process:
+                job.process.kill()
+            job.is_over.wait()

@@ -1,0 +1,39 @@
+"""What was computed of a book, kept as long as the book is as it was then."""
+from __future__ import annotations
+
+import threading
+from collections import OrderedDict
+from collections.abc import Callable
+from typing import TypeVar, cast
+
+from society.book.book import Book
+
+Value = TypeVar("Value")
+# so many values are kept
+MOST = 64
+
+
+class Kept:
+    """Values by what they are, each of a book after a change."""
+
+    def __init__(self) -> None:
+        self.lock = threading.Lock()
+        self.values: OrderedDict[tuple[object, ...], object] = OrderedDict()
+
+    def of(self, book: Book, what: tuple[object, ...], compute: Callable[[], Value]) -> Value:
+        """The value of this book, which is computed where it isn't kept."""
+        key = (mark_of(book), *what)
+        with self.lock:
+            if key in self.values:
+                return cast(Value, self.values[key])
+        value = compute()
+        with self.lock:
+            self.values[key] = value
+            while len(self.values) > MOST:
+                self.values.popitem(last=False)
+        return value
+
+
+def mark_of(book: Book) -> tuple[int, int]:
+    """By which it is seen whether a book is another than before: its last change, and when that was made."""
+    return (book.change.number, book.change.moment) if book.change else (0, 0)

@@ -1,0 +1,124 @@
+"""The office of a book: a session of the program that has filed the book's journal, and is asked in its place."""
+from __future__ import annotations
+
+import threading
+
+from society.book.book import Book
+from society.book.commands import Command
+from society.book.journal import NO_JOURNAL, Journal, Part, lines_with_refusals, parts_of
+from society.desk.session import Session, SessionEnded, SessionFault
+from society.herdbook import Herdbook
+from society.mistake import Mistake
+from society.refusals import Refusal
+
+# so many commands are filed at once
+AT_ONCE = 20_000
+# the words that an inspector answers, which has no way to ask for two lists of animals
+QUESTIONS = ("inbreeding", "inverse", "certificate", "mating", "relationships")
+
+
+class Office(Herdbook):
+    """The program, whose session answers wherever it stands at the journal of the book that is asked of; for a book of
+    an earlier moment, and where no session can be kept, the program is run once. Each stored reply is compared with the
+    session's."""
+
+    def __init__(self) -> None:
+        super().__init__()
+        self.lock = threading.RLock()
+        self.session: Session | None = None
+        # the journal that the session has filed, and the moment of the change after which it is that
+        self.journal, self.moment = NO_JOURNAL, 0
+
+    def ask(self, words: list[str], book: Book) -> list[str]:
+        if words[0] not in QUESTIONS or "--with" in words or not book.journal.length:
+            return super().ask(words, book)
+        question = [word for word in words if word != "--dam"]
+        for _ in range(2):
+            session = self.at(book)
+            if session is None:
+                break
+            try:
+                answer = session.ask(question)
+            except SessionEnded:
+                self.forget(session)
+                continue
+            if answer.fault:
+                raise Mistake(f"the program can't do it: {answer.fault}")
+            if answer.steps == book.journal.length:
+                return answer.lines
+            # somebody filed meanwhile
+            break
+        return super().ask(words, book)
+
+    def reply(self, command: Command, book: Book) -> Refusal | None:
+        """The reply of the session's desk. Nobody else changes the book, and whoever asks stores it, or forgets the
+        session."""
+        with self.lock:
+            for _ in range(2):
+                session = self.at(book, to_file=True)
+                if session is None:
+                    continue
+                try:
+                    refusal = session.file([",".join(command)])[0]
+                except SessionEnded:
+                    self.forget(session)
+                    continue
+                except SessionFault as fault:
+                    raise Mistake(f"the program can't file it: {fault}. Nothing is changed") from None
+                self.journal = Journal(self.journal.edition, self.journal.length + 1)
+                return refusal
+        return super().reply(command, book)
+
+    def at(self, book: Book, to_file: bool = False) -> Session | None:
+        """The session where it stands at a book's journal, or can be brought there; none for an earlier moment."""
+        with self.lock:
+            journal, moment = book.journal, (book.change.moment if book.change else 0)
+            goes_on = journal.edition == self.journal.edition and journal.length >= self.journal.length
+            if self.session and not self.session.has_ended and not goes_on and moment <= self.moment and not to_file:
+                return None
+            if not self.session or self.session.has_ended or not goes_on:
+                self.forget(self.session)
+                self.session = Session(self)
+                self.journal = Journal(journal.edition, 0)
+            try:
+                self.catch_up(self.session, book)
+            except SessionEnded:
+                self.forget(self.session)
+                return None
+            except SessionFault as fault:
+                self.forget(self.session)
+                raise Mistake(f"the program can't file the stored journal: {fault}") from None
+            self.moment = max(self.moment, moment)
+            return self.session
+
+    def catch_up(self, session: Session, book: Book) -> None:
+        """Files the commands of a book that the session lacks, and compares each reply with the stored one."""
+        assert book.connection is not None
+        for part in parts_of(book.connection, book.journal):
+            first = max(part.first, self.journal.length + 1)
+            for begin in range(first, part.last + 1, AT_ONCE):
+                last = min(part.last, begin + AT_ONCE - 1)
+                stored = list(lines_with_refusals(book.connection, Part(part.edition, begin, last)))
+                replies = session.file([line for line, _ in stored])
+                self.compare(session, begin, [refusal or 0 for refusal in replies], [refusal for _, refusal in stored])
+                self.journal = Journal(book.journal.edition, last)
+
+    def compare(self, session: Session, first: int, replies: list[int], stored: list[int]) -> None:
+        if replies == stored:
+            return
+        at = next(place for place, pair in enumerate(zip(replies, stored)) if pair[0] != pair[1])
+        self.forget(session)
+        raise Mistake(
+            f"the program's reply to command {first + at} isn't the stored one: nothing goes on. Ask `verify`, and restore "
+            "a backup"
+        )
+
+    def forget(self, session: Session | None) -> None:
+        """Ends a session, so that the next question begins a new one."""
+        with self.lock:
+            if session is not None and session is self.session:
+                self.session, self.journal = None, NO_JOURNAL
+                session.end()
+
+    def close(self) -> None:
+        self.forget(self.session)

@@ -1,0 +1,51 @@
+"""The page on the breed's state, which is computed in a process beside and kept."""
+from __future__ import annotations
+
+from flask import Blueprint, render_template, request
+from markupsafe import Markup
+
+from society.book.book import Book
+from society.desk.animal_rows import born_between
+from society.desk.breed_beside import BREED, Measured, Whom, measures_of
+from society.desk.desk import Answer, the_desk, with_book
+from society.desk.jobs import Stage
+from society.desk.shown_mistakes import without_paths
+from society.desk.words import the_words
+from society.mistake import Mistake
+
+page = Blueprint("breed", __name__)
+
+
+@page.get("/breed", endpoint="page")
+@with_book
+def breed(book: Book) -> Answer:
+    """What is there is shown, of which change, and how far the work on the book of now is."""
+    desk, given = the_desk(), request.args
+    try:
+        born = born_between(given.get("from", "").strip(), given.get("to", "").strip())
+        whom = Whom(" ".join(given.get("owner", "").split()), born)
+        job = measures_of(desk, book, whom)
+    except Mistake as mistake:
+        return page_with(book, None, without_paths(mistake.sentences, desk)), 400
+    if job.stage is Stage.FAILED:
+        desk.jobs.forget(job.key)
+        faults = [the_words()("work ended")] if job.failed.is_fault else list(job.failed.sentences)
+        return page_with(book, None, without_paths(faults, desk)), 400
+    if job.stage is Stage.DONE:
+        assert isinstance(job.value, Measured)
+        return page_with(book, job.value, [])
+    # an earlier state of the same animals is shown meanwhile
+    before = desk.jobs.latest(BREED)
+    value = before.value if before and before.key[2] == whom else None
+    return page_with(book, value if isinstance(value, Measured) else None, [], (job.told, job.seconds))
+
+
+def page_with(
+    book: Book, measured: Measured | None, faults: list[str], under_way: tuple[str, int] | None = None
+) -> str:
+    assert book.change is not None
+    part = Markup(measured.parts[the_words().language.name]) if measured else ""
+    return render_template(
+        "breed.html", given=request.args, part=part, of=measured.change if measured else 0, now=book.change.number,
+        faults=faults, under_way=under_way, owners=sorted(book.owners),
+    )  # fmt: skip

@@ -1,0 +1,168 @@
+"""The page on which a sheet is taken: a file is dropped, then it is seen how it is read and what it would change, and
+then it is taken or left. Nothing is written before that."""
+from __future__ import annotations
+
+from flask import Blueprint, abort, flash, redirect, render_template, request, url_for
+from werkzeug.wrappers import Response
+
+from society.book.changes import Option
+from society.book.kinds import Field
+from society.desk.desk import Answer, the_desk
+from society.desk.jobs import Job, Stage
+from society.desk.shown_findings import finding_words, groups_of
+from society.desk.shown_mistakes import without_paths
+from society.desk.suggested import COLUMNS, field_of, proposed_by
+from society.desk.suggested import choose as choose_suggested
+from society.desk.taking_beside import LOOKING, TAKING, Chosen, Look, Taken, looked_at, taken
+from society.desk.uploads import Upload
+from society.desk.words import the_words
+
+page = Blueprint("sheet", __name__)
+# the fields of the form beside the columns
+OPTIONS = (
+    "unknown", "known", "sexes", "owner", "breed", "country", "day", "youngest", "apart", "worksheet", "drop_gone",
+    "month_first", "day_first", "anyway",
+)  # fmt: skip
+MOST_LETTERS = 500
+
+
+@page.get("/sheet", endpoint="page")
+def sheet() -> Answer:
+    if the_desk().read_only:
+        abort(403, "read only")
+    return render_template("sheet.html")
+
+
+@page.post("/sheet")
+def drop() -> Answer:
+    file = request.files.get("sheet")
+    if file is None or not file.filename:
+        return render_template("sheet.html", faults=[the_words()("no file")]), 400
+    return to_look(the_desk().uploads.add(file))
+
+
+@page.post("/sheet/example")
+def drop_example() -> Answer:
+    """The example's sheet, to play with."""
+    from society.desk.routes.start import EXAMPLE
+
+    with open(EXAMPLE, "rb") as file:
+        from werkzeug.datastructures import FileStorage
+
+        return to_look(the_desk().uploads.add(FileStorage(file, EXAMPLE.name)))
+
+
+def to_look(upload: Upload) -> Response:
+    return redirect(url_for("sheet.look", token=upload.token))
+
+
+def upload_of(token: str) -> Upload:
+    """A page that isn't there where a file's hour is over, or it is taken or left."""
+    upload = the_desk().uploads.of(token)
+    if upload is None:
+        abort(404, "upload")
+    return upload
+
+
+def job_of(upload: Upload) -> Job:
+    """The look at a file for the book as it is now."""
+    desk = the_desk()
+    with desk.opened() as book:
+        change = book.change.number if book and book.change else 0
+    chosen = Chosen.of(upload.columns, upload.options)
+    return desk.jobs.of((LOOKING, upload.token, chosen, change), looked_at, (desk.folder, upload.path, chosen))
+
+
+@page.get("/sheet/<token>")
+def look(token: str) -> Answer:
+    upload = upload_of(token)
+    job = job_of(upload)
+    if job.stage is Stage.UNDER_WAY:
+        return waiting("looking", job)
+    if job.stage is Stage.FAILED:
+        the_desk().jobs.forget(job.key)
+        return render_template("look.html", upload=upload, look=None, faults=told(job)), 400
+    assert isinstance(job.value, Look)
+    found = job.value
+    words, looks = the_words(), [entry.finding for entry in found.entries]
+    sentences = without_paths((*found.told, *(finding_words(one, words) for one in found.obstacles)), the_desk())
+    is_read = found.after is not None
+    return render_template(
+        "look.html", upload=upload, look=found, fields=list(Field), groups=groups_of(found.entries, words),
+        faults=[] if is_read else sentences, guards=sentences if is_read else [], given=upload.options,
+        solutions=proposed_by(found.obstacles, words), proposals=proposed_by(looks, words),
+    )  # fmt: skip
+
+
+def told(job: Job) -> list[str]:
+    if job.failed.is_fault:
+        return [the_words()("work ended")]
+    return without_paths(job.failed.sentences, the_desk())
+
+
+def waiting(what: str, job: Job) -> Answer:
+    """A page that asks again by itself, until the work is done."""
+    return render_template("waiting.html", what=what, told=job.told, seconds=job.seconds)
+
+
+@page.post("/sheet/<token>/columns")
+def choose(token: str) -> Answer:
+    """Keeps what was chosen for the reading, and looks anew."""
+    upload, given = upload_of(token), request.form
+    for name in Field:
+        title = given.get(f"column-{name}")
+        if title is not None and title != given.get(f"understood-{name}", ""):
+            upload.columns[name.value] = title[:MOST_LETTERS]
+    upload.options = {name: given[name].strip()[:MOST_LETTERS] for name in OPTIONS if given.get(name, "").strip()}
+    return to_look(upload)
+
+
+@page.post("/sheet/<token>/suggested")
+def take_suggestion(token: str) -> Answer:
+    """Chooses what a finding suggests, and looks anew."""
+    upload, given = upload_of(token), request.form
+    options = [Option(name, word) for name, word in zip(given.getlist("option"), given.getlist("word"))]
+    choose_suggested(upload, [one for one in options if one.option == COLUMNS or field_of(one) in OPTIONS])
+    return to_look(upload)
+
+
+@page.post("/sheet/<token>/take")
+def take(token: str) -> Answer:
+    """Takes it, if the book is the one that was looked at."""
+    upload, desk = upload_of(token), the_desk()
+    looked = request.form.get("change", "")
+    if not looked.isdecimal() or len(looked) > 9:
+        abort(400)
+    chosen = Chosen.of(upload.columns, upload.options)
+    key = (TAKING, token, chosen, int(looked))
+    desk.jobs.of(key, taken, (desk.folder, upload.path, chosen, int(looked)))
+    return redirect(url_for("sheet.taking", token=token, change=looked))
+
+
+@page.get("/sheet/<token>/taking/<int(max=999999999):change>")
+def taking(token: str, change: int) -> Answer:
+    """Waits for the end of a taking, and goes to what it changed."""
+    upload, desk = upload_of(token), the_desk()
+    job = desk.jobs.found((TAKING, token, Chosen.of(upload.columns, upload.options), change))
+    if job is None:
+        return to_look(upload)
+    if job.stage is Stage.UNDER_WAY:
+        return waiting("taking", job)
+    desk.jobs.forget(job.key)
+    if job.stage is Stage.FAILED:
+        return render_template("look.html", upload=upload, look=None, faults=told(job)), 400
+    assert isinstance(job.value, Taken)
+    if job.value.book_changed:
+        flash(the_words()("book changed"), "look")
+        return to_look(upload)
+    desk.uploads.drop(token)
+    flash(the_words()("sheet taken", upload.path.name), "done")
+    return redirect(url_for("history.change", number=job.value.change))
+
+
+@page.post("/sheet/<token>/leave")
+def leave(token: str) -> Answer:
+    name = upload_of(token).path.name
+    the_desk().uploads.drop(token)
+    flash(the_words()("sheet left", name), "done")
+    return redirect(url_for("start.page"))

@@ -1,0 +1,110 @@
+"""The changes of a book's history as pages show them."""
+from __future__ import annotations
+
+from dataclasses import dataclass
+from typing import NamedTuple
+
+from society.answers.own_history import SAID_BY_ROWS, names_of_parents, rows_by_change, told_of_animal
+from society.book.book import NO_OWNER, Book
+from society.book.changes import Change
+from society.book.history import change_numbered, told_by
+from society.book.history_words import facts, names_around, rows_by_id
+from society.book.kinds import ChangeKind
+from society.book.rows import Row
+from society.desk.shown_findings import Group, groups_of, sentence_of
+from society.desk.words import Words
+from society.taking.stored_findings import entry_of
+
+
+@dataclass(frozen=True, slots=True)
+class ChangeLine:
+    """A change in a line. `what` is what it did, `counts` how much of each."""
+
+    number: int
+    time: str
+    login: str
+    what: str
+    counts: str
+
+
+def line_of(change: Change, words: Words) -> ChangeLine:
+    counts = [f"{words.count(count)} {words(f'counted {what}')}" for what, count in change.counts.items() if count]
+    return ChangeLine(change.number, words.time(change.time), change.login, what_of(change, words), ", ".join(counts))
+
+
+def what_of(change: Change, words: Words) -> str:
+    if change.kind is ChangeKind.UNDO and not change.undone_to:
+        return words("change to empty")
+    named = change.source.name if change.source else change.undone_to or ""
+    return words(f"change {change.kind.value}", named)
+
+
+class Value(NamedTuple):
+    """A fact that a change changed; empty where there is none."""
+
+    what: str
+    before: str
+    after: str
+
+
+class Difference(NamedTuple):
+    """What a change made of an animal."""
+
+    id: str
+    is_new: bool
+    is_gone: bool
+    values: list[Value]
+
+
+def differences_of(book: Book, number: int, words: Words, most: int) -> tuple[int, list[Difference]]:
+    """How many animals a change changed, and the first of them."""
+    assert book.connection is not None
+    before, after = (rows_by_id(book.connection, column, number) for column in ("until", "since"))
+    names = names_around(book.connection, number)
+    owners: dict[int, str] = dict(book.connection.execute("SELECT herd, name FROM owner")) | {NO_OWNER: ""}
+    ids = sorted(before.keys() | after.keys())
+    shown = [difference(id, before.get(id), after.get(id), names, owners, words) for id in ids[:most]]
+    return len(ids), shown
+
+
+def difference(
+    id: str, before: Row | None, after: Row | None, names: dict[str, str], owners: dict[int, str], words: Words
+) -> Difference:
+    former = facts(before, names, owners) if before else {}
+    now = facts(after, names, owners) if after else {}
+    changed = (what for what in now or former if now.get(what, "") != former.get(what, ""))
+    values = [Value(words(f"fact {what}"), former.get(what, ""), now.get(what, "")) for what in changed]
+    return Difference(id, before is None, after is None, values)
+
+
+def told_of_change(book: Book, number: int, words: Words) -> list[Group]:
+    """What a change told, by kind."""
+    assert book.connection is not None
+    return groups_of([entry_of(one) for one in told_by(book.connection, number)], words)
+
+
+class OwnChange(NamedTuple):
+    """A change that changed an animal, or told of it."""
+
+    line: ChangeLine
+    difference: Difference | None
+    told: list[str]
+
+
+def own_changes(book: Book, id: str, words: Words) -> list[OwnChange]:
+    """What the history has of one animal, the newest first."""
+    assert book.connection is not None
+    began, ended = (rows_by_change(book.connection, id, column) for column in ("since", "until"))
+    told = told_of_animal(book.connection, id)
+    names = names_of_parents(book.connection, [*began.values(), *ended.values()])
+    owners: dict[int, str] = dict(book.connection.execute("SELECT herd, name FROM owner")) | {NO_OWNER: ""}
+    found = []
+    for number in sorted(began.keys() | ended.keys() | told.keys(), reverse=True):
+        change = change_numbered(book.connection, number)
+        assert change is not None
+        entries = [entry_of(one) for one in told.get(number, [])]
+        sentences = [sentence_of(entry, words) for entry in entries if entry.what not in SAID_BY_ROWS]
+        is_changed = number in began or number in ended
+        changed = difference(id, ended.get(number), began.get(number), names, owners, words) if is_changed else None
+        found.append(OwnChange(line_of(change, words), changed, sentences))
+    return found

@@ -1,0 +1,48 @@
+"""What a taking tells as pages show it: by kind, what may be wrong first."""
+from __future__ import annotations
+
+from collections.abc import Sequence
+from typing import NamedTuple
+
+from society.desk.words import Words
+from society.taking.report import Entry, Finding, What
+
+ORDER = (What.LOOK, What.NEW, What.CHANGED, What.LEFT_OUT, What.INFERRED, What.GONE, What.ADDED)
+# so many of a kind are shown, the rest where all are asked for
+MOST_SHOWN = 200
+
+
+class Line(NamedTuple):
+    """Of an animal one sentence; `line` is the sheet's, 0 where it has no row."""
+
+    line: int
+    id: str
+    sentence: str
+
+
+class Group(NamedTuple):
+    """The entries of a kind, the first of them as lines."""
+
+    what: What
+    title: str
+    total: int
+    lines: list[Line]
+
+
+def groups_of(entries: Sequence[Entry], words: Words) -> list[Group]:
+    found = []
+    for what in ORDER:
+        own = [entry for entry in entries if entry.what is what]
+        lines = [Line(one.line, one.id, sentence_of(one, words)) for one in own[:MOST_SHOWN]]
+        if own:
+            found.append(Group(what, words(f"what {what.value}"), len(own), lines))
+    return found
+
+
+def sentence_of(entry: Entry, words: Words) -> str:
+    return finding_words(entry.finding, words)
+
+
+def finding_words(finding: Finding, words: Words) -> str:
+    """What is found, without what is suggested for the command line."""
+    return finding.words()

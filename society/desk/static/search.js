@@ -1,0 +1,53 @@
+// Search while somebody types. Without this file each page works too: a form is sent by its button.
+"use strict";
+
+// So long nothing is asked behind a key, in milliseconds.
+const PAUSE = 200;
+
+// Calls a function a moment after the last of several calls.
+function afterPause(call) {
+  let timer;
+  return () => {
+    clearTimeout(timer);
+    timer = setTimeout(call, PAUSE);
+  };
+}
+
+// Animals are offered below a field.
+function offer(input) {
+  const list = document.getElementById(input.getAttribute("list"));
+  input.addEventListener("input", afterPause(async () => {
+    const words = input.value.trim();
+    if (!words) return;
+    const address = new URL(input.dataset.search, location.href);
+    address.searchParams.set("words", words);
+    const answer = await fetch(address);
+    if (!answer.ok || input.value.trim() !== words) return;
+    list.replaceChildren(...(await answer.json()).map((animal) => {
+      const option = document.createElement("option");
+      option.value = animal.id;
+      option.label = [animal.id, animal.name, animal.born].filter(Boolean).join("  ");
+      return option;
+    }));
+  }));
+}
+
+// A part of the page shows what the form finds.
+function showFound(form) {
+  const part = form.dataset.live;
+  let asked = "";
+  const show = afterPause(async () => {
+    const address = new URL(form.action);
+    for (const [name, value] of new FormData(form)) if (value) address.searchParams.append(name, value);
+    asked = address.href;
+    const answer = await fetch(address);
+    if (!answer.ok || asked !== address.href) return;
+    const page = new DOMParser().parseFromString(await answer.text(), "text/html");
+    document.getElementById(part).replaceChildren(...page.getElementById(part).childNodes);
+    history.replaceState(null, "", address);
+  });
+  form.addEventListener("input", show);
+}
+
+for (const input of document.querySelectorAll("input[data-search]")) offer(input);
+for (const form of document.querySelectorAll("form[data-live]")) showFound(form);

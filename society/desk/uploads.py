@@ -1,0 +1,83 @@
+"""Files that somebody dropped and didn't take yet: they lie outside the book, for an hour."""
+from __future__ import annotations
+
+import pathlib
+import secrets
+import shutil
+import threading
+import time
+from dataclasses import dataclass, field
+
+from werkzeug.datastructures import FileStorage
+
+from society.mistake import Mistake
+
+SECONDS = 3600
+# so many lie there at once
+MOST = 20
+LONGEST_NAME = 120
+
+
+@dataclass
+class Upload:
+    """A file with its own name. `columns` are the titles that somebody chose for fields, `options` the other choices
+    for its reading."""
+
+    token: str
+    path: pathlib.Path
+    time: float
+    columns: dict[str, str] = field(default_factory=dict)
+    options: dict[str, str] = field(default_factory=dict)
+
+
+class Uploads:
+    """The files in a folder that nobody else reads, each in one of its own."""
+
+    def __init__(self, room: pathlib.Path) -> None:
+        self.room, self.lock = room, threading.Lock()
+        self.found: dict[str, Upload] = {}
+
+    def add(self, file: FileStorage) -> Upload:
+        self.drop_old()
+        token = secrets.token_urlsafe(16)
+        folder = self.room / token
+        folder.mkdir(mode=0o700)
+        upload = Upload(token, folder / harmless(file.filename or ""), time.monotonic())
+        try:
+            file.save(upload.path)
+        except OSError as error:
+            shutil.rmtree(folder, ignore_errors=True)
+            raise Mistake(f"the file can't be kept here ({error.strerror or error}): make room on the disk") from None
+        with self.lock:
+            self.found[token] = upload
+        return upload
+
+    def of(self, token: str) -> Upload | None:
+        """The file of a token, unless its hour is over."""
+        self.drop_old()
+        with self.lock:
+            return self.found.get(token)
+
+    def drop(self, token: str) -> None:
+        with self.lock:
+            upload = self.found.pop(token, None)
+        if upload:
+            shutil.rmtree(upload.path.parent, ignore_errors=True)
+
+    def drop_old(self) -> None:
+        """Drops those whose hour is over, and the oldest where there are too many."""
+        oldest_first = sorted(self.found.values(), key=lambda one: one.time)
+        over = {one.token for one in oldest_first if time.monotonic() - one.time > SECONDS}
+        for token in over | {one.token for one in oldest_first[: -MOST or None]}:
+            self.drop(token)
+
+
+def harmless(name: str) -> str:
+    """The last part of a file's name, without what does something in a folder or on a terminal."""
+    last = name.replace("\\", "/").rpartition("/")[2]
+    shown = "".join(one for one in last if one.isprintable()).strip().lstrip(".")
+    stem, dot, suffix = shown.rpartition(".")
+    while len(shown.encode("utf-8", "replace")) > LONGEST_NAME:
+        stem = stem[:-1]
+        shown = f"{stem}{dot}{suffix[:10]}"
+    return shown.encode("utf-8", "ignore").decode() or "sheet.csv"

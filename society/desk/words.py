@@ -1,0 +1,64 @@
+"""What a page says, in the language that somebody chose."""
+from __future__ import annotations
+
+import datetime
+from fractions import Fraction
+
+from flask import g, request, session
+
+from society.book.settings import Setting, settings_of
+from society.desk.desk import the_desk
+from society.desk.texts import TEXTS
+from society.decimals import percent
+from society.pages.languages import LANGUAGES, Language
+
+CHOSEN = "language"
+NAMES = {"en": "English", "de": "Deutsch", "fr": "Français"}
+
+
+class Words:
+    """The texts of a language, and how it writes days and numbers."""
+
+    def __init__(self, language: str) -> None:
+        self.at, self.language = LANGUAGES.index(language), Language(language)
+
+    def __call__(self, what: str, *values: object) -> str:
+        text = TEXTS[what][self.at]
+        return text.format(*values) if values else text
+
+    def counted(self, what: str, count: int) -> str:
+        """A text that counts. French counts none as one."""
+        is_one = count == 1 or count == 0 and self.language.name == "fr"
+        return self(f"{what} (one)" if is_one else what, self.language.count(count))
+
+    def day(self, day: object) -> str:
+        return self.language.day(day) if day else ""
+
+    def time(self, time: datetime.datetime) -> str:
+        here = time.astimezone()
+        return f"{self.day(here.date())} {here:%H:%M}"
+
+    def count(self, number: int) -> str:
+        return self.language.count(number)
+
+    def percent(self, text: str) -> str:
+        return self.language.percent(text)
+
+    def percent_of(self, value: Fraction) -> str:
+        return self.percent(percent(value))
+
+
+def usual_language() -> str:
+    """That of the settings, else the one that the browser likes best."""
+    with the_desk().opened() as book:
+        kept = settings_of(book)[Setting.LANGUAGE] if book else ""
+    return kept or request.accept_languages.best_match(LANGUAGES, default=LANGUAGES[0]) or LANGUAGES[0]
+
+
+def the_words() -> Words:
+    """Those of the request's language, which is the chosen one or else the usual one."""
+    if "words" not in g:
+        chosen = session.get(CHOSEN)
+        g.words = Words(chosen if chosen in LANGUAGES else usual_language())
+    words: Words = g.words
+    return words

@@ -1,0 +1,97 @@
+"""A browser without windows: it asks the application itself, and keeps cookies and what a form has."""
+from __future__ import annotations
+
+import html
+import io
+import os
+import pathlib
+import re
+import time
+from collections.abc import Iterator
+from contextlib import contextmanager
+
+from flask import Flask
+from werkzeug.test import TestResponse
+
+from society.desk.app import desk_app
+from society.desk.desk import Desk
+from society.desk.exporting import Exports
+from society.desk.jobs import Jobs
+from society.desk.office import Office
+from society.desk.security import Gate
+from society.desk.uploads import Uploads
+
+SECRET, PORT = "a secret", 4711
+HOST = f"127.0.0.1:{PORT}"
+# so long a page may wait for work beside
+SECONDS = 120
+
+
+class Site:
+    """The application with a browser that came by the link."""
+
+    def __init__(self, desk: Desk, app: Flask) -> None:
+        self.desk, self.app = desk, app
+        self.client = app.test_client()
+        self.get(f"/enter/{SECRET}")
+
+    def get(self, path: str, headers: dict[str, str] | None = None) -> TestResponse:
+        return self.client.get(path, headers={"Host": HOST} | (headers or {}))
+
+    def page(self, path: str) -> str:
+        """A page that is there; work beside is waited for, and links lead on."""
+        until = time.monotonic() + SECONDS
+        while time.monotonic() < until:
+            answer = self.get(path)
+            if answer.status_code in (302, 303):
+                path = answer.headers["Location"]
+                continue
+            text = answer.get_data(as_text=True)
+            assert answer.status_code in (200, 400), f"{path}: {answer.status}: {shown(text)}"
+            if "http-equiv" not in text:
+                return text
+            time.sleep(0.1)
+        raise AssertionError(f"{path} isn't done after {SECONDS} seconds")
+
+    def token(self) -> str:
+        found = re.search(r'name="csrf_token" value="([^"]+)"', self.get("/settings").get_data(as_text=True))
+        found = found or re.search(r'name="csrf_token" value="([^"]+)"', self.get("/sheet").get_data(as_text=True))
+        assert found
+        return found[1]
+
+    def post(self, path: str, **fields: str) -> TestResponse:
+        data = {"csrf_token": self.token(), **fields}
+        return self.client.post(path, data=data, headers={"Host": HOST})
+
+    def drop(self, name: str, text: bytes) -> str:
+        """Drops a sheet, and answers the address of its page."""
+        data = {"csrf_token": self.token(), "sheet": (io.BytesIO(text), name)}
+        answer = self.client.post("/sheet", data=data, headers={"Host": HOST})
+        assert answer.status_code == 302, shown(answer.get_data(as_text=True))
+        return str(answer.headers["Location"])
+
+    def take(self, address: str) -> str:
+        """Takes a sheet as its page has it, and answers the page behind that."""
+        page = self.page(address)
+        change = re.search(r'name="change" value="(\d+)"', page)
+        assert change, shown(page)
+        return self.page(self.post(f"{address}/take", change=change[1]).headers["Location"])
+
+
+def shown(text: str) -> str:
+    """What a page says, without its menu."""
+    content = text.partition('<main id="content"')[2].partition("</main>")[0] or text
+    return html.unescape(re.sub(r"\s+", " ", re.sub(r"<[^>]*>", " ", content))).strip()
+
+
+@contextmanager
+def site_of(folder: pathlib.Path, program: str, room: pathlib.Path, read_only: bool = False) -> Iterator[Site]:
+    os.environ["HERDBOOK"] = program
+    room.mkdir(mode=0o700)
+    desk = Desk(folder, Office(), read_only, Uploads(room), Jobs(), Exports(folder))
+    try:
+        yield Site(desk, desk_app(desk, Gate(SECRET, PORT)))
+    finally:
+        desk.jobs.end("")
+        desk.exports.end()
+        desk.program.close()

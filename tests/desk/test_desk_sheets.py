@@ -1,0 +1,226 @@
+"""Sheets that are dropped, looked at, and taken or left."""
+from __future__ import annotations
+
+import io
+import pathlib
+import re
+import time
+import zipfile
+
+import pytest
+
+from desk.site import HOST, Site, shown, site_of
+from front_desk.desk import TOP, Desk
+from society.desk import uploads
+from society.desk.texts import TEXTS
+
+EXAMPLE = (TOP / "examples/society.csv").read_bytes()
+FLOCK = b"Tag,Geschlecht,geb,V,M\na,m,2001-01-01,,\nb,w,2001-02-01,,\nc,w,2003-01-01,a,b\n"
+GROWN = FLOCK + b"d,m,2005-01-01,a,c\n"
+
+
+def files_of(folder: pathlib.Path) -> dict[str, bytes]:
+    return {path.name: path.read_bytes() for path in folder.iterdir()} if folder.exists() else {}
+
+
+def test_first_sheet(empty_site: Site, program: str, tmp_path: pathlib.Path) -> None:
+    """From an empty folder to a book, which is that of `take`; nothing is written before it is taken."""
+    site = empty_site
+    assert TEXTS["take first sheet"][0] in shown(site.page("/animals"))
+    address = site.post("/sheet/example").headers["Location"]
+    look = shown(site.page(address))
+    assert "The book would have 502 animals, 500 of them new." in look
+    assert "Left out 2" in look and "Added as parents 2" in look
+    assert look.index("May be wrong 22") < look.index("Left out 2") < look.index("Inferred 4")
+    assert "276 GK-12/351b its sire GK-12/341c (line 148) is left out: it isn't male (refusal 5)" in look
+    assert not site.desk.folder.exists()
+    page = site.take(address)
+    assert TEXTS["sheet taken"][0].format("society.csv") in shown(page)
+    by_word = Desk(tmp_path / "by word", program)
+    by_word.good("take", str(TOP / "examples/society.csv"))
+    by_page = Desk(site.desk.folder.parent, program)
+    assert by_page.commands() == by_word.commands()
+    assert by_page.ids() == by_word.ids()
+    assert by_page.good("history", "1").out.splitlines()[2:] == by_word.good("history", "1").out.splitlines()[2:]
+    assert not any(site.desk.uploads.room.iterdir())
+
+
+def test_left(site: Site) -> None:
+    """A sheet that is left leaves the book as it was, and goes."""
+    before = files_of(site.desk.folder)
+    address = site.drop("sheet.csv", EXAMPLE + b"Lower Mill,NEW-1,f,2019-01-01,,,\n")
+    assert "501" not in before
+    assert "503 animals, 1 of them new." in shown(site.page(address))
+    assert TEXTS["sheet left"][0].format("sheet.csv") in shown(
+        site.page(site.post(f"{address}/leave").headers["Location"])
+    )
+    answer = site.get(address)
+    assert answer.status_code == 404 and TEXTS["refused upload"][0] in shown(answer.get_data(as_text=True))
+    assert files_of(site.desk.folder).keys() >= before.keys()
+    assert files_of(site.desk.folder)["commands.csv"] == before["commands.csv"]
+    assert not any(site.desk.uploads.room.iterdir())
+
+
+def test_columns(empty_site: Site) -> None:
+    """The columns are shown as they were understood with the first rows; others are chosen from lists, also titles with
+    commas and quotation marks."""
+    site = empty_site
+    address = site.drop("flock.csv", FLOCK.replace(b",V,M", b',"Vater, ""der""",x'))
+    page = site.page(address)
+    assert re.search(r"<option selected>Tag</option>", page) and re.search(r"<option selected>geb</option>", page)
+    assert "2 a m 2001-01-01" in shown(page)
+    assert "no column for sire or dam is found" in shown(page)
+    assert "/take" not in page
+    chosen = {"column-sire": 'Vater, "der"', "understood-sire": "", "column-dam": "x", "understood-dam": ""}
+    page = site.page(site.post(f"{address}/columns", **chosen).headers["Location"])
+    assert "The book would have 3 animals, 3 of them new." in shown(page)
+    site.take(address)
+    with site.desk.opened() as book:
+        assert book
+        record = book.records[book.known["c"].number]
+        assert (record.sire, record.dam) == (book.known["a"].number, book.known["b"].number)
+
+
+def test_options(empty_site: Site) -> None:
+    """Words for unknown parents and sexes, breed and country are said on the page; a wrong one is told."""
+    site = empty_site
+    address = site.drop("flock.csv", FLOCK.replace(b",a,b", b",Leihbock,b").replace(b"c,w", b"c,Zibbe"))
+    page = site.page(site.post(f"{address}/columns", breed="sk").headers["Location"])
+    assert "'sk' isn't three letters" in shown(page)
+    said = {"unknown": "Leihbock", "sexes": "Zibbe=f", "breed": "SKU", "country": "DEU"}
+    columns = {"column-sire": "V", "column-dam": "M"}
+    page = site.page(site.post(f"{address}/columns", **said, **columns).headers["Location"])
+    assert "The book would have 3 animals" in shown(page)
+    site.take(address)
+    with site.desk.opened() as book:
+        assert book
+        assert book.known["c"].number == "SKUDEUF000000000003"
+        assert book.records[book.known["c"].number].sire == ""
+
+
+def test_book_changed_between(site: Site, society_desk: Desk) -> None:
+    """A command in a terminal between the look and `take`: the page says so and looks anew."""
+    address = site.drop("sheet.csv", EXAMPLE + b"Lower Mill,NEW-1,f,2019-01-01,,,\n")
+    page = site.page(address)
+    change = re.search(r'name="change" value="(\d+)"', page)
+    assert change and change[1] == "1"
+    society_desk.good("birth", "NEW-1", "--sex", "f", "--day", "2019-01-01", "--owner", "Lower Mill")
+    again = site.page(site.post(f"{address}/take", change="1").headers["Location"])
+    assert TEXTS["book changed"][0] in shown(again)
+    assert "503 animals, 0 of them new." in shown(again)
+    assert 'name="change" value="2"' in again
+    assert len(society_desk.good("history").out.splitlines()) == 2
+    site.take(address)
+    assert len(society_desk.good("history").out.splitlines()) == 3
+
+
+def test_sent_twice(site: Site, society_desk: Desk) -> None:
+    """A sheet that is taken by two forms at once is taken once."""
+    address = site.drop("sheet.csv", EXAMPLE + b"Lower Mill,NEW-1,f,2019-01-01,,,\n")
+    site.page(address)
+    first = site.post(f"{address}/take", change="1").headers["Location"]
+    second = site.post(f"{address}/take", change="1").headers["Location"]
+    assert first == second
+    assert TEXTS["sheet taken"][0].format("sheet.csv") in shown(site.page(first))
+    assert site.get(second).status_code == 404
+    assert len(society_desk.good("history").out.splitlines()) == 2
+
+
+def test_another_sheet(site: Site) -> None:
+    """A sheet that looks like another one is taken only where somebody says that it is the right one."""
+    address = site.drop(
+        "other.csv", b"id,name,sex,birth,sire,dam\n" + b"".join(b"X-%d,,f,2001-01-01,,\n" % at for at in range(30))
+    )
+    page = site.page(address)
+    assert TEXTS["guarded"][0] in shown(page) and "/take" not in page
+    assert f'<button class="second"><bdi>{TEXTS["option anyway"][0]}' in page
+    page = site.page(site.post(f"{address}/suggested", option="--anyway", word="").headers["Location"])
+    assert TEXTS["guarded"][0] not in shown(page) and f"{address}/take" in page
+
+
+def workbook_of(size: int) -> bytes:
+    """A small file that becomes a large one: `.xlsx` by its names, with so many blanks."""
+    text = io.BytesIO()
+    with zipfile.ZipFile(text, "w", zipfile.ZIP_DEFLATED) as archive:
+        archive.writestr("[Content_Types].xml", "<Types/>")
+        with archive.open("xl/worksheets/sheet1.xml", "w", force_zip64=True) as sheet:
+            for _ in range(size // 1_000_000):
+                sheet.write(b" " * 1_000_000)
+    return text.getvalue()
+
+
+@pytest.mark.parametrize(
+    "name, text, told",
+    [
+        ("bomb.xlsx", workbook_of(600_000_000), "more than"),
+        ("none.xlsx", b"PK\x03\x04 no workbook", "can't be read as an .xlsx file"),
+        ("sheet.ods", b"PK\x03\x04", "save the sheet as CSV"),
+        ("photo.csv", b"\x89PNG\r\n\x1a\n\x00\x00", "is no text"),
+        ("empty.csv", b"", "is empty"),
+        ("titles.csv", b"id,sex,birth,sire,dam\n", "has no row"),
+    ],
+    ids=["bomb", "no workbook", "ods", "photo", "empty", "titles"],
+)
+def test_wrong_files(empty_site: Site, name: str, text: bytes, told: str) -> None:
+    """What is no sheet is told, and no folder is made."""
+    page = empty_site.page(empty_site.drop(name, text))
+    assert told in shown(page) and "/take" not in page
+    assert str(empty_site.desk.uploads.room) not in page
+    assert not empty_site.desk.folder.exists()
+
+
+def test_too_large(empty_site: Site) -> None:
+    data = {"csrf_token": empty_site.token(), "sheet": (io.BytesIO(b"x" * 51_000_000), "large.csv")}
+    answer = empty_site.client.post("/sheet", data=data, headers={"Host": HOST})
+    assert answer.status_code == 413 and TEXTS["refused size"][0] in shown(answer.get_data(as_text=True))
+    assert not any(empty_site.desk.uploads.room.iterdir())
+
+
+def test_an_hour(empty_site: Site, monkeypatch: pytest.MonkeyPatch) -> None:
+    """A file that isn't taken goes after an hour, and of very many the oldest go."""
+    site = empty_site
+    first = site.drop("flock.csv", FLOCK)
+    monkeypatch.setattr(uploads, "MOST", 3)
+    for _ in range(3):
+        last = site.drop("flock.csv", FLOCK)
+    assert site.get(first).status_code == 404
+    assert site.get(last).status_code == 200
+    now = time.monotonic()
+    monkeypatch.setattr(time, "monotonic", lambda: now + uploads.SECONDS - 60)
+    assert site.get(last).status_code == 200
+    monkeypatch.setattr(time, "monotonic", lambda: now + uploads.SECONDS + 60)
+    assert site.get(last).status_code == 404
+    assert not any(site.desk.uploads.room.iterdir())
+
+
+def test_second_sheet_and_undo(empty_site: Site) -> None:
+    """A grown sheet changes what it says; undo asks, and brings back the state before as a new change."""
+    site = empty_site
+    columns = {"column-sire": "V", "column-dam": "M"}
+    for text in (FLOCK, GROWN.replace(b"2003-01-01", b"2003-01-02")):
+        address = site.drop("flock.csv", text)
+        site.page(address)
+        site.post(f"{address}/columns", **columns)
+        page = site.take(address)
+    assert "Changed 1" in shown(page) and "New 1" in shown(page)
+    question = site.page("/history/1/undo")
+    assert "Bring back the book as it was after change 1?" in shown(question)
+    assert "nothing" not in shown(site.page(site.post("/history/1/undo", last="1").headers["Location"]))[:1]
+    assert len(re.findall("<tr>", site.page("/history"))) == 3
+    page = site.page(site.post("/history/1/undo", last="2").headers["Location"])
+    assert TEXTS["brought back"][0].format(1) in shown(page)
+    assert "d isn't in the book any more" in shown(page)
+    assert "Animals 3 " in shown(site.page("/"))
+
+
+def test_disk_full(site: Site, monkeypatch: pytest.MonkeyPatch) -> None:
+    """A drop for which the disk has no room is told, and leaves nothing."""
+
+    def full(*_: object) -> None:
+        raise OSError(28, "No space left on device")
+
+    monkeypatch.setattr("werkzeug.datastructures.FileStorage.save", full)
+    data = {"csrf_token": site.token(), "sheet": (io.BytesIO(FLOCK), "flock.csv")}
+    answer = site.client.post("/sheet", data=data, headers={"Host": HOST})
+    assert answer.status_code == 400 and "No space left on device" in shown(answer.get_data(as_text=True))
+    assert not any(site.desk.uploads.room.iterdir())

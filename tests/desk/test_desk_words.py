@@ -1,0 +1,192 @@
+"""Pages and the words of the command line give the same: they share one layer."""
+from __future__ import annotations
+
+import csv
+import datetime
+import html
+import io
+import pathlib
+import re
+import sqlite3
+from typing import Any
+
+import pytest
+
+from desk.site import Site, shown
+from front_desk.desk import Desk
+
+INBRED, DAM = "GK-14/388b", "GK-17/472c"
+NUMBER = "HOLGBRM000000000402"
+LANGUAGES = ("en", "de", "fr")
+COLUMNS = "id,name,number,sex,birth,sire,dam,owner,exit,coefficient,decimal,percent"
+
+
+@pytest.mark.parametrize("language", LANGUAGES)
+def test_printed(site: Site, society_desk: Desk, language: str) -> None:
+    """Certificates and pedigrees are those that the words write, byte for byte."""
+    site.get(f"/language/{language}")
+    words = ["--language", language, "--out"]
+    society_desk.good("certificate", INBRED, *words, "one.html")
+    assert site.get(f"/animal/{NUMBER}/certificate").get_data(as_text=True) == society_desk.text("one.html")
+    society_desk.good("certificate", "--owner", "Lower Mill", "--living", *words, "many.html")
+    assert site.get("/certificates?owner=lower+mill").get_data(as_text=True) == society_desk.text("many.html")
+    society_desk.good("pedigree", INBRED, *words, "tree.svg")
+    assert site.get(f"/animal/{NUMBER}/pedigree").get_data(as_text=True) == society_desk.text("tree.svg")
+    society_desk.good("pedigree", INBRED, "--generations", "8", *words, "tree.html")
+    assert site.get(f"/animal/{NUMBER}/pedigree?generations=8").get_data(as_text=True) == society_desk.text("tree.html")
+
+
+@pytest.mark.parametrize(
+    "asked, words",
+    [
+        ("", []),
+        ("living=1&sex=F&owner=Oak+Lodge", ["--living", "--sex", "f", "--owner", "Oak Lodge"]),
+        ("from=2010&to=2012", ["--born", "2010..2012"]),
+        ("sex=M&from=2015", ["--sex", "m", "--born", "2015.."]),
+    ],
+)
+def test_animals(site: Site, society_desk: Desk, asked: str, words: list[str]) -> None:
+    """The file of animals is that of `list`, and the page has as many, in the same order."""
+    text = society_desk.good("list", "--columns", COLUMNS, *words).out
+    assert site.get(f"/animals.csv?{asked}").get_data(as_text=True) == text
+    rows = list(csv.DictReader(io.StringIO(text)))
+    page = site.page(f"/animals?{asked}")
+    assert f"{len(rows)} animals" in shown(page)
+    assert ids_in(page) == [row["id"] for row in rows[:50]]
+    behind = re.findall(r"[\d.]+%", shown(page).partition("F ")[2])
+    assert behind[: len(rows)] == [row["percent"] + "%" for row in rows[:50] if row["coefficient"] != "0"]
+
+
+def ids_in(page: str) -> list[str]:
+    return [html.unescape(id) for id in re.findall(r'<th scope="row"><a href="/animal/\w+"><bdi>(.*?)</bdi>', page)]
+
+
+@pytest.mark.parametrize("order", ["id", "name", "sex", "birth", "coefficient"])
+def test_sorted(site: Site, order: str) -> None:
+    """All pages together have each animal once, sorted; turned round the other way."""
+    everything = list(csv.DictReader(io.StringIO(site.get("/animals.csv").get_data(as_text=True))))
+    values = {row["id"]: sorted_by(order, row) for row in everything}
+    for down in ("", "1"):
+        ids = [
+            id for page in range(1, 12) for id in ids_in(site.page(f"/animals?order={order}&down={down}&page={page}"))
+        ]
+        assert sorted(ids) == sorted(values)
+        found = [values[id] for id in ids]
+        assert found == sorted(found, reverse=bool(down))
+
+
+def sorted_by(order: str, row: dict[str, str]) -> Any:
+    """The value by which a row is sorted, without the mark behind it."""
+    return float(row["percent"]) if order == "coefficient" else row[order].removesuffix(" (inferred)")
+
+
+def test_found(site: Site, society_desk: Desk) -> None:
+    """The search finds what `find` finds."""
+    for words in (["mill", "47"], ["gk-17"], ["HOLGBRM0000000004"]):
+        listed = [row["id"] for row in society_desk.listed("find", *words)]
+        assert ids_in(site.page("/animals?words=" + "+".join(words))) == listed[:50]
+    assert "0 animals" in shown(site.page("/animals?words=nothing+of+that"))
+
+
+def test_an_animal(site: Site, society_desk: Desk) -> None:
+    """The page of an animal has what `show` tells: parents, offspring, sibs, coefficient and changes."""
+    for id in (INBRED, DAM, "GK-05/192c"):
+        told = society_desk.good("show", id, "--all").out
+        number = re.search(r"number +(\w+)", told)
+        assert number
+        page = shown(site.page(f"/animal/{number[1]}"))
+        ids = set(re.findall(r"GK-\d\d/\d\d\d[bc]", told.partition("history")[0]))
+        assert ids <= set(re.findall(r"GK-\d\d/\d\d\d[bc]", page))
+        fraction = re.search(r"coefficient +(\S+)", told)
+        assert fraction and f" {fraction[1]} " in page
+        counts = re.search(r"full sibs: (\d+)", told)
+        assert counts and f"Full sibs {counts[1]} " in page
+
+
+@pytest.mark.parametrize("left", ["", "1"])
+def test_matings(site: Site, society_desk: Desk, left: str) -> None:
+    words = ["mating", "--dam", DAM] + ["--left"] * bool(left)
+    text = society_desk.good(*words).out
+    assert site.get(f"/matings.csv?dam={DAM}&left={left}").get_data(as_text=True) == text
+    rows = list(csv.DictReader(io.StringIO(text)))
+    page = site.page(f"/matings?dam={DAM}&left={left}")
+    assert re.findall(r'class="number level level-\d">([\d.]+)%<', page) == [row["percent"] for row in rows]
+    assert ids_in(page) == [row["id"] for row in rows]
+
+
+def test_plan(site: Site, society_desk: Desk) -> None:
+    asked = "made=1&most=20&at_most=1/16"
+    page = site.page(f"/matings/plan?{asked}")
+    done = society_desk.good("plan", "--most-for-a-sire", "20", "--at-most", "1/16")
+    assert site.get(f"/matings/plan.csv?{asked}").get_data(as_text=True) == done.out
+    means = re.findall(r"[\d.]+%", done.err.splitlines()[-1])
+    assert all(mean in shown(page) for mean in means)
+    assert page.count('scope="row"') == len(done.out.splitlines()) - 1
+
+
+@pytest.mark.parametrize("language", LANGUAGES)
+def test_breed(site: Site, society_desk: Desk, language: str) -> None:
+    """The breed's state is the part of the page that `breed` writes; an animal's page has its mean kinship then."""
+    site.get(f"/language/{language}")
+    page = site.page("/breed")
+    society_desk.good("breed", "--language", language, "--out", "breed.html")
+    part = society_desk.text("breed.html").partition("<main>\n")[2].partition("</main>")[0]
+    assert part in page
+    rows = society_desk.listed("list", "--columns", "number,mean_kinship")
+    kinship = next(float(row["mean_kinship"]) for row in rows if row["number"] == NUMBER)
+    decimal = f"{kinship * 100:.2f}".replace(".", "." if language == "en" else ",")
+    assert re.search(f"<b>{decimal}.?%</b>", site.page(f"/animal/{NUMBER}"))
+
+
+def test_glance(site: Site, society_desk: Desk) -> None:
+    """The start page's figures are those of `breed` and `list`."""
+    said = shown(site.page("/"))
+    assert f"Animals {len(society_desk.listed('list'))} Living {len(society_desk.listed('list', '--living'))}" in said
+    measured = shown(site.page("/breed"))
+    mean = re.search(r"Mean inbreeding ([\d.]+)%", measured)
+    shown_mean = re.search(r"Mean coefficient of the living ([\d.]+)%", said)
+    assert mean and shown_mean and abs(float(mean[1]) - float(shown_mean[1])) <= 0.0051
+
+
+def test_history(site: Site, society_desk: Desk) -> None:
+    """The history has each change, and the copy is a whole book."""
+    society_desk.good("exit", DAM, "--day", "2024-05-01")
+    page = shown(site.page("/history"))
+    assert "2 filed an exit" in page and "1 took the sheet society.csv" in page
+    change = shown(site.page("/history/2"))
+    assert f"{DAM} exit: 2024-05-01" in change
+    answer = site.get("/book.sqlite")
+    assert str(datetime.date.today()) in answer.headers["Content-Disposition"]
+    copy = society_desk.room / "copy.sqlite"
+    copy.write_bytes(answer.get_data())
+    society_desk.good("restore", str(copy), "--book", "again")
+    assert society_desk.good("list", "--book", "again").out == society_desk.good("list").out
+    with sqlite3.connect(copy) as connection:
+        assert connection.execute("SELECT count(*) FROM change").fetchone() == (2,)
+
+
+def test_settings(site: Site, society_desk: Desk) -> None:
+    """What is set on the page is what `settings` says, and the other way round; the next sheet's numbers have the
+    breed and country."""
+    site.post(
+        "/settings",
+        name="Goats & <Kids>",
+        address="Church Lane 1\nUV1",
+        breed="sku",
+        country="DEU",
+        unknown="Leih",
+        language="fr",
+    )
+    told = society_desk.good("settings").out
+    assert (
+        "name: Goats & <Kids>\naddress: Church Lane 1, UV1\nbreed: SKU\ncountry: DEU\nunknown: Leih\nlanguage: fr\n"
+        == told
+    )
+    society_desk.good("settings", "--name", "Others", "--language", "de")
+    page = site.page("/settings")
+    assert 'value="Others"' in page and '<html lang="de">' in page and ">Church Lane 1\nUV1</textarea>" in page
+    answer = site.post("/settings", breed="sk")
+    assert answer.status_code == 400 and "three letters" in answer.get_data(as_text=True)
+    sheet = pathlib.Path(__file__).parent.parent.parent / "examples/society.csv"
+    society_desk.good("take", str(sheet))
+    assert society_desk.numbers()[INBRED] == "SKUDEUM000000000402"
