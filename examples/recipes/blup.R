@@ -6,6 +6,8 @@ words <- commandArgs(TRUE)
 inverse <- as(readMM(words[1]), "CsparseMatrix")
 ids <- readLines(paste0(words[1], ".ids"), encoding = "UTF-8")
 records <- read.csv(words[2], colClasses = c(id = "character"))
+lacking <- setdiff(records$id, ids)
+if (length(lacking)) stop(words[2], " has records of animals that ", words[1], " has no row of: ", toString(lacking))
 fixed <- sparse.model.matrix(~ 0 + sex, records)
 animals <- sparseMatrix(seq_len(nrow(records)), match(records$id, ids), x = 1, dims = c(nrow(records), length(ids)))
 left <- rbind(cbind(crossprod(fixed), crossprod(fixed, animals)),

@@ -6,6 +6,9 @@ from scipy.io import mmread
 from scipy.sparse.linalg import splu
 inverse = splu(mmread(sys.argv[1]).tocsc())
 ids = open(sys.argv[1] + ".ids", encoding="utf-8").read().splitlines()
+unknown = [id for id in sys.argv[2:] if id not in ids]
+if unknown:
+    sys.exit(f"{sys.argv[1]} has no row of: {', '.join(unknown)}")
 named = [ids.index(id) for id in sys.argv[2:]]
 # the columns of the relationship matrix that are named, and no others
 columns = inverse.solve(numpy.eye(len(ids))[:, named])

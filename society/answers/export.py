@@ -15,6 +15,7 @@ from society.book.known import Known
 from society.book.old_words import STANDINGS
 from society.book.rows import birth_basis, exit_basis
 from society.book.selecting import known_parents
+from society.mistake import Mistake
 from society.pedigree_order import ancestors
 
 
@@ -88,8 +89,10 @@ def triples_text(rows: Sequence[tuple[str, str, str]]) -> str:
 
 
 def quoted(id: str) -> str:
-    """An id that has blanks or signs stands between quotation marks."""
+    """An id that has blanks or signs stands between quotation marks, and its own have a backslash before them."""
     if re.fullmatch(r"[\w./:+-]+", id) and id != UNKNOWN:
         return id
-    escaped = id.replace("\\", "\\\\").replace('"', '\\"')
+    if id.endswith("\\"):
+        raise Mistake(f"'{id}' ends with a backslash, which R can't read within quotation marks: leave out --triples")
+    escaped = id.replace('"', '\\"')
     return f'"{escaped}"'

@@ -136,9 +136,9 @@ class Box:
         middle, size = self.place.height / 2, self.id_size(12, 8.5)
         facts = f"{known.name}, {self.facts()}" if known.name else self.facts()
         return [
-            self.id_line(middle - 3, size),
-            self.text(facts, middle + 12, 10, self.room_for_percent(10.5)),
-            self.coefficient(middle + 12, 10.5),
+            self.id_line(middle - 4, size),
+            self.text(facts, middle + 10.5, 10, self.room_for_percent(10.5)),
+            self.coefficient(middle + 10.5, 10.5),
         ]
 
     def one(self) -> list[str]:

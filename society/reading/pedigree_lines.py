@@ -14,7 +14,8 @@ from society.reading.encodings import decoded
 # how standard input is named
 STANDARD_INPUT = pathlib.Path("-")
 # where blanks stand between cells, an id with blanks has quotation marks
-CELL = re.compile(r'"[^"]*"|\S+')
+QUOTED = r'"(?:\\"|[^"])*"'
+CELL = re.compile(rf"{QUOTED}|\S+")
 
 
 class Line(NamedTuple):
@@ -40,7 +41,13 @@ def read_lines(path: pathlib.Path) -> list[Line]:
         ]
     for number, part in lines:
         check_blanks(number, part)
-    return [Line(number, [cell.strip('"').strip() for cell in CELL.findall(part)]) for number, part in lines]
+    return [Line(number, [unquoted(cell) for cell in CELL.findall(part)]) for number, part in lines]
+
+
+def unquoted(cell: str) -> str:
+    """A cell without its quotation marks; those that it has within have a backslash before them."""
+    inner = cell[1:-1] if len(cell) > 1 and cell[0] == cell[-1] == '"' else cell.strip('"')
+    return inner.replace('\\"', '"').strip()
 
 
 def read_bytes(path: pathlib.Path) -> bytes:
@@ -57,7 +64,7 @@ def standard_input() -> bytes:
 
 
 def check_blanks(number: int, part: str) -> None:
-    other = next((one for one in (";", ",") if one in part and one in re.sub('"[^"]*"', "", part)), None)
+    other = next((one for one in (";", ",") if one in part and one in re.sub(QUOTED, "", part)), None)
     if other:
         why = (
             f"has '{other}', and the first line has blanks between its cells: write all lines with the same between"

@@ -60,8 +60,11 @@ def test_text_in_a_box(desk: Desk) -> None:
     boxes = [box for box in desk.page("tree.svg").iter(f"{SVG}svg") if box.get("x")]
     assert len(boxes) == 63
     for box in boxes:
-        room = float(box.attrib["width"])
+        room, high = float(box.attrib["width"]), float(box.attrib["height"])
         for text in box.iter(f"{SVG}text"):
+            # capitals and what hangs below the line, within the thickest edge
+            y, size = float(text.attrib["y"]), float(text.attrib["font-size"])
+            assert 1.3 <= y - 0.72 * size and y + 0.21 * size <= high - 1.3, xml.tostring(text)
             wide = width_of(text.text or "", float(text.attrib["font-size"]), text.attrib["font-weight"] == "bold")
             assert wide <= room - (0 if text.attrib["text-anchor"] == "middle" else 8), xml.tostring(text)
     ids = [next(box.iter(f"{SVG}text")).text or "" for box in boxes]
