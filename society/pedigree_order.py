@@ -5,36 +5,10 @@ passed over.
 """
 from __future__ import annotations
 
-import graphlib
 from collections.abc import Callable, Collection, Iterable, Mapping
 
 # the known parents of each animal
 Parents = Mapping[str, Collection[str]]
-
-
-def sorter_of(parents: Parents) -> graphlib.TopologicalSorter[str]:
-    """A sorter that is ready to give the animals; of animals that aren't ordered by parents the first comes first."""
-    sorter: graphlib.TopologicalSorter[str] = graphlib.TopologicalSorter()
-    for id in parents:
-        sorter.add(id)
-    for id, its in parents.items():
-        sorter.add(id, *(parent for parent in its if parent in parents))
-    try:
-        sorter.prepare()
-    except graphlib.CycleError:
-        # what is neither in a cycle nor below one comes all the same
-        pass
-    return sorter
-
-
-def in_order(parents: Parents) -> list[str]:
-    """The animals, parents before their offspring. Those in or below a cycle are absent."""
-    sorter = sorter_of(parents)
-    order: list[str] = []
-    while ready := sorter.get_ready():
-        order += ready
-        sorter.done(*ready)
-    return order
 
 
 def offspring(parents: Parents) -> dict[str, list[str]]:
@@ -44,6 +18,33 @@ def offspring(parents: Parents) -> dict[str, list[str]]:
         for parent in its:
             found.setdefault(parent, []).append(id)
     return found
+
+
+class Waiting:
+    """The animals that wait for their parents to be placed. `free` are those that wait for none."""
+
+    def __init__(self, parents: Parents) -> None:
+        self.offspring = offspring(parents)
+        self.missing = {id: sum(parent in parents for parent in its) for id, its in parents.items()}
+        self.free = [id for id, missing in self.missing.items() if not missing]
+
+    def place(self, id: str) -> list[str]:
+        """Places an animal; answers the offspring that waited for it alone."""
+        found = []
+        for one in self.offspring.get(id, ()):
+            self.missing[one] -= 1
+            if not self.missing[one]:
+                found.append(one)
+        return found
+
+
+def in_order(parents: Parents) -> list[str]:
+    """The animals, parents before their offspring. Those in or below a cycle are absent."""
+    waiting = Waiting(parents)
+    order = waiting.free
+    for id in order:
+        order += waiting.place(id)
+    return order
 
 
 def ancestors(ids: Iterable[str], parents: Callable[[str], Iterable[str]]) -> set[str]:

@@ -4,16 +4,16 @@ from __future__ import annotations
 import functools
 import pathlib
 import sqlite3
-from typing import Iterable, Mapping
+from typing import Iterable, Iterator, Mapping
 
 from society.book.changes import Change
 from society.book.commands import Record
 from society.book.database import path_of
 from society.book.history import last_change
-from society.book.journal import NO_JOURNAL, Journal, Step, command_file, steps_of
+from society.book.journal import NO_JOURNAL, Journal, Step, command_file, refusals_of, steps_of
 from society.book.kinds import Remembered, Standing
 from society.book.known import Known
-from society.book.lazy import Lazy
+from society.book.lazy import Lazy, whole
 from society.book.rows import Row, known_of, record_of
 from society.book.state import ALL_ROWS, CELLS, NOW, Meaning, Values, read_remembered, rows_now, select_rows
 
@@ -40,6 +40,10 @@ class Book:
         # the ids by numbers
         self.ids: Mapping[str, str] = Lazy(self.read_id, self.read_all_ids)
 
+    def read_all(self) -> None:
+        """Reads all animals at once, for whoever needs most of them."""
+        self.known, self.names, self.records = whole(self.known), whole(self.names), whole(self.records)
+
     @property
     def path(self) -> pathlib.Path:
         return path_of(self.folder)
@@ -48,16 +52,24 @@ class Book:
     def journal(self) -> Journal:
         return Journal(self.change.edition, self.change.length) if self.change else NO_JOURNAL
 
-    def command_file(self) -> bytes:
-        """The journal, as the program reads it."""
+    @functools.cached_property
+    def journal_text(self) -> bytes:
         if self.connection is None:
             raise ValueError("an empty book has no journal")
         return command_file(self.connection, self.journal)
 
+    def command_file(self) -> bytes:
+        """The journal, as the program reads it."""
+        return self.journal_text
+
+    def each_step(self) -> Iterator[Step]:
+        """The journal's commands with their replies, one after the other."""
+        if self.connection is not None and self.journal.length:
+            yield from steps_of(self.command_file(), refusals_of(self.connection, self.journal))
+
     @functools.cached_property
     def steps(self) -> list[Step]:
-        """The journal's commands with their replies."""
-        return steps_of(self.connection, self.journal) if self.connection else []
+        return list(self.each_step())
 
     # -- animals
 

@@ -14,6 +14,9 @@ from society.mistake import CALLED, Mistake
 
 Value = TypeVar("Value")
 
+# so much of a book is kept in memory while it is changed
+MOST_KILOBYTES = 64_000
+
 
 class BookCame(Exception):
     """Where there was no book when a change began there is one now: the change has to begin again, with that book."""
@@ -98,6 +101,8 @@ def begin_to_change(connection: sqlite3.Connection) -> None:
     if connection.execute("PRAGMA journal_mode").fetchone()[0] != "wal":
         set_write_ahead(connection)
     connection.execute("PRAGMA synchronous = FULL")
+    # else what a large sheet changes is written again and again while it is changed
+    connection.execute(f"PRAGMA cache_size = {-MOST_KILOBYTES}")
     connection.execute("PRAGMA wal_autocheckpoint = 0")
     connection.execute("BEGIN IMMEDIATE")
 

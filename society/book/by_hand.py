@@ -10,7 +10,7 @@ from society.book.commands import Command, Record, birth, leave, parents, record
 from society.book.inferred import GIVEN_EXIT
 from society.book.journal import Step
 from society.book.kinds import ChangeKind, Field, Standing
-from society.book.known import Known
+from society.book.known import BREED, COUNTRY, Known
 from society.book.rows import row_of
 from society.book.state import select_rows
 from society.book.writing import Filed, Rows, State, write
@@ -20,8 +20,6 @@ from society.refusals import Refusal
 from society.taking.animal_findings import CommandRefused, NewAnimal, ValueChanged
 from society.taking.report import Entry, Finding
 from society.taking.stored_findings import told_of
-
-BREED, COUNTRY = "HOL", "GBR"
 
 
 @dataclass(frozen=True)
@@ -104,8 +102,8 @@ def with_parents(book: Book, known: Known, sire: Known | str | None, dam: Known 
             by_hand.add(one)
         if number != before:
             findings.append(ValueChanged(one.value, id_of(book, number), id_of(book, before)))
-    after = replace(
-        known, by_hand=frozenset(by_hand), written_sire=known.written_sire if sire is None else "",
+    after = known._replace(
+        by_hand=frozenset(by_hand), written_sire=known.written_sire if sire is None else "",
         written_dam=known.written_dam if dam is None else "",
     )  # fmt: skip
     return ByHand(ChangeKind.PARENTS, parents(known.number, *numbers), after, tuple(findings))
@@ -119,7 +117,7 @@ def transferred(book: Book, known: Known, day: datetime.date, taker: str, giver:
         raise Mistake(f"the book has no owner '{giver}': write one as the book has it, or leave out --from")
     herd_before = record.herd if giver is None else book.owners[giver]
     found = ValueChanged("owner", taker, book.owner_of(record.herd))
-    after = replace(known, by_hand=known.by_hand | {Field.OWNER})
+    after = known._replace(by_hand=known.by_hand | {Field.OWNER})
     command = transfer(known.number, day, herd_before, herd)
     return ByHand(ChangeKind.TRANSFER, command, after, (found,), new_owners)
 
@@ -127,7 +125,7 @@ def transferred(book: Book, known: Known, day: datetime.date, taker: str, giver:
 def departed(book: Book, known: Known, day: datetime.date) -> ByHand:
     """An exit."""
     record = book.records[known.number]
-    after = replace(known, exit=GIVEN_EXIT, by_hand=known.by_hand | {Field.EXIT})
+    after = known._replace(exit=GIVEN_EXIT, by_hand=known.by_hand | {Field.EXIT})
     found = ValueChanged("exit", day.isoformat(), str(record.left or ""))
     return ByHand(ChangeKind.EXIT, leave(known.number, day), after, (found,))
 

@@ -2,6 +2,7 @@
 from __future__ import annotations
 
 import re
+from typing import Sequence
 
 # how spreadsheets know a formula, also in the wide letters of East Asia
 FORMULA = frozenset("=+-@\t\r＝＋－＠")
@@ -15,6 +16,11 @@ ACTING = re.compile("[\x00-\x08\x0b-\x1f\x7f-\x9f\ud800-\udfff\u061c\u200e\u200f
 def for_spreadsheets(cell: str) -> str:
     """A cell that no spreadsheet takes for a formula."""
     return TEXT + cell if cell[:1] in FORMULA else cell
+
+
+def row_for_spreadsheets(row: Sequence[object]) -> list[object]:
+    """The same of a row, whose cells may be numbers too."""
+    return [TEXT + cell if isinstance(cell, str) and cell[:1] in FORMULA else cell for cell in row]
 
 
 def for_terminals(text: str) -> str:

@@ -70,10 +70,16 @@ def computed(lines: Iterable[str]) -> dict[str, Coefficient]:
     return {number: Coefficient(fraction, percent) for number, fraction, percent in parts}
 
 
-def write_coefficients(connection: sqlite3.Connection, found: dict[str, Coefficient]) -> None:
-    """Keeps coefficients in place of those before."""
-    if list(read_coefficients(connection).items()) == list(found.items()):
+def kept_lines(connection: sqlite3.Connection) -> list[str]:
+    """The kept coefficients as the program writes them, in age order."""
+    line = "number || ',' || fraction || ',' || percent"
+    return [line for (line,) in connection.execute(f"SELECT {line} FROM coefficient ORDER BY place")]
+
+
+def write_coefficients(connection: sqlite3.Connection, lines: list[str]) -> None:
+    """Keeps the coefficients that the program writes in place of those before."""
+    if kept_lines(connection) == lines:
         return
     connection.execute("DELETE FROM coefficient")
-    rows = [(place, number, *one) for place, (number, one) in enumerate(found.items(), 1)]
+    rows = ((place, *line.split(",")) for place, line in enumerate(lines, 1))
     connection.executemany("INSERT INTO coefficient VALUES (?, ?, ?, ?)", rows)

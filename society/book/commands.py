@@ -4,7 +4,6 @@ from __future__ import annotations
 import csv
 import datetime
 import pathlib
-from dataclasses import dataclass, replace
 from typing import Iterable, NamedTuple
 
 from society.book.role import Role
@@ -42,8 +41,7 @@ def leave(number: str, day: datetime.date) -> Command:
     return Command("exit", number, day.isoformat())
 
 
-@dataclass(frozen=True, slots=True)
-class Record:
+class Record(NamedTuple):
     """What the register has of an animal. `giver` is the herd from which its owner has it, 0 where that is the first
     one."""
 
@@ -72,11 +70,11 @@ def record_after(record: Record | None, command: Command) -> Record:
         sire, dam = known(command.sire), known(command.dam)
         return Record(command.animal, day, sire, dam, command.embryo == "1", int(command.taker), day)
     if command.kind == "parents":
-        return replace(record, sire=known(command.sire), dam=known(command.dam))
+        return record._replace(sire=known(command.sire), dam=known(command.dam))
     day = datetime.date.fromisoformat(command.day)
     if command.kind == "transfer":
-        return replace(record, herd=int(command.taker), since=day, giver=int(command.giver))
-    return replace(record, left=day)
+        return record._replace(herd=int(command.taker), since=day, giver=int(command.giver))
+    return record._replace(left=day)
 
 
 def replay(commands: Iterable[Command]) -> dict[str, Record]:

@@ -3,6 +3,7 @@ is missing or stale, and never read."""
 from __future__ import annotations
 
 import contextlib
+import functools
 import pathlib
 import sqlite3
 
@@ -11,9 +12,10 @@ from society.book.changes import Change
 from society.book.database import connect, path_of
 from society.book.files import put, table
 from society.book.history import told_by
+from society.book.inferred import SexSource
 from society.book.old_words import STANDINGS
-from society.book.rows import known_of
-from society.book.state import select_rows
+from society.book.rows import birth_basis, exit_basis
+from society.book.state import NOW
 from society.taking.stored_findings import entry_of
 
 COMMANDS, IDS, REPORT = "commands.csv", "ids.csv", "report.csv"
@@ -21,6 +23,11 @@ NAMES = (COMMANDS, IDS, REPORT)
 ID_TITLES = ["number", "id", "name", "row", "birth", "exit", "sex", "change"]
 REPORT_TITLES = ["line", "id", "what", "why", "change"]
 SEMICOLONS = "--semicolons"
+STANDING_WORDS = {standing.value: word for standing, word in STANDINGS.items()}
+# the columns that say what a birth day, a sex and an exit come from
+BASES = (
+    "birth_source, birth_period, birth_no_such_day, sex_source, exit_source, exit_period, exit_no_such_day, exit_text"
+)
 
 
 def are_fresh(folder: pathlib.Path, change: Change) -> bool:
@@ -59,13 +66,21 @@ def write_exports(book: Book) -> None:
 def ids_text(book: Book, change: Change) -> bytes:
     """Which number stands for which id, and what was inferred."""
     assert book.connection is not None
-    all_known = map(known_of, select_rows(book.connection, "true ORDER BY substr(number, 8), number"))
+    order = "ORDER BY substr(number, 8), number"
+    found = book.connection.execute(f"SELECT number, id, name, standing, {BASES} FROM animal WHERE {NOW} {order}")
     rows = (
-        (known.number, known.id, known.name, STANDINGS[known.standing], known.birth.words(), known.exit.words(),
-         known.sex.words(), change.number)
-        for known in all_known
-    )  # fmt: skip
+        (number, id, name, STANDING_WORDS[standing], *words_of(*bases), change.number)
+        for number, id, name, standing, *bases in found
+    )
     return table(ID_TITLES, rows)
+
+
+@functools.lru_cache(4096)
+def words_of(
+    birth: str, period: str | None, no_day: str | None, sex: str, exit: str, *parts: str | None
+) -> tuple[str, str, str]:
+    """What a birth day, an exit and a sex come from. The same stands for most animals."""
+    return birth_basis(birth, period, no_day).words(), exit_basis(exit, *parts).words(), SexSource(sex).words()
 
 
 def report_text(book: Book, change: Change) -> bytes:

@@ -10,7 +10,7 @@ import pathlib
 import secrets
 from typing import Iterable, Sequence
 
-from society.book.cells import for_spreadsheets
+from society.book.cells import row_for_spreadsheets
 from society.book.changes import Source
 from society.mistake import Mistake
 
@@ -20,7 +20,7 @@ def table(titles: list[str], rows: Iterable[Sequence[object]], semicolons: bool 
     text = io.StringIO()
     writer = csv.writer(text, delimiter=";" if semicolons else ",", lineterminator="\n")
     writer.writerow(titles)
-    writer.writerows([for_spreadsheets(cell) if isinstance(cell, str) else cell for cell in row] for row in rows)
+    writer.writerows(map(row_for_spreadsheets, rows))
     return text.getvalue().encode("utf-8-sig" if semicolons else "utf-8")
 
 

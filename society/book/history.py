@@ -16,6 +16,9 @@ COLUMNS = "change, kind, time, login, edition, length, file, path, digest, undon
 EPOCH = datetime.datetime(1970, 1, 1, tzinfo=datetime.timezone.utc)
 
 
+text_of = json.JSONEncoder(ensure_ascii=False).encode
+
+
 def login() -> str:
     """Who works here, by the name that the system has."""
     try:
@@ -43,7 +46,7 @@ def write_change(connection: sqlite3.Connection, number: int, moment: int, journ
     connection.executemany("INSERT INTO given_option VALUES (?, ?, ?, ?)", options)
     connection.executemany("INSERT INTO counted VALUES (?, ?, ?)", [(number, *one) for one in made.counts])
     told = [
-        (number, place, one.kind, one.part, one.line, one.id, json.dumps(dict(one.fields), ensure_ascii=False))
+        (number, place, one.kind, one.part, one.line, one.id, text_of(dict(one.fields)))
         for place, one in enumerate(made.told)
     ]
     connection.executemany("INSERT INTO told VALUES (?, ?, ?, ?, ?, ?, ?)", told)

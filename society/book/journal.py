@@ -3,9 +3,9 @@ from __future__ import annotations
 
 import operator
 import sqlite3
-from typing import Iterable, Iterator, NamedTuple
+from typing import Collection, Iterable, Iterator, NamedTuple
 
-from society.book.commands import COLUMNS, Command
+from society.book.commands import COLUMNS, Command, known
 from society.refusals import Refusal
 
 # a command as the command file has it
@@ -87,22 +87,19 @@ def refusals_of(connection: sqlite3.Connection, journal: Journal) -> dict[int, R
     return found
 
 
-def steps_of(connection: sqlite3.Connection, journal: Journal) -> list[Step]:
-    """The journal's commands with their replies."""
-    return [
-        Step(Command(*line.split(",")), refusal)
-        for part in parts_of(connection, journal)
-        for line, refusal in lines_with_refusals(connection, part)
-    ]
-
-
 def lines_with_refusals(connection: sqlite3.Connection, part: Part) -> Iterator[tuple[str, int]]:
     """The commands of a part as lines of a command file, each with its reply."""
     return connection.execute(f"SELECT {TEXT}, refusal {WITHIN}", part)
 
 
-def accepted_commands(steps: Iterable[Step]) -> list[Command]:
-    return [step.command for step in steps if not step.refusal]
+def steps_of(text: bytes, refusals: dict[int, Refusal]) -> Iterator[Step]:
+    """The commands of a command file with their replies."""
+    lines = text.decode().splitlines()[1:]
+    return (Step(Command(*line.split(",")), refusals.get(place, 0)) for place, line in enumerate(lines))
+
+
+def accepted_commands(steps: Iterable[Step]) -> Iterator[Command]:
+    return (step.command for step in steps if not step.refusal)
 
 
 def alike(before: list[Step], after: list[Step]) -> int:
@@ -119,17 +116,19 @@ def begin_edition(connection: sqlite3.Connection, predecessor: Journal) -> Journ
     return Journal(number, predecessor.length)
 
 
-def append(connection: sqlite3.Connection, journal: Journal, steps: Iterable[Step]) -> Journal:
+def append(connection: sqlite3.Connection, journal: Journal, steps: Collection[Step]) -> Journal:
     """Writes steps behind a journal that nothing stands behind."""
-    rows = [
+    rows = (
         (journal.edition, place, *row_of(step.command), step.refusal)
         for place, step in enumerate(steps, journal.length + 1)
-    ]
+    )
     connection.executemany("INSERT INTO command VALUES (?, ?, ?, ?, ?, ?, ?, ?, ?, ?, ?)", rows)
-    return Journal(journal.edition, journal.length + len(rows))
+    return Journal(journal.edition, journal.length + len(steps))
 
 
 def row_of(command: Command) -> tuple[str, str, str | None, str | None, str | None, int | None, int | None, int]:
-    giver, taker = (int(herd) if herd else None for herd in (command.giver, command.taker))
-    sire, dam = (parent if parent not in ("", "0") else None for parent in (command.sire, command.dam))
-    return command.kind, command.animal, command.day or None, sire, dam, giver, taker, int(command.embryo == "1")
+    kind, animal, day, sire, dam, giver, taker, embryo = command
+    return (
+        kind, animal, day or None, known(sire) or None, known(dam) or None, int(giver) if giver else None,
+        int(taker) if taker else None, int(embryo == "1"),
+    )  # fmt: skip

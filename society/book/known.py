@@ -1,17 +1,18 @@
 """What the society knows of an animal, beside what the register has of it."""
 from __future__ import annotations
 
-from dataclasses import dataclass
+from typing import NamedTuple
 
 from society.book.inferred import GIVEN_BIRTH, GIVEN_EXIT, BirthBasis, ExitBasis, OwnerDay, SexSource
 from society.book.kinds import Field, Standing
 
+# the breed and the country of numbers where none is given
+BREED, COUNTRY = "HOL", "GBR"
 # no field was changed by hand
 NO_FIELDS: frozenset[Field] = frozenset()
 
 
-@dataclass(frozen=True, slots=True)
-class Known:
+class Known(NamedTuple):
     """What an animal's number stands for, and what was inferred of it."""
 
     number: str

@@ -38,3 +38,8 @@ class Lazy(Mapping[str, Value]):
 
     def __len__(self) -> int:
         return len(self.whole())
+
+
+def whole(values: Mapping[str, Value]) -> Mapping[str, Value]:
+    """All values, read at once."""
+    return values.whole() if isinstance(values, Lazy) else values

@@ -143,14 +143,14 @@ def read_known(folder: pathlib.Path, numbers: set[str]) -> dict[str, Known]:
     rows = read_table(folder, IDS, ID_TITLES)
     all_known = [known_of(folder, row) for row in rows]
     found = {known.id: known for known in all_known if known.standing is Standing.DROPPED}
-    in_book = [replace(known, standing=listed(known.standing)) for known in all_known if known.number in numbers]
+    in_book = [known._replace(standing=listed(known.standing)) for known in all_known if known.number in numbers]
     found |= {known.id: known for known in in_book}
     named = {known.number for known in in_book}
     found |= {number: Known(number, number) for number in numbers - named}
     for id, role, text in read_table(folder, PARENTS, ["id", "role", "written"], needed=False):
         if id in found:
             known = found[id]
-            found[id] = replace(known, written_sire=text) if role == "sire" else replace(known, written_dam=text)
+            found[id] = known._replace(written_sire=text) if role == "sire" else known._replace(written_dam=text)
     return found
 
 

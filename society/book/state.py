@@ -65,17 +65,13 @@ def write_rows(
     after: dict[Values, Values],
 ) -> None:
     """Makes of rows that held before a change those that hold after it. What stays as it is isn't touched."""
-    ended = [key for key, row in before.items() if after.get(key) != row]
-    begun = [row for key, row in after.items() if before.get(key) != row]
+    ended = ((change, *key) for key, row in before.items() if after.get(key) != row)
+    begun = ((change, *row) for key, row in after.items() if before.get(key) != row)
     names = [name.strip() for name in table.columns.split(",")]
     where = " AND ".join(f"{name} = ?" for name in names[: table.keys])
-    connection.executemany(
-        f"UPDATE {table.name} SET until = ? WHERE {where} AND {NOW}", [(change, *key) for key in ended]
-    )
+    connection.executemany(f"UPDATE {table.name} SET until = ? WHERE {where} AND {NOW}", ended)
     marks = ", ".join("?" * (len(names) + 1))
-    connection.executemany(
-        f"INSERT INTO {table.name} (since, {table.columns}) VALUES ({marks})", [(change, *row) for row in begun]
-    )
+    connection.executemany(f"INSERT INTO {table.name} (since, {table.columns}) VALUES ({marks})", begun)
 
 
 def bring_back(connection: sqlite3.Connection, change: int, earlier: int) -> None:
@@ -97,4 +93,5 @@ def remembered_rows(meanings: Iterable[Meaning]) -> dict[Values, Values]:
 
 def select_rows(connection: sqlite3.Connection, where: str, *values: object) -> list[Row]:
     """The animals of the last state for which a condition holds."""
-    return [Row(*row) for row in connection.execute(f"SELECT {COLUMNS} FROM animal WHERE {NOW} AND {where}", values)]
+    found = connection.execute(f"SELECT {COLUMNS} FROM animal WHERE {NOW} AND {where}", values)
+    return [*map(Row._make, found)]

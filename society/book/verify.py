@@ -5,7 +5,7 @@ import pathlib
 import sqlite3
 
 from society.book.book import Book
-from society.book.coefficients import computed, read_coefficients
+from society.book.coefficients import computed, kept_lines, read_coefficients
 from society.book.commands import replay
 from society.book.journal import accepted_commands, refusals_of
 from society.herdbook import Herdbook
@@ -57,8 +57,7 @@ def reply(refusal: Refusal | None) -> str:
 
 
 def faults_of_state(book: Book) -> list[str]:
-    records = replay(accepted_commands(book.steps))
-    kept = dict(book.records)
+    records, kept = replay(accepted_commands(book.each_step())), dict(book.records)
     if records == kept:
         return []
     differing = [number for number in records.keys() | kept.keys() if records.get(number) != kept.get(number)]
@@ -66,10 +65,10 @@ def faults_of_state(book: Book) -> list[str]:
 
 
 def faults_of_coefficients(book: Book, connection: sqlite3.Connection, program: Herdbook) -> list[str]:
-    found = computed(program.lines(["inbreeding"], book.command_file()))
-    kept = read_coefficients(connection)
-    if list(found.items()) == list(kept.items()):
+    lines = program.ask(["inbreeding"], book)
+    if kept_lines(connection) == lines:
         return []
+    found, kept = computed(lines), read_coefficients(connection)
     differing = [number for number in found.keys() | kept.keys() if found.get(number) != kept.get(number)]
     if not differing:
         return ["the kept coefficients aren't in the program's order"]

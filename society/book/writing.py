@@ -8,7 +8,7 @@ from dataclasses import dataclass, field
 
 from society.book.book import Book
 from society.book.changes import Change, Made
-from society.book.coefficients import computed, write_coefficients
+from society.book.coefficients import write_coefficients
 from society.book.commands import Record
 from society.book.book_changed import commit, creating
 from society.book.history import next_number, now, write_change
@@ -84,7 +84,7 @@ def written_journal(connection: sqlite3.Connection, journal: Journal, filed: Fil
 def end(book: Book, connection: sqlite3.Connection, program: Herdbook, number: int, moment: int) -> Change:
     """Computes what is kept of the new state, and ends the change."""
     after = Book(book.folder, connection)
-    write_coefficients(connection, computed(program.ask(["inbreeding"], after)))
+    write_coefficients(connection, program.ask(["inbreeding"], after))
     change = after.change
     assert change is not None and change.number == number
     stop_no_more()

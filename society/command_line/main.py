@@ -1,6 +1,7 @@
 """Reads the words of a call, does what they ask for, and tells mistakes."""
 from __future__ import annotations
 
+import gc
 import io
 import os
 import sys
@@ -13,6 +14,8 @@ from society.mistake import Mistake
 
 
 def main(words: list[str]) -> int:
+    # most of what a call makes is needed to its end, so looking for what isn't comes rarely
+    gc.set_threshold(200_000)
     for stream in sys.stdout, sys.stderr:
         if isinstance(stream, io.TextIOWrapper):
             stream.reconfigure(encoding="utf-8", errors="backslashreplace")

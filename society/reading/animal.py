@@ -6,8 +6,9 @@ from dataclasses import dataclass, field
 
 from society.book.inferred import GIVEN_BIRTH, GIVEN_EXIT, BirthBasis, ExitBasis, OwnerDay, SexSource
 from society.book.role import Role
-from society.reading.days import ANY_DAY, Span
+from society.reading.days import ANY_DAY, Precision, Span
 
+SIRE, DAM, DAY = Role.SIRE, Role.DAM, Precision.DAY
 ROLES = {role: role.sex for role in Role}
 
 
@@ -45,7 +46,12 @@ class Animal:
 
     def parents(self) -> list[tuple[Role, str]]:
         """The known parents, each with its role."""
-        return [(role, parent) for role, parent in ((Role.SIRE, self.sire), (Role.DAM, self.dam)) if parent]
+        found = []
+        if self.sire:
+            found.append((SIRE, self.sire))
+        if self.dam:
+            found.append((DAM, self.dam))
+        return found
 
     def parent_ids(self) -> list[str]:
         return [parent for parent in (self.sire, self.dam) if parent]
@@ -60,7 +66,7 @@ class Animal:
             self.dam = id
 
     def has_day(self) -> bool:
-        return self.birth.is_day
+        return self.birth.precision is DAY
 
     def where(self) -> str:
         """How a sentence about it begins."""

@@ -138,6 +138,8 @@ def year_of(year: int, wrong: str = "", text: str = "") -> Span:
 def read_span(text: str, month_first: bool = False, legible: bool = True) -> Span:
     """The day, month or year of a cell, or, where that is wanted, the only year that is legible in it; raises
     `Unreadable`."""
+    if day := usual_day(text):
+        return Span(day, day)
     for form in FORMS:
         found = form.fullmatch(text)
         if found:
@@ -152,9 +154,21 @@ def read_span(text: str, month_first: bool = False, legible: bool = True) -> Spa
     raise Unreadable(DayFault.NO_DAY, text)
 
 
+def usual_day(text: str) -> datetime.date | None:
+    """The day of a text such as `2001-03-01`, in which most programs write days; else none."""
+    if len(text) != 10 or text[4] != "-" or text[7] != "-":
+        return None
+    try:
+        day = datetime.date.fromisoformat(text)
+    except ValueError:
+        return None
+    return day if FIRST_DAY <= day <= LAST_DAY else None
+
+
+@functools.lru_cache(maxsize=50_000)
 def is_span(text: str) -> bool:
     """Is it written as a day, a month or a year?"""
-    return any(form.fullmatch(text) for form in FORMS)
+    return usual_day(text) is not None or any(form.fullmatch(text) for form in FORMS)
 
 
 def span_within(text: str, month_first: bool = False) -> Span | None:
@@ -177,7 +191,7 @@ def span_within(text: str, month_first: bool = False) -> Span | None:
 
 def span_of(parts: dict[str, str | None], text: str, month_first: bool) -> Span:
     named = parts.get("name")
-    year, month, day = (int(parts.get(name) or 0) for name in ("year", "month", "day"))
+    year, month, day = int(parts["year"] or 0), int(parts.get("month") or 0), int(parts.get("day") or 0)
     is_slashed = bool(parts.get("slash"))
     if named:
         month = MONTHS[compared(named)]
@@ -194,6 +208,8 @@ def span_of(parts: dict[str, str | None], text: str, month_first: bool) -> Span:
         return year_of(year, text)
     if not parts.get("day"):
         return month_of(year, month)
-    if not 1 <= day <= calendar.monthrange(year, month)[1]:
+    try:
+        whole = datetime.date(year, month, day)
+    except ValueError:
         return month_of(year, month, text)
-    return Span(datetime.date(year, month, day), datetime.date(year, month, day))
+    return Span(whole, whole)

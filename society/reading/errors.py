@@ -21,8 +21,9 @@ class ErrorValues:
         self.found = [
             (line, at, text)
             for line, cells in sheet.rows
+            if may_have(cells)
             for at, text in enumerate(cells)
-            if text[:1] in ("#", "E") and is_error_value(text)
+            if is_error_value(text)
         ]
 
     @staticmethod
@@ -52,6 +53,8 @@ class ErrorValues:
 
     def mostly(self) -> list[SheetFinding]:
         """A column is a mistake where most of its cells are error values, and at least three."""
+        if not self.found:
+            return []
         counts = collections.Counter(at for _, at, _ in self.found)
         faults: list[SheetFinding] = []
         for name, at in self.columns.items():
@@ -59,3 +62,9 @@ class ErrorValues:
             if counts[at] > max(2, filled // 2):
                 faults.append(ErrorColumn(Field(name), self.title(at), counts[at], filled))
         return faults
+
+
+def may_have(cells: list[str]) -> bool:
+    """Can one of the cells show an error value? Few rows have a sign of one."""
+    joined = "\t".join(cells)
+    return "#" in joined or "Err" in joined

@@ -4,7 +4,10 @@ from __future__ import annotations
 import re
 
 from society.reading.days import DayFault
-from society.reading.words import KNOWN_EXITS, KNOWN_NEGATIONS, KNOWN_NO, KNOWN_STAYS, KNOWN_YES, has_word, plain
+
+from society.reading.words import (
+    KNOWN_EXITS, KNOWN_NEGATIONS, KNOWN_NO, KNOWN_STAYS, KNOWN_YES, LETTER, has_word, plain,
+)  # fmt: skip
 
 # `x`, `ja` and the like tell of an exit only where they stand alone
 TELLING_EXITS = KNOWN_EXITS - {plain(word) for word in KNOWN_YES}
@@ -23,6 +26,8 @@ def exit_word(text: str) -> str:
     """The first word by which animals leave, if it has one."""
     if DEAD.search(text):
         return "died"
+    if not LETTER.search(text):
+        return ""
     words = text.split()
     known = next((word for word in words if plain(word) in KNOWN_EXITS), "")
     # `lebt nicht mehr`

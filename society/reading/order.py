@@ -31,7 +31,7 @@ class Order:
     @staticmethod
     def may_show(text: str) -> bool:
         """Can a text have such a day?"""
-        return "/" in text or "-" in text
+        return SLASHED.search(text) is not None
 
     def fault(self, month_first: bool) -> WrongOrder | None:
         """Why the days can't be read in the order that is wished."""

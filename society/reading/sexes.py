@@ -2,11 +2,21 @@
 from __future__ import annotations
 
 import collections
+import functools
 import re
+from typing import NamedTuple
 
 from society.reading.column_findings import SheetFinding
 from society.reading.sheet_findings import SexWord, SexWordsShort, TextCount
 from society.reading.words import KNOWN_CASTRATED, KNOWN_SEXES, has_word, plain, sex_word
+
+
+class Meaning(NamedTuple):
+    """The sex of a text, empty where it isn't known, and the word for which the text is taken where it is none itself."""
+
+    sex: str
+    is_castrated: bool
+    word: str
 
 
 class Sexes:
@@ -15,6 +25,8 @@ class Sexes:
     def __init__(self, texts: list[str], given: dict[str, str]) -> None:
         self.known = KNOWN_SEXES | given
         self.short = self.short_words(texts)
+        # the same words stand in many cells
+        self.meaning = functools.cache(self.find)
         # how often a text is taken for a known word
         self.taken_for: collections.Counter[tuple[str, str]] = collections.Counter()
 
@@ -29,24 +41,28 @@ class Sexes:
 
     def read(self, text: str) -> tuple[str, bool]:
         """The sex, or nothing where it isn't known, and whether the animal is castrated."""
+        found = self.meaning(text)
+        if found.word:
+            self.taken_for[text, found.word] += 1
+        return found.sex, found.is_castrated
+
+    def find(self, text: str) -> Meaning:
         word = sex_word(text)
         sex, longer = self.known.get(word, ""), self.short.get(word, [])
+        taken_for = ""
         if not sex and text and len({sex for _, sex in longer}) == 1:
-            whole, sex = longer[0]
-            self.taken_for[text, whole] += 1
+            taken_for, sex = longer[0]
         elif not sex:
-            sex = self.among_words(text)
-        return sex, sex == "M" and has_word(text, KNOWN_CASTRATED)
+            taken_for, sex = self.among_words(text)
+        return Meaning(sex, sex == "M" and has_word(text, KNOWN_CASTRATED), taken_for)
 
-    def among_words(self, text: str) -> str:
-        """The sex that words of the text have, where it is one alone, as in `Rüde (kastriert)`."""
+    def among_words(self, text: str) -> tuple[str, str]:
+        """A word of the text and its sex, where that is the only one in it, as in `Rüde (kastriert)`."""
         words = [word for word in re.split(r"[\s,;/()]+", text) if len(plain(word)) > 1 or word in "mwfMWF"]
         found = {word: self.known[plain(word)] for word in words if plain(word) in self.known}
         if len(words) < 2 or len(set(found.values())) != 1:
-            return ""
-        word, sex = next(iter(found.items()))
-        self.taken_for[text, word] += 1
-        return sex
+            return "", ""
+        return next(iter(found.items()))
 
     def told(self) -> list[SheetFinding]:
         """Which words are taken for others."""

@@ -68,7 +68,7 @@ def check_bounds(path: pathlib.Path, rows: list[Row]) -> None:
     if len(rows) > MOST_ROWS:
         raise Mistake(f"{path} has {len(rows):,} rows, and {MOST_ROWS:,} are taken at most: leave out the oldest")
     for line, cells in rows:
-        if any(len(cell) > MOST_LETTERS for cell in cells):
+        if max(map(len, cells)) > MOST_LETTERS:
             raise Mistake(
                 f"line {line}: a cell has more than {MOST_LETTERS:,} letters: shorten it. Is a quotation mark missing?"
             )
@@ -110,13 +110,22 @@ def read_text(text: str, score: Score) -> tuple[list[Row], str]:
     return read_records(text, separator), separator
 
 
+class Cleaned(dict[str, str]):
+    """Cells as they are read, by what the file has. The same texts stand in many cells, and each is cleaned once."""
+
+    def __missing__(self, cell: str) -> str:
+        # `="007"` is how some programs keep a spreadsheet from taking away zeros
+        is_kept = cell[:2] == '="' and cell[-1:] == '"'
+        self[cell] = found = clean(cell[2:-1] if is_kept else cell)
+        return found
+
+
 def read_records(text: str, separator: str) -> list[Row]:
-    """The rows; `="007"` is how some programs keep a spreadsheet from taking away zeros."""
     reader = csv.reader(io.StringIO(text, newline=""), delimiter=separator, strict=True)
-    rows, begins = [], 1
+    rows, begins, cleaned = [], 1, Cleaned()
     try:
         for cells in reader:
-            texts = [clean(cell[2:-1] if cell[:2] == '="' and cell[-1:] == '"' else cell) for cell in cells]
+            texts = [cleaned[cell] for cell in cells]
             if any(texts):
                 rows.append(Row(begins, texts))
             begins = reader.line_num + 1

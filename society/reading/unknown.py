@@ -1,6 +1,7 @@
 """Which texts stand for an unknown parent."""
 from __future__ import annotations
 
+import functools
 import re
 from typing import Collection
 
@@ -8,6 +9,7 @@ from society.reading.words import UNKNOWN, is_error_value, listed
 
 # signs alone, as `?`, `*` and `---`, and zeros alone, as `00` and `0.0`
 SIGNS = re.compile(r"[-–—?.*/_~+]+|[-+]?0[0.,]*")
+POINTS = re.compile(r"\.\s*")
 # the words of a geneticist's pedigree
 PEDIGREE = (
     "0, -, --, ?, ., n/a, #n/a, #nv, na, nan, none, null, unknown, unbekannt, unbek, unbek., k.A., keine Angabe, "
@@ -17,7 +19,8 @@ PEDIGREE = (
 
 def compared(text: str) -> str:
     """The text in small letters, without the points of abbreviations and the blanks behind them."""
-    return re.sub(r"\.\s*", "", text.casefold())
+    folded = text.casefold()
+    return POINTS.sub("", folded) if "." in folded else folded
 
 
 KNOWN_UNKNOWN = {compared(word) for word in listed(UNKNOWN)}
@@ -35,19 +38,13 @@ class UnknownParents:
     def __init__(self, more: Collection[str] = (), known: Collection[str] = ()) -> None:
         self.more = {word.casefold() for one in more for word in listed(one)}
         self.known = {word.casefold() for one in known for word in listed(one)}
-
         # the same texts stand in many cells
-        self.seen: dict[str, bool] = {}
+        self.is_one = functools.cache(self.is_unknown)
 
     def __contains__(self, text: object) -> bool:
-        if not isinstance(text, str):
-            return False
-        found = self.seen.get(text)
-        if found is None:
-            found = self.seen[text] = self.is_one(text)
-        return found
+        return isinstance(text, str) and self.is_one(text)
 
-    def is_one(self, text: str) -> bool:
+    def is_unknown(self, text: str) -> bool:
         folded = text.casefold()
         if not folded or folded in self.known:
             return not folded

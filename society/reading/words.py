@@ -58,6 +58,8 @@ ERROR_VALUE = re.compile(
     r"FIELD|FELD|CHAMP|BLOCKED|GETTING_DATA)[!?]?|Err:\d{3}|#{3,}",
     re.IGNORECASE,
 )
+# what words are written with, but for digits
+LETTER = re.compile(r"[^\W\d_]|[°♂♀]")
 # signs that no one sees, which text copied from a page may have
 INVISIBLE = dict.fromkeys(map(ord, "\u00ad\u200b\u200c\u200d\u200e\u200f\u2060\ufeff"))
 
@@ -102,6 +104,8 @@ def sex_word(text: str) -> str:
 
 
 def has_word(text: str, known: set[str]) -> bool:
-    """Are some words of the text that follow one another among those that are known?"""
+    """Are some words of the text that follow one another among those that are known? Each of these has a letter."""
+    if not LETTER.search(text):
+        return False
     words = [plain(word) for word in re.split(r"[^\w°♂♀]+", text) if word]
     return any("".join(words[at:end]) in known for at in range(len(words)) for end in range(at + 1, len(words) + 1))

@@ -4,10 +4,12 @@ from __future__ import annotations
 import datetime
 
 from society.book.inferred import GIVEN_BIRTH, BirthBasis, BirthSource
-from society.pedigree_order import in_order, offspring
+from society.pedigree_order import offspring
 from society.reading.animal import Animal, parents_of_all
 from society.reading.days import ANY_DAY, FIRST_DAY, Span
 from society.taking.animal_findings import BirthDayInferred
+from society.taking.cycles import cut_cycles
+from society.taking.next_book import NextBook
 from society.taking.report import Report
 
 # days between a parent's birth and a calf's, where only one of the two is known
@@ -15,17 +17,26 @@ GENERATION = 730
 FROM_OFFSPRING, FROM_PARENTS = BirthBasis(BirthSource.OFFSPRING), BirthBasis(BirthSource.PARENTS)
 
 
+def find_days(next_book: NextBook) -> None:
+    """Birth days of all animals, of which none is its own ancestor any more."""
+    book, animals, report = next_book.book, next_book.animals, next_book.report
+    order = cut_cycles(animals, report, next_book.has_in_book)
+    inferred = [(id, known) for id, known in book.known.items() if known.birth.is_inferred]
+    kept = {id: (book.records[known.number].born.toordinal(), known.birth) for id, known in inferred}
+    Days(animals, order, kept).infer(report)
+
+
 class Days:
     """Infers the days that the sheet doesn't give. Days are counted here, as `date.toordinal` counts them."""
 
-    def __init__(self, animals: dict[str, Animal], kept: dict[str, tuple[int, BirthBasis]]) -> None:
-        self.animals = animals
+    def __init__(self, animals: dict[str, Animal], order: list[str], kept: dict[str, tuple[int, BirthBasis]]) -> None:
+        """`order` has parents before their offspring."""
+        self.animals, self.order = animals, order
         # no day that is inferred is after it
         self.today = datetime.date.today().toordinal()
         # the day that was inferred for an animal of the book, and from what
         self.kept = kept
-        parents = parents_of_all(animals)
-        self.order, self.calves = in_order(parents), offspring(parents)
+        self.calves = offspring(parents_of_all(animals))
         self.low: dict[str, int] = {}
         self.high: dict[str, int] = {}
         # a likely day, and from what
@@ -54,8 +65,9 @@ class Days:
     def set_low(self, id: str) -> None:
         animal = self.animals[id]
         first = animal.birth.first.toordinal()
-        after = [self.low[parent] + 1 for _, parent in animal.parents()]
-        self.low[id] = first if animal.has_day() else max([first, *after])
+        if not animal.has_day():
+            first = max([first, *(self.low[parent] + 1 for _, parent in animal.parents())])
+        self.low[id] = first
 
     def set_high(self, id: str) -> None:
         """The last day that calves, its own exit and its dam's leave open, and a likely one."""

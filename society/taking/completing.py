@@ -2,8 +2,11 @@
 from __future__ import annotations
 
 from society.reading.columns import Columns
+from society.taking.birth_days import find_days
+from society.taking.found_sexes import find_sexes
 from society.taking.guards import Guards
 from society.taking.next_book import NextBook
+from society.taking.other_animals import add_others
 from society.taking.report import CantBeTaken
 from society.taking.used_tags import leave_out_used_tags
 from society.taking.wishes import Wishes
@@ -16,11 +19,11 @@ def complete(next_book: NextBook, columns: Columns, wishes: Wishes) -> None:
     found = guards.of_rows()
     if not wishes.anyway:
         next_book.used_again = leave_out_used_tags(next_book.animals, next_book.book, next_book.report)
-    next_book.complete(wishes.drop_gone)
+    add_others(next_book, wishes.drop_gone)
     found += guards.behind(next_book.animals)
     if found and not wishes.anyway:
         next_book.obstacles += found
         if not wishes.preview:
             raise CantBeTaken(*found)
-    next_book.find_sexes()
-    next_book.find_days()
+    find_sexes(next_book)
+    find_days(next_book)

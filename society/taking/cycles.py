@@ -1,7 +1,7 @@
 """Animals that would be their own ancestors: of each cycle one parent is left out."""
 from __future__ import annotations
 
-from collections.abc import Collection
+from collections.abc import Callable
 
 from society.book.role import Role
 from society.pedigree_order import in_order, round_from
@@ -10,14 +10,22 @@ from society.taking.parent_findings import OwnAncestor
 from society.taking.report import Report
 
 Link = tuple[str, Role, str]
-# a calf and its parent
-Pair = tuple[str, str]
+# has a calf a parent in the book?
+InBook = Callable[[str, str], bool]
 
 
-def cut_cycles(animals: dict[str, Animal], report: Report, in_book: Collection[Pair] = ()) -> None:
+def in_no_book(calf: str, parent: str) -> bool:
+    return False
+
+
+def cut_cycles(animals: dict[str, Animal], report: Report, in_book: InBook = in_no_book) -> list[str]:
     """Leaves out one parent of each animal that would be its own ancestor: of a cycle a link that the book doesn't
-    have, one whose days can't be, or else that of the latest row."""
-    left = animals.keys() - in_order(parents_of_all(animals))
+    have, one whose days can't be, or else that of the latest row. Answers all animals, parents before their
+    offspring."""
+    order = in_order(parents_of_all(animals))
+    if len(order) == len(animals):
+        return order
+    left = animals.keys() - order
     while left:
         cycle = find_cycle(animals, left)
         calf, role, parent = faulty_link(animals, cycle, in_book)
@@ -25,6 +33,7 @@ def cut_cycles(animals: dict[str, Animal], report: Report, in_book: Collection[P
         animals[calf].set_parent(role, "")
         report.add(animals[calf].line, calf, OwnAncestor(role, parent, path))
         left -= set(in_order(parents_of_all({id: animals[id] for id in left})))
+    return in_order(parents_of_all(animals))
 
 
 def find_cycle(animals: dict[str, Animal], left: set[str]) -> list[Link]:
@@ -38,12 +47,12 @@ def find_cycle(animals: dict[str, Animal], left: set[str]) -> list[Link]:
     return [link(id) for id in round_from(first, lambda id: link(id)[2])]
 
 
-def faulty_link(animals: dict[str, Animal], cycle: list[Link], in_book: Collection[Pair]) -> Link:
+def faulty_link(animals: dict[str, Animal], cycle: list[Link], in_book: InBook) -> Link:
     def is_younger(link: Link) -> bool:
         calf, parent = animals[link[0]], animals[link[2]]
         return parent.birth.first >= calf.birth.last
 
-    new = [link for link in cycle if (link[0], link[2]) not in in_book] or cycle
+    new = [link for link in cycle if not in_book(link[0], link[2])] or cycle
     candidates = [link for link in new if is_younger(link)] or new
     return max(candidates, key=lambda link: animals[link[0]].line)
 

@@ -16,17 +16,18 @@ SEVERAL = 2
 
 
 def leave_out_early_exits(next_book: NextBook) -> None:
-    in_book = next_book.links_of_book()
     calves = collections.defaultdict[str, list[Animal]](list)
     for animal in next_book.animals.values():
         if animal.dam and not animal.embryo:
             calves[animal.dam].append(animal)
     for dam in next_book.animals.values():
+        if dam.left is None or dam.id not in calves:
+            continue
         record = next_book.record(dam.id)
-        if dam.left is None or (record and record.left == dam.left):
+        if record and record.left == dam.left:
             continue
         later = [calf for calf in calves[dam.id] if calf.born > dam.left]
-        if len(later) >= SEVERAL or any((calf.id, dam.id) in in_book for calf in later):
+        if len(later) >= SEVERAL or any(next_book.has_in_book(calf.id, dam.id) for calf in later):
             leave_out_exit(next_book, dam, Refusal.LATER_OFFSPRING, later)
 
 

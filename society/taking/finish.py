@@ -5,6 +5,7 @@ import itertools
 from dataclasses import dataclass
 
 from society.book.changes import Source
+from society.book.known import BREED, COUNTRY
 from society.book.opening import export
 from society.book.writing import Filed
 from society.herdbook import Herdbook
@@ -14,7 +15,8 @@ from society.taking.early_exits import leave_out_early_exits
 from society.taking.faulty_parents import leave_out_faulty_parents
 from society.taking.lost_links import refuse_lost_links
 from society.taking.looks import Limits, Looks
-from society.taking.next_book import BREED, COUNTRY, NextBook
+from society.taking.next_book import NextBook
+from society.taking.numbers import give_numbers
 from society.taking.obstacles import StrictlyNothing
 from society.taking.outcome import BookAfter, Outcome
 from society.taking.owner_days import OwnerDays
@@ -55,7 +57,7 @@ def finish(next_book: NextBook, program: Herdbook, wishes: Wishes, source: Sourc
 def file(next_book: NextBook, program: Herdbook, wishes: Wishes, about: About) -> tuple[Filed, Outcome]:
     """The commands by which the book becomes what is wished, and what that makes of it. Nothing is written."""
     book, report = next_book.book, next_book.report
-    next_book.give_numbers(wishes.breed, wishes.country)
+    give_numbers(next_book, wishes.breed, wishes.country)
     leave_out_early_exits(next_book)
     leave_out_faulty_parents(next_book, program)
     if next_book.is_pedigree and not wishes.leave_out:

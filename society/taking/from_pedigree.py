@@ -14,14 +14,17 @@ from society.reading.pedigree_lines import STANDARD_INPUT, read_bytes
 from society.reading.pedigree_titles import READ
 from society.reading.triples import Triples, read_triples
 from society.reading.unknown import UnknownParents
+from society.taking.birth_days import find_days
 from society.taking.both_parents import leave_out_same_parent, refuse_both
 from society.taking.cycles import cut_cycles
 from society.taking.finish import About, finish, tell
+from society.taking.found_sexes import find_sexes
 from society.taking.invented_days import invent_days
 from society.taking.invented_sexes import invent_sexes
 from society.taking.kept_animals import keep_with_ancestors
 from society.taking.lost_links import refuse_lost_links
 from society.taking.next_book import NextBook
+from society.taking.other_animals import add_others
 from society.taking.outcome import Outcome
 from society.taking.report import Report
 from society.taking.screen import told_with
@@ -39,6 +42,7 @@ def take_pedigree(path: pathlib.Path, wishes: Wishes) -> list[str]:
 
 
 def take_into(book: Book, path: pathlib.Path, wishes: Wishes, program: Herdbook, call: Call) -> Outcome:
+    book.read_all()
     report = Report()
     source = source_of(path, read_bytes(path))
     triples = read_triples(path, given_columns(wishes.columns), UnknownParents(wishes.unknown), report)
@@ -48,7 +52,7 @@ def take_into(book: Book, path: pathlib.Path, wishes: Wishes, program: Herdbook,
         report.entries = [entry for entry in report.entries if entry.id in animals]
     given = {field.value for field in triples.columns if field is not Field.ID}
     next_book = NextBook(book, animals, given, report, is_pedigree=True)
-    next_book.complete(wishes.drop_gone)
+    add_others(next_book, wishes.drop_gone)
     if not wishes.leave_out:
         refuse_both(animals, report)
     # what is told of both are the parents of the file
@@ -78,13 +82,13 @@ def find_sexes_and_days(next_book: NextBook, triples: Triples) -> None:
     invented."""
     animals, report = next_book.animals, next_book.report
     if Field.SEX in triples.columns:
-        next_book.find_sexes()
+        find_sexes(next_book)
     else:
         for animal in animals.values():
             animal.sex = ""
         invent_sexes(animals, report)
     if Field.BIRTH in triples.columns:
-        next_book.find_days()
+        find_days(next_book)
     else:
         invent_days(animals)
 

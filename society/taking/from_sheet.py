@@ -52,6 +52,7 @@ def preview_sheet(path: pathlib.Path, wishes: Wishes) -> Outcome:
 
 
 def take_into(book: Book, path: pathlib.Path, wishes: Wishes, program: Herdbook) -> Outcome:
+    book.read_all()
     source = source_of(path, read_bytes(path))
     wishes = with_settings(book, wishes)
     words = remember(book, wishes)

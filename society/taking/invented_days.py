@@ -5,7 +5,7 @@ import datetime
 import heapq
 
 from society.book.inferred import BirthBasis, BirthSource
-from society.pedigree_order import offspring, sorter_of
+from society.pedigree_order import Waiting, offspring
 from society.reading.animal import Animal, parents_of_all
 from society.reading.days import FIRST_DAY
 
@@ -19,14 +19,13 @@ def invent_days(animals: dict[str, Animal]) -> None:
     for parent, its in offspring(parents).items():
         if not animals[parent].line:
             key[parent] = (min(animals[calf].line for calf in its), 0)
-    sorter = sorter_of(parents)
-    ready = [(key[id], id) for id in sorter.get_ready()]
+    waiting = Waiting(parents)
+    ready = [(key[id], id) for id in waiting.free]
     heapq.heapify(ready)
     day = FIRST_DAY
     while ready:
         _, id = heapq.heappop(ready)
         animals[id].born, animals[id].birth_basis = day, INVENTED
         day += datetime.timedelta(days=1)
-        sorter.done(id)
-        for calf in sorter.get_ready():
+        for calf in waiting.place(id):
             heapq.heappush(ready, (key[calf], calf))

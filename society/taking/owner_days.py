@@ -4,7 +4,7 @@ from __future__ import annotations
 
 import datetime
 import functools
-from dataclasses import dataclass
+from typing import NamedTuple
 
 from society.book.book import NO_OWNER, Book
 from society.book.commands import Command, Record, first_herds, transfer, transfers_of
@@ -18,8 +18,7 @@ from society.taking.report import Finding, Report
 from society.taking.row_findings import OwnerDayMoved
 
 
-@dataclass(frozen=True, slots=True)
-class Owners:
+class Owners(NamedTuple):
     """The herd in which an animal was born, and its transfers, of which the book has as many as `known`."""
 
     first_herd: int
@@ -47,7 +46,7 @@ class OwnerDays:
     @functools.cached_property
     def before(self) -> tuple[dict[str, int], dict[str, list[Command]]]:
         """The herd in which each animal of the book was born, and its transfers."""
-        accepted = accepted_commands(self.book.steps)
+        accepted = [*accepted_commands(self.book.each_step())]
         return first_herds(accepted), transfers_of(accepted)
 
     def tell(self, animal: Animal, found: Finding) -> None:
@@ -65,7 +64,9 @@ class OwnerDays:
         if not owner:
             return NO_OWNER
         owners = self.book.owners
-        return owners.setdefault(owner, max(owners.values(), default=0) + 1)
+        if owner not in owners:
+            owners[owner] = max(owners.values(), default=0) + 1
+        return owners[owner]
 
     def of(self, animal: Animal) -> Owners:
         known = self.book.known.get(animal.id)
@@ -76,11 +77,15 @@ class OwnerDays:
         if record.giver:
             first, before = self.before[0][record.number], self.before[1].get(record.number, [])
         animal.owner_day = known.owner_day
+        has_other_owner = self.has_other_owner(animal, record)
+        has_other_day = not has_other_owner and self.has_other_day(animal, record)
+        if not (before or has_other_owner or has_other_day):
+            return Owners(first, [], 0, False)
         first_herd, transfers = first, [one._replace(animal=animal.number) for one in before]
-        if self.has_other_owner(animal, record):
+        if has_other_owner:
             if animal.id not in self.refused:
                 transfers.append(self.change(animal, record))
-        elif self.has_other_day(animal, record):
+        elif has_other_day:
             assert animal.since is not None
             animal.owner_day = OwnerDay.GIVEN
             if transfers:

@@ -6,9 +6,11 @@ from society.book.changes import Change, Made, Source
 from society.book.commands import Record, record_after, replay
 from society.book.journal import accepted_commands
 from society.book.kinds import ChangeKind
+from society.book.known import Known
 from society.book.state import CELL_NAMES, Values
 from society.book.writing import Filed, Rows, State, animal_rows, write
 from society.herdbook import Herdbook
+from society.taking.known_after import known_after
 from society.taking.next_book import NextBook
 from society.taking.report import What
 from society.taking.stored_findings import told_of
@@ -18,8 +20,6 @@ from society.taking.wishes import Wishes
 def save(next_book: NextBook, filed: Filed, program: Herdbook, wishes: Wishes, source: Source, new: int) -> Change:
     """The change, after which the book can't be used any more."""
     book, report = next_book.book, next_book.report
-    known = next_book.known_animals() | next_book.dropped_animals()
-    before: dict[Values, Values] = {(row.id,): row for row in book.every_row}
     herds = (
         set() if book.connection is None else {herd for (herd,) in book.connection.execute("SELECT herd FROM owner")}
     )
@@ -36,12 +36,24 @@ def save(next_book: NextBook, filed: Filed, program: Herdbook, wishes: Wishes, s
         tuple(told_of(entry) for entry in report.in_order()),
     )
     state = State(
-        Rows(before, animal_rows(known, records_after(book, filed))),
+        changed_animals(book, known_after(next_book), records_after(book, filed)),
         Rows(book.cells, cell_rows(next_book)),
         book.remembered,
         {owner: herd for owner, herd in book.owners.items() if herd not in herds},
     )
     return write(book, program, filed, state, made)
+
+
+def changed_animals(book: Book, known: dict[str, Known], records: dict[str, Record]) -> Rows:
+    """The rows of the animals that aren't as they were: before, where they were in the book once, and after."""
+    known_before = {**book.known, **book.dropped}
+    changed = {
+        id: one
+        for id, one in known.items()
+        if known_before.get(id) != one or book.records.get(one.number) != records.get(one.number)
+    }
+    before: dict[Values, Values] = {(row.id,): row for row in book.every_row if row.id in changed}
+    return Rows(before, animal_rows(changed, records))
 
 
 def records_after(book: Book, filed: Filed) -> dict[str, Record]:

@@ -20,6 +20,9 @@ from society.taking.owner_days import OwnerDays
 from society.taking.row_findings import CommandLeftOut
 
 
+IS_EMBRYO = {True: "yes", False: ""}
+
+
 class Filing:
     """The commands of a taking."""
 
@@ -116,20 +119,23 @@ class Filing:
                 report.add(animal.line, animal.id, NewAnimal(animal.number))
 
     def changes(self, animal: Animal, record: Record, known: Known) -> list[ValueChanged]:
-        pairs = [
+        owner, exit = self.book.owner_of(record.herd), exit_words(record.left, known.exit)
+        sire, dam = self.next_book.id_of(record.sire), self.next_book.id_of(record.dam)
+        pairs: list[tuple[str, object, object]] = [
             ("name", known.name, animal.name),
-            ("birth day", str(record.born), str(animal.born)),
+            ("birth day", record.born, animal.born),
             ("number", record.number, animal.number),
-            ("sire", self.next_book.id_of(record.sire), animal.sire),
-            ("dam", self.next_book.id_of(record.dam), animal.dam),
-            ("owner", self.book.owner_of(record.herd), animal.owner),
-            ("exit", exit_words(record.left, known.exit), exit_words(animal.left, animal.exit_basis)),
-            ("stored embryo", "yes" if record.embryo else "", "yes" if animal.embryo else ""),
+            ("sire", sire, animal.sire),
+            ("dam", dam, animal.dam),
+            ("owner", owner, animal.owner),
+            ("exit", exit, exit_words(animal.left, animal.exit_basis)),
+            ("stored embryo", IS_EMBRYO[record.embryo], IS_EMBRYO[animal.embryo]),
         ]
+        found = [ValueChanged(name, str(after), str(before)) for name, before, after in pairs if before != after]
         if known.birth.is_invented and animal.birth_basis.is_invented:
             # invented days are invented anew each time
-            del pairs[1]
-        return [ValueChanged(name, after, before) for name, before, after in pairs if before != after]
+            return [one for one in found if one.name != "birth day"]
+        return found
 
 
 def exit_words(left: datetime.date | None, basis: ExitBasis) -> str:

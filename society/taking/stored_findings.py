@@ -22,7 +22,7 @@ YES, NO = "yes", "no"
 
 
 def told_of(entry: Entry) -> Told:
-    fields = tuple(texts_of("", dataclasses.asdict(entry.finding)))
+    fields = tuple(texts_of("", entry.finding))
     return Told(entry.finding.kind(), entry.part or "", entry.line, entry.id, fields)
 
 
@@ -59,9 +59,12 @@ def within(name: str, part: str) -> str:
 
 def texts_of(name: str, value: object) -> Iterator[tuple[str, str]]:
     """The texts of a value by names, as `born.day` for a part of it; what is none has no text."""
-    if isinstance(value, dict):
-        for part, one in value.items():
-            yield from texts_of(within(name, part), one)
+    if isinstance(value, str):
+        yield name, str(value)
+    elif dataclasses.is_dataclass(value):
+        kind: Any = type(value)
+        for part in parts_of(kind):
+            yield from texts_of(within(name, part), getattr(value, part))
     elif isinstance(value, tuple):
         for place, one in enumerate(value):
             yield from texts_of(within(name, str(place)), one)
@@ -72,10 +75,16 @@ def texts_of(name: str, value: object) -> Iterator[tuple[str, str]]:
 
 
 @functools.cache
+def parts_of(kind: Any) -> list[str]:
+    """The names of the fields of a dataclass, in order."""
+    return [field.name for field in dataclasses.fields(kind)]
+
+
+@functools.cache
 def kinds_of(kind: Any) -> dict[str, Any]:
     """The types of the fields of a dataclass, by their names and in order."""
     kinds = typing.get_type_hints(kind)
-    return {field.name: kinds[field.name] for field in dataclasses.fields(kind)}
+    return {part: kinds[part] for part in parts_of(kind)}
 
 
 def value_of(kind: Any, name: str, texts: dict[str, str]) -> Any:
