@@ -84,7 +84,7 @@ class Herdbook:
 
     def run(self, words: list[str], book: bytes) -> str:
         """What it writes of a command file."""
-        running = self.start(words, subprocess.PIPE, subprocess.PIPE)
+        running = self.start(words, subprocess.PIPE, subprocess.PIPE, MOST_BYTES, MOST_SECONDS)
         try:
             out, err = running.communicate(book, MOST_SECONDS)
         except subprocess.TimeoutExpired:
