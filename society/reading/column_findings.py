@@ -43,10 +43,11 @@ class TellsNoExits(SheetFinding):
     title: str
 
     def words(self) -> str:
-        return f"the column '{self.title}' isn't read, since most of its cells tell of no exit"
-
-    def suggestions(self) -> tuple[Suggestion, ...]:
-        return (Suggestion("if it has the exits", (column(Field.EXIT, self.title),)),)
+        return (
+            f"the column '{self.title}' isn't read, since most of its cells tell of no exit: if it has the exits, write the "
+            "day there, or sold, died, verkauft, verendet, vendu or mort, where an animal has left, and nothing or alive "
+            "where it hasn't"
+        )
 
 
 @dataclass(frozen=True, slots=True)

@@ -10,6 +10,7 @@ from society.reading.animal import Animal
 from society.reading.columns import Columns
 
 from society.taking.look_findings import RowOf
+
 from society.taking.obstacles import (
     Changed, Guard, IdsLack, LooksLike, ManyDropped, ManyGone, ManyOthers, ParentsLack,
 )  # fmt: skip

@@ -75,7 +75,7 @@ def about(outcome: Outcome) -> list[str]:
         lines.append("changed: " + ", ".join(f"{name} {count}" for name, count in outcome.changed().most_common()))
     if outcome.after.is_anew:
         lines.append(f"{outcome.folder / COMMANDS} is written anew, since something in it was corrected or dropped")
-    if counts[What.GONE] and not outcome.after.drops_gone:
+    if counts[What.GONE] and not (outcome.after.drops_gone or outcome.obstacles):
         lines += shown(
             Suggestion(
                 "those that are gone stay; to drop them, but for ancestors of animals that have a row", (DROP_GONE,)

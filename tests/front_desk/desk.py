@@ -80,6 +80,9 @@ class Desk:
         found = Done(done.returncode, done.stdout.decode(), done.stderr.decode(), self.report(words))
         is_well = "Traceback" not in found.err and "fault of the front desk" not in found.err
         assert is_well, f"{words}: {found}"
+        if words[:1] == ("take",) and not {"--help", "--preview"} & {*words}:
+            rows = sum(-(-len(line) // 80) for line in found.out.splitlines())
+            assert rows <= 24, f"{words}: {rows} rows of 80 letters are more than a screen: {found.out}"
         return found
 
     def report(self, words: tuple[str, ...]) -> tuple[str, ...]:
