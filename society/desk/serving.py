@@ -37,11 +37,11 @@ def serve(folder: pathlib.Path, program: Office, port: int, read_only: bool, ope
             max_request_body_size=MOST_BYTES * 2, expose_tracebacks=False,
         )  # fmt: skip
         link = f"http://{ADDRESS}:{gate.port}/enter/{gate.secret}"
-        print(f"{link}\nThe desk is open. Open this link in a browser; Ctrl-C ends it.", flush=True)
-        if opens_browser and not webbrowser.open(link):
-            print("No browser could be opened here: open the link in one yourself.", flush=True)
         signal.signal(signal.SIGTERM, signal.default_int_handler)
         with contextlib.suppress(KeyboardInterrupt):
+            print(f"{link}\nThe desk is open. Open this link in a browser; Ctrl-C ends it.", flush=True)
+            if opens_browser and not webbrowser.open(link):
+                print("No browser could be opened here: open the link in one yourself.", flush=True)
             server.run()
         # what changes the book is done to its end
         signal.signal(signal.SIGINT, signal.SIG_IGN)

@@ -1,0 +1,85 @@
+"""The word `open`: its link, its port, and how it ends."""
+from __future__ import annotations
+
+import re
+import signal
+import socket
+import urllib.error
+import urllib.request
+from http.cookiejar import CookieJar
+
+import pytest
+
+from desk.test_browser import Server
+from front_desk.desk import Desk
+
+
+def browser() -> urllib.request.OpenerDirector:
+    return urllib.request.build_opener(urllib.request.HTTPCookieProcessor(CookieJar()))
+
+
+def test_link(society_desk: Desk) -> None:
+    """The link is the first that is printed, and may be opened again; without it nobody gets in."""
+    server = Server(society_desk.room, society_desk.program)
+    assert re.fullmatch(r"http://127\.0\.0\.1:\d+/enter/[\w-]{32}", server.link)
+    for _ in range(2):
+        with browser().open(server.link) as answer:
+            assert answer.status == 200 and b"502" in answer.read()
+            assert "Server" not in answer.headers
+    with pytest.raises(urllib.error.HTTPError, match="403"):
+        browser().open(server.link.partition("/enter")[0])
+    assert server.end().splitlines()[-1] == "The desk is closed."
+    with pytest.raises(urllib.error.URLError):
+        browser().open(server.link)
+
+
+@pytest.mark.parametrize("how", [signal.SIGINT, signal.SIGTERM])
+def test_ended_while_a_sheet_is_taken(society_desk: Desk, how: signal.Signals) -> None:
+    """Ended in the middle of a taking, the taking is done to its end."""
+    server = Server(society_desk.room, society_desk.program)
+    opened, base = browser(), server.link.partition("/enter")[0]
+    opened.open(server.link)
+
+    def posted(address: str, body: bytes, kind: str) -> str:
+        request = urllib.request.Request(base + address, body, {"Content-Type": kind})
+        with opened.open(request) as answer:
+            return answer.url.removeprefix(base) + "\n" + answer.read().decode()
+
+    with opened.open(f"{base}/sheet") as answer:
+        found = re.search(r'name="csrf_token" value="([^"]+)"', answer.read().decode())
+    assert found
+    rows = "id,name,sex,birth,sire,dam\n" + "".join(f"N{at},,f,2019-01-01,,\n" for at in range(3000))
+    parts = f'--x\r\nContent-Disposition: form-data; name="csrf_token"\r\n\r\n{found[1]}\r\n--x\r\nContent-Disposition: '
+    parts += f'form-data; name="sheet"; filename="a.csv"\r\n\r\n{rows}\r\n--x--\r\n'
+    token = re.match(r"/sheet/([\w-]+)", posted("/sheet", parts.encode(), "multipart/form-data; boundary=x"))
+    assert token
+    form = f"csrf_token={found[1]}&anyway=1".encode()
+    posted(f"/sheet/{token[1]}/columns", form, "application/x-www-form-urlencoded")
+    posted(f"/sheet/{token[1]}/take", form + b"&change=1", "application/x-www-form-urlencoded")
+    server.process.send_signal(how)
+    assert server.process.wait(60) == 0
+    listed = society_desk.good("history").out.splitlines()
+    assert len(listed) == 2 and "3502 animals" in listed[1]
+    society_desk.good("verify")
+
+
+def test_port(society_desk: Desk) -> None:
+    """A port may be named; one that is taken, and one that there isn't, is told."""
+    with socket.create_server(("127.0.0.1", 0)) as taken:
+        port = taken.getsockname()[1]
+        society_desk.wrong(f"port {port} can't be used", "open", "--no-browser", "--port", str(port))
+    society_desk.wrong("there is no port 65536", "open", "--no-browser", "--port", "65536")
+    server = Server(society_desk.room, society_desk.program, "--port", str(port))
+    assert server.link.startswith(f"http://127.0.0.1:{port}/enter/")
+    server.end()
+
+
+def test_killed(society_desk: Desk) -> None:
+    """Killed at once, the server leaves a whole book."""
+    server = Server(society_desk.room, society_desk.program)
+    with browser().open(server.link) as answer:
+        answer.read()
+    server.process.kill()
+    server.process.wait()
+    society_desk.good("verify")
+    assert len(society_desk.good("list").out.splitlines()) == 503
