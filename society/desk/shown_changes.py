@@ -1,19 +1,22 @@
 """The changes of a book's history as pages show them."""
 from __future__ import annotations
 
+import collections
+import json
 from dataclasses import dataclass
 from typing import NamedTuple
 
 from society.answers.own_history import SAID_BY_ROWS, names_of_parents, rows_by_change, told_of_animal
 from society.book.book import NO_OWNER, Book
-from society.book.changes import Change
-from society.book.history import change_numbered, told_by
-from society.book.history_words import facts, names_around, rows_by_id
+from society.book.changes import Change, Told
+from society.book.history import change_numbered
+from society.book.history_words import facts
 from society.book.kinds import ChangeKind
-from society.book.rows import Row
-from society.desk.shown_findings import Group, groups_of, sentence_of
+from society.book.rows import COLUMNS, Row
+from society.desk.shown_findings import MOST_SHOWN, Group, groups_of, sentence_of
 from society.desk.words import Words
-from society.taking.stored_findings import entry_of
+from society.taking.report import What
+from society.taking.stored_findings import entry_of, kind_named
 
 
 @dataclass(frozen=True, slots=True)
@@ -56,15 +59,27 @@ class Difference(NamedTuple):
     values: list[Value]
 
 
+# the animals whose row began or ended with a change
+CHANGED = "FROM (SELECT id FROM animal WHERE since = :change UNION SELECT id FROM animal WHERE until = :change)"
+
+
 def differences_of(book: Book, number: int, words: Words, most: int) -> tuple[int, list[Difference]]:
     """How many animals a change changed, and the first of them."""
     assert book.connection is not None
-    before, after = (rows_by_id(book.connection, column, number) for column in ("until", "since"))
-    names = names_around(book.connection, number)
-    owners: dict[int, str] = dict(book.connection.execute("SELECT herd, name FROM owner")) | {NO_OWNER: ""}
-    ids = sorted(before.keys() | after.keys())
-    shown = [difference(id, before.get(id), after.get(id), names, owners, words) for id in ids[:most]]
-    return len(ids), shown
+    ask, asked = book.connection.execute, {"change": number, "most": most}
+    count = ask(f"SELECT count(*) {CHANGED}", asked).fetchone()[0]
+    ids = [id for (id,) in ask(f"SELECT id {CHANGED} ORDER BY id LIMIT :most", asked)]
+    before, after = (rows_of(book, ids, column, number) for column in ("until", "since"))
+    names = names_of_parents(book.connection, [*before.values(), *after.values()])
+    owners: dict[int, str] = dict(ask("SELECT herd, name FROM owner")) | {NO_OWNER: ""}
+    return count, [difference(id, before.get(id), after.get(id), names, owners, words) for id in ids]
+
+
+def rows_of(book: Book, ids: list[str], column: str, number: int) -> dict[str, Row]:
+    """The rows of some animals that began or ended with a change."""
+    assert book.connection is not None
+    chosen = f"SELECT {COLUMNS} FROM animal WHERE id IN (SELECT value FROM json_each(?)) AND {column} = ?"
+    return {row.id: row for row in map(Row._make, book.connection.execute(chosen, (json.dumps(ids), number)))}
 
 
 def difference(
@@ -78,9 +93,17 @@ def difference(
 
 
 def told_of_change(book: Book, number: int, words: Words) -> list[Group]:
-    """What a change told, by kind."""
+    """What a change told, by kind: of each kind of finding the first."""
     assert book.connection is not None
-    return groups_of([entry_of(one) for one in told_by(book.connection, number)], words)
+    ask = book.connection.execute
+    counts: dict[str, int] = dict(ask("SELECT kind, count(*) FROM told WHERE change = ? GROUP BY kind", (number,)))
+    wanted = "SELECT kind, part, line, id, fields FROM told WHERE change = ? AND kind = ? ORDER BY place LIMIT ?"
+    rows = [row for kind in counts for row in ask(wanted, (number, kind, MOST_SHOWN))]
+    entries = [entry_of(Told(*row[:4], tuple(json.loads(row[4]).items()))) for row in rows]
+    totals = collections.Counter[What]()
+    for kind, count in counts.items():
+        totals[kind_named(kind).what] += count
+    return groups_of(entries, words, totals)
 
 
 class OwnChange(NamedTuple):

@@ -1,7 +1,7 @@
 """What a taking tells as pages show it: by kind, what may be wrong first."""
 from __future__ import annotations
 
-from collections.abc import Sequence
+from collections.abc import Mapping, Sequence
 from typing import NamedTuple
 
 from society.desk.words import Words
@@ -29,13 +29,14 @@ class Group(NamedTuple):
     lines: list[Line]
 
 
-def groups_of(entries: Sequence[Entry], words: Words) -> list[Group]:
+def groups_of(entries: Sequence[Entry], words: Words, totals: Mapping[What, int] | None = None) -> list[Group]:
+    """The entries by kind; `totals` are how many there are of each, where these are the first alone."""
     found = []
     for what in ORDER:
         own = [entry for entry in entries if entry.what is what]
         lines = [Line(one.line, one.id, sentence_of(one, words)) for one in own[:MOST_SHOWN]]
         if own:
-            found.append(Group(what, words(f"what {what.value}"), len(own), lines))
+            found.append(Group(what, words(f"what {what.value}"), totals[what] if totals else len(own), lines))
     return found
 
 

@@ -6,6 +6,7 @@ import collections
 import math
 from typing import Mapping
 
+from society.book.ancestry import ancestors_of
 from society.book.book import Book
 from society.book.coefficients import Coefficient
 from society.book.known import Known
@@ -15,7 +16,6 @@ from society.pages.pedigree_box import Box, Drawn, Place
 from society.pages.pedigree_tree import Node, depth_of, grow, nodes_of
 from society.pages.picture import FONT, GREY, INBRED, INBRED_INK, INK, LINE, PAPER, escape, svg, text_at
 from society.pages.text_width import fitted, in_two_lines
-from society.pedigree_order import ancestors
 
 # what is printed on a page of A4 in landscape format, in pixels of which an inch has 96
 WIDTH, HEIGHT = 1046, 718
@@ -120,12 +120,7 @@ class Pedigree:
 
     def note(self) -> str:
         """How many ancestors are drawn, and how many aren't."""
-
-        def parents(number: str) -> list[str]:
-            record = self.book.records[number]
-            return [parent for parent in (record.sire, record.dam) if parent]
-
-        hidden = len(ancestors([self.known.number], parents) - set(self.times))
+        hidden = len(ancestors_of(self.book, self.known.number) - set(self.times))
         more = self.language.counted("hidden", hidden) if hidden else ""
         return self.language.counted("ancestors", len(self.times) - 1) + more
 

@@ -31,6 +31,12 @@ def start() -> Answer:
         return render_template("start.html", glance=glance, changes=[line_of(one, the_words()) for one in last])
 
 
+@page.get("/favicon.ico")
+def icon() -> Response:
+    """What browsers ask for by themselves, for pages that name no picture."""
+    return redirect(url_for("static", filename="icon.svg"))
+
+
 @page.get("/language/<language>")
 def language(language: str) -> Response:
     """Goes back to where the language was chosen."""
