@@ -99,7 +99,9 @@ def told_of_change(book: Book, number: int, words: Words) -> list[Group]:
     counts: dict[str, int] = dict(ask("SELECT kind, count(*) FROM told WHERE change = ? GROUP BY kind", (number,)))
     wanted = "SELECT kind, part, line, id, fields FROM told WHERE change = ? AND kind = ? ORDER BY place LIMIT ?"
     rows = [row for kind in counts for row in ask(wanted, (number, kind, MOST_SHOWN))]
-    entries = [entry_of(Told(*row[:4], tuple(json.loads(row[4]).items()))) for row in rows]
+    entries = [
+        entry_of(Told(kind, part, line, id, tuple(json.loads(fields).items()))) for kind, part, line, id, fields in rows
+    ]
     totals = collections.Counter[What]()
     for kind, count in counts.items():
         totals[kind_named(kind).what] += count

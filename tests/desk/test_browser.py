@@ -87,7 +87,9 @@ class Secretary:
         WebDriverWait(self.chromium, SECONDS).until(seen.text_to_be_present_in_element(body, text), text)
 
     def find(self, path: str) -> WebElement:
-        return WebDriverWait(self.chromium, SECONDS).until(seen.element_to_be_clickable((By.XPATH, path)), path)
+        wait = WebDriverWait(self.chromium, SECONDS)
+        found: WebElement = wait.until(seen.element_to_be_clickable((By.XPATH, path)), path)
+        return found
 
     def click(self, what: str) -> None:
         """A button or a link with a text."""

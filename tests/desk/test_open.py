@@ -43,13 +43,15 @@ def test_ended_while_a_sheet_is_taken(society_desk: Desk, how: signal.Signals) -
     def posted(address: str, body: bytes, kind: str) -> str:
         request = urllib.request.Request(base + address, body, {"Content-Type": kind})
         with opened.open(request) as answer:
-            return answer.url.removeprefix(base) + "\n" + answer.read().decode()
+            return f"{answer.url.removeprefix(base)}\n{answer.read().decode()}"
 
     with opened.open(f"{base}/sheet") as answer:
         found = re.search(r'name="csrf_token" value="([^"]+)"', answer.read().decode())
     assert found
     rows = "id,name,sex,birth,sire,dam\n" + "".join(f"N{at},,f,2019-01-01,,\n" for at in range(3000))
-    parts = f'--x\r\nContent-Disposition: form-data; name="csrf_token"\r\n\r\n{found[1]}\r\n--x\r\nContent-Disposition: '
+    parts = (
+        f'--x\r\nContent-Disposition: form-data; name="csrf_token"\r\n\r\n{found[1]}\r\n--x\r\nContent-Disposition: '
+    )
     parts += f'form-data; name="sheet"; filename="a.csv"\r\n\r\n{rows}\r\n--x--\r\n'
     token = re.match(r"/sheet/([\w-]+)", posted("/sheet", parts.encode(), "multipart/form-data; boundary=x"))
     assert token
