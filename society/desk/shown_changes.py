@@ -13,7 +13,8 @@ from society.book.history import change_numbered
 from society.book.history_words import facts
 from society.book.kinds import ChangeKind
 from society.book.rows import COLUMNS, Row
-from society.desk.shown_findings import MOST_SHOWN, Group, groups_of, sentence_of
+from society.desk.finding_words import Sentence, sentence_of
+from society.desk.shown_findings import MOST_SHOWN, Group, groups_of
 from society.desk.words import Words
 from society.taking.report import What
 from society.taking.stored_findings import entry_of, kind_named
@@ -113,7 +114,7 @@ class OwnChange(NamedTuple):
 
     line: ChangeLine
     difference: Difference | None
-    told: list[str]
+    told: list[Sentence]
 
 
 def own_changes(book: Book, id: str, words: Words) -> list[OwnChange]:
@@ -128,7 +129,7 @@ def own_changes(book: Book, id: str, words: Words) -> list[OwnChange]:
         change = change_numbered(book.connection, number)
         assert change is not None
         entries = [entry_of(one) for one in told.get(number, [])]
-        sentences = [sentence_of(entry, words) for entry in entries if entry.what not in SAID_BY_ROWS]
+        sentences = [sentence_of(entry.finding, words) for entry in entries if entry.what not in SAID_BY_ROWS]
         is_changed = number in began or number in ended
         changed = difference(id, ended.get(number), began.get(number), names, owners, words) if is_changed else None
         found.append(OwnChange(line_of(change, words), changed, sentences))

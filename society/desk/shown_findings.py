@@ -4,8 +4,9 @@ from __future__ import annotations
 from collections.abc import Mapping, Sequence
 from typing import NamedTuple
 
+from society.desk.finding_words import Sentence, sentence_of
 from society.desk.words import Words
-from society.taking.report import Entry, Finding, What
+from society.taking.report import Entry, What
 
 ORDER = (What.LOOK, What.NEW, What.CHANGED, What.LEFT_OUT, What.INFERRED, What.GONE, What.ADDED)
 # so many of a kind are shown, the rest where all are asked for
@@ -17,7 +18,7 @@ class Line(NamedTuple):
 
     line: int
     id: str
-    sentence: str
+    sentence: Sentence
 
 
 class Group(NamedTuple):
@@ -34,16 +35,7 @@ def groups_of(entries: Sequence[Entry], words: Words, totals: Mapping[What, int]
     found = []
     for what in ORDER:
         own = [entry for entry in entries if entry.what is what]
-        lines = [Line(one.line, one.id, sentence_of(one, words)) for one in own[:MOST_SHOWN]]
+        lines = [Line(one.line, one.id, sentence_of(one.finding, words)) for one in own[:MOST_SHOWN]]
         if own:
             found.append(Group(what, words(f"what {what.value}"), totals[what] if totals else len(own), lines))
     return found
-
-
-def sentence_of(entry: Entry, words: Words) -> str:
-    return finding_words(entry.finding, words)
-
-
-def finding_words(finding: Finding, words: Words) -> str:
-    """What is found, without what is suggested for the command line."""
-    return finding.words()

@@ -8,7 +8,7 @@ from flask import Blueprint, abort, render_template, request
 from werkzeug.wrappers import Response
 
 from society.answers.candidates import all_candidates
-from society.answers.listing import Advice, advice_of, by_mating
+from society.answers.listing import Advice, advice_of, by_mating, by_relationship
 from society.answers.table import Cell
 from society.book.book import Book
 from society.book.known import Known
@@ -24,6 +24,8 @@ from society.desk.words import the_words
 from society.mistake import Mistake
 
 page = Blueprint("matings", __name__)
+# of so many sires each is asked by itself
+MOST_ONE_BY_ONE = 500
 # how related a pair is, by the coefficient of its calves: below each of these one kind
 LEVELS = (Fraction(1, 32), Fraction(1, 16), Fraction(1, 8), Fraction(1, 4))
 
@@ -68,11 +70,13 @@ def matings(book: Book) -> Answer:
 
 
 def advice_for(book: Book, dam: Known, also_left: bool) -> Advice:
-    """What the program's session says of a mating with each of the sires, which are those of the word `mating`."""
+    """What the program's session says of a mating with each of the sires, which are those of the word `mating`. Of very
+    many the program is run once, which goes through the pedigree once for all of them."""
     sires = all_candidates(book, Role.SIRE, also_left)
     if not also_left:
         sires.needed("ask for those that left too")
-    return advice_of(dam, sires.needed("name others"), by_mating(book, the_desk().program, dam, sires))
+    ask = by_relationship if len(sires.animals) > MOST_ONE_BY_ONE and not dam.is_male else by_mating
+    return advice_of(dam, sires.needed("name others"), ask(book, the_desk().program, dam, sires))
 
 
 def rows_of(advice: Advice) -> list[Sire]:

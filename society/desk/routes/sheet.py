@@ -9,7 +9,8 @@ from society.book.changes import Option
 from society.book.kinds import Field
 from society.desk.desk import Answer, the_desk
 from society.desk.jobs import Job, Stage
-from society.desk.shown_findings import finding_words, groups_of
+from society.desk.finding_words import sentence_of
+from society.desk.shown_findings import groups_of
 from society.desk.shown_mistakes import without_paths
 from society.desk.suggested import COLUMNS, field_of, proposed_by
 from society.desk.suggested import choose as choose_suggested
@@ -85,7 +86,7 @@ def look(token: str) -> Answer:
     assert isinstance(job.value, Look)
     found = job.value
     words, looks = the_words(), [entry.finding for entry in found.entries]
-    sentences = without_paths((*found.told, *(finding_words(one, words) for one in found.obstacles)), the_desk())
+    sentences = without_paths((*found.told, *(sentence_of(one, words).text for one in found.obstacles)), the_desk())
     is_read = found.after is not None
     return render_template(
         "look.html", upload=upload, look=found, fields=list(Field), groups=groups_of(found.entries, words),

@@ -1,0 +1,182 @@
+"""What is found of a sheet, in German and French; in English each finding says it itself. A part in brackets is left out
+where one of its values is empty."""
+from __future__ import annotations
+
+FINDINGS: dict[str, tuple[str, str]] = {
+    # rows and cells
+    "too many cells": (
+        "die Zeile ist weggelassen: sie hat {cells} Zellen, und es gibt {titles} Titel: ist ein Trennzeichen zu viel?",
+        "la ligne est omise : elle a {cells} cellules pour {titles} titres : y a-t-il un séparateur de trop ?",
+    ),
+    "no id": (
+        "die Zeile ist weggelassen: sie hat keine Ohrmarke[, denn „{word}“ steht für ein unbekanntes Tier]",
+        "la ligne est omise : elle n'a pas de boucle[, car « {word} » désigne un animal inconnu]",
+    ),
+    "id again": (
+        "die Zeile ist weggelassen: Zeile {line} hat diese Ohrmarke auch[, mit {differing}]",
+        "la ligne est omise : la ligne {line} a aussi cette boucle[, avec {differing}]",
+    ),
+    "sex unread": (
+        "das Geschlecht ist weggelassen: „{text}“ ist nicht bekannt: schreiben Sie M oder W",
+        "le sexe est omis : « {text} » n'est pas connu : écrivez M ou F",
+    ),
+    "day left out": (
+        "{field} ist weggelassen: {fault}[; das Tier zählt als abgegangen{is_gone}]",
+        "{field} : omis, {fault}[ ; l'animal compte comme sorti{is_gone}]",
+    ),
+    "embryo unread": (
+        "die Zelle für den Embryo ist weggelassen: „{text}“ ist nicht bekannt: schreiben Sie 1 oder nichts",
+        "la cellule de l'embryon est omise : « {text} » n'est pas connu : écrivez 1 ou rien",
+    ),
+    "error value": (
+        "die Zelle „{title}“ ist weggelassen: „{text}“ ist ein Fehler der Tabelle und kein Wert",
+        "la cellule « {title} » est omise : « {text} » est une erreur du tableur, pas une valeur",
+    ),
+    "exit inferred": ("Abgang am {day}[, aus „{text}“]", "sortie le {day}[, d'après « {text} »]"),
+    "id used again": (
+        "die Zeile ist weggelassen: das Herdbuch hat diese Ohrmarke für ein anderes Tier, geboren am {born_there}; hier "
+        "geboren am {born_here}. Ist es ein anderes, geben Sie ihm eine andere Ohrmarke",
+        "la ligne est omise : le livre a cette boucle pour un autre animal, né le {born_there} ; ici né le {born_here}. Si "
+        "c'en est un autre, donnez-lui une autre boucle",
+    ),
+    "command left out": (
+        "{command} am {day} ist weggelassen: {refusal}[ ({offspring})]", "{command} le {day} : omis, {refusal}[ ({offspring})]",
+    ),
+    "owner day moved": (
+        "es ist seit {now} von „{owner}“, und nicht seit {before}, was mit Geburt, Abgang oder Besitzer vorher nicht sein kann",
+        "il est de « {owner} » depuis {now}, et non depuis {before}, impossible vu la naissance, la sortie ou l'ancien "
+        "propriétaire",
+    ),
+    "sex not known": (
+        "die Zeile ist weggelassen: das Geschlecht ist nicht lesbar, und kein Tier hat es als Elterntier",
+        "la ligne est omise : le sexe est illisible, et aucun animal ne l'a pour parent",
+    ),
+    # to look at
+    "ids alike": (
+        "die Ohrmarke gleicht {other}[ (Zeile {line})] bis auf Großschreibung, Leerzeichen oder Nullen: ist es ein Tier?",
+        "la boucle ressemble à {other}[ (ligne {line})] aux majuscules, espaces ou zéros près : est-ce un seul animal ?",
+    ),
+    "young parent": (
+        "{role} {parent}[ (Zeile {line})] war bei der Geburt {days} Tage alt, weniger als {limit}",
+        "{role} {parent}[ (ligne {line})] avait {days} jours à la naissance, moins de {limit}",
+    ),
+    "births too near": (
+        "die Mutter {dam} hatte {other}[ (Zeile {line})] {days} Tage vorher, weniger als {limit}",
+        "la mère {dam} a eu {other}[ (ligne {line})] {days} jours avant, moins de {limit}",
+    ),
+    "sire left long before": (
+        "der Vater {sire}[ (Zeile {line})] ging am {left} ab, mehr als ein Jahr vor der Geburt am {born}: ein anderer Vater, "
+        "oder gelagertes Sperma?",
+        "le père {sire}[ (ligne {line})] est sorti le {left}, plus d'un an avant la naissance le {born} : un autre père, ou "
+        "de la semence conservée ?",
+    ),
+    "castrated sire": (
+        "es ist kastriert[ („{word}“)] und Vater von {first}[ (Zeile {line})]; {calves} Nachkommen in allem",
+        "il est castré[ (« {word} »)] et père de {first}[ (ligne {line})] ; {calves} descendants en tout",
+    ),
+    "old as living": (
+        "geboren am {born}, zählt es als lebend, {years} Jahre älter als die Hälfte der lebenden ({median}): ist es abgegangen?",
+        "né le {born}, il compte comme vivant, {years} ans de plus que la moitié des vivants ({median}) : est-il sorti ?",
+    ),
+    "many old as living": (
+        "{animals} Tiere zählen als lebend, die {years} Jahre und mehr vor der Hälfte der anderen geboren sind: fehlen der "
+        "Spalte der Abgänge ihre?",
+        "{animals} animaux comptent comme vivants, nés {years} ans et plus avant la moitié des autres : la colonne des "
+        "sorties est-elle incomplète ?",
+    ),
+    "birth moved by years": (
+        "der Geburtstag ist {now} und war {before}: ist es ein anderes Tier mit einer wieder benutzten Ohrmarke?",
+        "la date de naissance est {now}, elle était {before} : est-ce un autre animal dont la boucle a resservi ?",
+    ),
+    "like a sum": (
+        "ist diese Zeile ein Tier? Sie wird so übernommen: lassen Sie Zeilen weg, die zählen oder zusammenfassen",
+        "cette ligne est-elle un animal ? Elle est reprise ainsi : omettez les lignes de totaux",
+    ),
+    "owner respelt": (
+        "die {animals} Tiere von „{before}“ sind jetzt von „{now}“, den das Herdbuch nicht hatte: ist es derselbe, anders "
+        "geschrieben?",
+        "les {animals} animaux de « {before} » sont maintenant de « {now} », inconnu du livre : est-ce le même, écrit "
+        "autrement ?",
+    ),
+    # animals
+    "kept from book": (
+        "{field} {value} wie im Herdbuch, denn die Zelle sagt nichts", "{field} {value} comme dans le livre, car la cellule ne dit rien",
+    ),
+    "kept by hand": (
+        "{field} {value}, wie von Hand gemeldet, denn die Zelle ist wie in der letzten Tabelle",
+        "{field} {value}, comme déclaré à la main, car la cellule est celle du dernier tableau",
+    ),
+    "sex inferred": ("Geschlecht {sex}, {source}", "sexe {sex}, {source}"),
+    "birth day inferred": (
+        "Geburtstag {day}, {basis_source}[: {basis_period_text}][ (aus „{text}“)]",
+        "date de naissance {day}, {basis_source}[ : {basis_period_text}][ (d'après « {text} »)]",
+    ),
+    "row is gone": (
+        "es hat keine Zeile mehr[ und wird gestrichen{is_dropped}]", "il n'a plus de ligne[ et est retiré{is_dropped}]",
+    ),
+    "new animal": ("ein neues Tier mit der Nummer {number}", "un nouvel animal, avec le numéro {number}"),
+    "value changed": ("{name}: {after}, vorher {before}", "{name} : {after}, avant {before}"),
+    "command refused": ("{command}[ am {day}] ist abgelehnt: {refusal}", "{command}[ le {day}] : refusé, {refusal}"),
+    # parents
+    "found by name": (
+        "{role} „{written}“ ist dem Namen nach {id}: ist ein anderes gemeint, schreiben Sie dessen Ohrmarke",
+        "{role} « {written} » est {id} par son nom : si un autre est voulu, écrivez sa boucle",
+    ),
+    "found by near id": (
+        "{role} „{written}“ ist {id}, dessen Ohrmarke sich nur in Großschreibung, Leerzeichen oder Nullen unterscheidet",
+        "{role} « {written} » est {id}, dont la boucle ne diffère que par les majuscules, espaces ou zéros",
+    ),
+    "added as parent": (
+        "{role} von {calf} ohne Zeile: hinzugefügt ohne Eltern[; ist {meant} gemeint?][; so heißen {named}: schreiben Sie die "
+        "Ohrmarke]",
+        "{role} de {calf} sans ligne : ajouté sans parents[ ; s'agit-il de {meant} ?][ ; {named} portent ce nom : écrivez la "
+        "boucle]",
+    ),
+    "own ancestor": (
+        "{role} {parent} ist weggelassen: das Tier wäre sein eigener Ahn ({path})",
+        "{role} {parent} : omis, l'animal serait son propre ancêtre ({path})",
+    ),
+    "same parent twice": (
+        "die Mutter {parent} ist weggelassen: {parent} ist auch der Vater", "la mère {parent} est omise : {parent} est aussi le père",
+    ),
+    "parent refused": (
+        "{role} {parent}[ (Zeile {line})] ist weggelassen: {refusal}", "{role} {parent}[ (ligne {line})] : omis, {refusal}",
+    ),
+}  # fmt: skip
+FAULTS: dict[str, tuple[str, str]] = {
+    "no day": ("„{}“ ist kein Tag: schreiben Sie ihn als 01.03.2001", "« {} » n'est pas une date : écrivez-la 01/03/2001"),
+    "two digits": ("„{}“ hat nur zwei Ziffern für das Jahr", "« {} » n'a que deux chiffres pour l'année"),
+    "number": (
+        "„{}“ ist eine Zahl: geben Sie der Spalte das Format Datum", "« {} » est un nombre : donnez à la colonne le format date",
+    ),
+    "year": ("das Jahr {} liegt nicht in 1900 bis 2199", "l'année {} n'est pas de 1900 à 2199"),
+    "wrong order": (
+        "„{}“ hat Tag und Monat in der anderen Reihenfolge", "« {} » a le jour et le mois dans l'autre ordre",
+    ),
+    "after today": ("{} liegt nach dem heutigen Tag", "{} est après aujourd'hui"),
+    "before birth": ("{} liegt vor der Geburt", "{} est avant la naissance"),
+    "within before birth": ("der Tag in „{}“ läge vor der Geburt", "le jour dans « {} » serait avant la naissance"),
+    "word alone": ("„{}“ hat keinen Tag", "« {} » n'a pas de jour"),
+    "word with numbers": (
+        "„{}“ hat keinen einzelnen Tag mit vierstelligem Jahr", "« {} » n'a pas un seul jour avec une année à quatre chiffres",
+    ),
+}  # fmt: skip
+SOURCES: dict[str, tuple[str, str]] = {
+    "birth period": ("aus Monat oder Jahr", "d'après le mois ou l'année"),
+    "birth offspring": ("aus den Nachkommen", "d'après les descendants"),
+    "birth parents": ("aus den Eltern", "d'après les parents"),
+    "birth earliest": (
+        "der früheste, den ein Herdbuch haben kann, da weder Eltern noch Nachkommen einen haben",
+        "la plus ancienne qu'un livre puisse avoir, car ni parent ni descendant n'en a",
+    ),
+    "birth nearest": (
+        "der nächste zu dem des Herdbuchs, den ein Abgang offen lässt",
+        "la plus proche de celle du livre que permet une sortie",
+    ),
+    "birth invented": ("erfunden", "inventée"),
+    "sex sire": ("da es Vater ist", "car il est père"),
+    "sex dam": ("da es Mutter ist", "car elle est mère"),
+    "sex book": ("wie im Herdbuch", "comme dans le livre"),
+    "sex nothing": ("da sonst nichts bekannt ist", "car rien d'autre n'est connu"),
+    "sex invented": ("erfunden", "inventé"),
+}  # fmt: skip
