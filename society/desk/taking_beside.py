@@ -114,16 +114,16 @@ def wishes_of(folder: pathlib.Path, chosen: Chosen) -> Wishes:
     """The options of the word `take` that stand for what was chosen."""
     given = {name: text.strip() for name, text in chosen.options if text.strip()}
 
-    def words(name: str) -> list[str]:
+    def word(name: str) -> list[str]:
         return [given[name]] if name in given else []
 
     return Wishes(
         folder,
         columns=[one_cell(f"{name}={title}") for name, title in chosen.columns],
-        unknown=words("unknown"),
-        known=words("known"),
-        sexes=words("sexes"),
-        owners=words("owner"),
+        unknown=word("unknown"),
+        known=word("known"),
+        sexes=word("sexes"),
+        owners=word("owner"),
         breed=read(three_letters, given.get("breed", "")) or "",
         country=read(three_letters, given.get("country", "")) or "",
         day=read(day, given.get("day", "")),
