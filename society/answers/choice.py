@@ -11,6 +11,8 @@ from society.book.kinds import Standing
 from society.book.rows import Row
 from society.mistake import Mistake
 
+# so many owners are named where one isn't known
+MOST_NAMED = 5
 # by birth day, and on the same day by number, as the program orders them
 AGE_ORDER = "ORDER BY born, number"
 LISTED = f"standing IN ('{Standing.ROW.value}', '{Standing.FILED.value}')"
@@ -66,6 +68,7 @@ def herd_of(book: Book, owner: str) -> int:
     alike = [one for one in book.owners if one.casefold() == name.casefold()]
     if len(alike) == 1:
         return book.owners[alike[0]]
-    near = alike or closest(name, list(book.owners))
+    parts = [one for one in book.owners if name.casefold() in one.casefold()]
+    near = alike or parts[:MOST_NAMED] or closest(name, list(book.owners))
     hint = f"is {' or '.join(near)} meant?" if near else "`find` finds owners by a part of the name"
     raise Mistake(f"the book has no owner '{name}': {hint}")

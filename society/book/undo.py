@@ -9,7 +9,7 @@ from society.book.kinds import ChangeKind
 from society.book.state import bring_back
 from society.book.writing import end
 from society.herdbook import Herdbook
-from society.mistake import CALLED, Mistake
+from society.mistake import CALLED, Mistake, counted
 
 
 def undo(book: Book, program: Herdbook, to: int | None) -> Change:
@@ -19,8 +19,9 @@ def undo(book: Book, program: Herdbook, to: int | None) -> Change:
     last = book.change.number
     target = last - 1 if to is None else to
     if target >= last:
+        least = f"0 to {last - 1}" if last > 1 else "0"
         raise Mistake(
-            f"the book has {last} changes, and its state is that after the last one: --to takes 0 to {last - 1}, as "
+            f"the book has {counted(last, 'change')}, and its state is that after the last one: --to takes {least}, as "
             f"{CALLED} history shows them"
         )
     then = change_numbered(book.connection, target)

@@ -15,10 +15,11 @@ def three_letters(text: str) -> str:
 
 
 def day(text: str) -> datetime.date:
+    found = re.fullmatch(r"(\d{1,2})\.(\d{1,2})\.(\d{4})", text)
     try:
-        return datetime.date.fromisoformat(text)
+        return datetime.date(*map(int, found.groups()[::-1])) if found else datetime.date.fromisoformat(text)
     except ValueError:
-        raise argparse.ArgumentTypeError(f"'{text}' isn't a day written as 2001-03-01") from None
+        raise argparse.ArgumentTypeError(f"'{text}' isn't a day written as 2001-03-01 or 01.03.2001") from None
 
 
 def days(text: str) -> int:
@@ -28,16 +29,20 @@ def days(text: str) -> int:
 
 
 def sex(text: str) -> str:
-    if text.casefold() not in ("m", "f"):
-        raise argparse.ArgumentTypeError(f"'{text}' is neither m nor f")
-    return text.upper()
+    """M or F, also by the words that a sheet may have."""
+    from society.reading.words import KNOWN_SEXES, sex_word
+
+    found = KNOWN_SEXES.get(sex_word(text))
+    if not found:
+        raise argparse.ArgumentTypeError(f"'{text}' is no word for a sex: write m or f")
+    return found
 
 
 def birth_days(text: str) -> tuple[datetime.date, datetime.date]:
     """The first and the last day of `FROM..TO`: each a year, a month or a day, or nothing where there is no bound."""
     from society.reading.days import FIRST_DAY, LAST_DAY, Unreadable, read_span
 
-    first, dots, last = text.partition("..")
+    first, dots, last = re.sub(r"^(\d{4}) ?[-–] ?(\d{4})$", r"\1..\2", text).partition("..")
     try:
         begin = read_span(first).first if first else FIRST_DAY
         end = read_span(last or (first if not dots else "")).last if last or not dots else LAST_DAY
@@ -48,12 +53,15 @@ def birth_days(text: str) -> tuple[datetime.date, datetime.date]:
 
 
 def coefficient(text: str) -> Fraction:
+    number, percent, behind = text.replace(",", ".").partition("%")
     try:
-        found = Fraction(text.replace(",", "."))
+        found = Fraction(number + behind) / (100 if percent else 1)
     except (ValueError, ZeroDivisionError):
         found = Fraction(-1)
     if not 0 <= found <= 1:
-        raise argparse.ArgumentTypeError(f"'{text}' isn't a fraction or a decimal from 0 to 1, as 1/16 or 0.0625")
+        raise argparse.ArgumentTypeError(
+            f"'{text}' isn't a fraction or a decimal from 0 to 1, as 1/16, 0.0625 or 6.25%"
+        )
     return found
 
 

@@ -28,6 +28,8 @@ def named_in(path: pathlib.Path, book: Book) -> list[Known]:
     """The animals that a file names, one id a line."""
     from society.reading.id_lists import read_ids
 
+    if not path.exists():
+        raise Mistake(f"there is no file {path}: write the ids into one, each in a line, and name that")
     found: list[Known] = []
     faults: list[str] = []
     for id in read_ids(path, book.known.__contains__):

@@ -42,13 +42,10 @@ class Parser(argparse.ArgumentParser):
         return asked
 
     def error(self, message: str) -> NoReturn:
-        told, hint = message, ""
-        words = message.removeprefix("unrecognized arguments: ").split()
-        if message.startswith("unrecognized") and words[0].startswith("-"):
-            told = f"there is no option {words[0]} here"
-        elif message.startswith("unrecognized"):
-            hint = "put an id or a name with blanks between quotation marks; "
-        raise Mistake(f"{told}: {hint}`{self.prog} --help` shows what can be written")
+        from society.command_line.misread import plainly
+
+        told = plainly(message)
+        raise Mistake(f"{told}{'' if told[-1] == '?' else ':'} `{self.prog} --help` shows what can be written")
 
 
 class Words:

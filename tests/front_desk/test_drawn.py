@@ -200,7 +200,7 @@ def test_title_and_another_language(secretary: Secretary, secretary_desk: Desk) 
     desk, calf = secretary_desk, undated_calf(secretary)
     desk.good("certificate", calf, "--language", "de", "--title", "Zuchtbescheinigung", "--force", "--out", "page.html")
     assert "Zuchtbescheinigung" in desk.text("page.html")
-    desk.wrong("argument --language: invalid choice: 'it'", "certificate", calf, "--language", "it")
+    desk.wrong("--language: 'it' is none of en, de, fr", "certificate", calf, "--language", "it")
 
 
 def test_invented_in_german(desk: Desk) -> None:

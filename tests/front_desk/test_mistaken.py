@@ -70,15 +70,16 @@ WORDS: list[tuple[list[str], str]] = [
      "--columns tag=id: write FIELD=TITLE, where FIELD is one of id, name, sex"),
     (["take", "good.csv", "--breed", "hol"], "'hol' isn't three letters A to Z"),
     (["take", "good.csv", "--book", "file"], "the folder file can't be written"),
-    (["take", "good.csv", "--day", "1.2.2003"], "'1.2.2003' isn't a day written as 2001-03-01"),
+    (["take", "good.csv", "--day", "1/2/2003"], "--day: '1/2/2003' isn't a day written as 2001-03-01 or 01.03.2001"),
     (["list"],
      f"there is no book in the folder book: take a sheet first, as {CALLED} take SHEET --book book, or go to "
      "the folder where you took one, by cd FOLDER\n"),
     (["list", "--book", "/no where"],
      "there is no book in the folder /no where: take a sheet first, as "
      f"{CALLED} take SHEET --book '/no where'\n"),
-    (["sell"], "invalid choice: 'sell'"),
-    ([], "the following arguments are required: WORD"),
+    (["sell"], f"there is no word 'sell': `{CALLED} --help` shows"),
+    (["Lst"], "there is no word 'Lst': is list meant? `"),
+    ([], "a word is lacking that says what to do, as take, list or show"),
 ]  # fmt: skip
 
 
@@ -97,18 +98,23 @@ def test_mistaken_words(good_desk: Desk, words: list[str], told: str) -> None:
 
 # words that ask for what can't be done with a book of one female, and what is told of them
 WORDS_WITH_A_BOOK: list[tuple[list[str], str]] = [
-    (["certificate", "b"], "the book has no animal 'b': book/ids.csv has the ids"),
+    (["certificate", "b"], "the book has no animal 'b': `find` looks for a part"),
     (["mating", "--dam", "a", "HOLGBRM000000000009"],
-     "the book has no animal 'HOLGBRM000000000009': book/ids.csv has the ids"),
-    (["mating", "--dam", "a"], "the book has no male"),
+     "the book has no animal 'HOLGBRM000000000009': `find` looks for a part"),
+    (["show", "good.csv"], "the book has no animal 'good.csv', which is a file"),
+    (["kinship", "--among", "a"], "there is no file a: write the ids into one"),
+    (["mating", "--dam", "a"], "the book has no living male that may be a sire: name one"),
     (["mating", "--dam", "a", "a", "--all"], "not both"),
     (["pedigree", "DE", "01", "2345"],
-     "unrecognized arguments: 01 2345: put an id or a name with blanks between quotation marks"),
+     "there is no room for '01 2345' here: put an id or a name with blanks between quotation marks"),
     (["list", "--language", "de"], f"there is no option --language here: `{CALLED} list --help` shows"),
     (["list", "--out", "book"], "'book' is a folder: name a file"),
     (["inverse", "--matrix-market", "."], "'.' is a folder: name a file"),
     (["pedigree", "a", "--generations", "11"], "'11' isn't 1 to 10"),
-    (["inverse"], "the following arguments are required: --matrix-market"),
+    (["inverse"], "--matrix-market is lacking"),
+    (["list", "--sex"], "nothing stands behind --sex"),
+    (["list", "--sex", "x"], "--sex: 'x' is no word for a sex: write m or f"),
+    (["breed", "--living", "--owner", "x"], "--owner and --living don't go together"),
     (["certificate", "a", "--out", "file/x.html"], "file/x.html can't be written: there is no folder file"),
 ]  # fmt: skip
 

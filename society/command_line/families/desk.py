@@ -18,7 +18,9 @@ def add_words(words: Words) -> None:
         "open the desk in a browser, until Ctrl-C",
         "Sheets are taken there, commands filed, animals searched, certificates printed and matings planned.",
     )
-    opened.add_argument("--port", type=whole_number, default=0, metavar="N", help="this port of the machine [a free one]")
+    opened.add_argument(
+        "--port", type=whole_number, default=0, metavar="N", help="this port of the machine [a free one]"
+    )
     opened.add_argument("--read-only", action="store_true", help="show everything, and change nothing")
     opened.add_argument(
         "--no-browser", action="store_true", help="start no browser: the link that is printed is opened in one"
