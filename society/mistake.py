@@ -9,6 +9,8 @@ from typing import Sequence
 CALLED = shlex.quote(sys.argv[0])
 # so many ids are named in a message
 MOST_NAMED = 12
+# so many where something is told in passing
+MOST_IN_PASSING = 9
 
 
 def counted(count: int, noun: str) -> str:
@@ -20,6 +22,11 @@ def some_of(texts: Sequence[str], most: int = MOST_NAMED) -> str:
     """The first of them, and how many more there are."""
     more = f" and {len(texts) - most} more" if len(texts) > most else ""
     return ", ".join(texts[:most]) + more
+
+
+def number_and_some(ids: Sequence[str]) -> str:
+    """How many there are, and the first of them."""
+    return f"{len(ids)} ({some_of(ids, MOST_IN_PASSING)})"
 
 
 class Mistake(Exception):

@@ -12,10 +12,8 @@ from society.book.book import Book
 from society.book.known import Known
 from society.book.role import Role
 from society.book.selecting import selected
-from society.mistake import Mistake, counted, some_of
+from society.mistake import Mistake, counted, number_and_some, some_of
 
-# so many ids of animals that are passed over are named
-MOST_NAMED = 9
 SEXES = {Role.SIRE: "male", Role.DAM: "female"}
 OF_CANDIDATE = ("number", "id", "name", *BIRTH_OF)
 OTHERS = {Role.SIRE: "female", Role.DAM: "male"}
@@ -54,7 +52,7 @@ class Candidates:
             (f"castrated {sex}s", self.castrated, "name one, if its semen is stored"),
         ):
             if ids:
-                sentences.append(f"{what}: {len(ids)} ({some_of(ids, MOST_NAMED)}) aren't listed: {hint}")
+                sentences.append(f"{what}: {number_and_some(ids)} aren't listed: {hint}")
         return sentences
 
     def needed(self, hint: str) -> Candidates:

@@ -7,10 +7,8 @@ from society.alike import closest
 from society.book.book import Book
 from society.book.known import Known
 from society.book.rows import known_of
-from society.mistake import Mistake, some_of
+from society.mistake import MOST_IN_PASSING, Mistake, some_of
 
-# so many ids are named
-MOST_NAMED = 9
 # so many are named that may be meant
 MOST_MEANT = 3
 # by its name in small letters; only names that aren't empty have an index
@@ -25,7 +23,7 @@ def find(book: Book, word: str) -> Known:
     if known:
         others = sorted(row.id for row in book.rows(f"{NAMED} AND id <> ?", folded, word))
         if others:
-            shown = some_of(others, MOST_NAMED)
+            shown = some_of(others, MOST_IN_PASSING)
             book.notes.append(f"'{word}' is taken for the animal with this id; others have this name: {shown}")
         return known
     named = book.rows("number = ?", word) or book.rows(f"{NAMED} AND name = ?", folded, word)
@@ -33,7 +31,7 @@ def find(book: Book, word: str) -> Known:
     if len(named) == 1:
         return known_of(named[0])
     if named:
-        ids = some_of(sorted(row.id for row in named), MOST_NAMED)
+        ids = some_of(sorted(row.id for row in named), MOST_IN_PASSING)
         raise Mistake(
             f"{len(named)} animals have the name '{word}': name one by its id, as `find` shows them with their birth "
             f"days: {ids}"

@@ -10,10 +10,10 @@ from society.book.role import Role
 from society.book.search import find
 from society.command_line.arguments import add_choice, add_force, birth_days, file, sex
 from society.command_line.giving import give_table, named_in
-from society.command_line.output import some, tell
+from society.command_line.output import tell
 from society.command_line.parser import Words
 from society.herdbook import Herdbook
-from society.mistake import Mistake
+from society.mistake import Mistake, number_and_some
 
 
 def add_words(words: Words) -> None:
@@ -74,7 +74,7 @@ def do_list(asked: argparse.Namespace, book: Book, program: Herdbook) -> None:
     give_table(asked, book, animals_listed(book, choice, asked.columns or USUAL))
     without_row = [] if asked.living else book.without_row()
     if without_row:
-        tell(f"animals without a row in the sheet: {some(without_row)}: added as parents, or gone")
+        tell(f"animals without a row in the sheet: {number_and_some(without_row)}: added as parents, or gone")
 
 
 def do_mating(asked: argparse.Namespace, book: Book, program: Herdbook) -> None:
