@@ -12,7 +12,8 @@ import pytest
 
 from society.book.inferred import BirthBasis, BirthSource, Period
 from society.desk import texts
-from society.desk.finding_words import FINDINGS, VALUE, Sentence, sentence_of
+from society.desk.finding_words import VALUE, Sentence, sentence_of
+from society.desk.texts.findings import FINDINGS
 from society.desk.words import Words
 from society.refusals import Refusal
 from society.taking.animal_findings import BirthDayInferred, CommandRefused, SexInferred, ValueChanged
