@@ -1,4 +1,5 @@
-# The inverse relationship matrix in R, sparse, from what `society/society inverse --matrix-market FILE` writes: Rscript inverse.R FILE
+# The inverse relationship matrix in R, sparse, from what `society/society inverse --matrix-market FILE` writes:
+# Rscript inverse.R FILE
 library(Matrix)
 file <- commandArgs(TRUE)[1]
 inverse <- as(readMM(file), "CsparseMatrix")

@@ -48,8 +48,7 @@ def calf_coefficients(
 
 def too_deep(book: Book, dams: Sequence[str], sires: Sequence[str]) -> list[Pair]:
     """The pairs whose calf may have a path of parents that is too long: the program decides."""
-    depth = depths(book)
-    deep = {number for number in (*dams, *sires) if depth[number] >= MOST_STEPS}
+    deep = {number for number, steps in depths(book).items() if steps >= MOST_STEPS}
     return [(dam, sire) for dam in dams for sire in sires if dam in deep or sire in deep] if deep else []
 
 
