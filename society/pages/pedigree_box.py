@@ -143,13 +143,13 @@ class Box:
 
     def one(self) -> list[str]:
         known = self.drawn.known
-        y, less = self.place.height / 2 + 3.5, self.taken + self.room_for_percent(9.5)
+        y, less = self.place.height / 2 + 3.5, self.taken + self.room_for_percent(9)
         size = min(10.0, self.place.height * 0.62)
         id = fitted_id(known.id, self.place.width - 2 * PADDING - less, size, True)
         used = width_of(id, size, True) + 5
         name = known.name if id == known.id else ""
         room = self.place.width - 2 * PADDING - less - used
-        found = [text_at(PADDING, y, id, INK, size, weight="bold"), self.coefficient(y, 9.5, self.taken)]
+        found = [text_at(PADDING, y, id, INK, size, weight="bold"), self.coefficient(y, 9, self.taken)]
         if room > 25:
             facts = f"{name}, {year_of(self.book, known, self.language)}".removeprefix(", ")
             found.append(text_at(PADDING + used, y, fitted(facts, room, size * 0.92), GREY, size * 0.92))

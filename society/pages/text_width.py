@@ -4,7 +4,7 @@ from __future__ import annotations
 import unicodedata
 
 # widths in parts of the size of the letters
-NARROW = dict.fromkeys("iIjlI.,:;'|!()[]{}/\\ ftr-", 0.38)
+NARROW = dict.fromkeys("iIjlI.,:;'|!()[]{}/\\ \u00a0\u202fftr-", 0.38)
 WIDE = dict.fromkeys("mwMWÆŒ@%…", 1.0)
 OTHERS = {"Lu": 0.76, "Ll": 0.58, "Nd": 0.58}
 WIDEST = 1.0

@@ -65,7 +65,7 @@ def test_populations(secretary_desk: Desk) -> None:
     (["--born", "1900..1901"], "the book has none of the animals born 1900-01-01 – 1901-12-31"),
     (["--born", "lately"], "'lately' isn't written as 2010..2019"),
     (["--csv", "absent"], "there is no folder absent"),
-    (["--among", "none.txt"], "none.txt can't be read"),
+    (["--among", "none.txt"], "there is no file none.txt: write the ids into one"),
 ])  # fmt: skip
 def test_mistakes(secretary_desk: Desk, words: list[str], told: str) -> None:
     secretary_desk.wrong(told, "breed", *words)

@@ -13,12 +13,13 @@ SVG = "{http://www.w3.org/2000/svg}"
 LONG = "DE-09-2765-0000123456-Zuchtverband-Nr-"
 
 
-def full_sibs(generations: int) -> str:
+def full_sibs(generations: int, before: str = LONG) -> str:
     rows = ["id,name,sex,birth,sire,dam"]
     for at in range(generations + 1):
-        parents = f"{LONG}{at - 1}m,{LONG}{at - 1}f" if at else ","
+        parents = f"{before}{at - 1}m,{before}{at - 1}f" if at else ","
         rows += [
-            f"{LONG}{at}{sex},Wilhelmine von der Wiese WWWWWWWWWW,{sex},{1990 + 2 * at}-01-01,{parents}" for sex in "mf"
+            f"{before}{at}{sex},Wilhelmine von der Wiese WWWWWWWWWW,{sex},{1990 + 2 * at}-01-01,{parents}"
+            for sex in "mf"
         ]
     return "\n".join(rows) + "\n"
 
@@ -70,6 +71,16 @@ def test_text_in_a_box(desk: Desk) -> None:
     ids = [next(box.iter(f"{SVG}text")).text or "" for box in boxes]
     assert {id[-2:] for id in ids} == {"5f", *(f"{at}{sex}" for at in range(5) for sex in "mf")}
     assert fitted_id("WWWW", 1, 10) == "…W" and fitted("WWWW", 1, 10) == "…" and fitted_id("ab", 90, 10) == "ab"
+
+
+def test_short_ids(desk: Desk) -> None:
+    """They stand whole beside the coefficient and a letter, also in the lowest boxes, and where a percentage is wide."""
+    desk.take(full_sibs(9, "GK-00"))
+    desk.good("pedigree", "GK-009f", "--generations", "5", "--language", "fr", "--out", "tree.svg")
+    boxes = [box for box in desk.page("tree.svg").iter(f"{SVG}svg") if box.get("x")]
+    texts = [[text.text or "" for text in box.iter(f"{SVG}text")] for box in boxes]
+    assert all(any("%" in text for text in one) for one in texts)
+    assert {one[0] for one in texts if one[0].endswith("f")} == {f"GK-00{at}f" for at in range(4, 10)}
 
 
 def test_common_ancestors(mrode_desk: Desk) -> None:
