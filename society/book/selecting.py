@@ -1,11 +1,13 @@
 """Reads what is asked for of many animals, as values and in age order: the quickest way to a list of all of them."""
 from __future__ import annotations
 
+import sqlite3
 from collections.abc import Sequence
 from typing import Any
 
 from society.book.book import IN_BOOK, Book
 from society.book.state import ALL_ROWS, NOW
+from society.mistake import CALLED, Mistake, counted
 
 # where an animal stands in age order, and its coefficient
 PLACE, FRACTION, PERCENT = "place", "fraction", "percent"
@@ -23,10 +25,22 @@ def selected(
     source, order = ALL_ROWS, "born, number"
     if {PLACE, FRACTION, PERCENT} & set(wanted):
         source, order = WITH_COEFFICIENT if conditions else ALL_WITH_COEFFICIENT, PLACE
+        check_coefficients(book, book.connection)
     where = " AND ".join([NOW, IN_BOOK, *conditions])
     return book.connection.execute(
         f"SELECT {', '.join(wanted)} FROM {source} WHERE {where} ORDER BY {order}", values
     ).fetchall()
+
+
+def check_coefficients(book: Book, connection: sqlite3.Connection) -> None:
+    """A mistake where not each animal has a coefficient: it would be left out without a word."""
+    animals = f"SELECT count(*) FROM {ALL_ROWS} WHERE {NOW} AND {IN_BOOK}"
+    there, kept = connection.execute(f"SELECT ({animals}), (SELECT count(*) FROM coefficient)").fetchone()
+    if there != kept:
+        raise Mistake(
+            f"{book.path} keeps {counted(kept, 'coefficient')} of {counted(there, 'animal')}, so it isn't whole: restore "
+            f"a backup, as {CALLED} restore FILE --anyway"
+        )
 
 
 def known_parents(book: Book) -> dict[str, list[str]]:

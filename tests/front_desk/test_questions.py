@@ -1,8 +1,10 @@
 """What is asked about animals: one shown with its relatives and history, those that a text finds, and lists of some."""
 from __future__ import annotations
 
+import contextlib
 import csv
 import io
+import sqlite3
 from collections.abc import Callable
 from fractions import Fraction
 
@@ -87,6 +89,15 @@ def test_list_of_some(society_desk: Desk) -> None:
         assert not row["sire"] or by_id[row["sire"]]["sex"][0] == "M"
     society_desk.wrong("is Lower Mill meant?", "list", "--owner", "Lower Mil")
     society_desk.wrong("there is no column 'color'", "list", "--columns", "id,color")
+
+
+def test_list_of_what_is_not_whole(mrode_desk: Desk) -> None:
+    """No animal is left out for a coefficient that lacks."""
+    with contextlib.closing(sqlite3.connect(mrode_desk.room / "book/book.sqlite")) as connection, connection:
+        connection.execute("DELETE FROM coefficient WHERE place = 3")
+    told = "keeps 5 coefficients of 6 animals, so it isn't whole: restore a backup"
+    for words in ["list"], ["list", "--sex", "f"], ["export"]:
+        mrode_desk.wrong(told, *words)
 
 
 def test_computed_columns(mrode_desk: Desk) -> None:
