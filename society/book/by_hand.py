@@ -139,7 +139,8 @@ def file(book: Book, program: Herdbook, one: ByHand) -> tuple[Change, Refusal | 
     refusal = program.reply(one.command, book)
     rows = Rows({}, {}) if refusal else rows_of(book, one)
     findings = (CommandRefused(one.kind, one.command.day, refusal),) if refusal else one.findings
-    state = State(rows, new_owners={} if refusal else one.new_owners)
+    keeps = bool(refusal) or one.kind in (ChangeKind.TRANSFER, ChangeKind.EXIT)
+    state = State(rows, new_owners={} if refusal else one.new_owners, keeps_coefficients=keeps)
     made = Made(one.kind, options=one.options, told=told_by(one, findings))
     made = replace(made, counts=(("refused", 1),) if refusal else (("filed", 1),))
     return write(book, program, Filed([Step(one.command, refusal or 0)]), state, made), refusal

@@ -78,8 +78,12 @@ def kept_lines(connection: sqlite3.Connection) -> list[str]:
 
 def write_coefficients(connection: sqlite3.Connection, lines: list[str]) -> None:
     """Keeps the coefficients that the program writes in place of those before."""
-    if kept_lines(connection) == lines:
+    kept = kept_lines(connection)
+    if kept == lines:
         return
-    connection.execute("DELETE FROM coefficient")
-    rows = ((place, *line.split(",")) for place, line in enumerate(lines, 1))
+    # those of animals that are born last stand behind the others
+    behind = len(kept) if kept == lines[: len(kept)] else 0
+    if not behind:
+        connection.execute("DELETE FROM coefficient")
+    rows = ((place, *line.split(",")) for place, line in enumerate(lines[behind:], behind + 1))
     connection.executemany("INSERT INTO coefficient VALUES (?, ?, ?, ?)", rows)

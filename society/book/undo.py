@@ -7,7 +7,7 @@ from society.book.history import change_numbered, next_number, now, write_change
 from society.book.journal import NO_JOURNAL, Journal, begin_edition
 from society.book.kinds import ChangeKind
 from society.book.state import bring_back
-from society.book.writing import end
+from society.book.writing import compute_and_end
 from society.herdbook import Herdbook
 from society.mistake import CALLED, Mistake, counted
 
@@ -30,4 +30,4 @@ def undo(book: Book, program: Herdbook, to: int | None) -> Change:
     edition = begin_edition(book.connection, journal)
     write_change(book.connection, number, moment, edition, Made(ChangeKind.UNDO, undone_to=target))
     bring_back(book.connection, number, target)
-    return end(book, book.connection, program, number, moment)
+    return compute_and_end(book, book.connection, program, number, moment)

@@ -11,7 +11,7 @@ from society.book.changes import Change, Made
 from society.book.coefficients import write_coefficients
 from society.book.commands import Record
 from society.book.book_changed import commit, creating
-from society.book.history import next_number, now, write_change
+from society.book.history import last_change, next_number, now, write_change
 from society.book.journal import Journal, Step, append, begin_edition
 from society.book.known import Known
 from society.book.rows import row_of
@@ -43,6 +43,8 @@ class State:
     cells: Rows | None = None
     remembered: list[Meaning] | None = None
     new_owners: dict[str, int] = field(default_factory=dict)
+    # no animal is born and no parent changed
+    keeps_coefficients: bool = False
 
 
 def animal_rows(known: dict[str, Known], records: dict[str, Record]) -> dict[Values, Values]:
@@ -71,7 +73,9 @@ def write_within(
     if state.remembered is not None:
         before = rows_now(connection, REMEMBERED)
         write_rows(connection, REMEMBERED, number, before, remembered_rows(state.remembered))
-    return end(book, connection, program, number, moment)
+    if state.keeps_coefficients:
+        return end(book, connection, number, moment)
+    return compute_and_end(book, connection, program, number, moment)
 
 
 def written_journal(connection: sqlite3.Connection, journal: Journal, filed: Filed) -> Journal:
@@ -81,11 +85,15 @@ def written_journal(connection: sqlite3.Connection, journal: Journal, filed: Fil
     return append(connection, journal, filed.steps)
 
 
-def end(book: Book, connection: sqlite3.Connection, program: Herdbook, number: int, moment: int) -> Change:
+def compute_and_end(book: Book, connection: sqlite3.Connection, program: Herdbook, number: int, moment: int) -> Change:
     """Computes what is kept of the new state, and ends the change."""
-    after = Book(book.folder, connection)
-    write_coefficients(connection, program.ask(["inbreeding"], after))
-    change = after.change
+    write_coefficients(connection, program.ask(["inbreeding"], Book(book.folder, connection)))
+    return end(book, connection, number, moment)
+
+
+def end(book: Book, connection: sqlite3.Connection, number: int, moment: int) -> Change:
+    """Ends the change."""
+    change = last_change(connection)
     assert change is not None and change.number == number
     stop_no_more()
     commit(connection, book.folder, number, moment)

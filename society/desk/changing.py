@@ -10,6 +10,7 @@ from society.book.opening import no_book
 from society.book.verify import verify
 from society.desk.desk import Desk
 from society.desk.kept import mark_of
+from society.mistake import Mistake
 
 
 @contextlib.contextmanager
@@ -30,3 +31,14 @@ def to_change(desk: Desk) -> Iterator[Book]:
             raise
     with desk.opened() as changed:
         desk.whole = mark_of(changed) if changed else (0, 0)
+
+
+def see_whole(desk: Desk) -> None:
+    """Sees whether the book is whole, and begins the session, before somebody waits for it. What is wrong is told where
+    the book is changed."""
+    with contextlib.suppress(Mistake), desk.opened() as book:
+        if book is not None and book.change is not None:
+            desk.program.at(book)
+            if not desk.read_only:
+                verify(book, desk.program, quickly=True)
+                desk.whole = mark_of(book)

@@ -8,12 +8,16 @@ import shutil
 import signal
 import socket
 import tempfile
+import threading
 import webbrowser
 from collections.abc import Iterator
 
 from waitress import create_server
 
+from society.book.book_changed import up_to_date
+from society.book.old_folder import take_over
 from society.desk.app import desk_app
+from society.desk.changing import see_whole
 from society.desk.desk import Desk
 from society.desk.exporting import Exports
 from society.desk.jobs import Jobs
@@ -36,7 +40,11 @@ def serve(folder: pathlib.Path, program: Office, port: int, read_only: bool, ope
             desk_app(desk, gate), sockets=[listening], threads=THREADS, ident=None,
             max_request_body_size=MOST_BYTES * 2, expose_tracebacks=False,
         )  # fmt: skip
+        if not read_only:
+            take_over(folder, program)
+        up_to_date(folder)
         link = f"http://{ADDRESS}:{gate.port}/enter/{gate.secret}"
+        threading.Thread(target=see_whole, args=(desk,), daemon=True).start()
         signal.signal(signal.SIGTERM, signal.default_int_handler)
         with contextlib.suppress(KeyboardInterrupt):
             print(f"{link}\nThe desk is open. Open this link in a browser; Ctrl-C ends it.", flush=True)

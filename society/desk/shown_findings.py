@@ -34,7 +34,7 @@ def groups_of(entries: Sequence[Entry], words: Words, totals: Mapping[What, int]
     """The entries by kind; `totals` are how many there are of each, where these are the first alone."""
     found = []
     for what in ORDER:
-        own = [entry for entry in entries if entry.what is what]
+        own = sorted((entry for entry in entries if entry.what is what), key=lambda one: one.finding.does())
         lines = [Line(one.line, one.id, sentence_of(one.finding, words)) for one in own[:MOST_SHOWN]]
         if own:
             found.append(Group(what, words(f"what {what.value}"), totals[what] if totals else len(own), lines))

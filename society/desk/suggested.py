@@ -12,6 +12,8 @@ from society.taking.report import Finding
 from society.taking.suggestions import REPEATED, Suggestion
 
 COLUMNS = "--columns"
+# options with a number of days below which something is told
+BOUNDS = ("--youngest", "--apart")
 # options without a word, which a page has as boxes
 SET = "1"
 MOST_LETTERS = 500
@@ -26,9 +28,16 @@ class Proposed:
 
 
 def proposed_by(findings: Iterable[Finding], words: Words) -> list[Proposed]:
-    """Each once. What is suggested for the command line alone isn't proposed."""
+    """Each once, and of a bound the least, which lets all be. What is suggested for the command line alone isn't
+    proposed."""
     suggestions = dict.fromkeys(one for finding in findings for one in finding.suggestions() if is_choice(one))
-    return [Proposed(label_of(one, words), one.options) for one in suggestions]
+    least: dict[str, Suggestion] = {}
+    for one in suggestions:
+        name, word = one.options[0].option, one.options[0].word
+        if name in BOUNDS and (name not in least or int(word) < int(least[name].options[0].word)):
+            least[name] = one
+    kept = [one for one in suggestions if one.options[0].option not in BOUNDS or one in least.values()]
+    return [Proposed(label_of(one, words), one.options) for one in kept]
 
 
 def is_choice(suggestion: Suggestion) -> bool:

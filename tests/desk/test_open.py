@@ -10,7 +10,7 @@ from http.cookiejar import CookieJar
 
 import pytest
 
-from desk.test_browser import Server
+from desk.test_browser import SECONDS, Server
 from front_desk.desk import Desk
 
 
@@ -33,10 +33,8 @@ def test_link(society_desk: Desk) -> None:
         browser().open(server.link)
 
 
-@pytest.mark.parametrize("how", [signal.SIGINT, signal.SIGTERM])
-def test_ended_while_a_sheet_is_taken(society_desk: Desk, how: signal.Signals) -> None:
-    """Ended in the middle of a taking, the taking is done to its end."""
-    server = Server(society_desk.room, society_desk.program)
+def begin_taking(server: Server) -> None:
+    """Drops a sheet of many animals, and begins to take it."""
     opened, base = browser(), server.link.partition("/enter")[0]
     opened.open(server.link)
 
@@ -58,10 +56,30 @@ def test_ended_while_a_sheet_is_taken(society_desk: Desk, how: signal.Signals) -
     form = f"csrf_token={found[1]}&anyway=1".encode()
     posted(f"/sheet/{token[1]}/columns", form, "application/x-www-form-urlencoded")
     posted(f"/sheet/{token[1]}/take", form + b"&change=1", "application/x-www-form-urlencoded")
+
+
+@pytest.mark.parametrize("how", [signal.SIGINT, signal.SIGTERM])
+def test_ended_while_a_sheet_is_taken(society_desk: Desk, how: signal.Signals) -> None:
+    """Ended in the middle of a taking, the taking is done to its end."""
+    server = Server(society_desk.room, society_desk.program)
+    begin_taking(server)
     server.process.send_signal(how)
-    assert server.process.wait(60) == 0
+    assert server.process.wait(SECONDS) == 0
     listed = society_desk.good("history").out.splitlines()
     assert len(listed) == 2 and "3502 animals" in listed[1]
+    society_desk.good("verify")
+
+
+def test_killed_while_a_sheet_is_taken(society_desk: Desk) -> None:
+    """Killed then, the book is as before or as after, and whole."""
+    server = Server(society_desk.room, society_desk.program)
+    begin_taking(server)
+    server.process.kill()
+    server.process.wait()
+    society_desk.good("verify")
+    # a change of one's own waits for a taking that goes on
+    society_desk.good("exit", "GK-17/472c", "--day", "2024-05-01")
+    assert len(society_desk.good("list").out.splitlines()) in (503, 3503)
     society_desk.good("verify")
 
 
@@ -74,14 +92,3 @@ def test_port(society_desk: Desk) -> None:
     server = Server(society_desk.room, society_desk.program, "--port", str(port))
     assert server.link.startswith(f"http://127.0.0.1:{port}/enter/")
     server.end()
-
-
-def test_killed(society_desk: Desk) -> None:
-    """Killed at once, the server leaves a whole book."""
-    server = Server(society_desk.room, society_desk.program)
-    with browser().open(server.link) as answer:
-        answer.read()
-    server.process.kill()
-    server.process.wait()
-    society_desk.good("verify")
-    assert len(society_desk.good("list").out.splitlines()) == 503

@@ -45,6 +45,7 @@ TEXTS = {
     "options": ("Options", "Optionen", "Options"),
     "journal": ("Journal", "Journal", "Journal"),
     "journal is": ("{} commands, edition {}", "{} Vorgänge, Ausgabe {}", "{} commandes, édition {}"),
+    "was found": ("What was found", "Was gefunden wurde", "Ce qui a été trouvé"),
     "animals changed": ("Animals changed", "Geänderte Tiere", "Animaux modifiés"),
     "is new": ("new", "neu", "nouveau"),
     "is not in book": ("isn't in the book any more", "ist nicht mehr im Herdbuch", "n'est plus dans le livre"),
