@@ -7,7 +7,8 @@ PROGRAM is the built herdbook. SOCIETY is the script `society` of a clone, that 
 several each takes the same sheet into a book of its own, and they are asked in turn, so that two versions are compared
 on a machine that others use too. The sheet has ids, names, sexes, days, parents and owners, none of its days after
 today. For each word and clone the seconds of the processor (user and system) stand there of the run with the least: of
-the front desk itself, behind a + of the program that it runs, and the most memory of either. `take` is one run.
+the front desk itself, behind a + of the program that it runs, and the most memory of either, which
+is never less than this script's. `take` is one run.
 """
 
 from __future__ import annotations
