@@ -91,7 +91,7 @@ def luminance(colour: str) -> float:
     """The relative luminance of the guidelines on accessibility (WCAG 2)."""
     digits = colour[1:] if len(colour) == 7 else "".join(2 * one for one in colour[1:])
     parts = [int(digits[at : at + 2], 16) / 255 for at in (0, 2, 4)]
-    linear = [part / 12.92 if part <= 0.04045 else ((part + 0.055) / 1.055) ** 2.4 for part in parts]
+    linear: list[float] = [part / 12.92 if part <= 0.04045 else ((part + 0.055) / 1.055) ** 2.4 for part in parts]
     return 0.2126 * linear[0] + 0.7152 * linear[1] + 0.0722 * linear[2]
 
 

@@ -44,7 +44,7 @@ def stand_in(room: pathlib.Path, text: str) -> str:
     return str(path)
 
 
-@pytest.mark.parametrize("words", CALLS, ids=lambda words: words[0])
+@pytest.mark.parametrize("words", CALLS, ids=[words[0] for words in CALLS])
 def test_limits(mrode_desk: Desk, program: str, words: list[str]) -> None:
     """Each run of the program has both."""
     told = mrode_desk.room / "limits"
