@@ -1,86 +1,14 @@
-"""Lists of animals, and mating advice, by the society's own ids."""
+"""Lists of animals, by the society's own ids."""
 from __future__ import annotations
 
 from collections.abc import Sequence
-from typing import NamedTuple
 
-from society.answers.candidates import Candidate, Candidates, all_candidates, named_candidates
 from society.answers.choice import Choice, conditions_of
-from society.answers.list_columns import LIST_COLUMNS, USUAL, Column, animals_table
+from society.answers.list_columns import USUAL, Column, animals_table
 from society.answers.table import Table
 from society.book.book import Book
-from society.book.coefficients import Coefficient
-from society.book.known import Known
-from society.book.role import Role
-from society.breed.relationships import pairs_of
-from society.herdbook import MOST_NUMBERS, Herdbook
-from society.mistake import Mistake
-from society.refusals import MatingFault
-
-# the coefficient that offspring would have, or why the mating is refused
-Answer = Coefficient | MatingFault
 
 
 def animals_listed(book: Book, choice: Choice = Choice(), columns: Sequence[Column] = USUAL) -> Table:
     """The animals of a choice with these columns, in age order."""
     return animals_table(book, *conditions_of(book, choice), columns)
-
-
-class Advice(NamedTuple):
-    """The coefficient that offspring of each sire would have, the least first, why others have none, and who was passed
-    over."""
-
-    table: Table
-    refused: list[str]
-    sires: Candidates
-
-
-def advise(book: Book, program: Herdbook, dam: Known, named: Sequence[Known], also_left: bool) -> Advice:
-    """Advice on sires that are named, or else on all living males, or on those that left too."""
-    sires = named_candidates(book, Role.SIRE, named) if named else all_candidates(book, Role.SIRE, also_left)
-    sires.needed("name one" if also_left else "name one, or ask for those that left too by --left")
-    answers = (
-        by_mating(book, program, dam, sires) if named or dam.is_male else by_relationship(book, program, dam, sires)
-    )
-    return advice_of(dam, sires, answers)
-
-
-def advice_of(dam: Known, sires: Candidates, answers: Sequence[Answer]) -> Advice:
-    """What is told of the program's answers on sires, in their order."""
-    of_dam = [answer for answer in answers if isinstance(answer, MatingFault) and answer.is_of_dam()]
-    if of_dam:
-        raise Mistake(f"{dam.id}: {of_dam[0].words()} (fault {of_dam[0]}): name a female as the dam")
-    both = list(zip(sires.animals, answers))
-    found = [(sire, answer) for sire, answer in both if isinstance(answer, Coefficient)]
-    found.sort(key=lambda pair: (pair[1].units, pair[0].id))
-    told = [
-        f"{sire.id}: refused: {answer.words()} (fault {answer})"
-        for sire, answer in both
-        if isinstance(answer, MatingFault)
-    ]
-    return Advice(advice_table(found), told, sires)
-
-
-def by_mating(book: Book, program: Herdbook, dam: Known, sires: Candidates) -> list[Answer]:
-    """What the program says of a mating with each of the sires, in their order."""
-    numbers = sires.numbers
-    found: list[Answer] = []
-    for first in range(0, len(numbers), MOST_NUMBERS):
-        for line in program.ask(["mating", "--dam", dam.number, *numbers[first : first + MOST_NUMBERS]], book):
-            _, answer, more = line.split(",")
-            found.append(MatingFault(int(more)) if answer == "refused" else Coefficient(answer, more))
-    return found
-
-
-def by_relationship(book: Book, program: Herdbook, dam: Known, sires: Candidates) -> list[Answer]:
-    """The same of a female with males. Of many it is quicker, since the program goes through the pedigree once."""
-    pairs = pairs_of(book, program, [dam.number], sires.numbers)
-    return [pairs.coefficients.get((dam.number, number), MatingFault.PATH_TOO_LONG) for number in sires.numbers]
-
-
-def advice_table(found: Sequence[tuple[Candidate, Coefficient]]) -> Table:
-    """The sires, each with the coefficient that its offspring would have."""
-    rows = [
-        (sire.id, sire.name, sire.number, sire.birth, one.fraction, one.decimal(), one.percent) for sire, one in found
-    ]
-    return Table.of_rows([(LIST_COLUMNS[column].title, LIST_COLUMNS[column].kind) for column in USUAL], rows)

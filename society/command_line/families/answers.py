@@ -78,7 +78,7 @@ def do_list(asked: argparse.Namespace, book: Book, program: Herdbook) -> None:
 
 
 def do_mating(asked: argparse.Namespace, book: Book, program: Herdbook) -> None:
-    from society.answers.listing import advise
+    from society.answers.advice import advise
 
     if asked.dams or asked.sires_in:
         do_many_matings(asked, book, program)

@@ -8,7 +8,7 @@ from flask import Blueprint, abort, render_template, request
 from werkzeug.wrappers import Response
 
 from society.answers.candidates import all_candidates
-from society.answers.listing import Advice, advice_of, by_mating, by_relationship
+from society.answers.advice import Advice, advice_of, by_mating, by_relationship
 from society.answers.table import Cell
 from society.book.book import Book
 from society.book.known import Known
