@@ -99,7 +99,9 @@ def name_column(columns: Columns, name: str, title: str) -> None:
 
 
 def usual_column(columns: Columns, name: str) -> None:
-    for at in columns.titled(KNOWN_TITLES[name]):
+    titled = columns.titled(KNOWN_TITLES[name])
+    # one that has nothing is read where no other has its field
+    for at in sorted(titled, key=lambda one: not any(columns.cells(one))):
         if plain(columns.title(at)) not in KNOWN_DOUBTFUL or tells_exits(columns, at):
             columns.found[name] = at
             return

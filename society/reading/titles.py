@@ -20,9 +20,10 @@ TITLES = {
     "Tier-ID, LOM, HB-Nr, Kennzeichen, Stallnummer, numéro national, n° national, numéro d'identification, "
     "identifiant, n° d'identification, n° SIRE, numéro SIRE, LOF, n° LOF, tatouage, puce, "
     "boucle, matricule, animal, Tier, number, no, nr, Nummer, numéro, n°",
-    Field.NAME: "name, registered name, animal name, full name, Tiername, Rufname, call name, Zuchtname, "
+    Field.NAME: "name, registered name, animal name, full name, Tiername, Zuchtname, "
     "Name des Tieres, nom, nom de l'animal, nom du chien, nom du cheval, dog name, name of dog, horse name, "
-    "name of horse, Name des Hundes, Name des Pferdes, Pferdename, Hundename, dog, horse, Hund, Pferd, chien, cheval",
+    "name of horse, Name des Hundes, Name des Pferdes, Pferdename, Hundename, dog, horse, Hund, Pferd, chien, cheval, "
+    "Rufname, call name, nom usuel, nom d'usage",
     Field.SEX: "sex, gender, Geschlecht, Geschl, sexe, m/w, m/f, w/m, f/m",
     Field.BIRTH: "birth date, date of birth, birthday, birth day, dob, Geburtsdatum, Geburtstag, geboren am, geb. am, "
     "geb-Datum, Geb.-Dat, Geburtsdat, date de naissance, date naissance, né le, née le, né(e) le, ddn, date naiss, "

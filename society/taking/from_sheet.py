@@ -60,17 +60,24 @@ def take_into(book: Book, path: pathlib.Path, wishes: Wishes, program: Herdbook)
     read = read_animals(path, wishes, book, words)
     next_book = NextBook(book, read.animals, set(read.columns.found), read.report)
     complete(next_book, read.columns, wishes)
+    understood = understood_of(path, read, again(words, wishes), titles_before(book))
     book.remembered += [Meaning(Remembered.COLUMN, *pair) for pair in read.columns.titles_found()]
-    understood = understood_of(path, read, again(words, wishes))
     about = About(wishes.call(str(path)), understood.lines(), understood, limits_of(words))
     return finish(next_book, program, wishes, source, about)
 
 
-def understood_of(path: pathlib.Path, read: ReadSheet, remembered: list[Option]) -> Understood:
+def understood_of(path: pathlib.Path, read: ReadSheet, remembered: list[Option], before: dict[str, str]) -> Understood:
     sheet, columns = read.sheet, read.columns
     titles = tuple(ColumnRead(Field(name), title) for name, title in columns.titles_found())
     return Understood(
-        str(path), len(sheet.rows), sheet.line, sheet.how, titles, columns.titles_not_read(), tuple(remembered)
+        str(path),
+        len(sheet.rows),
+        sheet.line,
+        sheet.how,
+        titles,
+        columns.titles_not_read(),
+        tuple(remembered),
+        dict(columns.titles_found()) == before,
     )
 
 

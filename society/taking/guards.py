@@ -8,6 +8,7 @@ from society.book.kinds import Standing
 from society.book.known import Known
 from society.reading.animal import Animal
 from society.reading.columns import Columns
+from society.reading.ids import nearly
 
 from society.taking.look_findings import RowOf
 
@@ -51,11 +52,19 @@ class Guards:
 
     def like(self) -> LooksLike:
         in_book = [id for id in self.rows if id in self.book.known]
+        if self.are_written_otherwise():
+            return LooksLike.IDS_OTHERWISE
         if len(in_book) == len(self.rows):
             return LooksLike.OLDER_SHEET if self.is_older() else LooksLike.PART
         if 2 * len(in_book) > len(self.rows):
             return LooksLike.PART
         return LooksLike.ANOTHER_ID if self.are_same_animals() else LooksLike.ANOTHER_FLOCK
+
+    def are_written_otherwise(self) -> bool:
+        """Have most animals that lack a row one whose id differs in case, blanks or zeros alone?"""
+        rows = {nearly(id) for id in self.rows if id not in self.book.known}
+        lacking = [id for id in self.had_row() if id not in self.rows]
+        return 2 * sum(nearly(id) in rows for id in lacking) > len(lacking)
 
     def is_older(self) -> bool:
         """Are the animals that lack younger than those of the sheet?"""
@@ -136,10 +145,11 @@ class Guards:
             return None
         words = sum(not any(map(str.isdigit, parent)) for parent in lost)
         ids = sum(any(map(str.isdigit, id)) for id in self.rows)
-        is_name = 2 * words > len(lost) and 2 * ids > len(self.rows)
+        # a column that had all ids would have been found before
+        title = self.column_of({*lost})
+        is_name = bool(title) or (2 * words > len(lost) and 2 * ids > len(self.rows))
         like = LooksLike.PARENTS_BY_NAME if is_name else LooksLike.PARENTS_BY_ANOTHER_ID
-        texts = tuple(dict.fromkeys(lost))[:3]
-        return ParentsLack(len(lost), len(links), texts, like, self.column_of({*lost}))
+        return ParentsLack(len(lost), len(links), tuple(dict.fromkeys(lost))[:3], like, title)
 
     def column_of(self, parents: set[str]) -> str:
         """The title of a column that isn't read, and in which most of these parents are found."""

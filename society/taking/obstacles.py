@@ -5,6 +5,7 @@ import enum
 from dataclasses import dataclass
 
 from society.book.changes import Option
+from society.book.kinds import Field
 from society.mistake import counted
 from society.taking.look_findings import RowOf
 from society.taking.report import Finding, What
@@ -27,6 +28,7 @@ class LooksLike(enum.Enum):
     PARENTS_BY_NAME = "parents by name"
     PARENTS_BY_ANOTHER_ID = "parents by another id"
     SORTED_APART = "sorted apart"
+    IDS_OTHERWISE = "ids written otherwise"
 
     def words(self) -> str:
         return LIKE_WORDS[self]
@@ -47,6 +49,10 @@ LIKE_WORDS = {
     LooksLike.PARENTS_BY_ANOTHER_ID: (
         "it looks like another id than that of the column that is read: name the one in which the parents' cells are "
         "found by --columns, with id= and its title, or the parents' columns"
+    ),
+    LooksLike.IDS_OTHERWISE: (
+        "it looks like the same animals, whose ids are written otherwise in case, blanks or zeros: write them as in the "
+        "book"
     ),
     LooksLike.SORTED_APART: (
         "it looks like a sheet in which some columns were sorted without the others, or like that of another flock: "
@@ -150,10 +156,8 @@ class ParentsLack(Guard):
         anyway = Guard.suggestions(self)
         if not self.title:
             return anyway
-        field = "name" if self.like is LooksLike.PARENTS_BY_NAME else "id"
-        what = "names" if field == "name" else "ids"
-        option = Option("--columns", f"{field}={self.title}")
-        return (Suggestion(f"if '{self.title}' has the {what}", (option,)), *anyway)
+        option = Option("--columns", f"{Field.NAME}={self.title}")
+        return (Suggestion(f"if '{self.title}' has the names", (option,)), *anyway)
 
 
 @dataclass(frozen=True, slots=True)

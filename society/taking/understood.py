@@ -30,13 +30,16 @@ class Understood:
     columns: tuple[ColumnRead, ...]
     not_read: tuple[str, ...]
     remembered: tuple[Option, ...]
+    # the columns are those of the last sheet
+    as_before: bool = False
 
     def lines(self) -> list[str]:
         read = ", ".join(f"{one.field} from '{one.title}'" for one in self.columns)
+        columns = "columns as at the last time" if self.as_before else f"columns: {read}"
         titles = some_of([f"'{title}'" for title in self.not_read], MOST_TITLES)
         lines = [
             f"{self.file}: {counted(self.rows, 'row')} below the titles in line {self.titles_line}, {self.how}",
-            f"columns: {read}" + (f"; not read: {titles}" if titles else ""),
+            columns + (f"; not read: {titles}" if titles else ""),
         ]
         if self.remembered:
             options = ", ".join(
