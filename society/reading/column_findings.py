@@ -11,6 +11,10 @@ from society.taking.report import Finding, What
 from society.taking.suggestions import Suggestion
 
 
+# a sheet that lacks so many of its columns may have its titles elsewhere
+MANY = 3
+
+
 class SheetFinding(Finding):
     """Of a sheet as a whole: it is taken as it stands, and may be wrong, or it keeps the sheet from being taken."""
 
@@ -129,13 +133,14 @@ class ColumnsLack(SheetFinding):
     titles: tuple[str, ...]
 
     def words(self) -> str:
+        titles = ": does this line have the titles of the columns?" * (len(self.fields) >= MANY)
         return (
             f"line {self.line}: no column for {' or '.join(self.fields)} is found. The titles are "
-            f"{title_list(self.titles)}. Say which it is by --columns, with the field, = and its title"
+            f"{title_list(self.titles)}{titles or '. Say which it is by --columns, with the field, = and its title'}"
         )
 
     def suggestions(self) -> tuple[Suggestion, ...]:
-        if Field.ID in self.fields:
+        if Field.ID in self.fields or len(self.fields) >= MANY:
             return ()
         none = ",".join(f"{field}=" for field in self.fields)
         which = "there is none" if len(self.fields) == 1 else "there are none"

@@ -15,6 +15,7 @@ from society.taking.early_exits import leave_out_early_exits
 from society.taking.faulty_parents import leave_out_faulty_parents
 from society.taking.lost_links import refuse_lost_links
 from society.taking.looks import Limits, Looks
+from society.taking.many_changes import tell_most_changed, tell_withdrawn_exits
 from society.taking.next_book import NextBook
 from society.taking.numbers import give_numbers
 from society.taking.obstacles import StrictlyNothing
@@ -28,7 +29,6 @@ from society.taking.screen import lines_of
 from society.taking.sentences import sentences_of
 from society.taking.suggestions import Call
 from society.taking.understood import Understood
-from society.taking.withdrawn_exits import tell_withdrawn_exits
 from society.taking.wishes import Wishes
 
 
@@ -75,6 +75,7 @@ def file(next_book: NextBook, program: Herdbook, wishes: Wishes, about: About) -
     if wishes.strict and any(entry.what is What.LEFT_OUT for entry in report.entries):
         refuse_left_out(next_book, wishes)
     filing.tell_changes()
+    tell_most_changed(next_book)
     new = sum(1 for animal in next_book.animals.values() if animal.line and animal.id not in book.known)
     is_first = not before and not next_book.is_pedigree and not (wishes.breed and wishes.country)
     begin = (wishes.breed or BREED) + (wishes.country or COUNTRY)

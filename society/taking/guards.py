@@ -6,6 +6,7 @@ import functools
 from society.book.book import Book
 from society.book.kinds import Standing
 from society.book.known import Known
+from society.book.role import Role
 from society.reading.animal import Animal
 from society.reading.columns import Columns
 from society.reading.ids import nearly
@@ -32,7 +33,7 @@ class Guards:
 
     def of_rows(self) -> list[Guard]:
         """The ids, and what animals are as the rows have them."""
-        found = [self.missing_column(), self.gone(), self.other_animals(), self.other_parents()]
+        found = [self.missing_column(), self.gone(), self.other_animals(), self.other_sexes(), self.other_parents()]
         return [guard for guard in found if guard]
 
     def missing_column(self) -> Guard | None:
@@ -102,15 +103,21 @@ class Guards:
         """Do both say another day? One that was inferred says nothing."""
         return row.has_day() and not known.birth.is_inferred and row.birth.first != self.book.records[known.number].born
 
+    def other_sexes(self) -> Guard | None:
+        pairs = [(row, known) for row, known in self.both if row.sex and not known.sex.is_inferred]
+        changed = [row for row, known in pairs if row.sex != known.number[6]]
+        return self.of_many(Changed.SEXES, changed) if self.are_many(changed) else None
+
     def other_parents(self) -> Guard | None:
-        """Animals that have another animal with a row as a parent than in the book. A parent that is added, taken away
-        or written by another id is an ordinary correction."""
+        """Animals that have another animal with a row as a parent than in the book, or none. A parent that is added or
+        that had no row, and one whose cell can't be read, are ordinary."""
         had_row = {known.number: known.id for known in self.book.known.values() if known.standing.had_row()}
         changed = []
         for row, known in self.both:
             record = self.book.records[known.number]
-            pairs = [(had_row.get(record.parent(role)), parent) for role, parent in row.parents()]
-            if any(before and before != now and now in self.rows for before, now in pairs):
+            read = [role for role in Role if role in self.columns.found and role not in row.unread]
+            pairs = [(had_row.get(record.parent(role)), row.parent(role)) for role in read]
+            if any(before and before != now and (not now or now in self.rows) for before, now in pairs):
                 changed.append(row)
         return self.of_many(Changed.PARENTS, changed) if self.are_many(changed) else None
 

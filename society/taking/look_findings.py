@@ -173,6 +173,20 @@ class ExitsWithdrawn(Look):
 
 
 @dataclass(frozen=True, slots=True)
+class MostChanged(Look):
+    """Most rows of animals that the book has have a field otherwise."""
+
+    name: str
+    changed: int
+    both: int
+
+    def words(self) -> str:
+        return (
+            f"{self.changed} of {self.both} animals have another {self.name} than before: is its column the right one?"
+        )
+
+
+@dataclass(frozen=True, slots=True)
 class BirthMovedByYears(Look):
     """The birth day of the book and that of the sheet are years apart, and nothing else tells that these are two
     animals."""

@@ -119,7 +119,8 @@ class Changed(enum.Enum):
     BIRTH_DAYS = "birth days"
     # the name of one is that of another in the book
     NAMES = "names, which are those of others,"
-    PARENTS = "parents"
+    PARENTS = "parents, or none,"
+    SEXES = "sexes"
 
 
 @dataclass(frozen=True, slots=True)

@@ -103,7 +103,7 @@ def shifted(count: int, field: int) -> list[str]:
 
 
 @pytest.mark.parametrize(("field", "what"), [
-    (1, "names, which are those of others,"), (2, "birth days"), (3, "parents"), (4, "parents"),
+    (1, "names, which are those of others,"), (2, "birth days"), (3, "parents, or none,"), (4, "parents, or none,"),
 ])  # fmt: skip
 def test_columns_sorted_apart(taken: Desk, field: int, what: str) -> None:
     """Five of sixty are an ordinary correction; six are told, whichever column they have otherwise."""
@@ -116,11 +116,44 @@ def test_columns_sorted_apart(taken: Desk, field: int, what: str) -> None:
     )  # fmt: skip
 
 
+@pytest.mark.parametrize("field", [3, 4])
+def test_parents_taken_away(taken: Desk, field: int) -> None:
+    rows = [row.split(";") for row in flock("A")]
+    rows = [[*row[:field], "", *row[field + 1 :]] for row in rows]
+    told = "50 of 60 animals have other parents, or none, than in the book, the first are A10 (line 12), A11 (line 13)"
+    refused(taken, sheet([";".join(row) for row in rows]), told)
+
+
+def test_other_sexes(desk: Desk) -> None:
+    """Sexes that were inferred may be others; those that were said are an ordinary correction of a few alone."""
+    titles = TITLES + ";Geschlecht"
+    rows = [f"{row};{'m' if at % 10 < 5 else 'w' if at % 3 else ''}" for at, row in enumerate(flock("A"))]
+    desk.take(sheet(rows, titles))
+    said = [f"{row}w" if row.endswith(";") else row for row in rows]
+    assert "other sexes" not in desk.take(sheet(said, titles)).out
+    others = [*said[:10], *(row[:-1] + ("w" if row.endswith("m") else "m") for row in said[10:16]), *said[16:]]
+    refused(
+        desk, sheet(others, titles), "6 of 60 animals have other sexes than in the book, the first are A10 (line 12)"
+    )
+
+
+def test_most_have_another_owner(desk: Desk) -> None:
+    """It is taken, and told in a sentence, for which its column may be a wrong one."""
+    titles = TITLES + ";Besitzer;Abgang"
+    desk.take(sheet([f"{row};Hof {at % 3};" for at, row in enumerate(flock("A"))], titles))
+    for count, is_told in (30, False), (31, True):
+        rows = [f"{row};Hof {at % 3 if at >= count else count};2020" for at, row in enumerate(flock("A"))]
+        done = desk.take(sheet(rows, titles), "--preview")
+        told = f"to look at: {count} of 60 animals have another owner than before: is its column the right one?"
+        assert (told in done.out.splitlines()) == is_told
+        done.shows("to look at: 60 of 60 animals have another exit than before: is its column the right one?")
+
+
 @pytest.mark.parametrize(("before", "now"), [
-    ("Aname", "Hof Aname"), ("A1;A6", ";A6"), ("A2;A7", "A2;import"), ("A3;A8", "import;A8"),
+    ("Aname", "Hof Aname"), ("A2;A7", "A2;import"), ("A3;A8", "import;A8"),
 ])  # fmt: skip
 def test_ordinary_corrections(taken: Desk, before: str, now: str) -> None:
-    """Names of one's own, parents that are taken away, and parents that have no row."""
+    """Names of one's own, and parents that have no row."""
     rows = [row.replace(before, now) for row in flock("A")]
     assert sum(row not in flock("A") for row in rows) >= 10
     taken.take(sheet(rows))

@@ -52,6 +52,15 @@ FINDINGS: dict[str, tuple[str, str]] = {
         "la ligne est omise : le sexe est illisible, et aucun animal ne l'a pour parent",
     ),
     # to look at
+    "exits withdrawn": (
+        "{animals} abgegangene Tiere zählen wieder als lebend: fehlen ihre Abgänge in der Spalte?",
+        "{animals} animaux sortis comptent de nouveau comme vivants : leurs sorties manquent-elles dans la colonne ?",
+    ),
+    "may be unknown": (
+        "„{word}“ hat keine Zeile, und ist der Vater von {sire_of} und die Mutter von {dam_of} Tieren: ist ein unbekanntes "
+        "Tier gemeint?",
+        "« {word} » n'a pas de ligne, et est le père de {sire_of} et la mère de {dam_of} animaux : est-ce un parent inconnu ?",
+    ),
     "ids alike": (
         "die Ohrmarke gleicht {other}[ (Zeile {line})] bis auf Großschreibung, Leerzeichen oder Nullen: ist es ein Tier?",
         "la boucle ressemble à {other}[ (ligne {line})] aux majuscules, espaces ou zéros près : est-ce un seul animal ?",
