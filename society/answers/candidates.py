@@ -78,29 +78,29 @@ def candidates_of(book: Book, role: Role, named: Sequence[Known] | None) -> Cand
 def named_candidates(book: Book, role: Role, named: Sequence[Known]) -> Candidates:
     """In the order in which they are named, whatever they are."""
     numbers = list(dict.fromkeys(known.number for known in named))
-    rows = selected(book, OF_CANDIDATE, ["number IN (SELECT value FROM json_each(?))"], [json.dumps(numbers)])
-    found = {row[0]: candidate(*row) for row in rows}
-    return Candidates(role, [found[number] for number in numbers])
-
-
-def candidate(
-    number: str, id: str, name: str, born: str, source: str, period: str | None, no_such_day: str | None
-) -> Candidate:
-    return Candidate(number, id, name, born, birth_of(born, source, period, no_such_day))
+    found = candidates_where(book, ["number IN (SELECT value FROM json_each(?))"], [json.dumps(numbers)])
+    by_number = {one.number: one for one in found}
+    return Candidates(role, [by_number[number] for number in numbers])
 
 
 def all_candidates(book: Book, role: Role, also_left: bool = False) -> Candidates:
     """The living ones that have a row and aren't castrated, in age order; or those that left too."""
-    animals, castrated, without_row, left = [], [], [], 0
-    wanted = (*OF_CANDIDATE, LISTED, HAS_LEFT, "castrated")
-    for *row, is_listed, has_left, is_castrated in selected(book, wanted, ["substr(number, 7, 1) = ?"], [role.sex]):
-        one = candidate(*row)
+    of_sex = "substr(number, 7, 1) = ?"
+    may = " AND ".join([LISTED, "castrated = 0", *[f"NOT {HAS_LEFT}"] * (not also_left)])
+    castrated, without_row, left = [], [], 0
+    for id, is_listed, has_left in selected(book, ("id", LISTED, HAS_LEFT), [of_sex, f"NOT ({may})"], [role.sex]):
         if not is_listed:
-            without_row.append(one.id)
+            without_row.append(id)
         elif has_left and not also_left:
             left += 1
-        elif is_castrated:
-            castrated.append(one.id)
         else:
-            animals.append(one)
-    return Candidates(role, animals, castrated, sorted(without_row), left)
+            castrated.append(id)
+    return Candidates(role, candidates_where(book, [of_sex, may], [role.sex]), castrated, sorted(without_row), left)
+
+
+def candidates_where(book: Book, conditions: Sequence[str], values: Sequence[object]) -> list[Candidate]:
+    """The animals for which all conditions hold, in age order."""
+    return [
+        Candidate(number, id, name, born, birth_of(born, source, period, no_such_day))
+        for number, id, name, born, source, period, no_such_day in selected(book, OF_CANDIDATE, conditions, values)
+    ]

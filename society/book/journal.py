@@ -10,9 +10,11 @@ from society.refusals import Refusal
 
 # a command as the command file has it
 TEXT = """
-    kind || ',' || animal || ',' || ifnull(day, '') || ',' || iif(kind IN ('birth', 'parents'), ifnull(sire, '0'), '')
-    || ',' || iif(kind IN ('birth', 'parents'), ifnull(dam, '0'), '') || ',' || ifnull(giver, '') || ','
-    || ifnull(taker, '') || ',' || iif(embryo, '1', '')
+    printf(
+        '%s,%s,%s,%s,%s,%s,%s,%s', kind, animal, ifnull(day, ''), iif(kind IN ('birth', 'parents'), ifnull(sire, '0'), ''),
+        iif(kind IN ('birth', 'parents'), ifnull(dam, '0'), ''), ifnull(giver, ''), ifnull(taker, ''),
+        iif(embryo, '1', '')
+    )
 """
 WITHIN = "FROM command WHERE edition = ? AND place BETWEEN ? AND ? ORDER BY place"
 
