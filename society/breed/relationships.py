@@ -11,6 +11,10 @@ from society.book.selecting import selected
 from society.breed.pedigree import MOST_STEPS
 from society.breed.plan import Pair
 from society.herdbook import MOST_NUMBERS, Herdbook
+from society.mistake import Mistake
+
+# so many pairs are asked for
+MOST_PAIRS = 2_000_000
 
 
 @dataclass(frozen=True)
@@ -35,15 +39,24 @@ def calf_coefficients(
     book: Book, program: Herdbook, dams: Sequence[str], sires: Sequence[str]
 ) -> dict[Pair, Coefficient]:
     """By the numbers of a dam and a sire, dam by dam."""
+    found = relationships(book, program, dams, sires)
+    return {(dam, sire): of_calf(found[dam, sire]) for dam in dams for sire in sires}
+
+
+def relationships(book: Book, program: Herdbook, some: Sequence[str], others: Sequence[str]) -> dict[Pair, str]:
+    """Those of each of some animals with each of the others, by their numbers, as the program writes the fractions."""
+    count = len(some) * len(others)
+    if count > MOST_PAIRS:
+        raise Mistake(f"these are {count:,} pairs, and at most {MOST_PAIRS:,} are written: name fewer animals in files")
     # the program goes through the pedigree once for each of those that it is given first
-    few, many = (dams, sires) if len(dams) < len(sires) else (sires, dams)
-    found: dict[Pair, Coefficient] = {}
+    few, many = (some, others) if len(some) < len(others) else (others, some)
+    found: dict[Pair, str] = {}
     at_once = max(1, MOST_NUMBERS - len(few))
     for first in range(0, len(many), at_once):
         for line in program.ask(["relationships", *few, "--with", *many[first : first + at_once]], book):
             one, other, relationship = line.split(",")
-            found[(one, other) if few is dams else (other, one)] = of_calf(relationship)
-    return {(dam, sire): found[dam, sire] for dam in dams for sire in sires}
+            found[(one, other) if few is some else (other, one)] = relationship
+    return found
 
 
 def too_deep(book: Book, dams: Sequence[str], sires: Sequence[str]) -> list[Pair]:

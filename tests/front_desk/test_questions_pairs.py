@@ -4,14 +4,20 @@ from __future__ import annotations
 import csv
 import io
 import itertools
+import pathlib
 from fractions import Fraction
+from typing import cast
 
 import pytest
 
 import reference
 from breed.drawn import drawn
 from front_desk.desk import Desk
+from society.book.book import Book
 from society.breed.pedigree import UNKNOWN
+from society.breed.relationships import relationships
+from society.herdbook import Herdbook
+from society.mistake import Mistake
 
 TITLES = ("id", "sex", "birth", ("sire", "dam"))
 SOME = ["GK-17/472c", "GK-02/119b", "GK-11/332b", "GK-98/005c", "GK-14/391c", "GK-18/487c", "IMP-7 (imported)"]
@@ -115,6 +121,13 @@ def test_matings(society_desk: Desk) -> None:
     assert {row["sire"] for row in all_males} == set(living) and len(all_males) == 2 * len(living)
     society_desk.wrong("GK-17/472c, GK-14/391c: no sire can be female", "mating", "--sires", "dams.txt")
     society_desk.wrong("mating needs a dam", "mating")
+
+
+def test_too_many_pairs() -> None:
+    """The program isn't asked for more than a table can have."""
+    book, program = Book(pathlib.Path("none"), None), cast(Herdbook, None)
+    with pytest.raises(Mistake, match="these are 2,000,001 pairs, and at most 2,000,000 are written"):
+        relationships(book, program, ["one"] * 3, ["other"] * 666_667)
 
 
 def test_refused_matings(desk: Desk) -> None:
