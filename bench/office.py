@@ -1,8 +1,8 @@
 #!/usr/bin/env python3
-"""Measures what an office takes for births at desks on threads, beside inspectors who freeze without pause.
+"""Measures what an office takes for births and transfers at desks on threads, beside inspectors who freeze without pause.
 
     office.sh PROGRAM HERDBOOK [--million] [--runs 5] [--desks 1,2,4,16] [--inspectors 0,1,4]
-              [--before 20000] [--timed 40000]
+              [--births 59000] [--transfers 20000]
 
 PROGRAM is the executable of the crate office_timing, HERDBOOK that of herdbook, as `rt run` leaves
 them; nothing is proved or built. The births are of founders. `--million` adds a million calls: a
@@ -13,10 +13,12 @@ the office, starting threads and closing count. `cpu` is the least processor tim
 the inspectors with it; `by file` is that time by what `herdbook file` takes for the same births,
 which it reads from a file. `memory` is the most that a run had, though never less than this script.
 
-The second table is of one desk: so many births without readers, and then timed ones, while an
-inspector freezes or none does. The least of several runs counts, for the longest call too.
+The second table is of one desk: so many births without readers, and then transfers, which are timed,
+with a pause before each, while an inspector freezes or none does. `a call` is the least of several
+runs, `the longest` the median of what the longest call of each run took, `books` the fewest that a
+run froze meanwhile.
 
-The status is 1 where a run doesn't print the counts that it is to have.
+The status is 1 where a run doesn't print the counts that it is to have, or froze fewer than ten books.
 """
 
 from __future__ import annotations
@@ -24,6 +26,7 @@ from __future__ import annotations
 import argparse
 import os
 import re
+import statistics
 import subprocess
 import sys
 import tempfile
@@ -31,6 +34,9 @@ import time
 from typing import IO
 
 MOST_ANIMALS = 60_000
+
+# so many freezings at least are to fall among the transfers
+FEWEST_BOOKS = 10
 
 
 def measured(words: list[str], given: int | IO[bytes] = subprocess.DEVNULL) -> tuple[str, str, float, float, int]:
@@ -95,18 +101,20 @@ def crowds(given: argparse.Namespace, births: int) -> bool:
 
 def beside(given: argparse.Namespace, inspectors: int) -> bool:
     """A line of the second table; whether all counts are right."""
-    words = [given.program, "beside", str(given.before), str(given.timed), str(inspectors)]
+    words = [given.program, "beside", str(given.births), str(given.transfers), str(inspectors)]
     tried = [measured(words) for _ in range(given.runs)]
-    found = [re.fullmatch(r"(\d+) ns longest, (\d+) ns in all\n", told) for _, told, *_ in tried]
+    found = [re.fullmatch(r"(\d+) ns longest, (\d+) ns in all, (\d+) books frozen\n", told) for _, told, *_ in tried]
     times = [it for it in found if it]
     if len(times) < len(found):
         return False
-    longest, total = (min(int(it[group]) for it in times) for group in (1, 2))
+    longest, total, books = ([int(it[group]) for it in times] for group in (1, 2, 3))
     print(
-        f"| {given.before:,} | {given.timed:,} | {inspectors} | {total / 1000 / given.timed:.2f}"
-        f" | {longest / 1000:,.0f} |"
+        f"| {given.births:,} | {given.transfers:,} | {inspectors} | {min(total) / 1000 / given.transfers:.2f}"
+        f" | {statistics.median(longest) / 1000:,.0f} | {min(books)} | {max(it[4] for it in tried) / 1e6:.0f} |"
     )
-    return all(printed == counts(given.before + given.timed) for printed, *_ in tried)
+    steps = given.births + given.transfers
+    right = all(printed == f"{steps} accepted, {steps} steps\n" for printed, *_ in tried)
+    return right and (not inspectors or min(books) >= FEWEST_BOOKS)
 
 
 def main() -> int:
@@ -117,15 +125,16 @@ def main() -> int:
     takes.add_argument("--runs", type=int, default=5)
     takes.add_argument("--desks", default="1,2,4,16")
     takes.add_argument("--inspectors", default="0,1,4")
-    takes.add_argument("--before", type=int, default=20_000)
-    takes.add_argument("--timed", type=int, default=40_000)
+    takes.add_argument("--births", type=int, default=59_000)
+    takes.add_argument("--transfers", type=int, default=20_000)
     given = takes.parse_args()
     well = True
     print("| births | desks | inspectors | calls a second | cpu, µs | by file | memory, MB |")
     print("|--:|--:|--:|--:|--:|--:|--:|")
     for births in [MOST_ANIMALS, 1_000_000] if given.million else [MOST_ANIMALS]:
         well &= crowds(given, births)
-    print("\n| births before | timed births | inspectors | a call, µs | the longest, µs |\n|--:|--:|--:|--:|--:|")
+    print("\n| births | transfers | inspectors | a call, µs | the longest, µs | books | memory, MB |")
+    print("|--:|--:|--:|--:|--:|--:|--:|")
     for inspectors in (0, 1):
         well &= beside(given, inspectors)
     return 0 if well else 1

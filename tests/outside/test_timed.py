@@ -35,23 +35,24 @@ NO_PEDIGREES = ["corrections 9", "births many", "deaths 7", "births", ""]
 
 class TestTimed(Checks):
     def test_timed_offices(self) -> None:
-        """Births of `office_timing`, more of them than a book takes too, with and without inspectors."""
+        """Births and transfers of `office_timing`, more than are accepted too, with and without inspectors."""
         office = self.built("office_timing")
         for births, desks, inspectors in OFFICES:
             told = f"{min(births, 60_000)} accepted, {births} steps\n"
             office.expect("births", wrote(told), ["births", str(births), str(desks), str(inspectors)])
-        for before, births, inspectors in (3, 5, 0), (7, 8, 1):
-            office.births_beside(before, births, inspectors)
+        for births, transfers, inspectors in (3, 5, 0), (8, 7, 1):
+            office.transfers_beside(births, transfers, inspectors)
         office.no_tasks(NO_OFFICES)
 
-    def births_beside(self, before: int, births: int, inspectors: int) -> None:
-        """Births after others, with the time of the longest and of all."""
-        done = self.run(["beside", str(before), str(births), str(inspectors)])
-        told = f"{before + births} accepted, {before + births} steps\n"
-        times = re.fullmatch(r"(\d+) ns longest, (\d+) ns in all\n", done.err.decode())
-        longest, total = (int(times[1]), int(times[2])) if times else (0, 0)
-        right = (done.status, done.out) == (0, told.encode()) and 0 < longest <= total <= births * longest
-        self.count(right, f"beside: {before}, {births}, {inspectors}: {done}")
+    def transfers_beside(self, births: int, transfers: int, inspectors: int) -> None:
+        """Transfers after births, with the time of the longest and of all, and how many books were frozen meanwhile."""
+        done = self.run(["beside", str(births), str(transfers), str(inspectors)])
+        told = f"{births + min(births, transfers)} accepted, {births + transfers} steps\n"
+        times = re.fullmatch(r"(\d+) ns longest, (\d+) ns in all, (\d+) books frozen\n", done.err.decode())
+        longest, total, books = (int(time) for time in times.groups()) if times else (0, 0, -1)
+        right = (done.status, done.out) == (0, told.encode()) and 0 < longest <= total <= transfers * longest
+        frozen = books >= 0 if inspectors else books == 0
+        self.count(right and frozen, f"beside: {births}, {transfers}, {inspectors}: {done}")
 
     def test_timed_pedigrees(self) -> None:
         """Each task of `pedigree_timing` tells how many animals there are."""

@@ -3,9 +3,7 @@
 ghost use Rattle.std.specs.Prelude.{◌≡◌, IfOk};
 ghost use Rattle.herd_office.specs.Parts.{AreNamed};
 
-use crate::filing::{Told, file_births, told_at_close};
-use crate::founders::Founders;
-use crate::freezing::freeze_until;
+use crate::work::{Founders, Told, file_births, freeze_until, told_at_close};
 use anyhow::Result;
 use herd_office::{Desk, FreezeFault, Inspector, Office, OfficeName, OfficeParts};
 use herd_register::FileFault;
@@ -17,7 +15,8 @@ use std::thread::{Threads, join, map_vec};
 // A desk, and how many of its births were accepted.
 type Filed<N> = Result<(Desk<N>, u64), FileFault>;
 
-type Froze<N> = Result<Inspector<N>, FreezeFault>;
+// An inspector, and how many books it froze.
+type Froze<N> = Result<(Inspector<N>, u64), FreezeFault>;
 
 /// Births in as many parts as there are desks, while all inspectors freeze, or none where `freezing` is false. Each was
 /// answered.
@@ -89,7 +88,8 @@ fn all_filed<N: OfficeName>(alloc: Global, filed: Vec<Filed<N>>) -> Result<(Vec<
 fn all_froze<N: OfficeName>(alloc: Global, frozen: Vec<Froze<N>>) -> Result<Vec<Inspector<N>>> {
     let mut inspectors = Vec::new(alloc);
     for one in frozen {
-        inspectors.push(one?)?;
+        let (inspector, _books) = one?;
+        inspectors.push(inspector)?;
     }
     Ok(inspectors)
 }

@@ -1,18 +1,15 @@
-//! Files births into an office from threads, so that the time and the memory that it takes are measured from outside.
-//! It prints how many births were accepted, and how many steps there are at the end.
+//! Files births and transfers into an office from threads, so that the time and the memory that it takes are measured
+//! from outside. It prints how many were accepted, and how many steps there are at the end.
 #![tactic(auto)]
 
 mod beside;
 mod crowd;
-mod filing;
-mod founders;
-mod freezing;
 mod task;
+mod work;
 
 use anyhow::Result;
 use beside::{Times, file_beside};
 use crowd::file_crowded;
-use filing::Told;
 use herd_frozen::MOST_ANIMALS;
 use herd_office::OfficeParts;
 use herd_register::{Limits, MOST_STEPS};
@@ -21,7 +18,8 @@ use std::marker::Brand;
 use std::rt::Clock;
 use std::sync::Wait;
 use std::thread::Threads;
-use task::{Crowd, Task};
+use task::{Crowd, Paced, Task};
+use work::Told;
 
 const LIMITS: Limits = Limits {
     animals: MOST_ANIMALS,
@@ -32,13 +30,12 @@ fn main(rt: HostRuntime) -> Result<()> {
     let words: Vec<String> = std::env::args(&rt)?.collect(rt.alloc())?;
     let told = match Task::read(words.as_slice())? {
         Task::Births(crowd) => crowded(&rt, rt.alloc(), crowd)?,
-        Task::Beside {
-            before,
-            births,
-            freezing,
-        } => {
-            let (told, times) = timed(&rt, rt.alloc(), before, births, freezing)?;
-            eprintln!(rt; "{} ns longest, {} ns in all", times.longest, times.total)?;
+        Task::Beside(paced) => {
+            let (told, times) = timed(&rt, rt.alloc(), paced)?;
+            eprintln!(rt;
+                "{} ns longest, {} ns in all, {} books frozen",
+                times.longest, times.total, times.books
+            )?;
             told
         }
     };
@@ -53,14 +50,12 @@ fn crowded<R: Threads + Wait + Sync>(rt: &R, alloc: Global, crowd: Crowd) -> Res
     file_crowded::<Brand, _>(rt, alloc, parts, crowd.births, crowd.inspectors > 0)
 }
 
-// Births at one desk, and then timed ones.
+// Births at one desk, and then timed transfers.
 fn timed<R: Threads + Wait + Clock + Sync>(
     rt: &R,
     alloc: Global,
-    before: u32,
-    births: u32,
-    freezing: bool,
+    paced: Paced,
 ) -> Result<(Told, Times)> {
     let parts = OfficeParts::new(rt, alloc, LIMITS, 1, 1)?;
-    file_beside::<Brand, _>(rt, alloc, parts, before, births, freezing)
+    file_beside::<Brand, _>(rt, alloc, parts, paced)
 }

@@ -9,17 +9,13 @@ use herd_office::MOST_DESKS;
 /// The most inspectors that freeze beside births at many desks.
 pub const MOST_FREEZING: u16 = 15;
 
-/// What is done, with how many births.
+/// What is done.
 #[derive(Clone, Copy, Debug, PartialEq, Eq)]
 pub enum Task {
     /// Births at many desks.
     Births(Crowd),
-    /// Births at one desk, and then timed ones, while an inspector freezes or none does.
-    Beside {
-        before: u32,
-        births: u32,
-        freezing: bool,
-    },
+    /// Births at one desk, and then transfers that are timed.
+    Beside(Paced),
 }
 
 /// Births at so many desks, while so many inspectors freeze.
@@ -33,6 +29,14 @@ pub struct Crowd {
     pub ghost freezing: { inspectors ≤ MOST_INSPECTORS },
 }
 
+/// So many births, and then transfers with a pause before each, while an inspector freezes or none does.
+#[derive(Clone, Copy, Debug, PartialEq, Eq)]
+pub struct Paced {
+    pub births: u32,
+    pub transfers: u32,
+    pub freezing: bool,
+}
+
 impl Task {
     /// Reads the words, the program's own name first.
     pub fn read(words: &[String]) -> Result<Task> {
@@ -43,11 +47,11 @@ impl Task {
                 desks: within(words, 3, 1, MOST_DESKS)?,
                 inspectors: within(words, 4, 0, MOST_FREEZING)?,
             })),
-            "beside" => Ok(Task::Beside {
-                before: number(words, 2)?,
-                births: number(words, 3)?,
+            "beside" => Ok(Task::Beside(Paced {
+                births: number(words, 2)?,
+                transfers: number(words, 3)?,
                 freezing: within(words, 4, 0, 1)? == 1,
-            }),
+            })),
             _ => bail!("births or beside?"),
         }
     }
@@ -59,7 +63,7 @@ fn within(words: &[String], place: usize, least: u16, most: u16) -> Result<u16>
     let number = number(words, place)?;
     if number < u32::from(least) || u32::from(most) < number {
         bail!(
-            "1 to {MOST_DESKS} desks, 0 to {MOST_FREEZING} inspectors, and 0 or 1 beside timed births"
+            "1 to {MOST_DESKS} desks, 0 to {MOST_FREEZING} inspectors, and 0 or 1 beside timed transfers"
         )
     }
     Ok(number as u16)
