@@ -2,12 +2,11 @@
 ghost use Rattle.std.specs.Prelude.{◌≡◌, ◌<◌, [], ◌∷◌, ◌++◌, length, Some, IfErr, IfOk};
 ghost use Rattle.left_right.specs.Sides.{view};
 ghost use Rattle.herd_office.specs.Copies.{IsTold, office_of};
-ghost use Rattle.herd_office.specs.Shelves.{AreOf, IsAsBefore, after, pending, published};
+ghost use Rattle.herd_office.specs.Shelves.{AreOf, after, pending, published};
 
-use crate::copy_update::CopyUpdate;
 use crate::faults::OpenFault;
 use crate::history::Past;
-use crate::shown::{Notes, Ours, Publishes, Shown, View};
+use crate::shown::{CopyUpdate, Ours, Publishes, Shown, View};
 use core::mem;
 use herd_register::Step;
 use left_right::reader::Reader;
@@ -30,7 +29,7 @@ pub struct Held<R: Wait + Drop> {
 impl<R: Wait + Drop> Drop for Held<R> {
     fn drop(self) {
         let Self { writer, rt } = self;
-        free_both(writer, &rt);
+        drop(writer.take(&rt));
     }
 }
 
@@ -45,13 +44,8 @@ impl<R: Wait + Drop> Held<R> {
     /// Frees both copies, and waits by this handle for readers that are in one.
     pub fn free<W: Wait>(self, rt: &W) {
         let Held { writer, rt: _own } = self;
-        free_both(writer, rt);
+        drop(writer.take(rt));
     }
-}
-
-// Waits until no reader is in a copy, and frees both.
-fn free_both<W: Wait>(copies: Copies, rt: &W) {
-    drop(copies.take(rt));
 }
 
 /// A pair of these copies, with so many seats for readers.
@@ -101,13 +95,4 @@ pub fn show<R: Wait>(rt: &R, copies: &mut Copies, step: &Step, past: Past)
     // Where there is no memory for it, readers get no reading until a later history is told.
     let _ = copies.append(CopyUpdate::Told(past));
     mem::replace_with(copies, rt, publish::<R>);
-}
-
-/// What the writer knows goes to a reader.
-pub fn inform(copies: &mut Copies, seat: &mut Seat)
-    requires { seat.old.place.table_id ≡ copies.old.desk.place.table_id }
-    ensures told { view seat.new.place ≡ view copies.old.desk.place }
-    ensures kept { IsAsBefore copies.old copies.new }
-{
-    seat.learn::<Notes>(copies.tell::<Notes>());
 }

@@ -8,10 +8,10 @@ ghost use Rattle.herd_office.specs.Shelves.{pending};
 ghost use Rattle.herd_office.specs.Standing.{IsFiled, Refuses, standing};
 
 use crate::copies::{Copies, show};
-use crate::copy_update::CopyUpdate;
 use crate::desk::{Desk, Filed};
 use crate::inside::Inside;
 use crate::name::OfficeName;
+use crate::shown::CopyUpdate;
 use herd_register::{Command, FileFault, Register, Step};
 use std::alloc::Allocator;
 use std::sync::Wait;
@@ -40,7 +40,7 @@ pub fn file_on<N: OfficeName, W: Wait, R: Wait + Drop, A: Allocator + Copy>(
     file_claimed(rt, inside, desk, command)
 }
 
-// Files a command, once its step is claimed.
+// Files a command, once its step is claimed: apart from `file_on`, since the two together take the prover twice as long.
 fn file_claimed<N: OfficeName, W: Wait, R: Wait + Drop, A: Allocator + Copy>(
     rt: &W,
     inside: &mut Inside<N, R, A>,

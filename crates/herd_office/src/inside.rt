@@ -7,7 +7,7 @@ ghost use Rattle.herd_office.specs.Shelves.{AreOf, pending, published};
 use crate::copies::Held;
 use crate::desk::Desk;
 use crate::desks::all_apart;
-use crate::holders::all_begin;
+use crate::history::History;
 use crate::inspector::Inspector;
 use crate::keeper::Keeper;
 use crate::name::OfficeName;
@@ -66,4 +66,43 @@ impl<N: OfficeName, R: Wait + Drop, A: Allocator> Inside<N, R, A> {
         copies.free(rt);
         register
     }
+}
+
+// Who holds a beginning of an office's history.
+trait Holder<N: OfficeName> {
+    ghost use Rattle.std.specs.Prelude.{List};
+    ghost use Rattle.herd_register.specs.declared.step.Step.{Step};
+
+    ghost held: { Self → List Step };
+
+    fn history(&self) -> &History<N>
+        ensures { result.now ≡ held self.now };
+}
+
+impl<N: OfficeName> Holder<N> for Desk<N> {
+    ghost held = { λ d. d.history };
+
+    fn history(&self) -> &History<N> {
+        &self.history
+    }
+}
+
+impl<N: OfficeName> Holder<N> for Inspector<N> {
+    ghost held = { λ i. i.history };
+
+    fn history(&self) -> &History<N> {
+        &self.history
+    }
+}
+
+// Whether the history begins with each of theirs.
+fn all_begin<N: OfficeName, H: Holder<N>>(holders: &[H], history: &History<N>) -> bool
+    ensures { IsTrue result ↔ BeginsWithAll H.held holders.now history.now }
+{
+    for holder in holders {
+        if !holder.history().begins(history) {
+            return false;
+        }
+    }
+    true
 }

@@ -31,8 +31,8 @@
 //!
 //! Readers take one of two copies of the register's records and journal, which `left_right` keeps, with the history
 //! that was told with it. A copy whose history is as long as its journal has that journal; an inspector reads no other.
-//! The rule of the copies ties each seat to the office. An inspector copies the records out, leaves, and sorts its own
-//! copy.
+//! The rule of the copies ties each seat to the office. An inspector reads twice: for the number of records, by which it
+//! makes room while it reads nothing, and then to copy them out. It leaves, and sorts its own copy.
 //!
 //! # Who waits for whom
 //!
@@ -56,24 +56,22 @@
 //! | | definition (`specs/`) | code (`src/`) | proof (`proofs/`) |
 //! |---|---|---|---|
 //! | a name's parts | `Parts` | `name`, `parts` | |
-//! | opening, closing | `Opening`, `Closing` | `office`, `staff` | `Counting`, `Stored` |
+//! | opening, closing | `Opening`, `Closing` | `office` | `Counting`, `Stored` |
 //! | what lies under the lock | `Beginnings`, `Histories`, `Shelves` | `inside` | |
-//! | all desks and inspectors | `Beginnings`, `Histories` | `desks`, `holders`, `inspector` | `Counting`, `ListFacts` |
+//! | all desks and inspectors | `Beginnings`, `Histories` | `desks`, `inspector` | `Counting`, `ListFacts` |
 //! | a desk's call, its slip | `Filing`, `Histories`, `Standing` | `desk`, `filing` | `Stored` |
 //! | the history: its rule, claims, beginnings of it | `Keeping` | `history`, `keeper` | `Claiming`, `Fronts` |
-//! | the readers' copies, what is sent to them | `Copies`, `Shelves` | `copies`, `copy_update`, `shown` | `Sides` |
+//! | the readers' copies, what is sent to them | `Copies`, `Shelves` | `copies`, `shown` | `Sides` |
 //! | reading a copy with no lock | `Copies`, `Keeping` | `inspector` | `Sides` |
 //! | why an office isn't opened or closed, or a copy not frozen; the limits | | `faults`, `limits` | |
 #![tactic(auto)]
 
 mod copies;
-mod copy_update;
 mod desk;
 mod desks;
 mod faults;
 mod filing;
 mod history;
-mod holders;
 mod inside;
 mod inspector;
 mod keeper;
@@ -82,7 +80,6 @@ mod name;
 mod office;
 mod parts;
 mod shown;
-mod staff;
 
 pub use desk::{Desk, Filed, Slip};
 pub use faults::{CloseFault, FreezeFault, OpenFault};

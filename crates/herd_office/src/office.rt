@@ -1,6 +1,5 @@
 //! An office, and how it is opened and closed.
-ghost use Rattle.std.specs.Prelude.{◌≡◌, ◌≤◌, vec_len, IfOk, IfErr};
-ghost use Rattle.herd_office.specs.Closing.{IsClosed, IsUnclosed};
+ghost use Rattle.std.specs.Prelude.{◌≡◌, ◌<◌, ◌≤◌, ◌↔◌, vec_len, IfOk, IfErr, IfSome, IsNone};
 ghost use Rattle.herd_office.specs.Opening.{AreFresh, HaveSeenNothing};
 ghost use Rattle.herd_office.specs.Parts.{AreNamed};
 
@@ -12,9 +11,9 @@ use crate::inspector::{Inspector, make_inspectors};
 use crate::keeper::Keeper;
 use crate::name::OfficeName;
 use crate::parts::OfficeParts;
-use crate::staff::Staff;
 use herd_register::Register;
 use std::alloc::{Allocator, Global};
+use std::marker::PhantomData;
 use std::sync::{Mutex, Wait};
 
 /// An office that is open.
@@ -25,6 +24,8 @@ pub struct Office<N: OfficeName, R: Wait + Drop, A: Allocator = Global> {
 }
 
 impl<N: OfficeName, R: Wait + Drop, A: Allocator + Copy> Office<N, R, A> {
+    ghost use Rattle.herd_office.specs.Closing.{IsClosed, IsUnclosed};
+
     /// Opens the office that has these parts.
     ///
     /// `Memory` is told where a growth of memory is refused, and `NoPlace` where the readers' copies have no seat for
@@ -129,4 +130,44 @@ pub struct Unclosed<N: OfficeName, R: Wait + Drop, A: Allocator = Global> {
     pub desks: Vec<Desk<N>, A>,
     /// All inspectors that were handed in.
     pub inspectors: Vec<Inspector<N>, A>,
+}
+
+/// How many desks and inspectors an office was opened with. The ledger of its name has a part for each desk.
+#[derive(Drop)]
+pub(crate) struct Staff<N: OfficeName> {
+    desks: u16,
+    inspectors: u16,
+    of: PhantomData<N>,
+    pub ghost one_each: { desks ≡ N.parts },
+}
+
+impl<N: OfficeName> Staff<N> {
+    /// The staff of an office that is opened with so many.
+    pub fn new(desks: u16, inspectors: u16) -> Staff<N>
+        requires { desks ≡ N.parts }
+        ensures desks { result.desks ≡ desks }
+        ensures inspectors { result.inspectors ≡ inspectors }
+    {
+        Staff {
+            desks,
+            inspectors,
+            of: PhantomData,
+        }
+    }
+
+    /// Who was opened and isn't among so many desks and inspectors: a desk is told before an inspector.
+    pub fn missing(&self, desks: usize, inspectors: usize) -> Option<CloseFault>
+        ensures none { IsNone result ↔ ((self.now.desks ≤ desks) × (self.now.inspectors ≤ inspectors)) }
+        ensures desk { IfSome result (λ cause. (cause ≡ CloseFault.DeskMissing) ↔ (desks < self.now.desks)) }
+        ensures inspector { IfSome result (λ cause. (cause ≡ CloseFault.InspectorMissing)
+            ↔ ((self.now.desks ≤ desks) × (inspectors < self.now.inspectors))) }
+    {
+        if desks < usize::from(self.desks) {
+            return Some(CloseFault::DeskMissing);
+        }
+        if inspectors < usize::from(self.inspectors) {
+            return Some(CloseFault::InspectorMissing);
+        }
+        None
+    }
 }

@@ -4,11 +4,11 @@ use Rattle.herd_register.specs.Run.{commands_of, run_book}
 use Rattle.herd_office.proofs.inspector.Inspector.look.Goals as goal
 
 pub invariant_of-self : goal.invariant_of-self
-invariant_of-self g c = record { ours = c.replace_with.ensures.0 ∙ c.args.self.now.ours }
+invariant_of-self g c = record { ours = c.replace_with.ensures ∙ c.args.self.now.ours }
 
 pub of-history-requires : goal.of-history-requires
 of-history-requires g c =
-    let office = c.in_ok-records.ensures.1.1.1 _ c.args.self.now.ours in
+    let office = c.in_ok-records.ensures.1.1.1 _ (c.replace_with.ensures ∙ c.args.self.now.ours) in
     record {
       book = sym (ap (λ o. o.0.book) office);
       limits = sym (ap (λ o. o.1) office);
@@ -17,7 +17,7 @@ of-history-requires g c =
 pub returns-clause-run : goal.returns-clause-run
 returns-clause-run g c =
     let past = c.in_ok-records.past in
-    let office = c.in_ok-records.ensures.1.1.1 _ c.args.self.now.ours in
+    let office = c.in_ok-records.ensures.1.1.1 _ (c.replace_with.ensures ∙ c.args.self.now.ours) in
     c.in_ok-records.ensures.1.0
     ∙ ap (λ limits. run_book limits (commands_of past.seen.log)) (sym (ap (λ o. o.1) office))
     ∙ ap (λ steps. run_book g.N.OfficeName.limits (commands_of steps)) (sym c.of-history.ensures)

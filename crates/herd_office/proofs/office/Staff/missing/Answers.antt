@@ -1,6 +1,6 @@
 -- `Staff::missing`: what is returned.
 use Rattle.std.proofs.Common.{arith, refl}
-use Rattle.herd_office.proofs.staff.Staff.missing.Goals as goal
+use Rattle.herd_office.proofs.office.Staff.missing.Goals as goal
 
 pub returns-then-inspectors-from : goal.returns-then-inspectors-from
 returns-then-inspectors-from g c =
