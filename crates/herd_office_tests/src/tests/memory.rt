@@ -2,8 +2,7 @@
 ghost use Rattle.std.specs.Prelude.{◌≡◌};
 ghost use Rattle.herd_office.specs.Parts.{AreNamed};
 
-use super::commands::founder;
-use super::filing::{closed, frozen_length, limits};
+use super::filing::{closed, founder, frozen_length, limits};
 use herd_fixtures::Name::Bull;
 use herd_fixtures::{Crowd, MOST_BLOCKS, small_heap};
 use herd_office::*;

@@ -1,6 +1,6 @@
 //! Races of desks, each run until two desks were first. Every end is compared.
 
-use super::commands::{birth, day, exit, founder, transfer};
+use super::filing::{birth, day, exit, founder, transfer};
 use super::racing::{Ends, Race, Raced};
 use herd_animal::Herd;
 use herd_fixtures::Name::{Bull, Cow};
@@ -111,6 +111,24 @@ impl Duel {
         }
     }
 
+    // Both file one birth.
+    fn of_birth(rt: &impl Abort) -> Duel {
+        let calf = Birth(Bull(4), *b"2003-03-02", Pair::of_dam(COW.0));
+        let one_first = End {
+            other: Reply::Refused(Refusal::AlreadyThere),
+            record: born(rt, calf),
+            animals: 4,
+        };
+        let two_first = one_first;
+        Duel {
+            one: birth(rt, calf),
+            two: birth(rt, calf),
+            animal: calf.0,
+            one_first,
+            two_first,
+        }
+    }
+
     fn expect_ends<R: Threads + Wait + Abort + Sync>(
         &self,
         rt: &R,
@@ -177,6 +195,7 @@ fn two_desks_are_about_one_animal(rt: HostRuntime) -> Result<(), Fail> {
         Duel::of_parents(&rt),
         Duel::of_calving(&rt),
         Duel::of_sale(&rt),
+        Duel::of_birth(&rt),
     ];
     for duel in &duels {
         duel.expect_ends(&rt, rt.alloc())?;
@@ -259,23 +278,23 @@ struct ThreeBirths<'a> {
 impl Ends for ThreeBirths<'_> {
     fn first(&self, rt: &impl Abort, raced: &Raced) -> u16 {
         let journal = raced.register.journal();
-        expect_turn(rt, journal, 1, self.one);
-        expect_turn(rt, journal, 2, self.two);
-        assert_eq!(rt;
-            (journal.len(), raced.full, raced.register.pedigree().len()),
-            (3, 3, 3)
-        );
+        let one = expect_turn(rt, journal, 1, self.one);
+        let two = expect_turn(rt, journal, 2, self.two);
+        assert_eq!(rt; (journal.len(), one.wrapping_add(two)), (3, 3));
+        assert_eq!(rt; (raced.full, raced.register.pedigree().len()), (3, 3));
         journal.first().expect(rt, "a step").desk
     }
 }
 
-// The desk's steps are of the first commands of its turn, each accepted.
-fn expect_turn(rt: &impl Abort, journal: &[Step], desk: u16, turn: &[Command]) {
+// The desk's steps are of the first commands of its turn, each accepted. How many they are.
+fn expect_turn(rt: &impl Abort, journal: &[Step], desk: u16, turn: &[Command]) -> usize {
     let mut count = 0_usize;
     for filed in journal {
-        if filed.desk == desk && count < turn.len() {
+        if filed.desk == desk {
+            assert!(rt; count < turn.len());
             assert_eq!(rt; *filed, accepted(desk, turn[count]));
             count += 1;
         }
     }
+    count
 }

@@ -6,7 +6,7 @@ ghost use Rattle.herd_office.specs.declared.limits.TheConstants.{MOST_DESKS};
 use super::filing::closed;
 use herd_fixtures::Meeting;
 use herd_office::*;
-use herd_register::{Command, FileFault, Limits, MOST_STEPS, Register};
+use herd_register::{Command, FileFault, Limits, MOST_STEPS, Register, Reply, Step};
 use std::alloc::Global;
 use std::marker::Brand;
 use std::process::Abort;
@@ -46,8 +46,20 @@ pub(super) trait Ends {
     fn first(&self, rt: &impl Abort, raced: &Raced) -> u16;
 }
 
-// A desk whose commands are filed, and how many of its calls found the journal full.
-type Returned<N> = (Desk<N>, u32);
+// What a desk was told of its calls in a race.
+#[derive(Drop)]
+struct Heard {
+    desk: u16,
+    // The serial number and the reply of each call that was answered.
+    answers: Vec<(u32, Reply)>,
+    // How many calls found the journal full.
+    full: u32,
+    // How many of its calls were answered in all, as the desk counts them.
+    answered: u64,
+}
+
+// A desk whose commands are filed.
+type Returned<N> = (Desk<N>, Heard);
 
 impl Race<'_> {
     /// Runs the race until two desks were first.
@@ -110,24 +122,40 @@ impl Race<'_> {
     {
         let (office, mut desks, inspectors) = Office::<N, &R>::open(alloc, parts)?;
         let first = desks.first_mut().expect(rt, "a desk");
-        let before = file_each(rt, &office, first, self.before);
-        assert_eq!(rt; before, 0);
+        file_first(rt, &office, first, self.before);
         if last_first {
             desks.reverse();
         }
-        let (desks, full) = self.file_at_once(rt, alloc, &office, desks);
+        let (desks, heard) = self.file_at_once(rt, alloc, &office, desks);
         let register = closed(rt, office, desks, inspectors)?;
+        let full = self.expect_stored(rt, alloc, register.journal(), &heard);
         Ok(Raced { register, full })
     }
 
-    // Each desk files its turn. The desks, and how many calls found the journal full.
+    // Each desk was told what stands in the journal. How many calls found it full.
+    fn expect_stored(
+        &self,
+        rt: &impl Abort,
+        alloc: Global,
+        journal: &[Step],
+        heard: &[Heard],
+    ) -> u32 {
+        let mut full: u32 = 0;
+        for one in heard {
+            one.expect_stored(rt, alloc, journal, self.before.len());
+            full = full.wrapping_add(one.full);
+        }
+        full
+    }
+
+    // Each desk files its turn. The desks, and what each was told.
     fn file_at_once<N: OfficeName + Send + Sync, R: Threads + Wait + Abort + Sync>(
         &self,
         rt: &R,
         alloc: Global,
         office: &Office<N, &R>,
         desks: Vec<Desk<N>>,
-    ) -> (Vec<Desk<N>>, u32) {
+    ) -> (Vec<Desk<N>>, Vec<Heard>) {
         let meeting = Meeting::of(desks.len() as u64, MOST_TURNS);
         let (race, meeting) = (*self, &meeting);
         thread::scope(thread::scope_env(), rt, |scope| {
@@ -149,7 +177,7 @@ impl<'a> Race<'a> {
     ) -> Vec<JoinHandle<Returned<N>>> {
         let mut threads = Vec::new(alloc);
         for desk in desks {
-            let thread = self.start(rt, scope, office, desk, meeting);
+            let thread = self.start(rt, alloc, scope, office, desk, meeting);
             threads.push(thread).expect(rt, "room");
         }
         threads
@@ -159,13 +187,14 @@ impl<'a> Race<'a> {
     fn start<'r, N: OfficeName + Send + Sync, E, R: Wait + Abort + Sync>(
         self,
         rt: &'a R,
+        alloc: Global,
         scope: &'a Scope<'a, E>,
         office: &'a Office<N, &'r R>,
         desk: Desk<N>,
         meeting: &'a Meeting,
     ) -> JoinHandle<Returned<N>> {
         let turn = self.turn(desk.number());
-        let started = scope.spawn(move || file_turn(rt, office, desk, turn, meeting));
+        let started = scope.spawn(move || file_turn(rt, alloc, office, desk, turn, meeting));
         started.ok().expect(rt, "a thread")
     }
 
@@ -178,24 +207,55 @@ impl<'a> Race<'a> {
     }
 }
 
+impl Heard {
+    // The answers are those of the desk's steps in the journal, behind so many that stood there before, and the desk
+    // counted each of its steps.
+    fn expect_stored(&self, rt: &impl Abort, alloc: Global, journal: &[Step], before: usize) {
+        let stored = answers_of(rt, alloc, journal, self.desk, before);
+        assert!(rt; self.answers.as_slice() == stored.as_slice());
+        let steps = journal.iter().filter(|step| step.desk == self.desk).count();
+        assert_eq!(rt; self.answered, steps as u64);
+    }
+}
+
+// The serial number and the reply of each of the desk's steps behind the first ones.
+fn answers_of(
+    rt: &impl Abort,
+    alloc: Global,
+    journal: &[Step],
+    desk: u16,
+    before: usize,
+) -> Vec<(u32, Reply)> {
+    let mut answers = Vec::new(alloc);
+    let mut serial: u32 = 0;
+    for step in journal {
+        serial = serial.wrapping_add(1);
+        if step.desk == desk && before < serial as usize {
+            answers.push((serial, step.reply)).expect(rt, "room");
+        }
+    }
+    answers
+}
+
 fn join_all<N: OfficeName, R: Threads + Abort>(
     rt: &R,
     alloc: Global,
     threads: Vec<JoinHandle<Returned<N>>>,
-) -> (Vec<Desk<N>>, u32) {
+) -> (Vec<Desk<N>>, Vec<Heard>) {
     let mut desks = Vec::new(alloc);
-    let mut full: u32 = 0;
+    let mut heard = Vec::new(alloc);
     for thread in threads {
-        let (desk, more) = thread.join(rt);
+        let (desk, told) = thread.join(rt);
         desks.push(desk).expect(rt, "room");
-        full = full.wrapping_add(more);
+        heard.push(told).expect(rt, "room");
     }
-    (desks, full)
+    (desks, heard)
 }
 
 // Waits for the other desks, and files the turn.
 fn file_turn<N: OfficeName, R: Wait + Abort>(
     rt: &R,
+    alloc: Global,
     office: &Office<N, &R>,
     mut desk: Desk<N>,
     turn: &[Command],
@@ -203,25 +263,50 @@ fn file_turn<N: OfficeName, R: Wait + Abort>(
 ) -> Returned<N> {
     meeting.arrive();
     meeting.wait();
-    let full = file_each(rt, office, &mut desk, turn);
-    (desk, full)
+    let heard = file_each(rt, alloc, office, &mut desk, turn);
+    (desk, heard)
 }
 
-// How many of the calls found the journal full.
-fn file_each<N: OfficeName, R: Wait + Abort>(
+// Files each command before all others. Each is accepted, and its serial number is the next one.
+fn file_first<N: OfficeName, R: Wait + Abort>(
     rt: &R,
     office: &Office<N, &R>,
     desk: &mut Desk<N>,
     commands: &[Command],
-) -> u32 {
+) {
+    let mut serial: u32 = 0;
+    for command in commands {
+        serial = serial.wrapping_add(1);
+        let filed = desk.file(rt, office, *command).expect(rt, "filed");
+        assert_eq!(rt; (filed.serial, filed.reply), (serial, Reply::Accepted));
+    }
+}
+
+// Files each command. What the desk was told.
+fn file_each<N: OfficeName, R: Wait + Abort>(
+    rt: &R,
+    alloc: Global,
+    office: &Office<N, &R>,
+    desk: &mut Desk<N>,
+    commands: &[Command],
+) -> Heard {
+    let mut answers = Vec::new(alloc);
     let mut full: u32 = 0;
     for command in commands {
-        if let Some(fault) = desk.file(rt, office, *command).err() {
-            assert_eq!(rt; fault, FileFault::JournalFull);
-            full = full.wrapping_add(1);
+        match desk.file(rt, office, *command) {
+            Ok(filed) => answers.push((filed.serial, filed.reply)).expect(rt, "room"),
+            Err(fault) => {
+                assert_eq!(rt; fault, FileFault::JournalFull);
+                full = full.wrapping_add(1);
+            }
         }
     }
-    full
+    Heard {
+        desk: desk.number(),
+        answers,
+        full,
+        answered: desk.answered(),
+    }
 }
 
 // The desks whose commands came first in races: none yet, always one, or more than one.

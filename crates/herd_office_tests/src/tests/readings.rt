@@ -2,8 +2,7 @@
 ghost use Rattle.std.specs.Prelude.{◌≡◌};
 ghost use Rattle.herd_office.specs.Parts.{AreNamed};
 
-use super::commands::founder;
-use super::filing::{closed, file_accepted, file_one, frozen_length, limits};
+use super::filing::{closed, file_accepted, file_one, founder, frozen_length, limits};
 use herd_fixtures::Name;
 use herd_fixtures::Name::Bull;
 use herd_frozen::Frozen;

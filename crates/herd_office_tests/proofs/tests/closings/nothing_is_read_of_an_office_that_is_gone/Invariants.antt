@@ -1,4 +1,4 @@
-use Rattle.herd_office_tests.proofs.tests.outlived.nothing_is_read_of_an_office_that_is_gone.Given as goal
+use Rattle.herd_office_tests.proofs.tests.closings.nothing_is_read_of_an_office_that_is_gone.Given as goal
 
 abbrev pub ghosts-outlive-N-OfficeName : goal.ghosts-outlive-N-OfficeName
 ghosts-outlive-N-OfficeName g a = record { book = a.parts.book; limits = a.parts.limits }
