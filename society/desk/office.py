@@ -11,6 +11,8 @@ from society.herdbook import Herdbook
 from society.mistake import Mistake
 from society.refusals import Refusal
 
+# so long a question waits for somebody else's, in seconds, and whoever files
+SOON, FOREVER = 0.2, -1
 # so many commands are filed at once
 AT_ONCE = 20_000
 # the words that an inspector answers, which has no way to ask for two lists of animals
@@ -70,26 +72,35 @@ class Office(Herdbook):
         return super().reply(command, book)
 
     def at(self, book: Book, to_file: bool = False) -> Session | None:
-        """The session where it stands at a book's journal, or can be brought there; none for an earlier moment."""
-        with self.lock:
-            journal, moment = book.journal, (book.change.moment if book.change else 0)
-            goes_on = journal.edition == self.journal.edition and journal.length >= self.journal.length
-            if self.session and not self.session.has_ended and not goes_on and moment <= self.moment and not to_file:
-                return None
-            if not self.session or self.session.has_ended or not goes_on:
-                self.forget(self.session)
-                self.session = Session(self)
-                self.journal = Journal(journal.edition, 0)
-            try:
-                self.catch_up(self.session, book)
-            except SessionEnded:
-                self.forget(self.session)
-                return None
-            except SessionFault as fault:
-                self.forget(self.session)
-                raise Mistake(f"the program can't file the stored journal: {fault}") from None
-            self.moment = max(self.moment, moment)
-            return self.session
+        """The session where it stands at a book's journal, or can be brought there; none for an earlier moment, nor
+        for a question while it is being brought to another one."""
+        if not self.lock.acquire(timeout=FOREVER if to_file else SOON):
+            return None
+        try:
+            return self.brought_to(book, to_file)
+        finally:
+            self.lock.release()
+
+    def brought_to(self, book: Book, to_file: bool) -> Session | None:
+        """The same; the lock is held."""
+        journal, moment = book.journal, book.change.moment if book.change else 0
+        goes_on = journal.edition == self.journal.edition and journal.length >= self.journal.length
+        if self.session and not self.session.has_ended and not goes_on and moment <= self.moment and not to_file:
+            return None
+        if not self.session or self.session.has_ended or not goes_on:
+            self.forget(self.session)
+            self.session = Session(self)
+            self.journal = Journal(journal.edition, 0)
+        try:
+            self.catch_up(self.session, book)
+        except SessionEnded:
+            self.forget(self.session)
+            return None
+        except SessionFault as fault:
+            self.forget(self.session)
+            raise Mistake(f"the program can't file the stored journal: {fault}") from None
+        self.moment = max(self.moment, moment)
+        return self.session
 
     def catch_up(self, session: Session, book: Book) -> None:
         """Files the commands of a book that the session lacks, and compares each reply with the stored one."""

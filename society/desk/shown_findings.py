@@ -1,7 +1,8 @@
 """What a taking tells as pages show it: by kind, what may be wrong first."""
 from __future__ import annotations
 
-from collections.abc import Mapping, Sequence
+import collections
+from collections.abc import Iterable, Iterator, Mapping, Sequence
 from typing import NamedTuple
 
 from society.desk.finding_words import Sentence, sentence_of
@@ -34,8 +35,17 @@ def groups_of(entries: Sequence[Entry], words: Words, totals: Mapping[What, int]
     """The entries by kind; `totals` are how many there are of each, where these are the first alone."""
     found = []
     for what in ORDER:
-        own = sorted((entry for entry in entries if entry.what is what), key=lambda one: one.finding.does())
+        own = [entry for entry in entries if entry.what is what]
         lines = [Line(one.line, one.id, sentence_of(one.finding, words)) for one in own[:MOST_SHOWN]]
         if own:
             found.append(Group(what, words(f"what {what.value}"), totals[what] if totals else len(own), lines))
     return found
+
+
+def first_of_each(entries: Iterable[Entry]) -> Iterator[Entry]:
+    """The first entries of each kind, as many as are shown."""
+    counts = collections.Counter[What]()
+    for entry in entries:
+        counts[entry.what] += 1
+        if counts[entry.what] <= MOST_SHOWN:
+            yield entry

@@ -1,7 +1,7 @@
 """What findings suggest for the reading of a sheet, as choices of its page."""
 from __future__ import annotations
 
-from collections.abc import Iterable
+from collections.abc import Iterable, Sequence
 from dataclasses import dataclass
 
 from society.book.changes import Option
@@ -27,10 +27,13 @@ class Proposed:
     options: tuple[Option, ...]
 
 
-def proposed_by(findings: Iterable[Finding], words: Words) -> list[Proposed]:
-    """Each once, and of a bound the least, which lets all be. What is suggested for the command line alone isn't
-    proposed."""
-    suggestions = dict.fromkeys(one for finding in findings for one in finding.suggestions() if is_choice(one))
+def suggestions_of(findings: Iterable[Finding]) -> tuple[Suggestion, ...]:
+    """Each once, but for those that are for the command line alone."""
+    return tuple(dict.fromkeys(one for finding in findings for one in finding.suggestions() if is_choice(one)))
+
+
+def proposed(suggestions: Sequence[Suggestion], words: Words) -> list[Proposed]:
+    """The suggestions, and of a bound the least, which lets all be."""
     least: dict[str, Suggestion] = {}
     for one in suggestions:
         name, word = one.options[0].option, one.options[0].word

@@ -6,7 +6,7 @@ import csv
 import io
 import pathlib
 from collections.abc import Callable, Mapping
-from dataclasses import dataclass, replace
+from dataclasses import dataclass, field, replace
 from typing import TypeVar
 
 from society.book.book import Book
@@ -15,11 +15,14 @@ from society.book.opening import to_change, to_look_at
 from society.command_line.arguments import day, days, three_letters
 from society.desk.beside import Tell
 from society.desk.sheet_columns import ColumnsShown, columns_shown
+from society.desk.shown_findings import first_of_each
+from society.desk.suggested import suggestions_of
 from society.herdbook import Herdbook
 from society.mistake import Mistake
 from society.taking.from_sheet import take_into
 from society.taking.outcome import BookAfter
-from society.taking.report import CantBeTaken, Entry, Finding
+from society.taking.report import CantBeTaken, Entry, Finding, What
+from society.taking.suggestions import Suggestion
 from society.taking.wishes import Wishes
 
 Value = TypeVar("Value")
@@ -42,13 +45,16 @@ class Chosen:
 @dataclass(frozen=True)
 class Look:
     """What a sheet would change of the book after a change, 0 for none. `told` are sentences on why it can't be read;
-    obstacles keep it from being taken; `after` is the book then, none where it can't be read."""
+    obstacles keep it from being taken; `entries` are the first of each kind, of which there are `totals`, and
+    `suggestions` what all of them suggest; `after` is the book then, none where it can't be read."""
 
     change: int
     columns: ColumnsShown | None
     told: tuple[str, ...] = ()
     obstacles: tuple[Finding, ...] = ()
     entries: tuple[Entry, ...] = ()
+    totals: Mapping[What, int] = field(default_factory=dict)
+    suggestions: tuple[Suggestion, ...] = ()
     after: BookAfter | None = None
 
 
@@ -75,7 +81,11 @@ def looked_at(folder: pathlib.Path, path: pathlib.Path, chosen: Chosen, tell: Te
             outcome = take_into(book, path, replace(wishes_of(folder, chosen), preview=True), program)
         except Mistake as mistake:
             return look_of(number, columns, mistake)
-    return Look(number, columns, (), outcome.obstacles, tuple(outcome.report.in_order()), outcome.after)
+    entries = sorted(outcome.report.in_order(), key=lambda one: one.finding.does())
+    return Look(
+        number, columns, (), outcome.obstacles, tuple(first_of_each(entries)), outcome.counts(),
+        suggestions_of(entry.finding for entry in entries), outcome.after,
+    )  # fmt: skip
 
 
 def look_of(number: int, columns: ColumnsShown | None, mistake: Mistake) -> Look:

@@ -155,6 +155,7 @@ def test_history(site: Site, society_desk: Desk) -> None:
     assert "2 filed an exit" in page and "1 took the sheet society.csv" in page
     change = shown(site.page("/history/2"))
     assert f"{DAM} exit: 2024-05-01" in change
+    assert site.get("/history/2/report.csv").get_data(as_text=True) == society_desk.text("book/report.csv")
     answer = site.get("/book.sqlite")
     assert str(datetime.date.today()) in answer.headers["Content-Disposition"]
     copy = society_desk.room / "copy.sqlite"

@@ -8,6 +8,7 @@ from werkzeug.wrappers import Response
 
 from society.book.backup import bytes_of
 from society.book.book import Book
+from society.book.exports import report_text
 from society.book.history import all_changes, change_numbered
 from society.book.undo import undo
 from society.desk.changing import to_change
@@ -42,6 +43,19 @@ def change(book: Book, number: int) -> Answer:
         edition=found.edition, count=count, differences=shown, groups=told_of_change(book, number, words),
         last=book.change.number,
     )  # fmt: skip
+
+
+@page.get("/history/<int(max=999999999):number>/report.csv")
+@with_book
+def report(book: Book, number: int) -> Answer:
+    """All that a change told, as the book's own report has it."""
+    assert book.connection is not None
+    found = change_numbered(book.connection, number)
+    if found is None:
+        abort(404)
+    response = Response(report_text(book, found), mimetype="text/csv")
+    response.headers["Content-Disposition"] = f"attachment; filename=report-{number}.csv"
+    return response
 
 
 @page.get("/history/<int(max=999999999):number>/undo")

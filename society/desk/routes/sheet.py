@@ -12,7 +12,7 @@ from society.desk.jobs import Job, Stage
 from society.desk.finding_words import sentence_of
 from society.desk.shown_findings import groups_of
 from society.desk.shown_mistakes import without_paths
-from society.desk.suggested import COLUMNS, field_of, proposed_by
+from society.desk.suggested import COLUMNS, field_of, proposed, suggestions_of
 from society.desk.suggested import choose as choose_suggested
 from society.desk.taking_beside import LOOKING, TAKING, Chosen, Look, Taken, looked_at, taken
 from society.desk.uploads import Upload
@@ -85,13 +85,13 @@ def look(token: str) -> Answer:
         return render_template("look.html", upload=upload, look=None, faults=told(job)), 400
     assert isinstance(job.value, Look)
     found = job.value
-    words, looks = the_words(), [entry.finding for entry in found.entries]
+    words = the_words()
     sentences = without_paths((*found.told, *(sentence_of(one, words).text for one in found.obstacles)), the_desk())
     is_read = found.after is not None
     return render_template(
-        "look.html", upload=upload, look=found, fields=list(Field), groups=groups_of(found.entries, words),
+        "look.html", upload=upload, look=found, fields=list(Field), groups=groups_of(found.entries, words, found.totals),
         faults=[] if is_read else sentences, guards=sentences if is_read else [], given=upload.options,
-        solutions=proposed_by(found.obstacles, words), proposals=proposed_by(looks, words),
+        solutions=proposed(suggestions_of(found.obstacles), words), proposals=proposed(found.suggestions, words),
     )  # fmt: skip
 
 

@@ -45,6 +45,7 @@ TEXTS = {
     "options": ("Options", "Optionen", "Options"),
     "journal": ("Journal", "Journal", "Journal"),
     "journal is": ("{} commands, edition {}", "{} Vorgänge, Ausgabe {}", "{} commandes, édition {}"),
+    "all as csv": ("Save all of it as CSV", "Alles als CSV speichern", "Tout enregistrer en CSV"),
     "was found": ("What was found", "Was gefunden wurde", "Ce qui a été trouvé"),
     "animals changed": ("Animals changed", "Geänderte Tiere", "Animaux modifiés"),
     "is new": ("new", "neu", "nouveau"),
