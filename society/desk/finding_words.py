@@ -11,13 +11,15 @@ from typing import NamedTuple
 from society.book.inferred import BirthSource, SexSource
 from society.book.kinds import ChangeKind, CommandKind, Field
 from society.book.role import Role
-from society.desk.texts import TEXTS
-from society.desk.texts.findings import FAULTS, FINDINGS, SOURCES
+from society.desk.texts import TEXTS, findings, sheet_findings
+from society.desk.texts.findings import FAULTS, SOURCES
+from society.desk.texts.sheet_findings import ENGLISH
 from society.desk.words import Words
 from society.reading.days import DayFault
 from society.refusals import Refusal
 from society.taking.report import Finding
 
+FINDINGS = findings.FINDINGS | sheet_findings.FINDINGS
 # what is left out where one of its values is empty
 PART = re.compile(r"\[([^\]]*)\]")
 VALUE = re.compile(r"\{(\w+)\}")
@@ -32,15 +34,21 @@ class Sentence(NamedTuple):
 
 def sentence_of(finding: Finding, words: Words) -> Sentence:
     """What is found, without what is suggested for the command line; in English where the language has no words."""
-    texts = FINDINGS.get(finding.kind())
-    if words.at == 0 or texts is None:
+    text = text_for(finding.kind(), words)
+    if text is None:
         return Sentence(finding.words(), "" if words.at == 0 else "en")
     values = dict(values_of("", finding, words))
-    kept = PART.sub(
-        lambda part: part[1] if all(values[name] for name in VALUE.findall(part[1])) else "", texts[words.at - 1]
-    )
+    kept = PART.sub(lambda part: part[1] if all(values[name] for name in VALUE.findall(part[1])) else "", text)
     # what is only asked, as whether it is gone, says nothing itself
     return Sentence(VALUE.sub(lambda name: values[name[1]].removeprefix(YES), kept))
+
+
+def text_for(kind: str, words: Words) -> str | None:
+    """The text that a kind of finding has in a language; none where the finding's own words are to be told."""
+    if words.at == 0:
+        return ENGLISH.get(kind)
+    texts = FINDINGS.get(kind)
+    return texts[words.at - 1] if texts else None
 
 
 YES = "\0"
@@ -66,12 +74,21 @@ def text_of(name: str, value: object, whole: object, words: Words) -> str:
     if isinstance(value, datetime.date):
         return words.day(value)
     if isinstance(value, tuple):
-        return ", ".join(" ".join(one) if isinstance(one, tuple) else str(one) for one in value)
+        return ", ".join(part_of(one, words) for one in value)
     if isinstance(value, DayFault):
         return FAULTS[value.value][words.at - 1].format(getattr(whole, "text"))
     if isinstance(value, enum.Enum):
         return word_for(value, words)
     return word_of(name, str(value or ""), words)
+
+
+def part_of(value: object, words: Words) -> str:
+    """One of several values."""
+    if isinstance(value, enum.Enum):
+        return word_for(value, words)
+    if isinstance(value, tuple):
+        return " ".join(map(str, value))
+    return str(getattr(value, "text", value))
 
 
 def word_for(value: enum.Enum, words: Words) -> str:

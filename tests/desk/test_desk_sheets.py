@@ -69,7 +69,7 @@ def test_columns(empty_site: Site) -> None:
     page = site.page(address)
     assert re.search(r"<option selected>Tag</option>", page) and re.search(r"<option selected>geb</option>", page)
     assert "2 a m 2001-01-01" in shown(page)
-    assert "no column for sire or dam is found" in shown(page)
+    assert "no column is found for: Sire, Dam. Choose below which it is" in shown(page)
     assert "/take" not in page
     chosen = {"column-sire": 'Vater, "der"', "understood-sire": "", "column-dam": "x", "understood-dam": ""}
     page = site.page(site.post(f"{address}/columns", **chosen).headers["Location"])

@@ -12,8 +12,7 @@ import pytest
 
 from society.book.inferred import BirthBasis, BirthSource, Period
 from society.desk import texts
-from society.desk.finding_words import VALUE, Sentence, sentence_of
-from society.desk.texts.findings import FINDINGS
+from society.desk.finding_words import FINDINGS, VALUE, Sentence, sentence_of
 from society.desk.words import Words
 from society.refusals import Refusal
 from society.taking.animal_findings import BirthDayInferred, CommandRefused, SexInferred, ValueChanged
@@ -78,7 +77,7 @@ def test_findings(name: str) -> None:
         told = sentence_of(finding, Words(language))
         assert told.language == "" and not re.search(r"[\[\]{}\0]", told.text), told
         asked = set(VALUE.findall(FINDINGS[name][Words(language).at - 1]))
-        assert ("GK-1" in told.text) or not {"id", "parent", "dam", "sire", "text"} & asked
+        assert ("GK-1" in told.text) or not {"id", "parent", "dam", "sire", "text", "title", "worksheet"} & asked
 
 
 DAY = datetime.date(2001, 2, 3)
