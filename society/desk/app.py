@@ -1,7 +1,7 @@
 """The application of the desk: its pages, what each of them can say, and how mistakes are shown."""
 from __future__ import annotations
 
-from flask import Flask, render_template, request
+from flask import Flask, current_app, render_template, request
 from flask.typing import ResponseReturnValue
 from flask_wtf.csrf import CSRFError
 from werkzeug.exceptions import HTTPException, RequestEntityTooLarge
@@ -71,7 +71,5 @@ def show_refused(error: HTTPException) -> ResponseReturnValue:
 
 def show_fault(error: Exception) -> ResponseReturnValue:
     """A fault of the desk itself: the terminal has what it is, the page doesn't."""
-    from flask import current_app
-
     current_app.logger.error("%s: %s", type(error).__name__, for_terminals(str(error)), exc_info=error)
     return render_template("mistake.html", title="mistake", sentences=[the_words()("fault")]), 500

@@ -5,10 +5,10 @@ from __future__ import annotations
 import hmac
 from dataclasses import dataclass
 
-from flask import Blueprint, Flask, abort, redirect, request, session, url_for
+from flask import Blueprint, Flask, abort, current_app, redirect, request, session, url_for
 from flask_wtf.csrf import CSRFProtect
-from werkzeug.wrappers import Response as AnyResponse
 from flask.wrappers import Response
+from werkzeug.wrappers import Response as AnyResponse
 
 from society.desk.desk import the_desk
 from society.desk.styles import digests_of
@@ -83,8 +83,6 @@ def look_at_request() -> None:
 
 
 def the_gate() -> Gate:
-    from flask import current_app
-
     found = current_app.extensions["gate"]
     assert isinstance(found, Gate)
     return found

@@ -3,12 +3,14 @@ then it is taken or left. Nothing is written before that."""
 from __future__ import annotations
 
 from flask import Blueprint, abort, flash, redirect, render_template, request, url_for
+from werkzeug.datastructures import FileStorage
 from werkzeug.wrappers import Response
 
 from society.book.changes import Option
 from society.book.kinds import Field
 from society.desk.desk import Answer, the_desk
 from society.desk.jobs import Job, Stage
+from society.desk.example import EXAMPLE
 from society.desk.finding_words import sentence_of
 from society.desk.shown_findings import groups_of
 from society.desk.shown_mistakes import without_paths
@@ -45,11 +47,9 @@ def drop() -> Answer:
 @page.post("/sheet/example")
 def drop_example() -> Answer:
     """The example's sheet, to play with."""
-    from society.desk.routes.start import EXAMPLE
-
+    if not EXAMPLE.exists():
+        abort(404)
     with open(EXAMPLE, "rb") as file:
-        from werkzeug.datastructures import FileStorage
-
         return to_look(the_desk().uploads.add(FileStorage(file, EXAMPLE.name)))
 
 

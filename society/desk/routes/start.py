@@ -2,13 +2,13 @@
 from __future__ import annotations
 
 import functools
-import pathlib
 
 from flask import Blueprint, redirect, render_template, request, session, url_for
 from werkzeug.wrappers import Response
 
 from society.book.history import all_changes
 from society.desk.desk import Answer, the_desk
+from society.desk.example import EXAMPLE
 from society.desk.glance import glance_of
 from society.desk.shown_changes import line_of
 from society.desk.words import CHOSEN, the_words
@@ -17,7 +17,6 @@ from society.pages.languages import LANGUAGES
 page = Blueprint("start", __name__)
 # so many of the last changes are shown
 LAST_CHANGES = 5
-EXAMPLE = pathlib.Path(__file__).resolve().parent.parent.parent.parent / "examples/society.csv"
 
 
 @page.get("/", endpoint="page")
