@@ -7,6 +7,7 @@ from typing import Iterable, Mapping, NamedTuple
 
 from society.book.book import Book
 from society.book.lazy import Lazy
+from society.book.many_rows import insert_many
 from society.decimals import decimal_of_text, rounded
 
 UNIT_BITS = 120
@@ -86,4 +87,4 @@ def write_coefficients(connection: sqlite3.Connection, lines: list[str]) -> None
     if not behind:
         connection.execute("DELETE FROM coefficient")
     rows = ((place, *line.split(",")) for place, line in enumerate(lines[behind:], behind + 1))
-    connection.executemany("INSERT INTO coefficient VALUES (?, ?, ?, ?)", rows)
+    insert_many(connection, "coefficient", rows)

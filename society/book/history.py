@@ -11,6 +11,7 @@ import time
 from society.book.changes import Change, Made, Option, Source, Told
 from society.book.journal import Journal
 from society.book.kinds import ChangeKind
+from society.book.many_rows import insert_many
 
 COLUMNS = "change, kind, time, login, edition, length, file, path, digest, undone_to"
 EPOCH = datetime.datetime(1970, 1, 1, tzinfo=datetime.timezone.utc)
@@ -45,11 +46,11 @@ def write_change(connection: sqlite3.Connection, number: int, moment: int, journ
     options = [(number, place, one.option, one.word) for place, one in enumerate(made.options)]
     connection.executemany("INSERT INTO given_option VALUES (?, ?, ?, ?)", options)
     connection.executemany("INSERT INTO counted VALUES (?, ?, ?)", [(number, *one) for one in made.counts])
-    told = [
+    told = (
         (number, place, one.kind, one.part, one.line, one.id, text_of(dict(one.fields)))
         for place, one in enumerate(made.told)
-    ]
-    connection.executemany("INSERT INTO told VALUES (?, ?, ?, ?, ?, ?, ?)", told)
+    )
+    insert_many(connection, "told", told)
 
 
 def change_of(connection: sqlite3.Connection, row: tuple[object, ...]) -> Change:

@@ -6,6 +6,7 @@ import sqlite3
 from typing import Collection, Iterable, Iterator, NamedTuple
 
 from society.book.commands import COLUMNS, Command, known
+from society.book.many_rows import insert_many
 from society.refusals import Refusal
 
 # a command as the command file has it
@@ -124,7 +125,7 @@ def append(connection: sqlite3.Connection, journal: Journal, steps: Collection[S
         (journal.edition, place, *row_of(step.command), step.refusal)
         for place, step in enumerate(steps, journal.length + 1)
     )
-    connection.executemany("INSERT INTO command VALUES (?, ?, ?, ?, ?, ?, ?, ?, ?, ?, ?)", rows)
+    insert_many(connection, "command", rows)
     return Journal(journal.edition, journal.length + len(steps))
 
 

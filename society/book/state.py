@@ -5,6 +5,7 @@ import sqlite3
 from typing import Callable, Iterable, NamedTuple
 
 from society.book.kinds import Field, Remembered
+from society.book.many_rows import indexes_behind, insert_many
 from society.book.rows import COLUMNS, Row
 
 NOW = "until IS NULL"
@@ -66,12 +67,12 @@ def write_rows(
 ) -> None:
     """Makes of rows that held before a change those that hold after it. What stays as it is isn't touched."""
     ended = ((change, *key) for key, row in before.items() if after.get(key) != row)
-    begun = ((change, *row) for key, row in after.items() if before.get(key) != row)
+    begun = [(change, *row) for key, row in after.items() if before.get(key) != row]
     names = [name.strip() for name in table.columns.split(",")]
     where = " AND ".join(f"{name} = ?" for name in names[: table.keys])
     connection.executemany(f"UPDATE {table.name} SET until = ? WHERE {where} AND {NOW}", ended)
-    marks = ", ".join("?" * (len(names) + 1))
-    connection.executemany(f"INSERT INTO {table.name} (since, {table.columns}) VALUES ({marks})", begun)
+    with indexes_behind(connection, table.name, len(begun)):
+        insert_many(connection, f"{table.name} (since, {table.columns})", begun)
 
 
 def bring_back(connection: sqlite3.Connection, change: int, earlier: int) -> None:

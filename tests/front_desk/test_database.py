@@ -73,6 +73,8 @@ def test_database_of_another_program(flock_desk: Desk) -> None:
     ("UPDATE command SET refusal = 5 WHERE place = 3", "the program's reply to command 3 is that it is accepted"),
     ("UPDATE coefficient SET fraction = '1/2' WHERE place = 9", "the program has 1 kept coefficient otherwise"),
     ("DELETE FROM command WHERE place = 16", "the journal has 15 commands, and its last change tells of 16"),
+    ("UPDATE coefficient SET place = -place", "the kept coefficients aren't in the program's order"),
+    ("UPDATE animal SET since = 9 WHERE id = 'a3'", "a row of the table animal names one of change that isn't there"),
 ])  # fmt: skip
 def test_verify(flock_desk: Desk, statement: str, told: str) -> None:
     """What somebody changed in the file is told before anything is written."""

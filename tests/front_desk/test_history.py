@@ -1,6 +1,9 @@
 """The history of a book: single commands, what stays by hand, undo, backup and restore."""
 from __future__ import annotations
 
+import hashlib
+import os
+import pwd
 import random
 import re
 
@@ -102,6 +105,31 @@ def test_undo(flock_desk: Desk) -> None:
     flock_desk.wrong("--to takes 0 to 6", "undo", "--to", "7")
     flock_desk.wrong("the book has no change 8: its changes are 1 to 7", "history", "8")
     assert [line.split("  ")[0] for line in flock_desk.good("history").out.splitlines()] == list("1234567")
+
+
+def test_what_is_kept_of_a_change(flock_desk: Desk) -> None:
+    """Who made it, of which file, with which options, and what it did."""
+    login, digest = pwd.getpwuid(os.getuid()).pw_name, hashlib.sha256(GROWN.encode()).hexdigest()
+    flock_desk.take(GROWN, "--sexes", "x=m", "--strict")
+    shown = flock_desk.good("history", "2").out.splitlines()
+    told = f"{login}: took the sheet sheet.csv (17 animals, 3 changed, 1 new)"
+    assert re.fullmatch(r"2  \S+ \S+", shown[0].removesuffix(f"  {told}"))
+    assert shown[1:3] == [f"file: {flock_desk.room / 'sheet.csv'}, SHA-256 {digest}", "options: --sexes x=m --strict"]
+
+
+def test_undo_of_what_is_remembered(flock_desk: Desk) -> None:
+    """An option that the book remembers goes with the taking that gave it, and so do the last cells."""
+    other = FLOCK.replace("born", "day of tag")
+    flock_desk.take(other, "--columns", "birth=day of tag")
+    assert "=day of tag' (the book remembers these)" in flock_desk.take(other).out
+    flock_desk.good("undo", "--to", "1")
+    flock_desk.wrong("no column for birth is found", "take", "sheet.csv")
+    # a cell that a sheet wrote which was undone isn't the one of the last sheet
+    flock_desk.take(FLOCK.replace("a5,F,2001-01-06,,,farm 2", "a5,F,2001-01-06,,,Hof"))
+    flock_desk.good("undo")
+    flock_desk.good("transfer", "a5", "--to", "by hand", "--day", "2012-01-01")
+    kept = "owner by hand, as filed by hand, since its cell is as in the last sheet"
+    assert flock_desk.take(FLOCK).report == (f"line 7: a5: inferred: {kept}",)
 
 
 def test_backup(flock_desk: Desk) -> None:
