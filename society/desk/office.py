@@ -15,6 +15,8 @@ from society.refusals import Refusal
 SOON, FOREVER = 0.2, -1
 # so many commands are filed at once
 AT_ONCE = 20_000
+# the status with which the program ends where it doesn't know a word
+NO_SUCH_WORD = 2
 # the words that an inspector answers, which has no way to ask for two lists of animals
 QUESTIONS = ("inbreeding", "inverse", "certificate", "mating", "relationships")
 
@@ -30,6 +32,8 @@ class Office(Herdbook):
         self.session: Session | None = None
         # the journal that the session has filed, and the moment of the change after which it is that
         self.journal, self.moment = NO_JOURNAL, 0
+        # an earlier program has no sessions, and is run for each question
+        self.has_sessions = True
 
     def ask(self, words: list[str], book: Book) -> list[str]:
         if words[0] not in QUESTIONS or "--with" in words or not book.journal.length:
@@ -74,7 +78,7 @@ class Office(Herdbook):
     def at(self, book: Book, to_file: bool = False) -> Session | None:
         """The session where it stands at a book's journal, or can be brought there; none for an earlier moment, nor
         for a question while it is being brought to another one."""
-        if not self.lock.acquire(timeout=FOREVER if to_file else SOON):
+        if not self.has_sessions or not self.lock.acquire(timeout=FOREVER if to_file else SOON):
             return None
         try:
             return self.brought_to(book, to_file)
@@ -94,6 +98,7 @@ class Office(Herdbook):
         try:
             self.catch_up(self.session, book)
         except SessionEnded:
+            self.has_sessions = self.session.status() != NO_SUCH_WORD
             self.forget(self.session)
             return None
         except SessionFault as fault:

@@ -133,6 +133,13 @@ class Session:
         finally:
             self.free.put(inspector)
 
+    def status(self) -> int | None:
+        """The status with which the process ended; none where it goes on."""
+        try:
+            return self.process.wait(1)
+        except subprocess.TimeoutExpired:
+            return None
+
     def end(self) -> None:
         self.process.kill()
         self.process.wait()

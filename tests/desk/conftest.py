@@ -2,6 +2,7 @@
 from __future__ import annotations
 
 import pathlib
+import subprocess
 from collections.abc import Iterator
 
 import pytest
@@ -9,8 +10,18 @@ import pytest
 from desk.site import Site, site_of
 from front_desk.conftest import desk, new_desk, society_desk, taken_society
 from front_desk.desk import Desk
+from society.desk.office import NO_SUCH_WORD
 
 __all__ = ["desk", "new_desk", "society_desk", "taken_society"]
+
+
+@pytest.fixture
+def with_sessions(program: str) -> None:
+    """Skips where the program is one of before there were sessions."""
+    done = subprocess.run([program, "session"], input=b"", capture_output=True, timeout=60)
+    if done.returncode == NO_SUCH_WORD:
+        pytest.skip("the program has no sessions yet")
+    assert done.stdout == b"closed,0,0\n"
 
 
 @pytest.fixture

@@ -4,10 +4,11 @@ from __future__ import annotations
 
 import pathlib
 import re
+import shlex
 
 import pytest
 
-from desk.site import Site, shown
+from desk.site import Site, shown, site_of
 from front_desk.desk import Desk
 from society.desk.texts import TEXTS
 from society.refusals import Refusal
@@ -88,6 +89,7 @@ def test_mistakes(site: Site, kind: str, fields: dict[str, str], told: str) -> N
         assert book and book.change and book.change.number == 1
 
 
+@pytest.mark.usefixtures("with_sessions")
 def test_by_the_session(site: Site, monkeypatch: pytest.MonkeyPatch) -> None:
     """Replies, and the answers of questions, come from the one session: the program isn't run for them."""
     site.post("/file/exit", id=DAM, day="2024-05-01")
@@ -111,6 +113,7 @@ def test_by_the_session(site: Site, monkeypatch: pytest.MonkeyPatch) -> None:
     assert site.desk.program.session is session
 
 
+@pytest.mark.usefixtures("with_sessions")
 def test_session_killed(site: Site) -> None:
     """A session that ends is started anew, and nothing is lost."""
     site.post("/file/birth", **BIRTH)
@@ -123,6 +126,7 @@ def test_session_killed(site: Site) -> None:
     Desk(site.desk.folder.parent, site.desk.program.path.as_posix()).good("verify")
 
 
+@pytest.mark.usefixtures("with_sessions")
 def test_beside_a_terminal(site: Site, society_desk: Desk) -> None:
     """Commands of a terminal between those of a form: the session catches up, and an undo there begins a new one."""
     site.post("/file/birth", **BIRTH)
@@ -136,6 +140,7 @@ def test_beside_a_terminal(site: Site, society_desk: Desk) -> None:
     assert site.desk.program.journal.edition == 2
 
 
+@pytest.mark.usefixtures("with_sessions")
 def test_stored_reply_differs(site: Site, society_desk: Desk) -> None:
     """Where a stored reply isn't the session's, nothing goes on."""
     import contextlib
@@ -171,3 +176,15 @@ def test_languages(site: Site, language: str, at: int) -> None:
     page = site.page(site.post("/file/exit", id=DAM, day="2024-05-02").headers["Location"])
     assert f'<html lang="{language}">' in page
     assert TEXTS["refused"][at] in shown(page) and TEXTS["refusal 12"][at] in shown(page)
+
+
+def test_without_sessions(society_desk: Desk, program: str, tmp_path: pathlib.Path) -> None:
+    """A program of before there were sessions is run for each question, and gives the same."""
+    script = tmp_path / "herdbook"
+    script.write_text(f'#!/bin/sh\n[ "$1" = session ] && exit 2\nexec {shlex.quote(program)} "$@"\n', encoding="utf-8")
+    script.chmod(0o755)
+    with site_of(society_desk.room / "book", str(script), tmp_path / "dropped") as site:
+        assert TEXTS["accepted"][0] in shown(site.page(site.post("/file/birth", **BIRTH).headers["Location"]))
+        assert "sires, the least related first" in shown(site.page(f"/matings?dam={DAM}"))
+        assert not site.desk.program.has_sessions
+    society_desk.good("verify")
