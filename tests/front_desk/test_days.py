@@ -58,6 +58,9 @@ def test_month_first(desk: Desk) -> None:
         desk.write("sheet.csv", sheet),
     )
     desk.typed(done.commands()[0])
+    # what is remembered can be taken back
+    done = desk.wrong("'25/03/2001' has the day first", "take", desk.write("days.csv", TITLES + "a;F;25/03/2001;;;\n"))
+    desk.copy_to(desk.room.parent / "taken back").typed(done.commands()[0])
     assert desk.born() == {"a": "2001-03-25", "b": "2004-04-05"}
     assert "as at the last time: --month-first" in desk.take(sheet).out
     assert desk.born() == {"a": "2001-03-25", "b": "2004-04-05"}

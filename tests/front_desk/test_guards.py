@@ -146,19 +146,29 @@ def test_most_have_another_owner(desk: Desk) -> None:
         done = desk.take(sheet(rows, titles), "--preview")
         told = f"to look at: {count} of 60 animals have another owner than before: is its column the right one?"
         assert (told in done.out.splitlines()) == is_told
-        done.shows("to look at: 60 of 60 animals have another exit than before: is its column the right one?")
+        done.shows(
+            "to look at: 60 of 60 animals have another exit than before: is its column the right one?",
+            f"changed: exit 60, owner {count}",
+        )
 
 
 @pytest.mark.parametrize(("before", "now"), [
-    ("Aname", "Hof Aname"), ("A2;A7", "A2;import"), ("A3;A8", "import;A8"),
+    ("Aname", "Hof Aname"), ("A2;A7", "A2;import"), ("A3;A8", "import;A8"), ("A1;A6", "#REF!;A6"),
 ])  # fmt: skip
 def test_ordinary_corrections(taken: Desk, before: str, now: str) -> None:
-    """Names of one's own, and parents that have no row."""
+    """Names of one's own, parents that have no row, and cells of which the book's parents stay."""
     rows = [row.replace(before, now) for row in flock("A")]
     assert sum(row not in flock("A") for row in rows) >= 10
     taken.take(sheet(rows))
     changed = len({row["id"] for row in taken.table("book/report.csv") if row["what"] == "changed"})
-    assert changed == sum(row not in flock("A") for row in rows)
+    assert changed == sum(row not in flock("A") for row in rows if "#REF!" not in row)
+
+
+def test_ids_written_otherwise(taken: Desk) -> None:
+    rows = [row.replace("A", "a ") for row in flock("A")]
+    refused(
+        taken, sheet(rows), "it looks like the same animals, whose ids are written otherwise in case, blanks or zeros"
+    )
 
 
 def test_years_alone(taken: Desk) -> None:
@@ -167,6 +177,14 @@ def test_years_alone(taken: Desk) -> None:
     done = taken.take(sheet([";".join([*row[:2], row[2][:4], *row[3:]]) for row in rows]))
     assert " 0 changed" in done.last
     assert taken.born() == {row[0]: row[2] for row in rows}
+
+
+def test_days_in_place_of_years(desk: Desk) -> None:
+    """Days that were inferred are no other animals' days."""
+    rows = [row.split(";") for row in flock("A", 30)]
+    desk.take(sheet([";".join([*row[:2], row[2][:4], *row[3:]]) for row in rows]))
+    desk.take(sheet(flock("A", 30)))
+    assert desk.born() == {row[0]: row[2] for row in rows}
 
 
 def test_parents_by_name_without_names(desk: Desk) -> None:

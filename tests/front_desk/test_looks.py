@@ -17,7 +17,9 @@ def test_young_parents(desk: Desk) -> None:
     assert desk.parents()["c"] == ("s", "d")
     assert "to look at" not in desk.take(TITLES + rows, "--youngest", "149").out
     # the limit stays with the book
-    assert "to look at" not in desk.take(TITLES + rows).out
+    done = desk.take(TITLES + rows)
+    assert "to look at" not in done.out
+    done.shows("columns as at the last time")
     done = desk.take(TITLES + rows, "--youngest", "300")
     done.tells(
         "line 4: c: to look at: its dam d (line 3) was 149 days old at its birth, less than 300; if that can be, say "
@@ -105,6 +107,8 @@ def test_what_may_be_wrong_comes_first(desk: Desk) -> None:
     ]
     places = [next(at for at, line in enumerate(lines) if line.startswith(kind)) for kind in kinds]
     assert places == sorted(places) and places[0] == 0
+    # exits that a sentence of all tells aren't told one by one
+    assert "its exit is left out" not in done.out
     exits = next(at for at, line in enumerate(lines) if "an exit without a day stands in" in line)
     assert exits > places[-1]
     assert sum(row["what"] == "left out" for row in desk.table("book/report.csv")) == 62

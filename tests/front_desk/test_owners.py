@@ -86,6 +86,7 @@ def test_owner_is_written_otherwise(desk: Desk) -> None:
     # what is taken is undone first
     done = desk.good("take", "sheet.csv")
     done.shows(told)
+    desk.wrong("the book has 'Meyer' too, as another owner", "take", "sheet.csv", "--owner", "Meier=Meyer")
     done = desk.typed(done.commands()[0])
     assert " 0 changed" in done.last
     assert transfers(desk) == []

@@ -101,6 +101,12 @@ def test_likelier_column_comes_later(desk: Desk) -> None:
     assert sum(line.startswith("exit") for line in desk.commands()) == 1
 
 
+def test_column_without_cells(desk: Desk) -> None:
+    """Of two columns with usual titles one that has nothing is read last."""
+    desk.take("id;birth;sire;dam;Name;Dog Name\na;2001-01-01;;;;Bonny\n")
+    assert desk.table("book/ids.csv")[0]["name"] == "Bonny"
+
+
 def test_sums(desk: Desk) -> None:
     done = desk.take("id;birth;sire;dam\na;2001-01-01;;\nSumme: 1;;;\n")
     done.tells(
