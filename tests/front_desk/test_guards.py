@@ -164,6 +164,14 @@ def test_ordinary_corrections(taken: Desk, before: str, now: str) -> None:
     assert changed == sum(row not in flock("A") for row in rows if "#REF!" not in row)
 
 
+def test_few_of_many(desk: Desk) -> None:
+    """Six of 320 are no more than 2%."""
+    rows = flock("A", 320)
+    desk.take(sheet(rows))
+    others = [row.replace(";2004-", ";2005-") if 100 <= at < 106 else row for at, row in enumerate(rows)]
+    assert " 6 changed" in desk.take(sheet(others)).last
+
+
 def test_ids_written_otherwise(taken: Desk) -> None:
     rows = [row.replace("A", "a ") for row in flock("A")]
     refused(
