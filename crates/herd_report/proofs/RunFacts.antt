@@ -1,7 +1,8 @@
 -- What a run files and writes, and how it ends.
-use Rattle.std.proofs.Common.{◌≡◌, inl, inr, ℕ, ◌+◌, ◌<◌, arith, true, false, MatchBool, Option, Some, None, List, [], ◌∷◌, ◌++◌, refl, ap, sym, subst, ◌∙◌, ⊎_elim, append_assoc, append-nil, length, length-append}
+use Rattle.std.proofs.Common.{◌≡◌, inl, inr, ℕ, ◌+◌, ◌<◌, arith, true, false, MatchBool, Option, Some, None, Result, List, [], ◌∷◌, ◌++◌, refl, ap, sym, subst, ◌∙◌, ⊎_elim, append_assoc, append-nil, length, length-append}
 use Rattle.std.proofs.lemmas.List.Sorted.{IsPermutation-sym}
-use Rattle.std.specs.Prelude.{is_some}
+use Rattle.std.proofs.lemmas.Result.{IfErr-weaker}
+use Rattle.std.specs.Prelude.{IfErr, is_some}
 use Rattle.std.specs.Io.KnownBytes.{Appends}
 use Rattle.herd_frozen.specs.rules.Book.{Book, is_there}
 use Rattle.herd_frozen.specs.freezing.Frozen.{IsFrozenFrom, book_of}
@@ -14,25 +15,19 @@ use Rattle.herd_register.specs.Run.{answer, next, step_of, book_after, commands_
 use Rattle.herd_register.specs.declared.command.Command.{Command}
 use Rattle.herd_register.specs.Limits.{Limits}
 use Rattle.herd_register.specs.declared.step.Step.{Step}
-use Rattle.herd_pool.specs.declared.pool_fault.PoolFault.{PoolFault}
-use Rattle.herd_pool.specs.declared.pool_fault.PoolFault.TheVariants as pool
-use Rattle.herd_report.specs.reading.CommandFile.{CommandFile, IsRead, IsReadBefore, commands, commands_from}
+use Rattle.herd_report.specs.reading.CommandFile.{CommandFile, IsRead, IsReadBefore, commands_from}
 use Rattle.herd_report.specs.reading.LineCause.{is_interruption}
-use Rattle.herd_report.specs.writing.Certificate.{EndsCertificate, IsCertified}
 use Rattle.herd_report.specs.writing.Text.{AppendsFront}
 use Rattle.herd_report.specs.writing.Replies.{reply_line, reply_lines_from, replies_text}
-use Rattle.herd_report.specs.Run.{EndsBy, HasFiled, IsAnswered, IsFiledFile, IsFrozenFile, IsReport, IsThere, NeedsMemory, StopsWriting, filed_from, replies_to, wanted}
-use Rattle.herd_report.specs.RunFault.{EndsListing, EndsReport, run_fault_of, run_fault_of_certificate, run_fault_of_pool}
-use Rattle.herd_report.specs.declared.writing.certificate_fault.CertificateFault.{CertificateFault}
-use Rattle.herd_report.specs.declared.writing.certificate_fault.CertificateFault.TheVariants as certificate
+use Rattle.herd_report.specs.Run.{CanEndBy, EndsBy, EndsReplying, EndsReporting, HasFiled, IsAbsent, IsAnswered, IsFrozenFile, IsReport, IsReported, IsThere, filed_from, replies_to, wanted}
+use Rattle.herd_report.specs.RunFault.{run_fault_of}
 use Rattle.herd_report.specs.declared.reading.line_fault.LineFault.{LineFault}
 use Rattle.herd_report.specs.declared.writing.report_fault.ReportFault.{ReportFault}
 use Rattle.herd_report.specs.declared.writing.report_fault.ReportFault.TheVariants as report
 use Rattle.herd_report.specs.declared.orders.Order.{Order}
-use Rattle.herd_report.specs.declared.orders.Order.TheVariants.{File, Inbreeding, Certificate}
+use Rattle.herd_report.specs.declared.orders.Order.TheVariants.{Inbreeding, Certificate, Mating, Inverse, Relationships}
 use Rattle.herd_report.specs.declared.run_fault.RunFault.{RunFault}
 use Rattle.herd_report.specs.declared.run_fault.RunFault.TheVariants.{Line, NotRegistered, NoThread, Memory, Write}
-use Rattle.herd_report.proofs.lemmas.Exits.{ends_report}
 use Rattle.herd_report.proofs.lemmas.writing.TextFacts.{passes_before, some_before}
 
 -- ---- commands that are filed one after the other
@@ -111,28 +106,16 @@ first_commands most file list (Some fault) read =
       | false ↦ λ all. ([], sym all.0 ∙ sym (append-nil list))
     ] read
 
--- the frozen rows of a register in which the commands of a file without a fault are filed
-pub frozen_file : (limits : Limits) (file : CommandFile) (register : Register) (rows : List Row) → IsFiledFile limits file register →
-    IsFrozenFrom DEPTH_LIMIT MOST_ANIMALS (register_book register) rows → IsFrozenFile limits file rows
-frozen_file limits file register rows whole frozen = record {
-  faultless = whole.faultless;
-  frozen = subst (λ book. IsFrozenFrom DEPTH_LIMIT MOST_ANIMALS book rows) (book_of-filed limits file.commands register whole.filed) frozen;
-}
-
--- a register in which all was filed that a file without a fault has
-pub filed_file : (limits : Limits) (file : CommandFile) (list : List Command) (register : Register) →
-    IsRead limits.steps file list None → HasFiled limits list register → IsFiledFile limits file register
-filed_file limits file list register read filed = record {
+-- the frozen rows of a register in which all was filed that a file without a fault has
+pub frozen_file : (limits : Limits) (file : CommandFile) (list : List Command) (register : Register) (rows : List Row) →
+    IsRead limits.steps file list None → HasFiled limits list register → IsFrozenFrom DEPTH_LIMIT MOST_ANIMALS (register_book register) rows →
+    IsFrozenFile limits file rows
+frozen_file limits file list register rows read filed frozen = record {
   faultless = read.1;
-  filed = subst (λ l. HasFiled limits l register) read.0 filed;
+  frozen = subst (λ book. IsFrozenFrom DEPTH_LIMIT MOST_ANIMALS book rows) (book_of-filed limits list register filed ∙ ap (run_book limits) read.0) frozen;
 }
 
--- ---- what is written of it
-
--- a text of the frozen rows is one of the file's commands
-pub report_of_file : (limits : Limits) (order : Order) (file : CommandFile) (rows : List Row) (Passes : List ℕ → Type 0) →
-    IsFrozenFile limits file rows → Passes (wanted order limits file.commands rows) → IsReport limits order file.commands Passes
-report_of_file limits order file rows Passes made passes = record { rows = rows; frozen = λ other. made.frozen; passes = passes }
+-- ---- how replying ends
 
 -- no front of no text leaves some of it
 none_left : (old new : Option (List ℕ)) → AppendsFront old new [] → ⊥
@@ -141,93 +124,91 @@ none_left old new front =
     absurd (omega (arith, short, front.left, length-append front.passed.front front.rest))
 
 -- a front of the replies to what was read is one of the replies to the file
-pub replies_of_file : (limits : Limits) (file : CommandFile) (list : List Command) (fault : Option LineFault) (old new : Option (List ℕ)) →
-    IsRead limits.steps file list fault → AppendsFront old new (replies_to limits list) → IsReport limits File file.commands (AppendsFront old new)
+replies_of_file : (limits : Limits) (file : CommandFile) (list : List Command) (fault : Option LineFault) (old new : Option (List ℕ)) →
+    IsRead limits.steps file list fault → AppendsFront old new (replies_to limits list) → AppendsFront old new (replies_to limits file.commands)
 replies_of_file limits file list fault old new read front =
     let rest = first_commands limits.steps file list fault read in
     let more = replies_to-append limits list rest.0 in
-    record {
-      rows = [];
-      frozen = λ other. absurd (other refl);
-      passes = subst (λ t. AppendsFront old new t) (sym (ap (replies_to limits) rest.1 ∙ more.1)) (longer_text old new (replies_to limits list) more.0 front);
-    }
+    subst (λ t. AppendsFront old new t) (sym (ap (replies_to limits) rest.1 ∙ more.1)) (longer_text old new (replies_to limits list) more.0 front)
 
 -- a front of the replies to a file's commands is none of no commands
-some_commands : (limits : Limits) (file : CommandFile) (old new : Option (List ℕ)) → IsReport limits File file.commands (AppendsFront old new) →
+some_commands : (limits : Limits) (file : CommandFile) (old new : Option (List ℕ)) → AppendsFront old new (replies_to limits file.commands) →
     0 < length file.commands
-some_commands limits file old new report =
-    let front = report.passes in
+some_commands limits file old new front =
     elim file.commands as (λ l. AppendsFront old new (replies_to limits l) → 0 < length l) [
       | [] ↦ λ front. absurd (none_left old new front)
       | command ∷ rest ↦ λ front. omega arith
     ] front
 
--- ---- how a run ends
-
--- a run for the replies that stops while it writes
+-- the writing of the replies ends early
 pub stops_replying : (limits : Limits) (file : CommandFile) (list : List Command) (line : Option LineFault) (old new : Option (List ℕ)) (fault : ReportFault) →
-    IsRead limits.steps file list line → AppendsFront old new (replies_to limits list) → EndsBy limits File file old new (run_fault_of fault)
-stops_replying limits file list line old new report.Write read front =
-    (λ reports. absurd (reports refl), record { there = tt; front = replies_of_file limits file list line old new read front })
+    IsRead limits.steps file list line → AppendsFront old new (replies_to limits list) → EndsReplying limits file old new (run_fault_of fault)
+stops_replying limits file list line old new report.Write read front = replies_of_file limits file list line old new read front
 stops_replying limits file list line old new report.Memory read front =
     let written = replies_of_file limits file list line old new read front in
-    (λ reports. absurd (reports refl), some_commands limits file old new written, inr (record { there = tt; front = written }))
+    (some_commands limits file old new written, inr written)
 
--- what was written of a report of a file's commands, where some of its end wasn't
-stopped : (limits : Limits) (order : Order) (file : CommandFile) (rows : List Row) (old new : Option (List ℕ)) →
-    IsFrozenFile limits file rows → IsThere order (run_book limits file.commands) → AppendsFront old new (wanted order limits file.commands rows) →
-    StopsWriting limits order file old new
-stopped limits order file rows old new made there front = record { there = there; front = report_of_file limits order file rows (AppendsFront old new) made front }
+-- ---- how a run ends, whose report is of a file's frozen book
 
--- a run for another report that stops
-pub stops_reporting : (limits : Limits) (order : Order) (file : CommandFile) (rows : List Row) (old new : Option (List ℕ)) (fault : ReportFault) →
-    IsFrozenFile limits file rows → IsThere order (run_book limits file.commands) → NeedsMemory order file.commands →
-    EndsReport old new (wanted order limits file.commands rows) fault → EndsBy limits order file old new (run_fault_of fault)
-stops_reporting limits order file rows old new report.Write made there needs ends =
-    (λ reports. made.faultless, stopped limits order file rows old new made there ends)
-stops_reporting limits order file rows old new report.Memory made there needs ends =
-    (λ reports. made.faultless, needs, ⊎_elim (λ none. inl none) (λ front. inr (stopped limits order file rows old new made there front)) ends)
-
--- a run for the list of coefficients that stops
-pub stops_listing : (limits : Limits) (workers block : ℕ) (file : CommandFile) (rows : List Row) (old new : Option (List ℕ)) (fault : RunFault) →
-    IsFrozenFile limits file rows → EndsListing workers old new (wanted (Inbreeding workers block) limits file.commands rows) fault →
-    EndsBy limits (Inbreeding workers block) file old new fault
-stops_listing limits workers block file rows old new (Line fault) made ends = absurd ends
-stops_listing limits workers block file rows old new NotRegistered made ends = absurd ends
-stops_listing limits workers block file rows old new NoThread made ends = (ends.0, made.faultless, ends.1)
-stops_listing limits workers block file rows old new Memory made ends = stops_reporting limits (Inbreeding workers block) file rows old new report.Memory made tt tt ends
-stops_listing limits workers block file rows old new Write made ends = stops_reporting limits (Inbreeding workers block) file rows old new report.Write made tt tt ends
-
--- a list of coefficients that ends before any was written
-pub nothing_listed : (workers : ℕ) (known : Option (List ℕ)) (text : List ℕ) (fault : PoolFault) → (fault ≡ pool.NoThread → 1 < workers) →
-    EndsListing workers known known text (run_fault_of_pool fault)
-nothing_listed workers known text pool.NoThread shared = (shared refl, refl)
-nothing_listed workers known text pool.Memory shared = inl refl
+-- only a certificate is of an animal that isn't in the book
+can_end_reporting : (order : Order) (rows : List Row) (old new : Option (List ℕ)) (fault : RunFault) → EndsReporting order rows old new fault → CanEndBy order fault
+can_end_reporting order rows old new (Line fault) ends = absurd ends
+can_end_reporting (Certificate number) rows old new NotRegistered ends = tt
+can_end_reporting (Inbreeding plan) rows old new NotRegistered ends = absurd ends.0
+can_end_reporting (Mating dam sires) rows old new NotRegistered ends = absurd ends.0
+can_end_reporting Inverse rows old new NotRegistered ends = absurd ends.0
+can_end_reporting (Relationships numbers others) rows old new NotRegistered ends = absurd ends.0
+can_end_reporting order rows old new NoThread ends = ends.0
+can_end_reporting order rows old new Memory ends = tt
+can_end_reporting order rows old new Write ends = tt
 
 -- who is in a frozen book is in the book that was frozen
-pub there-frozen : (book : Book) (rows : List Row) (number : List ℕ) → IsFrozenFrom DEPTH_LIMIT MOST_ANIMALS book rows →
+there-frozen : (book : Book) (rows : List Row) (number : List ℕ) → IsFrozenFrom DEPTH_LIMIT MOST_ANIMALS book rows →
     is_there (book_of rows) number ≡ is_there book number
 there-frozen book rows number frozen =
     sym (ap is_some (record_of-permuted (book_of rows) book frozen.frozen.lawful.once (IsPermutation-sym book (book_of rows) frozen.same) number))
 
--- a run for a certificate that ends early
-pub stops_certifying : (limits : Limits) (number : List ℕ) (file : CommandFile) (rows : List Row) (old new : Option (List ℕ)) (fault : CertificateFault) →
-    IsFrozenFile limits file rows → EndsCertificate rows number old new fault → EndsBy limits (Certificate number) file old new (run_fault_of_certificate fault)
-stops_certifying limits number file rows old new certificate.NotRegistered made ends =
-    (made.faultless, sym (there-frozen (run_book limits file.commands) rows number made.frozen) ∙ ends.0, ends.1)
-stops_certifying limits number file rows old new (certificate.Report fault) made ends =
-    stops_reporting limits (Certificate number) file rows old new fault made (sym (there-frozen (run_book limits file.commands) rows number made.frozen) ∙ ends.0) tt
-    (ends_report old new (wanted (Certificate number) limits file.commands rows) fault ends.1)
+there_too : (order : Order) (book : Book) (rows : List Row) → IsFrozenFrom DEPTH_LIMIT MOST_ANIMALS book rows → IsThere order (book_of rows) → IsThere order book
+there_too (Certificate number) book rows frozen there = sym (there-frozen book rows number frozen) ∙ there
+there_too (Inbreeding plan) book rows frozen there = tt
+there_too (Mating dam sires) book rows frozen there = tt
+there_too Inverse book rows frozen there = tt
+there_too (Relationships numbers others) book rows frozen there = tt
 
--- a run for a report that comes to its end
-pub reported : (limits : Limits) (order : Order) (file : CommandFile) (rows : List Row) (old new : Option (List ℕ)) →
-    IsFrozenFile limits file rows → IsThere order (run_book limits file.commands) → Appends old new (wanted order limits file.commands rows) →
-    IsAnswered limits order file old new
-reported limits order file rows old new made there written =
-    record { faultless = made.faultless; there = there; written = report_of_file limits order file rows (Appends old new) made written }
+absent_too : (order : Order) (book : Book) (rows : List Row) → IsFrozenFrom DEPTH_LIMIT MOST_ANIMALS book rows → IsAbsent order (book_of rows) → IsAbsent order book
+absent_too (Certificate number) book rows frozen absent = sym (there-frozen book rows number frozen) ∙ absent
+absent_too (Inbreeding plan) book rows frozen absent = absurd absent
+absent_too (Mating dam sires) book rows frozen absent = absurd absent
+absent_too Inverse book rows frozen absent = absurd absent
+absent_too (Relationships numbers others) book rows frozen absent = absurd absent
 
--- a run for a certificate that comes to its end
-pub certified : (limits : Limits) (number : List ℕ) (file : CommandFile) (rows : List Row) (old new : Option (List ℕ)) →
-    IsFrozenFile limits file rows → IsCertified rows number old new → IsAnswered limits (Certificate number) file old new
-certified limits number file rows old new made written =
-    reported limits (Certificate number) file rows old new made (sym (there-frozen (run_book limits file.commands) rows number made.frozen) ∙ written.0) written.1
+-- a text of the frozen rows is one of the file's commands
+report_of_file : (limits : Limits) (order : Order) (file : CommandFile) (rows : List Row) (Passes : List ℕ → Type 0) →
+    IsFrozenFile limits file rows → Passes (wanted order rows) → IsReport limits order file.commands Passes
+report_of_file limits order file rows Passes made passes = record { rows = rows; frozen = made.frozen; passes = passes }
+
+pub run_answers : (limits : Limits) (order : Order) (file : CommandFile) (rows : List Row) (old new : Option (List ℕ)) →
+    IsFrozenFile limits file rows → IsReported order rows old new → IsAnswered limits order file old new
+run_answers limits order file rows old new made reported = record {
+  faultless = made.faultless;
+  there = there_too order (run_book limits file.commands) rows made.frozen reported.there;
+  written = report_of_file limits order file rows (Appends old new) made reported.written;
+}
+
+pub run_ends : (limits : Limits) (order : Order) (file : CommandFile) (rows : List Row) (old new : Option (List ℕ)) (fault : RunFault) →
+    IsFrozenFile limits file rows → EndsReporting order rows old new fault → EndsBy limits order file old new fault
+run_ends limits order file rows old new fault made ends =
+    let there = there_too order (run_book limits file.commands) rows made.frozen in
+    let front : AppendsFront old new (wanted order rows) → IsReport limits order file.commands (AppendsFront old new) =
+    report_of_file limits order file rows (AppendsFront old new) made in
+    elim fault as (λ f. EndsReporting order rows old new f → EndsBy limits order file old new f) [
+      | Line line ↦ λ ends. absurd ends
+      | NotRegistered ↦ λ ends. (made.faultless, absent_too order (run_book limits file.commands) rows made.frozen ends.0, ends.1)
+      | NoThread ↦ λ ends. (ends.0, made.faultless, ends.1)
+      | Memory ↦ λ ends. (made.faultless, ⊎_elim (λ none. inl none) (λ text. inr (record { there = there ends.0; front = front text })) ends.1)
+      | Write ↦ λ ends. (made.faultless, record { there = there ends.0; front = front ends.1 })
+    ] ends
+
+pub run_possible : {T : Type 0} (order : Order) (rows : List Row) (old new : Option (List ℕ)) (result : Result T RunFault) →
+    IfErr result (EndsReporting order rows old new) → IfErr result (CanEndBy order)
+run_possible order rows old new result ends = IfErr-weaker result _ _ (λ fault end. can_end_reporting order rows old new fault end) ends

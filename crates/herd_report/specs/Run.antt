@@ -1,5 +1,5 @@
--- What a run writes for a command file, and how it may end.
-use Rattle.std.specs.Prelude.{◌≡◌, ◌≢◌, ◌⊎◌, ◌<◌, ◌≤◌, ℕ, List, [], ◌∷◌, ⊤, IfSome, Option, Some, None, true, false, length}
+-- What is written of a command file, and how that may end.
+use Rattle.std.specs.Prelude.{◌≡◌, ◌⊎◌, ◌<◌, ℕ, List, [], ◌∷◌, ⊤, IfSome, Option, Some, None, true, false, length}
 use Rattle.std.specs.Io.KnownBytes.{Appends}
 use Rattle.herd_frozen.specs.rules.Book.{Book, is_there}
 use Rattle.herd_frozen.specs.freezing.Frozen.{IsFrozenFrom, book_of}
@@ -12,9 +12,8 @@ use Rattle.herd_register.specs.Limits.{Limits}
 use Rattle.herd_register.specs.declared.step.Step.{Step}
 use Rattle.herd_kinship.specs.FrozenAncestry.{ancestry_of}
 use Rattle.herd_kinship.specs.Table.{coefficient}
-use Rattle.herd_pool.specs.declared.limits.TheConstants.{MOST_WORKERS}
 use Rattle.herd_report.specs.writing.Certificate.{certificate_of}
-use Rattle.herd_report.specs.reading.CommandFile.{CommandFile, IsRead, commands}
+use Rattle.herd_report.specs.reading.CommandFile.{CommandFile, IsRead, IsReadUpTo, commands}
 use Rattle.herd_report.specs.writing.InbreedingList.{inbreeding_text}
 use Rattle.herd_report.specs.writing.InverseList.{inverse_text}
 use Rattle.herd_report.specs.writing.MatingList.{mating_text}
@@ -23,9 +22,11 @@ use Rattle.herd_report.specs.writing.Text.{AppendsFront}
 use Rattle.herd_report.specs.writing.Replies.{replies_text}
 use Rattle.herd_report.specs.declared.reading.line_fault.LineFault.{LineFault}
 use Rattle.herd_report.specs.declared.orders.Order.{Order}
-use Rattle.herd_report.specs.declared.orders.Order.TheVariants.{File, Inbreeding, Certificate, Mating, Inverse, Relationships}
+use Rattle.herd_report.specs.declared.orders.Order.TheVariants.{Inbreeding, Certificate, Mating, Inverse, Relationships}
 use Rattle.herd_report.specs.declared.run_fault.RunFault.{RunFault}
 use Rattle.herd_report.specs.declared.run_fault.RunFault.TheVariants.{Line, NotRegistered, NoThread, Memory, Write}
+
+-- ---- commands that are filed
 
 -- the steps of commands that are filed at desk 0 one after the other, the first with this book
 abbrev pub filed_from : Limits → Book → List Command → List Step
@@ -38,34 +39,51 @@ pub record HasFiled (limits : Limits) (commands : List Command) (register : Regi
   pub limits_are : register.limits ≡ limits
   pub journal_is : register.journal ≡ filed_from limits [] commands
 
--- the file has no fault, and its commands are filed
-pub record IsFiledFile (limits : Limits) (file : CommandFile) (register : Register) : Type 0 where
-  pub faultless : file.fault ≡ None
-  pub filed : HasFiled limits file.commands register
+-- ---- the replies to them
 
 -- the replies to commands, one after the other from the empty book on
 abbrev pub replies_to : Limits → List Command → List ℕ
 replies_to limits commands = replies_text (filed_from limits [] commands)
 
--- what an order wants of commands, and of the frozen rows of their book
-abbrev pub wanted : Order → Limits → List Command → List Row → List ℕ
-wanted File limits commands rows = replies_to limits commands
-wanted (Inbreeding workers block) limits commands rows =
-    inbreeding_text (coefficient (ancestry_of rows) DEPTH_LIMIT) rows
-wanted (Certificate number) limits commands rows = certificate_of rows number
-wanted (Mating dam sires) limits commands rows = mating_text (book_of rows) dam sires.now
-wanted Inverse limits commands rows = inverse_text rows
-wanted (Relationships numbers others) limits commands rows = relationships_text (book_of rows) numbers.now others.now
-
--- the file has no fault, and its book has these frozen rows
-pub record IsFrozenFile (limits : Limits) (file : CommandFile) (rows : List Row) : Type 0 where
+-- the file has no fault, and the replies to its commands were written
+pub record IsReplied (limits : Limits) (file : CommandFile) (old new : Option (List ℕ)) : Type 0 where
   pub faultless : file.fault ≡ None
-  pub frozen : IsFrozenFrom DEPTH_LIMIT MOST_ANIMALS (run_book limits file.commands) rows
+  pub written : Appends old new (replies_to limits file.commands)
 
--- an order that the program can carry out
-abbrev pub IsOrder : Order → Type 0
-IsOrder (Inbreeding workers block) = (1 ≤ workers) × (workers ≤ MOST_WORKERS) × (1 ≤ block)
-IsOrder order = ⊤
+-- a line fault, or an interruption of the reading, was met after these commands, and the replies to them were written
+pub record EndsByLine (limits : Limits) (file : CommandFile) (fault : LineFault)
+    (old new : Option (List ℕ)) : Type 0 where
+  pub commands : List Command
+  pub read : IsRead limits.steps file commands (Some fault)
+  pub written : Appends old new (replies_to limits commands)
+
+-- how replying to a file may end early. `Memory` is told while the commands are filed, and then nothing was written, or
+-- as `Write` while the replies are written; without commands no memory is needed
+abbrev pub EndsReplying : Limits → CommandFile → Option (List ℕ) → Option (List ℕ) → RunFault → Type 0
+EndsReplying limits file old new (Line fault) = EndsByLine limits file fault old new
+EndsReplying limits file old new NotRegistered = ⊥
+EndsReplying limits file old new NoThread = ⊥
+EndsReplying limits file old new Memory =
+    (0 < length file.commands) × ((new ≡ old) ⊎ AppendsFront old new (replies_to limits file.commands))
+EndsReplying limits file old new Write = AppendsFront old new (replies_to limits file.commands)
+
+-- a fault that it can end by, whatever is read
+abbrev pub CanEndReplying : RunFault → Type 0
+CanEndReplying (Line fault) = ⊤
+CanEndReplying NotRegistered = ⊥
+CanEndReplying NoThread = ⊥
+CanEndReplying Memory = ⊤
+CanEndReplying Write = ⊤
+
+-- ---- what is ordered of a frozen book
+
+-- the text that an order wants of the frozen rows of a book
+abbrev pub wanted : Order → List Row → List ℕ
+wanted (Inbreeding plan) rows = inbreeding_text (coefficient (ancestry_of rows) DEPTH_LIMIT) rows
+wanted (Certificate number) rows = certificate_of rows number
+wanted (Mating dam sires) rows = mating_text (book_of rows) dam sires.now
+wanted Inverse rows = inverse_text rows
+wanted (Relationships numbers others) rows = relationships_text (book_of rows) numbers.now others.now
 
 -- the animal of a certificate is in the book
 abbrev pub IsThere : Order → Book → Type 0
@@ -84,7 +102,7 @@ IsCertificate order = ⊥
 
 -- the order is for work that more than one worker share
 abbrev pub IsShared : Order → Type 0
-IsShared (Inbreeding workers block) = 1 < workers
+IsShared (Inbreeding plan) = 1 < plan.workers
 IsShared order = ⊥
 
 -- a fault that an order can end by, whatever is read
@@ -95,12 +113,34 @@ CanEndBy order NoThread = IsShared order
 CanEndBy order Memory = ⊤
 CanEndBy order Write = ⊤
 
--- a text that an order wants of commands passes a test; only for the replies no frozen rows are needed
+-- the animal of a certificate is in the frozen book, and what the order wants of it was written
+pub record IsReported (order : Order) (rows : List Row) (old new : Option (List ℕ)) : Type 0 where
+  pub there : IsThere order (book_of rows)
+  pub written : Appends old new (wanted order rows)
+
+-- how that may end early: `NotRegistered` comes first, then `NoThread` or `Memory` while coefficients are computed,
+-- then `Memory` or `Write` while the text is written
+abbrev pub EndsReporting : Order → List Row → Option (List ℕ) → Option (List ℕ) → RunFault → Type 0
+EndsReporting order rows old new (Line fault) = ⊥
+EndsReporting order rows old new NotRegistered = IsAbsent order (book_of rows) × (new ≡ old)
+EndsReporting order rows old new NoThread = IsShared order × (new ≡ old)
+EndsReporting order rows old new Memory =
+    IsThere order (book_of rows) × ((new ≡ old) ⊎ AppendsFront old new (wanted order rows))
+EndsReporting order rows old new Write = IsThere order (book_of rows) × AppendsFront old new (wanted order rows)
+
+-- ---- what is ordered of the book of a command file
+
+-- the file has no fault, and its book has these frozen rows
+pub record IsFrozenFile (limits : Limits) (file : CommandFile) (rows : List Row) : Type 0 where
+  pub faultless : file.fault ≡ None
+  pub frozen : IsFrozenFrom DEPTH_LIMIT MOST_ANIMALS (run_book limits file.commands) rows
+
+-- a text that an order wants of the book of commands passes a test
 pub record IsReport (limits : Limits) (order : Order) (commands : List Command)
     (Passes : List ℕ → Type 0) : Type 0 where
   pub rows : List Row
-  pub frozen : order ≢ File → IsFrozenFrom DEPTH_LIMIT MOST_ANIMALS (run_book limits commands) rows
-  pub passes : Passes (wanted order limits commands rows)
+  pub frozen : IsFrozenFrom DEPTH_LIMIT MOST_ANIMALS (run_book limits commands) rows
+  pub passes : Passes (wanted order rows)
 
 -- the file has no fault, the animal of a certificate is in the book, and what the order wants was written
 pub record IsAnswered (limits : Limits) (order : Order) (file : CommandFile) (old new : Option (List ℕ)) : Type 0 where
@@ -108,44 +148,23 @@ pub record IsAnswered (limits : Limits) (order : Order) (file : CommandFile) (ol
   pub there : IsThere order (run_book limits file.commands)
   pub written : IsReport limits order file.commands (Appends old new)
 
--- what is written of the commands before a line fault: their replies, and for other orders nothing
-abbrev pub IsWrittenBefore : Limits → Order → List Command → Option (List ℕ) → Option (List ℕ) → Type 0
-IsWrittenBefore limits File commands old new = Appends old new (replies_to limits commands)
-IsWrittenBefore limits order commands old new = new ≡ old
-
--- a line fault, or an interruption of the reading, was met after these commands
-pub record EndsByLine (limits : Limits) (order : Order) (file : CommandFile) (fault : LineFault)
-    (old new : Option (List ℕ)) : Type 0 where
-  pub commands : List Command
-  pub read : IsRead limits.steps file commands (Some fault)
-  pub written : IsWrittenBefore limits order commands old new
-
--- only the replies are written of a file with a fault
-abbrev pub IsFaultlessFor : Order → CommandFile → Type 0
-IsFaultlessFor order file = order ≢ File → file.fault ≡ None
-
--- where replies alone are asked for, memory is needed only if there are commands
-abbrev pub NeedsMemory : Order → List Command → Type 0
-NeedsMemory File commands = 0 < length commands
-NeedsMemory order commands = ⊤
-
 -- what the order wants was written, but for some of its end
 pub record StopsWriting (limits : Limits) (order : Order) (file : CommandFile)
     (old new : Option (List ℕ)) : Type 0 where
   pub there : IsThere order (run_book limits file.commands)
   pub front : IsReport limits order file.commands (AppendsFront old new)
 
--- how a run may end early. The faults come in this order: `Line`, after the replies where they are asked for;
--- `Memory` while the commands are filed; `NotRegistered`; `NoThread` or `Memory` while coefficients are computed;
--- `Memory` or `Write` while the report is written
+-- how a run may end early. The faults come in this order: `Line`; `Memory` while the commands are filed or the book is
+-- frozen; `NotRegistered`; `NoThread` or `Memory` while coefficients are computed; `Memory` or `Write` while the text is
+-- written
 abbrev pub EndsBy : Limits → Order → CommandFile → Option (List ℕ) → Option (List ℕ) → RunFault → Type 0
-EndsBy limits order file old new (Line fault) = EndsByLine limits order file fault old new
+EndsBy limits order file old new (Line fault) = IsReadUpTo limits.steps file (Some fault) × (new ≡ old)
 EndsBy limits order file old new NotRegistered =
     (file.fault ≡ None) × IsAbsent order (run_book limits file.commands) × (new ≡ old)
 EndsBy limits order file old new NoThread = IsShared order × (file.fault ≡ None) × (new ≡ old)
 EndsBy limits order file old new Memory =
-    IsFaultlessFor order file × NeedsMemory order file.commands × ((new ≡ old) ⊎ StopsWriting limits order file old new)
-EndsBy limits order file old new Write = IsFaultlessFor order file × StopsWriting limits order file old new
+    (file.fault ≡ None) × ((new ≡ old) ⊎ StopsWriting limits order file old new)
+EndsBy limits order file old new Write = (file.fault ≡ None) × StopsWriting limits order file old new
 
 -- where the bytes of the command file are known, what the order wants of them was written
 abbrev pub AnswersIfKnown : Limits → Order → Option (List ℕ) → Option (List ℕ) → Option (List ℕ) → Type 0

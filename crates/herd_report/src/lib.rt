@@ -5,13 +5,14 @@
 //! before the first fault, and which fault that is. What the bytes don't show, a reader that fails or memory that is
 //! refused, is an interruption, and told as such.
 //!
-//! `run` carries out an `Order`: it files a command file, freezes the book where the order wants it, and writes one
-//! text:
+//! `answer_file` files a command file and writes the reply to each command. `run` carries out an `Order`: it files a
+//! command file, freezes the book, and writes one text of it:
 //!
-//!     run(&rt, alloc, limits, Order::Inverse, reader, &mut writer)?;
+//!     run(&rt, alloc, limits, &Order::Inverse, reader, &mut writer)?;
 //!
-//! Each text is also written by a call of its own (`write_replies` and the others), from a journal or a frozen
-//! book. What is written is the whole text, or where memory is refused or a write fails a front of it.
+//! `write_report` does the same with a frozen book, and each text is also written by a call of its own (`write_replies`
+//! and the others), from a journal or a frozen book. What is written is the whole text, or where memory is refused or a
+//! write fails a front of it.
 //!
 //! Two folders have the same names in `src/`, `specs/` and `proofs/lemmas/`. **`reading`** has what the first five rows
 //! name, **`writing`** what the rows on texts name; filing and `run` stand at the top.
@@ -34,7 +35,7 @@
 //! | mating advice | `MatingList` | `mating_list` | `MatingFacts` |
 //! | the inverse of A | `InverseList` | `inverse_list` | `ContributionFacts` |
 //! | entries of A | `RelationshipList` | `relationship_list` | `RelationshipFacts` |
-//! | what a run writes, and how it may end | `Run`, `RunFault` | `orders`, `run_fault` | `RunFacts` |
+//! | what a run writes, and how it may end | `Run`, `RunFault` | `orders`, `work_plan`, `run_fault` | `RunFacts` |
 //! | how a text of its own may end | | `report_fault`, `certificate_fault` | `Exits` |
 #![tactic(auto)]
 
@@ -42,14 +43,16 @@ mod command_filing;
 mod orders;
 mod reading;
 mod run_fault;
+mod work_plan;
 mod writing;
 
-pub use orders::{Order, run};
+pub use orders::{Order, answer_file, run, write_report};
 #[doc(hidden)]
 pub use reading::command_file::list_commands;
 pub use reading::command_file::{Commands, read_commands};
 pub use reading::line_fault::{LineCause, LineFault};
 pub use run_fault::RunFault;
+pub use work_plan::WorkPlan;
 pub use writing::certificate::write_certificate;
 pub use writing::certificate_fault::CertificateFault;
 pub use writing::inbreeding_list::write_inbreeding;

@@ -10,8 +10,8 @@ use thiserror::Error;
 /// Why a run ended early.
 #[derive(Clone, Copy, Debug, PartialEq, Eq, Error)]
 pub enum RunFault {
-    /// The command file has a fault. Of `Order::File` the replies to the commands before it were written, and nothing
-    /// else; of any other order nothing was.
+    /// The command file has a fault. Where replies are asked for, those to the commands before it were written, and
+    /// nothing else; of an order nothing was.
     #[error("{0}")]
     Line(LineFault),
     /// The animal that a certificate was asked for isn't in the book. Nothing was written.
@@ -26,6 +26,16 @@ pub enum RunFault {
     /// A write failed or took no byte.
     #[error("write fault")]
     Write,
+}
+
+impl From<LineFault> for RunFault {
+    ghost use Rattle.herd_report.specs.declared.run_fault.RunFault.TheVariants.{Line};
+
+    ghost from_gives = { λ fault told. told ≡ Line fault };
+
+    fn from(fault: LineFault) -> RunFault {
+        RunFault::Line(fault)
+    }
 }
 
 impl From<AllocError> for RunFault {

@@ -4,29 +4,30 @@ use Rattle.std.specs.Prelude.{IfErr, IfSome, OnOk}
 use Rattle.clap.specs.Words.{fault_of, subcommand_of}
 use Rattle.herd_register.specs.Limits.{Limits}
 use Rattle.herd_report.specs.reading.CommandFile.{commands}
+use Rattle.herd_report.specs.declared.run_fault.RunFault.{RunFault}
 use Rattle.herdbook.specs.CommandLine.{command_line}
-use Rattle.herdbook.specs.Ending.{end_of_request}
+use Rattle.herdbook.specs.Ending.{end_of_run}
 use Rattle.herdbook.specs.Program.{CanEnd, CanEndServing, EndsServing, IsEnded, IsServed}
 use Rattle.herdbook.specs.Words.{IsAsked}
 use Rattle.herdbook.specs.declared.arguments.Request.{Request}
-use Rattle.herdbook.specs.declared.request_fault.RequestFault.{RequestFault}
+use Rattle.herdbook.specs.declared.request_fault.RequestFault.TheVariants.{Run}
 
--- what was begun for a request ends the program
-pub ended-request : {T : Type 0} (known : Option (List ℕ)) (limits : Limits) (words : List (List ℕ)) (old new : Option (List ℕ)) (request : Request) (result : Result T RequestFault)
+-- a run that was begun for a request ends the program
+pub ended-run : {T : Type 0} (known : Option (List ℕ)) (limits : Limits) (words : List (List ℕ)) (old new : Option (List ℕ)) (request : Request) (result : Result T RunFault)
     → fault_of command_line words ≡ [] → IsAsked (subcommand_of command_line words) request
     → OnOk result (IfSome known (λ bytes. IsServed request limits (commands bytes limits.steps) old new))
-    → IfErr result (λ fault. IfSome known (λ bytes. EndsServing request limits (commands bytes limits.steps) old new fault))
-    → IfSome known (λ bytes. IsEnded limits words bytes old new (end_of_request result))
-ended-request None limits words old new request result taken asked ok err = tt
-ended-request (Some bytes) limits words old new request (Ok done) taken asked ok err =
+    → IfErr result (λ fault. IfSome known (λ bytes. EndsServing request limits (commands bytes limits.steps) old new (Run fault)))
+    → IfSome known (λ bytes. IsEnded limits words bytes old new (end_of_run result))
+ended-run None limits words old new request result taken asked ok err = tt
+ended-run (Some bytes) limits words old new request (Ok done) taken asked ok err =
     record { request = request; taken = taken; asked = asked; holds = ok }
-ended-request (Some bytes) limits words old new request (Err fault) taken asked ok err =
+ended-run (Some bytes) limits words old new request (Err fault) taken asked ok err =
     inl (record { request = request; taken = taken; asked = asked; holds = err })
 
 -- and whatever is read, that end is one that the words leave open
-pub possible-request : {T : Type 0} (words : List (List ℕ)) (request : Request) (result : Result T RequestFault)
+pub possible-run : {T : Type 0} (words : List (List ℕ)) (request : Request) (result : Result T RunFault)
     → fault_of command_line words ≡ [] → IsAsked (subcommand_of command_line words) request
-    → IfErr result (CanEndServing request) → CanEnd words (end_of_request result)
-possible-request words request (Ok done) taken asked possible = record { request = request; taken = taken; asked = asked; holds = tt }
-possible-request words request (Err fault) taken asked possible =
+    → IfErr result (λ fault. CanEndServing request (Run fault)) → CanEnd words (end_of_run result)
+possible-run words request (Ok done) taken asked possible = record { request = request; taken = taken; asked = asked; holds = tt }
+possible-run words request (Err fault) taken asked possible =
     inl (record { request = request; taken = taken; asked = asked; holds = possible })

@@ -2,6 +2,7 @@
 use Rattle.std.specs.Prelude.{◌≡◌, ◌≢◌, ◌⊎◌, ℕ, Bool, true, false, List, [], ◌++◌, codes, Option, Some, None, Result, Ok, Err}
 use Rattle.clap.specs.Words.{kind_of}
 use Rattle.clap.specs.declared.error.kind.ErrorKind.TheVariants.{DisplayHelp, DisplayVersion, OutOfMemory}
+use Rattle.herd_report.specs.declared.run_fault.RunFault.{RunFault}
 use Rattle.herd_report.specs.declared.run_fault.RunFault.TheVariants.{Memory, Write}
 use Rattle.herdbook.specs.FaultText.{number_fault_text, request_fault_text}
 use Rattle.herdbook.specs.declared.arguments.WordsFault.{WordsFault}
@@ -33,10 +34,15 @@ abbrev pub end_of_unread : Bool → Ending
 end_of_unread true = Early (Run Memory)
 end_of_unread false = NotText
 
--- the end after what was asked for was begun
-abbrev pub end_of_request : {T : Type 0} → Result T RequestFault → Ending
-end_of_request (Ok done) = Done
-end_of_request (Err fault) = Early fault
+-- the end of a run
+abbrev pub end_of_run : {T : Type 0} → Result T RunFault → Ending
+end_of_run (Ok done) = Done
+end_of_run (Err fault) = Early (Run fault)
+
+-- the end of the clerks' work
+abbrev pub end_of_clerks : {T : Type 0} → Result T RequestFault → Ending
+end_of_clerks (Ok done) = Done
+end_of_clerks (Err fault) = Early fault
 
 -- the end after what the words ask to be shown was printed, or couldn't be
 abbrev pub end_of_shown : Bool → Ending

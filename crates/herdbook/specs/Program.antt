@@ -3,13 +3,11 @@ use Rattle.std.specs.Prelude.{◌≡◌, ◌⊎◌, ℕ, List, [], Option}
 use Rattle.clap.specs.Words.{fault_of, subcommand_of}
 use Rattle.herd_register.specs.Limits.{Limits}
 use Rattle.herd_report.specs.reading.CommandFile.{CommandFile, commands}
-use Rattle.herd_report.specs.Run.{CanEndBy, EndsBy, IsAnswered}
-use Rattle.herd_report.specs.declared.orders.Order.{Order}
+use Rattle.herd_report.specs.Run.{CanEndBy, CanEndReplying, EndsBy, EndsReplying, IsAnswered, IsReplied}
 use Rattle.herdbook.specs.Clerks.{CanEndClerks, EndsClerks, IsFiledBy}
 use Rattle.herdbook.specs.CommandLine.{command_line}
 use Rattle.herdbook.specs.Ending.{Explains}
-use Rattle.herdbook.specs.Words.{IsAsked, IsOrderFor, IsRefused}
-use Rattle.herdbook.specs.declared.arguments.OwnedOrder.{OwnedOrder}
+use Rattle.herdbook.specs.Words.{IsAsked, IsRefused}
 use Rattle.herdbook.specs.declared.arguments.Request.{Request}
 use Rattle.herdbook.specs.declared.arguments.Request.TheVariants as request
 use Rattle.herdbook.specs.declared.arguments.WordsFault.{WordsFault}
@@ -18,28 +16,26 @@ use Rattle.herdbook.specs.declared.ending.Ending.TheVariants.{Done, Early}
 use Rattle.herdbook.specs.declared.request_fault.RequestFault.{RequestFault}
 use Rattle.herdbook.specs.declared.request_fault.RequestFault.TheVariants.{Run, NoPlace}
 
--- an order that is lent for one that owns its sires, and of which a fact holds
-pub record Lends (asked : OwnedOrder) (Holds : Order → Type 0) : Type 0 where
-  pub order : Order
-  pub for : IsOrderFor asked order
-  pub holds : Holds order
-
 -- what a request asks for was carried out on a command file
 abbrev pub IsServed : Request → Limits → CommandFile → Option (List ℕ) → Option (List ℕ) → Type 0
-IsServed (request.Run asked) limits file old new = Lends asked (λ order. IsAnswered limits order file old new)
+IsServed request.File limits file old new = IsReplied limits file old new
+IsServed (request.Report order) limits file old new = IsAnswered limits order file old new
 IsServed (request.Clerks plan) limits file old new = IsFiledBy limits plan.desks plan.base file old new
 
 -- how it may end early
 abbrev pub EndsServing : Request → Limits → CommandFile → Option (List ℕ) → Option (List ℕ) → RequestFault → Type 0
-EndsServing (request.Run asked) limits file old new (Run fault) =
-    Lends asked (λ order. EndsBy limits order file old new fault)
-EndsServing (request.Run asked) limits file old new NoPlace = ⊥
+EndsServing request.File limits file old new (Run fault) = EndsReplying limits file old new fault
+EndsServing request.File limits file old new NoPlace = ⊥
+EndsServing (request.Report order) limits file old new (Run fault) = EndsBy limits order file old new fault
+EndsServing (request.Report order) limits file old new NoPlace = ⊥
 EndsServing (request.Clerks plan) limits file old new fault = EndsClerks limits plan.desks plan.base file old new fault
 
 -- the faults that it can end by, whatever is read
 abbrev pub CanEndServing : Request → RequestFault → Type 0
-CanEndServing (request.Run asked) (Run fault) = Lends asked (λ order. CanEndBy order fault)
-CanEndServing (request.Run asked) NoPlace = ⊥
+CanEndServing request.File (Run fault) = CanEndReplying fault
+CanEndServing request.File NoPlace = ⊥
+CanEndServing (request.Report order) (Run fault) = CanEndBy order fault
+CanEndServing (request.Report order) NoPlace = ⊥
 CanEndServing (request.Clerks plan) fault = CanEndClerks fault
 
 -- `clap` takes the words, and a fact holds of the request that they make

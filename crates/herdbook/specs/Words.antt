@@ -9,16 +9,14 @@ use Rattle.herd_animal.specs.declared.number.NumberFault.{NumberFault}
 use Rattle.herd_office.specs.declared.limits.TheConstants.{MOST_DESKS}
 use Rattle.herd_pool.specs.declared.limits.TheConstants.{DEFAULT_BLOCK, MOST_WORKERS}
 use Rattle.herd_report.specs.declared.orders.Order.{Order}
-use Rattle.herd_report.specs.declared.orders.Order.TheVariants.{File, Inbreeding, Certificate, Mating, Inverse, Relationships}
+use Rattle.herd_report.specs.declared.orders.Order.TheVariants.{Inbreeding, Certificate, Mating, Inverse, Relationships}
+use Rattle.herd_report.specs.declared.work_plan.WorkPlan.{WorkPlan}
 use Rattle.herdbook.specs.CommandLine.{command_line}
-use Rattle.herdbook.specs.declared.arguments.OwnedOrder.{OwnedOrder}
-use Rattle.herdbook.specs.declared.arguments.OwnedOrder.TheVariants as asked
 use Rattle.herdbook.specs.declared.arguments.Request.{Request}
-use Rattle.herdbook.specs.declared.arguments.Request.TheVariants.{Run, Clerks}
+use Rattle.herdbook.specs.declared.arguments.Request.TheVariants.{File, Report, Clerks}
 use Rattle.herdbook.specs.declared.arguments.WordsFault.{WordsFault}
 use Rattle.herdbook.specs.declared.arguments.WordsFault.TheVariants.{Words, Number}
-use Rattle.herdbook.specs.declared.plans.DeskPlan.{DeskPlan}
-use Rattle.herdbook.specs.declared.plans.WorkPlan.{WorkPlan}
+use Rattle.herdbook.specs.declared.deal.DeskPlan.{DeskPlan}
 use Rattle.herdbook.specs.Limits.{program_limits}
 
 -- a subcommand's name, and what was found of its arguments
@@ -63,47 +61,29 @@ IsDeskPlanOf rows plan =
     IsNumberOr 1 MOST_DESKS 2 (one_of (codes "desks") rows) plan.desks
     × IsNumberOr 0 program_limits.steps 0 (one_of (codes "base") rows) plan.base
 
-abbrev pub IsAskedOfRun : Found → OwnedOrder → Type 0
-IsAskedOfRun found asked.File =
+-- what is asked of the book
+abbrev pub IsOrdered : Found → Order → Type 0
+IsOrdered found (Inbreeding plan) =
+    (name_in found ≡ Some (codes "inbreeding")) × IsWorkPlanOf (rows_in found) plan
+IsOrdered found (Certificate number) =
+    (name_in found ≡ Some (codes "certificate")) × (text_of (codes "NUMBER") (rows_in found) ≡ number)
+IsOrdered found (Mating dam sires) =
+    (name_in found ≡ Some (codes "mating"))
+    × (text_of (codes "dam") (rows_in found) ≡ dam)
+    × (texts_of (codes "SIRE") (rows_in found) ≡ sires.now)
+IsOrdered found Inverse = name_in found ≡ Some (codes "inverse")
+IsOrdered found (Relationships numbers others) =
+    (name_in found ≡ Some (codes "relationships"))
+    × (texts_of (codes "NUMBER") (rows_in found) ≡ numbers.now)
+    × (texts_of (codes "with") (rows_in found) ≡ others.now)
+
+abbrev pub IsAsked : Found → Request → Type 0
+IsAsked found File =
     (name_in found ≢ Some (codes "inbreeding")) × (name_in found ≢ Some (codes "certificate"))
     × (name_in found ≢ Some (codes "mating")) × (name_in found ≢ Some (codes "inverse"))
     × (name_in found ≢ Some (codes "relationships")) × (name_in found ≢ Some (codes "clerks"))
-IsAskedOfRun found (asked.Inbreeding plan) =
-    (name_in found ≡ Some (codes "inbreeding")) × IsWorkPlanOf (rows_in found) plan
-IsAskedOfRun found (asked.Certificate number) =
-    (name_in found ≡ Some (codes "certificate")) × (text_of (codes "NUMBER") (rows_in found) ≡ number)
-IsAskedOfRun found (asked.Mating dam sires) =
-    (name_in found ≡ Some (codes "mating"))
-    × (text_of (codes "dam") (rows_in found) ≡ dam)
-    × (texts_of (codes "SIRE") (rows_in found) ≡ sires.items)
-IsAskedOfRun found asked.Inverse = name_in found ≡ Some (codes "inverse")
-IsAskedOfRun found (asked.Relationships numbers others) =
-    (name_in found ≡ Some (codes "relationships"))
-    × (texts_of (codes "NUMBER") (rows_in found) ≡ numbers.items)
-    × (texts_of (codes "with") (rows_in found) ≡ others.items)
-
-abbrev pub IsAsked : Found → Request → Type 0
-IsAsked found (Run order) = IsAskedOfRun found order
+IsAsked found (Report order) = IsOrdered found order
 IsAsked found (Clerks plan) = (name_in found ≡ Some (codes "clerks")) × IsDeskPlanOf (rows_in found) plan
-
--- mating advice is ordered for this dam and these sires
-abbrev pub IsAdvice : List ℕ → List (List ℕ) → Order → Type 0
-IsAdvice dam sires (Mating d s) = (d ≡ dam) × (s.now ≡ sires)
-IsAdvice dam sires order = ⊥
-
--- relationships are ordered of these animals with these others
-abbrev pub IsOfPairs : List (List ℕ) → List (List ℕ) → Order → Type 0
-IsOfPairs numbers others (Relationships n o) = (n.now ≡ numbers) × (o.now ≡ others)
-IsOfPairs numbers others order = ⊥
-
--- the order that is lent for one that owns its numbers
-abbrev pub IsOrderFor : OwnedOrder → Order → Type 0
-IsOrderFor asked.File order = order ≡ File
-IsOrderFor (asked.Inbreeding plan) order = order ≡ Inbreeding plan.workers plan.block
-IsOrderFor (asked.Certificate number) order = order ≡ Certificate number
-IsOrderFor (asked.Mating dam sires) order = IsAdvice dam sires.items order
-IsOrderFor asked.Inverse order = order ≡ Inverse
-IsOrderFor (asked.Relationships numbers others) order = IsOfPairs numbers.items others.items order
 
 -- the fault is that of the first text that is no animal number
 pub record IsFirstFault (texts : List Text) (fault : NumberFault) : Type 0 where

@@ -1,53 +1,31 @@
 //! The words of the command line.
 
-ghost use Rattle.std.specs.Prelude.{◌≡◌, ◌≤◌, [], All, IfErr, IfOk, codes, map, string_bytes};
+ghost use Rattle.std.specs.Prelude.{◌≡◌, ◌≤◌, ◌++◌, [], All, IfErr, IfOk, OnOk, codes, map, string_bytes};
 ghost use Rattle.clap.specs.Words.{App, Rule, app_of, fault_of, found_of, new_app, one_of, rows_of, subcommand_of, subcommand_rows_of, with_rule};
 ghost use Rattle.herd_animal.specs.AnimalNumber.{IsAnimalNumber};
 ghost use Rattle.herd_animal.specs.NumberFault.{IsNumberFault};
 ghost use Rattle.herdbook.specs.CommandLine.{IsArgumentOf, IsCommandOf, certificate_line, clerks_line, command_line, dam_rule, file_line, inbreeding_line, inverse_line, line_with, mating_line, number_option, partners_rule, program, relationships_line, runs_line, several_rule};
-ghost use Rattle.herd_report.specs.Run.{IsOrder};
-ghost use Rattle.herdbook.specs.Words.{IsAsked, IsDeskPlanOf, IsFirstFault, IsMatingFault, IsNumberOr, IsOrderFor, IsPairsFault, IsRefused, IsUnread, IsWorkPlanOf, IsWrongNumber, text_of, texts_of};
+ghost use Rattle.herdbook.specs.Words.{IsAsked, IsDeskPlanOf, IsFirstFault, IsNumberOr, IsRefused, IsUnread, IsWorkPlanOf, IsWrongNumber, text_of, texts_of};
 
+use crate::deal::DeskPlan;
 use crate::help;
-use crate::plans::{DeskPlan, WorkPlan};
 use crate::program::LIMITS;
 use clap::{Arg, ArgAction, ArgMatches, Command};
 use herd_animal::{AnimalNumber, NumberFault};
 use herd_office::MOST_DESKS;
 use herd_pool::{DEFAULT_BLOCK, MOST_WORKERS};
-use herd_report::Order;
+use herd_report::{Order, WorkPlan};
 use std::alloc::{AllocError, Global};
 
 /// What the words ask for.
-#[derive(Drop)]
-pub enum Request {
-    /// One thread files the commands, and what is ordered of them is written.
-    Run(OwnedOrder),
-    /// The commands are filed at several desks, each with a clerk in a thread of its own.
-    Clerks(DeskPlan),
-}
-
-/// An order of a run, which owns its list of sires.
-#[derive(Drop)]
-pub enum OwnedOrder {
+#[derive(Clone, Copy)]
+pub enum Request<'a> {
     /// The reply to each command.
     File,
-    /// Each animal's coefficient.
-    Inbreeding(WorkPlan),
-    /// The certificate of an animal.
-    Certificate(AnimalNumber),
-    /// For each sire, in the order given, the coefficient of a calf of his and the dam's.
-    Mating {
-        dam: AnimalNumber,
-        sires: Vec<AnimalNumber>,
-    },
-    /// What each animal adds to the inverse relationship matrix.
-    Inverse,
-    /// The relationship of each of some animals with each of others, or where there are none with one another.
-    Relationships {
-        numbers: Vec<AnimalNumber>,
-        others: Vec<AnimalNumber>,
-    },
+    /// What is ordered of the book.
+    Report(Order<'a>),
+    /// The commands are filed at several desks, each with a clerk in a thread of its own.
+    Clerks(DeskPlan),
 }
 
 /// Why the words ask for nothing.
@@ -91,95 +69,54 @@ impl From<NumberFault> for WordsFault {
     }
 }
 
-impl OwnedOrder {
-    /// The order, which borrows the sires.
-    pub fn lend(&self) -> Order<'_>
-        ensures asked { IsOrderFor self.now result }
-        ensures possible { IsOrder result }
-    {
-        match self {
-            OwnedOrder::File => Order::File,
-            OwnedOrder::Inbreeding(plan) => Order::Inbreeding {
-                workers: plan.workers,
-                block: plan.block,
-            },
-            OwnedOrder::Certificate(number) => Order::Certificate(*number),
-            OwnedOrder::Mating { dam, sires } => Order::Mating {
-                dam: *dam,
-                sires: sires.as_slice(),
-            },
-            OwnedOrder::Inverse => Order::Inverse,
-            OwnedOrder::Relationships { numbers, others } => Order::Relationships {
-                numbers: numbers.as_slice(),
-                others: others.as_slice(),
-            },
-        }
-    }
-}
-
-/// Reads the words of the command line, the program's own name first.
-pub fn read_words(alloc: Global, words: &[String]) -> Result<Request, WordsFault>
+/// Reads the words of the command line, the program's own name first. A list is given for the numbers that the request
+/// then lends; what it held is let go.
+pub fn read_words<'a>(
+    alloc: Global,
+    words: &[String],
+    list: &'a mut Vec<AnimalNumber>,
+) -> Result<Request<'a>, WordsFault>
     ensures asked { IfOk result (IsAsked (subcommand_of command_line (map string_bytes words.now))) }
     ensures taken { IfOk result (λ _. fault_of command_line (map string_bytes words.now) ≡ []) }
     ensures refused { IfErr result (IsRefused (map string_bytes words.now)) }
 {
     let matches = command(alloc)?.try_get_matches_from(words)?;
-    request_of(alloc, &matches)
+    request_of(&matches, list)
 }
 
-fn request_of(alloc: Global, matches: &ArgMatches<'_>) -> Result<Request, WordsFault>
+fn request_of<'a>(
+    matches: &ArgMatches<'_>,
+    list: &'a mut Vec<AnimalNumber>,
+) -> Result<Request<'a>, WordsFault>
     ensures asked { IfOk result (IsAsked (subcommand_rows_of matches.now)) }
     ensures unread { IfErr result (IsUnread (IsWrongNumber (subcommand_rows_of matches.now))) }
 {
+    list.clear();
     match matches.subcommand() {
         Some(("inbreeding", given)) => {
-            let plan = work_plan_of(given);
-            Ok(Request::Run(OwnedOrder::Inbreeding(plan)))
+            Ok(Request::Report(Order::Inbreeding(work_plan_of(given))))
         }
         Some(("certificate", given)) => {
             let number = number_argument(given, "NUMBER")?;
-            Ok(Request::Run(OwnedOrder::Certificate(number)))
+            Ok(Request::Report(Order::Certificate(number)))
         }
         Some(("mating", given)) => {
-            let (dam, sires) = candidates_of(alloc, given)?;
-            Ok(Request::Run(OwnedOrder::Mating { dam, sires }))
+            let dam = number_argument(given, "dam")?;
+            add_numbers(given, "SIRE", list)?;
+            let sires = list.as_slice();
+            Ok(Request::Report(Order::Mating { dam, sires }))
         }
-        Some(("inverse", _)) => Ok(Request::Run(OwnedOrder::Inverse)),
+        Some(("inverse", _)) => Ok(Request::Report(Order::Inverse)),
         Some(("relationships", given)) => {
-            let (numbers, others) = animals_of(alloc, given)?;
-            Ok(Request::Run(OwnedOrder::Relationships { numbers, others }))
+            add_numbers(given, "NUMBER", list)?;
+            let count = list.len();
+            add_numbers(given, "with", list)?;
+            let (numbers, others) = list.as_slice().split_at(count);
+            Ok(Request::Report(Order::Relationships { numbers, others }))
         }
         Some(("clerks", given)) => Ok(Request::Clerks(desk_plan_of(given))),
-        _ => Ok(Request::Run(OwnedOrder::File)),
+        _ => Ok(Request::File),
     }
-}
-
-// The dam and the sires of a mating.
-fn candidates_of(
-    alloc: Global,
-    given: &ArgMatches<'_>,
-) -> Result<(AnimalNumber, Vec<AnimalNumber>), WordsFault>
-    ensures dam { IfOk result (λ read. text_of (codes "dam") (rows_of (found_of given.now)) ≡ read.0) }
-    ensures sires { IfOk result (λ read. texts_of (codes "SIRE") (rows_of (found_of given.now)) ≡ read.1.items) }
-    ensures unread { IfErr result (IsUnread (IsMatingFault (rows_of (found_of given.now)))) }
-{
-    let dam = number_argument(given, "dam")?;
-    let sires = numbers_under(alloc, given, "SIRE")?;
-    Ok((dam, sires))
-}
-
-// The animals whose relationships are asked for, and those with which.
-fn animals_of(
-    alloc: Global,
-    given: &ArgMatches<'_>,
-) -> Result<(Vec<AnimalNumber>, Vec<AnimalNumber>), WordsFault>
-    ensures numbers { IfOk result (λ read. texts_of (codes "NUMBER") (rows_of (found_of given.now)) ≡ read.0.items) }
-    ensures others { IfOk result (λ read. texts_of (codes "with") (rows_of (found_of given.now)) ≡ read.1.items) }
-    ensures unread { IfErr result (IsUnread (IsPairsFault (rows_of (found_of given.now)))) }
-{
-    let numbers = numbers_under(alloc, given, "NUMBER")?;
-    let others = numbers_under(alloc, given, "with")?;
-    Ok((numbers, others))
 }
 
 fn work_plan_of(given: &ArgMatches<'_>) -> WorkPlan
@@ -212,30 +149,29 @@ fn option_or(given: &ArgMatches<'_>, id: &str, least: u32, most: u32, other: u32
     }
 }
 
-// The numbers under an argument that takes several.
-fn numbers_under(
-    alloc: Global,
+// Adds the numbers under an argument that takes several.
+fn add_numbers(
     given: &ArgMatches<'_>,
     id: &str,
-) -> Result<Vec<AnimalNumber>, WordsFault>
-    ensures read { IfOk result (λ numbers. texts_of id.now (rows_of (found_of given.now)) ≡ numbers.items) }
-    ensures right { IfOk result (λ _. All IsAnimalNumber (texts_of id.now (rows_of (found_of given.now)))) }
+    list: &mut Vec<AnimalNumber>,
+) -> Result<(), WordsFault>
+    ensures read { OnOk result (list.new.items ≡ list.old.items ++ texts_of id.now (rows_of (found_of given.now))) }
+    ensures right { OnOk result (All IsAnimalNumber (texts_of id.now (rows_of (found_of given.now)))) }
     ensures unread { IfErr result (IsUnread (IsFirstFault (texts_of id.now (rows_of (found_of given.now))))) }
 {
-    numbers_of(alloc, given.get_strs(id).unwrap_or(&[]))
+    add_texts(given.get_strs(id).unwrap_or(&[]), list)
 }
 
-fn numbers_of(alloc: Global, texts: &[&str]) -> Result<Vec<AnimalNumber>, WordsFault>
-    ensures read { IfOk result (λ numbers. map (λ text. text.now) texts.now ≡ numbers.items) }
-    ensures right { IfOk result (λ _. All IsAnimalNumber (map (λ text. text.now) texts.now)) }
+fn add_texts(texts: &[&str], list: &mut Vec<AnimalNumber>) -> Result<(), WordsFault>
+    ensures read { OnOk result (list.new.items ≡ list.old.items ++ map (λ text. text.now) texts.now) }
+    ensures right { OnOk result (All IsAnimalNumber (map (λ text. text.now) texts.now)) }
     ensures unread { IfErr result (IsUnread (IsFirstFault (map (λ text. text.now) texts.now))) }
 {
-    let mut numbers = Vec::new(alloc);
     for text in texts {
         let number = AnimalNumber::parse(text.as_bytes())?;
-        numbers.push(number).map_err(AllocError::from)?;
+        list.push(number).map_err(AllocError::from)?;
     }
-    Ok(numbers)
+    Ok(())
 }
 
 // The number under an argument that must be there.

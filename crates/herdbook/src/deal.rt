@@ -3,8 +3,18 @@ ghost use Rattle.std.specs.Prelude.{◌≡◌, ◌≤◌, drop, length, take};
 ghost use Rattle.herd_office.specs.declared.limits.TheConstants.{MOST_DESKS};
 ghost use Rattle.herd_register.specs.declared.limits.TheConstants.{MOST_STEPS};
 
-use crate::plans::DeskPlan;
 use herd_register::Command;
+
+/// How desks share the commands of a file.
+#[derive(Clone, Copy)]
+pub struct DeskPlan {
+    /// From 1 to `MOST_DESKS`.
+    pub desks: u16,
+    /// How many of the first commands desk 1 files before any other.
+    pub base: u32,
+    pub ghost some: { 1 ≤ desks },
+    pub ghost most: { desks ≤ MOST_DESKS },
+}
 
 /// Commands that are dealt to so many desks: the first ones to desk 1, and then the rest to the desks in turn, from
 /// desk 1 on.

@@ -1,9 +1,9 @@
 //! Filing a command file at several desks, each with a clerk in a thread of its own.
-ghost use Rattle.std.specs.Prelude.{◌≡◌, ◌≤◌, All, IfErr, IfOk, IfSome, None, OnOk, drop, length, map, take, vec_len};
+ghost use Rattle.std.specs.Prelude.{◌≡◌, ◌≤◌, All, IfErr, IfOk, IfSome, OnOk, drop, length, map, take, vec_len};
 ghost use Rattle.std.specs.List.{range_with_len};
 ghost use Rattle.std.specs.Io.KnownBytes.{Appends};
 ghost use Rattle.herd_register.specs.Run.{IsLegal};
-ghost use Rattle.herd_report.specs.reading.CommandFile.{CommandFile, IsRead, commands};
+ghost use Rattle.herd_report.specs.reading.CommandFile.{commands};
 ghost use Rattle.herd_office.specs.Beginnings.{BeginsWithAll};
 ghost use Rattle.herd_office.specs.Opening.{AreFresh};
 ghost use Rattle.herd_office.specs.Parts.{AreNamed};
@@ -15,8 +15,7 @@ ghost use Rattle.herdbook.specs.declared.deal.Deal.{Deal};
 use crate::clerk::file_turn;
 use crate::clerk_fault::ClerkFault;
 use crate::crew::file_in_turn;
-use crate::deal::Deal;
-use crate::plans::DeskPlan;
+use crate::deal::{Deal, DeskPlan};
 use crate::request_fault::RequestFault;
 use crate::summary::{DeskCount, Summary, text_of};
 use herd_office::{Desk, Inspector, Office, OfficeName, OfficeParts};
@@ -52,26 +51,7 @@ pub fn clerks<H: Threads + Wait + Sync, R: Read + Drop, W: Write>(
 {
     let mut list = Vec::new(alloc);
     list_commands(alloc, reader, limits.steps, &mut list)?;
-    file_all(rt, alloc, limits, plan, list.as_slice(), writer)
-}
-
-// Has the commands of a file without a fault filed, and writes the summary.
-fn file_all<H: Threads + Wait + Sync, W: Write>(
-    rt: &H,
-    alloc: Global,
-    limits: Limits,
-    plan: DeskPlan,
-    commands: &[Command],
-    writer: &mut W,
-) -> Result<(), RequestFault>
-    requires { length commands.now ≤ limits.steps }
-    ensures ok { OnOk result ((file : CommandFile) → IsRead limits.steps file commands.now None
-        → IsFiledBy limits plan.desks plan.base file (W.contents writer.old) (W.contents writer.new)) }
-    ensures err { IfErr result (λ fault. (file : CommandFile) → IsRead limits.steps file commands.now None
-        → EndsClerks limits plan.desks plan.base file (W.contents writer.old) (W.contents writer.new) fault) }
-    ensures fault { IfErr result CanEndClerks }
-{
-    let summary = summary_of(rt, alloc, limits, plan, commands)?;
+    let summary = summary_of(rt, alloc, limits, plan, list.as_slice())?;
     Ok(write_summary(alloc, &summary, writer)?)
 }
 

@@ -1,7 +1,7 @@
 //! How the program ends: with which status, and what it tells on standard error.
 
 ghost use Rattle.std.specs.Prelude.{◌≡◌};
-ghost use Rattle.herdbook.specs.Ending.{Explains, end_of_shown, end_of_request, end_of_unread, status_of};
+ghost use Rattle.herdbook.specs.Ending.{Explains, end_of_clerks, end_of_run, end_of_shown, end_of_unread, status_of};
 
 use crate::arguments::WordsFault;
 use crate::fault_text::{NumberFaultText, RequestFaultText};
@@ -54,9 +54,19 @@ impl Ending {
         }
     }
 
-    /// The end after what was asked for was begun.
-    pub fn of_request(ended: Result<(), RequestFault>) -> Ending
-        ensures { result ≡ end_of_request ended }
+    /// The end of a run.
+    pub fn of_run(ended: Result<(), RunFault>) -> Ending
+        ensures { result ≡ end_of_run ended }
+    {
+        match ended {
+            Ok(()) => Ending::Done,
+            Err(fault) => Ending::Early(RequestFault::Run(fault)),
+        }
+    }
+
+    /// The end of the clerks' work.
+    pub fn of_clerks(ended: Result<(), RequestFault>) -> Ending
+        ensures { result ≡ end_of_clerks ended }
     {
         match ended {
             Ok(()) => Ending::Done,

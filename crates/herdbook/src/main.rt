@@ -1,13 +1,13 @@
 //! The herd book of a breed society, as a program over standard input and output.
 //!
-//! The words of the command line are read first. They ask for help or the version, for a run of `herd_report`, or for
-//! `clerks`: the commands of a file, filed at the desks of an office by clerks side by side. How the program ends is a
-//! value, made from what was asked and what came of it (`Ending`); only `main` prints it, or tells it on standard
-//! error.
+//! The words of the command line are read first. They ask for help or the version, for the replies to a command file or
+//! an order of its book, which `herd_report` carries out, or for `clerks`: the commands of a file, filed at the desks of
+//! an office by clerks side by side. How the program ends is a value, made from what was asked and what came of it
+//! (`Ending`); only `main` prints it, or tells it on standard error.
 //!
 //! | | definition (`specs/`) | code (`src/`) | proof (`proofs/`) |
 //! |---|---|---|---|
-//! | the words, what they ask for | `CommandLine`, `Words` | `arguments`, `plans` | `CommandFacts`, `WordsFacts` |
+//! | the words, what they ask for | `CommandLine`, `Words` | `arguments` | `CommandFacts`, `WordsFacts` |
 //! | the texts of help and of the version | | `help` | |
 //! | what the program does for its words | `Program` | `program` | `ProgramFacts` |
 //! | how it ends, what is told on standard error | `Ending`, `FaultText` | `ending`, `request_fault`, `fault_text` | |
@@ -26,7 +26,6 @@ mod desks;
 mod ending;
 mod fault_text;
 mod help;
-mod plans;
 mod program;
 mod request_fault;
 mod summary;

@@ -1,17 +1,15 @@
 //! What the program does, but for printing help and what it tells on standard error.
 
-ghost use Rattle.std.specs.Prelude.{◌≡◌, IfErr, IfSome, OnOk, map, string_bytes};
-ghost use Rattle.herd_report.specs.reading.CommandFile.{commands};
-ghost use Rattle.herdbook.specs.Program.{CanEnd, CanEndServing, EndsServing, IsEnded, IsServed, IsUntouchedUnlessAsked};
+ghost use Rattle.std.specs.Prelude.{◌≡◌, IfSome, map, string_bytes};
+ghost use Rattle.herdbook.specs.Program.{CanEnd, IsEnded, IsUntouchedUnlessAsked};
 ghost use Rattle.herdbook.specs.Limits.{program_limits};
 
 use crate::arguments::{Request, read_words};
 use crate::desks::clerks;
 use crate::ending::Ending;
-use crate::request_fault::RequestFault;
 use herd_frozen::MOST_ANIMALS;
 use herd_register::{Limits, MOST_STEPS};
-use herd_report::run;
+use herd_report::{answer_file, run};
 use std::alloc::Global;
 use std::io::{Read, Write};
 use std::sync::Wait;
@@ -38,31 +36,15 @@ pub fn carry_out<H: Threads + Wait + Sync, R: Read + Drop, W: Write>(
     ensures possible { CanEnd (map string_bytes words.now) result }
     ensures unasked { IsUntouchedUnlessAsked (writer.new ≡ writer.old) result }
 {
-    let request = match read_words(alloc, words) {
-        Ok(request) => request,
-        Err(fault) => return Ending::of_words(fault),
-    };
-    Ending::of_request(served(rt, alloc, &request, reader, writer))
-}
-
-// Does what is asked for.
-fn served<H: Threads + Wait + Sync, R: Read + Drop, W: Write>(
-    rt: &H,
-    alloc: Global,
-    request: &Request,
-    reader: R,
-    writer: &mut W,
-) -> Result<(), RequestFault>
-    ensures ok { OnOk result (IfSome (R.remaining reader)
-        (λ bytes. IsServed request.now program_limits (commands bytes program_limits.steps)
-        (W.contents writer.old) (W.contents writer.new))) }
-    ensures err { IfErr result (λ fault. IfSome (R.remaining reader)
-        (λ bytes. EndsServing request.now program_limits (commands bytes program_limits.steps)
-        (W.contents writer.old) (W.contents writer.new) fault)) }
-    ensures possible { IfErr result (CanEndServing request.now) }
-{
-    match request {
-        Request::Run(asked) => Ok(run(rt, alloc, LIMITS, asked.lend(), reader, writer)?),
-        Request::Clerks(plan) => clerks(rt, alloc, LIMITS, *plan, reader, writer),
+    let mut list = Vec::new(alloc);
+    match read_words(alloc, words, &mut list) {
+        Ok(Request::File) => Ending::of_run(answer_file(alloc, LIMITS, reader, writer)),
+        Ok(Request::Report(order)) => {
+            Ending::of_run(run(rt, alloc, LIMITS, &order, reader, writer))
+        }
+        Ok(Request::Clerks(plan)) => {
+            Ending::of_clerks(clerks(rt, alloc, LIMITS, plan, reader, writer))
+        }
+        Err(fault) => Ending::of_words(fault),
     }
 }

@@ -14,14 +14,6 @@ pub enum RequestFault {
     NoPlace,
 }
 
-impl From<RunFault> for RequestFault {
-    ghost from_gives = { λ fault told. told ≡ Run fault };
-
-    fn from(fault: RunFault) -> RequestFault {
-        RequestFault::Run(fault)
-    }
-}
-
 impl From<LineFault> for RequestFault {
     ghost use Rattle.herd_report.specs.declared.run_fault.RunFault.TheVariants.{Line};
 

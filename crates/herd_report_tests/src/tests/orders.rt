@@ -1,4 +1,4 @@
-//! Whole runs: where the reader or the writer stops.
+//! Replies and orders: where the reader or the writer stops.
 
 use super::books::{FULL_SIBS, TRANSFERS};
 use super::breaks_after::BreaksAfter;
@@ -6,11 +6,9 @@ use super::stops_after::{StopsAfter, Then};
 use herd_animal::AnimalNumber;
 use herd_fixtures::Name::{Bull, Cow};
 use herd_register::Limits;
-use herd_report::{LineCause, LineFault, Order, RunFault, run};
+use herd_report::{LineCause, LineFault, Order, RunFault, WorkPlan, answer_file, run};
 use std::process::Abort;
-use std::sync::Wait;
 use std::test::Fail;
-use std::thread::Threads;
 
 const LIMITS: Limits = Limits {
     animals: 10,
@@ -35,7 +33,7 @@ const REPLIES: [&[u8]; 9] = [
 macro_rules! run_order {
     ($rt:ident, $order:expr, $writer:expr) => {{
         let _unknown: Option<AnimalNumber> = None;
-        run(&$rt, $rt.alloc(), LIMITS, $order, FULL_SIBS, $writer)
+        run(&$rt, $rt.alloc(), LIMITS, &$order, FULL_SIBS, $writer)
     }};
 }
 
@@ -47,14 +45,14 @@ fn line(record_number: u32, cause: LineCause) -> Result<(), RunFault> {
 }
 
 // Files a file, and wants the first so many replies and this end.
-fn expect_replies<R: AllocGlobal + Abort + Threads + Wait + Sync>(
+fn expect_replies<R: AllocGlobal + Abort>(
     rt: &R,
     file: BreaksAfter<'_>,
     count: usize,
     end: Result<(), RunFault>,
 ) -> Result<(), Fail> {
     let mut text = Vec::new(rt.alloc());
-    let outcome = run(rt, rt.alloc(), LIMITS, Order::File, file, &mut text);
+    let outcome = answer_file(rt.alloc(), LIMITS, file, &mut text);
     assert_eq!(rt; outcome, end);
     expect_first_replies(rt, text.as_slice(), count)
 }
@@ -114,20 +112,23 @@ where
 fn stops_where_the_writer_does(rt: HostRuntime) -> Result<(), Fail> {
     let number = Bull(5).number();
     let (dam, sires) = (Cow(4).number(), [Bull(3).number()]);
-    expect_stops(&rt, |writer| run_order!(rt, Order::File, writer))?;
+    expect_stops(
+        &rt,
+        |writer| answer_file(rt.alloc(), LIMITS, FULL_SIBS, writer),
+    )?;
     expect_stops(&rt, |writer| {
-        let order = Order::Inbreeding {
+        let plan = WorkPlan {
             workers: 1,
             block: 1,
         };
-        run_order!(rt, order, writer)
+        run_order!(rt, Order::Inbreeding(plan), writer)
     })?;
     expect_stops(&rt, |writer| {
-        let order = Order::Inbreeding {
+        let plan = WorkPlan {
             workers: 2,
             block: 1,
         };
-        run_order!(rt, order, writer)
+        run_order!(rt, Order::Inbreeding(plan), writer)
     })?;
     expect_stops(
         &rt,

@@ -6,6 +6,7 @@ use super::books::{SIX, pairs_and};
 use super::support::{
     Header, coefficients, expect, file, lines, push_lines, replies, shared_coefficients,
 };
+use herd_report::WorkPlan;
 use std::process::Abort;
 use std::sync::Wait;
 use std::test::Fail;
@@ -152,7 +153,8 @@ fn expect_in_blocks<R: Abort + AllocGlobal + Threads + Wait + Sync>(
     requires { (1 ≤ workers) × (workers ≤ MOST_WORKERS) }
 {
     for block in [1, 7, 60_000] {
-        let (outcome, written) = shared_coefficients(rt, workers, block, bytes);
+        let plan = WorkPlan { workers, block };
+        let (outcome, written) = shared_coefficients(rt, plan, bytes);
         assert_eq!(rt; outcome, Ok(()));
         assert_eq!(rt;
             written.as_slice(),

@@ -1,12 +1,10 @@
 //! What the tests have in common: command files and texts in which numbers are written short.
-ghost use Rattle.std.specs.Prelude.{◌≤◌};
-ghost use Rattle.herd_pool.specs.declared.limits.TheConstants.{MOST_WORKERS};
 
 use herd_animal::AnimalNumber;
 use herd_fixtures::Name;
 use herd_frozen::MOST_ANIMALS;
 use herd_register::{Limits, MOST_STEPS, Register};
-use herd_report::{Order, RunFault, read_commands};
+use herd_report::{Order, RunFault, WorkPlan, answer_file, read_commands};
 use std::alloc::{AllocError, Global};
 use std::process::Abort;
 use std::sync::Wait;
@@ -68,7 +66,7 @@ fn push_field(text: &mut String, field: &str) -> Result<(), AllocError> {
     }
 }
 
-/// What a run came to: its outcome, and what it wrote.
+/// What a run, or the filing for replies, came to: its outcome, and what it wrote.
 pub type Ran = (Result<(), RunFault>, Vec<u8>);
 
 // Runs an order on the bytes of a command file. It is no function, since one that is given an order gets no proof
@@ -81,7 +79,7 @@ macro_rules! ran {
             $rt,
             $rt.alloc(),
             LIMITS,
-            $order,
+            &$order,
             $bytes,
             &mut written,
         );
@@ -89,27 +87,29 @@ macro_rules! ran {
     }};
 }
 
-/// Runs a command file for its replies.
-pub(super) fn replies<R: AllocGlobal + Threads + Wait + Sync>(rt: &R, bytes: &[u8]) -> Ran {
-    ran!(rt, Order::File, bytes)
+/// Files a command file for its replies.
+pub(super) fn replies<R: AllocGlobal>(rt: &R, bytes: &[u8]) -> Ran {
+    let mut written = Vec::new(rt.alloc());
+    let outcome = answer_file(rt.alloc(), LIMITS, bytes, &mut written);
+    (outcome, written)
 }
 
 /// Runs a command file for the list of coefficients.
 pub(super) fn coefficients<R: AllocGlobal + Threads + Wait + Sync>(rt: &R, bytes: &[u8]) -> Ran {
-    shared_coefficients(rt, 1, herd_pool::DEFAULT_BLOCK, bytes)
+    let plan = WorkPlan {
+        workers: 1,
+        block: herd_pool::DEFAULT_BLOCK,
+    };
+    shared_coefficients(rt, plan, bytes)
 }
 
-/// Runs a command file for the list of coefficients, which so many workers share in blocks of this length.
+/// Runs a command file for the list of coefficients, which workers share by this plan.
 pub(super) fn shared_coefficients<R: AllocGlobal + Threads + Wait + Sync>(
     rt: &R,
-    workers: u32,
-    block: u32,
+    plan: WorkPlan,
     bytes: &[u8],
-) -> Ran
-    requires workers { (1 ≤ workers) × (workers ≤ MOST_WORKERS) }
-    requires block { 1 ≤ block }
-{
-    ran!(rt, Order::Inbreeding { workers, block }, bytes)
+) -> Ran {
+    ran!(rt, Order::Inbreeding(plan), bytes)
 }
 
 /// Runs a command file for the certificate of an animal.

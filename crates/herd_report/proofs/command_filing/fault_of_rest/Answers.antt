@@ -18,12 +18,12 @@ loop-fault-preserved g c =
       gives = λ file list whole. let far = before.gives file list whole in (far.0 ++ c.in-Ok-Some.field-0-0 ∷ [], gives file far.0 far.1);
     }
 
-pub returns-in-Ok-None : goal.returns-in-Ok-None
-returns-in-Ok-None g c =
+pub returns-in-Ok-None-clause-file : goal.returns-in-Ok-None-clause-file
+returns-in-Ok-None-clause-file g c =
     let gives = rw c.in-Ok-None.field-0-is at c.in-Ok-None.ensures.gives in
     λ file list whole. let far = c.loop-fault.invariant.gives file list whole in (far.0, gives file far.0 far.1)
 
-pub returns-in-Err : goal.returns-in-Err
-returns-in-Err g c =
+pub returns-in-Err-clause-file : goal.returns-in-Err-clause-file
+returns-in-Err-clause-file g c =
     λ file list whole. let far = c.loop-fault.invariant.gives file list whole in
     (far.0, rw c.loop-fault.invariant.ready.most_is at (c.in-Err.ensures.gives file far.0 far.1))

@@ -1,12 +1,15 @@
--- What was served ends the program.
+-- What was done for a request ends the program.
 use Rattle.herdbook.specs.Limits.{program_limits}
-use Rattle.herdbook.proofs.ProgramFacts.{ended-request, possible-request}
+use Rattle.herdbook.specs.declared.arguments.Request.TheVariants.{File}
+use Rattle.herdbook.proofs.ProgramFacts.{ended-run, possible-run}
 use Rattle.herdbook.proofs.program.carry_out.Goals as goal
 
-pub returns-clause-ended : goal.returns-clause-ended
-returns-clause-ended g c =
-    rw c.of_request.ensures (ended-request (g.R.Read.remaining c.args.reader) program_limits _ _ _ c.in-Ok.request c.served.result c.in-Ok.ensures.taken c.in-Ok.ensures.asked c.served.ensures.ok c.served.ensures.err)
+pub returns-in-Ok-File-clause-ended : goal.returns-in-Ok-File-clause-ended
+returns-in-Ok-File-clause-ended g c =
+    let asked = rw c.in-Ok-File.field-0-is at c.in-Ok-File.ensures.asked in
+    rw c.of_run.ensures (ended-run (g.R.Read.remaining c.args.reader) program_limits _ _ _ File c.answer_file.result c.in-Ok-File.ensures.taken asked c.answer_file.ensures.ok c.answer_file.ensures.err)
 
-pub returns-clause-possible : goal.returns-clause-possible
-returns-clause-possible g c =
-    rw c.of_request.ensures (possible-request _ c.in-Ok.request c.served.result c.in-Ok.ensures.taken c.in-Ok.ensures.asked c.served.ensures.possible)
+pub returns-in-Ok-File-clause-possible : goal.returns-in-Ok-File-clause-possible
+returns-in-Ok-File-clause-possible g c =
+    let asked = rw c.in-Ok-File.field-0-is at c.in-Ok-File.ensures.asked in
+    rw c.of_run.ensures (possible-run _ File c.answer_file.result c.in-Ok-File.ensures.taken asked c.answer_file.ensures.fault)

@@ -4,7 +4,7 @@ use Rattle.std.proofs.lemmas.List.{length-map}
 use Rattle.std.proofs.lemmas.Option.{slice_get-get_or}
 use Rattle.std.proofs.lemmas.Grind.{common_steps}
 use Rattle.herdbook.proofs.WordsFacts.{IsUnread-number, right_more, text_at}
-use Rattle.herdbook.proofs.arguments.numbers_of.Goals as goal
+use Rattle.herdbook.proofs.arguments.add_texts.Goals as goal
 
 pub loop-text-preserved : goal.loop-text-preserved
 loop-text-preserved c =

@@ -4,7 +4,7 @@ use Rattle.herd_register.specs.Run.{commands_of}
 use Rattle.herd_report.specs.reading.CommandFile.{CommandFile}
 use Rattle.herd_report.specs.reading.CommandReader.{HasGiven, IsReady}
 use Rattle.herd_report.specs.Run.{HasFiled}
-use Rattle.herd_report.proofs.command_filing.file_each.Given as goal
+use Rattle.herd_report.proofs.command_filing.file_commands.Given as goal
 
 abbrev pub invariant-loop-command : goal.invariant-loop-command
 invariant-loop-command g l = record {
