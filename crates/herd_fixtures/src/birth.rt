@@ -8,6 +8,7 @@ use crate::herd::herd_of;
 use crate::name::Name;
 use herd_animal::{AnimalNumber, Day, DayFault};
 use herd_frozen::Animal;
+use herd_pedigree::Newborn;
 
 /// The text of a day, `dddd-dd-dd`.
 pub type DayText = [u8; 10];
@@ -95,24 +96,21 @@ impl Birth {
         ensures accepted { IsOk result ↔ IsDay self.1 }
         ensures kept { IfOk result (λ kept. kept ≡ entry self) }
     {
-        Ok((self.0.number(), self.newborn()?))
+        Ok((self.0.number(), self.newborn()?.animal()))
     }
 
-    /// What a book keeps of the animal when it is born.
-    pub fn newborn(self) -> Result<Animal, DayFault>
+    /// The animal that is to be born.
+    pub fn newborn(self) -> Result<Newborn, DayFault>
         ensures accepted { IsOk result ↔ IsDay self.1 }
-        ensures animal { IfOk result (λ animal. animal ≡ newborn self) }
+        ensures value { IfOk result (λ animal. animal ≡ newborn self) }
     {
         let Birth(_, text, parents) = self;
-        let birth = Day::parse(&text)?;
-        Ok(Animal {
-            birth,
+        Ok(Newborn {
+            birth: Day::parse(&text)?,
             sire: parents.sire_number(),
             dam: parents.dam_number(),
             embryo: false,
             herd: herd_of(1),
-            since: birth,
-            left: None,
         })
     }
 }

@@ -50,14 +50,14 @@ pub fn file_birth<A: Allocator + Copy>(
     ensures err { OnErr result (pedigree.new ≡ pedigree.old) }
 {
     let number = birth.0.number();
-    let animal = birth.newborn()?;
+    let newborn = birth.newborn()?;
     if pedigree.len() >= MOST_ANIMALS {
         return match pedigree.get(&number) {
             Some(_) => Err(BirthFault::Registered),
             None => Err(BirthFault::BookFull),
         };
     }
-    match pedigree.add_if_new(number, animal)? {
+    match pedigree.add_if_new(number, newborn)? {
         Registration::Added => Ok(()),
         Registration::AlreadyThere => Err(BirthFault::Registered),
         Registration::Unsound(fault) => Err(BirthFault::Parents(fault)),

@@ -8,6 +8,7 @@ use Rattle.std.proofs.lemmas.Bool.{false_from_ne_true, cases_eq, cases_lt, lt-lt
 use Rattle.std.proofs.lemmas.Option.{slice_get_within}
 use Rattle.std.proofs.lemmas.List.{get_or-set_same, get_or-set_other, length-set}
 use Rattle.std.proofs.lemmas.List.Folds.{list_any_none}
+use Rattle.herd_pedigree.specs.declared.registration.Newborn.{Newborn}
 use Rattle.herd_pedigree.specs.Pedigree.{TellsTooDeep}
 use Rattle.herd_pedigree.specs.store.Records.{set_value_at}
 use Rattle.herd_frozen.specs.declared.rules.animal.Animal.{Animal}
@@ -70,7 +71,7 @@ parents-within book parent_of parents a c p e =
 pub too_deep-absent : (l most : ℕ) (book : Book) (sires dams : List (Option ℕ)) (depths : List ℕ) → IsKept l most book sires dams depths → (number : List ℕ) → record_of book number ≡ None →
     (sire dam : Option ℕ) (s d : Option (List ℕ)) → IsIndexIn (keys_of book) sire s → IsIndexIn (keys_of book) dam d → nat_lt l (depth_from (slice_index depths) sire dam) ≡ is_too_deep l book number s d
 too_deep-absent l most book sires dams depths k number absent sire dam s d si di =
-    too_deep-birth l most book sires dams depths k number (record { birth = pos 0; sire = s; dam = d; embryo = false; herd = 0; since = pos 0; left = None }) absent sire dam si di
+    too_deep-birth l most book sires dams depths k number (record { birth = pos 0; sire = s; dam = d; embryo = false; herd = 0 }) absent sire dam si di
 
 -- ---- the parents of one exchanged
 
@@ -181,18 +182,18 @@ fault-told l book now same number birth s d embryo sire dam shown si di deep tol
 
 -- of an animal that isn't in the book its depth does, by what is read of the depths of its parents and of the limit
 module _ (l most : ℕ) (book now : Book) (same : book ≡ now) (sires dams : List (Option ℕ)) (depths : List ℕ) (k : IsKept l most book sires dams depths) (number : List ℕ) (absent : record_of book number ≡ None)
-    (animal : Animal) (shown : fault_by_records now animal.birth animal.sire animal.dam animal.embryo ≡ None)
-    (sire dam : Option ℕ) (sire_is : IsIndexIn (keys_of now) sire animal.sire) (dam_is : IsIndexIn (keys_of now) dam animal.dam)
+    (newborn : Newborn) (shown : fault_by_records now newborn.birth newborn.sire newborn.dam newborn.embryo ≡ None)
+    (sire dam : Option ℕ) (sire_is : IsIndexIn (keys_of now) sire newborn.sire) (dam_is : IsIndexIn (keys_of now) dam newborn.dam)
     (limit depth : ℕ) (limit_is : limit ≡ l) (depth_is : depth ≡ depth_from (slice_index depths) sire dam) where
-  newborn-told : (deep : Bool) → nat_lt l (depth_from (slice_index depths) sire dam) ≡ deep → (if deep then Some TooDeep else None) ≡ parent_fault l book number animal.birth animal.sire animal.dam animal.embryo
+  newborn-told : (deep : Bool) → nat_lt l (depth_from (slice_index depths) sire dam) ≡ deep → (if deep then Some TooDeep else None) ≡ parent_fault l book number newborn.birth newborn.sire newborn.dam newborn.embryo
   newborn-told deep e =
-      fault-told l now book (sym same) number animal.birth animal.sire animal.dam animal.embryo sire dam shown sire_is dam_is deep
+      fault-told l now book (sym same) number newborn.birth newborn.sire newborn.dam newborn.embryo sire dam shown sire_is dam_is deep
       (λ s d si di. sym e ∙ too_deep-absent l most book sires dams depths k number absent sire dam s d si di)
 
-  pub newborn-deep : limit < depth → Some TooDeep ≡ parent_fault l book number animal.birth animal.sire animal.dam animal.embryo
+  pub newborn-deep : limit < depth → Some TooDeep ≡ parent_fault l book number newborn.birth newborn.sire newborn.dam newborn.embryo
   newborn-deep more = newborn-told true (lt-ltb l (depth_from (slice_index depths) sire dam) (omega (arith, more, limit_is, depth_is)))
 
-  pub newborn-none : depth ≤ limit → None ≡ parent_fault l book number animal.birth animal.sire animal.dam animal.embryo
+  pub newborn-none : depth ≤ limit → None ≡ parent_fault l book number newborn.birth newborn.sire newborn.dam newborn.embryo
   newborn-none low = newborn-told false (le-ltb l (depth_from (slice_index depths) sire dam) (omega (arith, low, limit_is, depth_is)))
 
 -- ---- a correction is sound

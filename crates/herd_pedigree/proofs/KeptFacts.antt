@@ -11,7 +11,8 @@ use Rattle.herd_frozen.specs.declared.rules.animal.Animal.{Animal}
 use Rattle.herd_frozen.specs.rules.Paths.{has_path}
 use Rattle.herd_frozen.specs.rules.Book.{Book, record_of, parentage_of, IsDepthOf}
 use Rattle.herd_frozen.specs.rules.ParentFault.{is_too_deep}
-use Rattle.herd_pedigree.specs.Pedigree.{IsBirth}
+use Rattle.herd_pedigree.specs.declared.registration.Newborn.{Newborn}
+use Rattle.herd_pedigree.specs.Pedigree.{IsBirth, birth_record}
 use Rattle.herd_frozen.specs.rules.Depths.{AreDepths, depth_from}
 use Rattle.herd_frozen.specs.places.Places.{parent_at, parentage_at, IsIndexIn, AreParents}
 use Rattle.herd_pedigree.specs.store.Kept.{IsKept}
@@ -69,19 +70,19 @@ pub depth-kept : (l most : ℕ) (book : Book) (sires dams : List (Option ℕ)) (
 depth-kept l most book sires dams depths k c x at = depth_by_number book sires dams k.lawful.once k.sires_are k.dams_are l (slice_index depths) k.depths_are c x at
 
 module _ (l most : ℕ) (book : Book) (sires dams : List (Option ℕ)) (depths : List ℕ) (k : IsKept l most book sires dams depths)
-    (number : List ℕ) (animal : Animal) (absent : record_of book number ≡ None)
-    (sire dam : Option ℕ) (sire_is : IsIndexIn (keys_of book) sire animal.sire) (dam_is : IsIndexIn (keys_of book) dam animal.dam) where
+    (number : List ℕ) (newborn : Newborn) (absent : record_of book number ≡ None)
+    (sire dam : Option ℕ) (sire_is : IsIndexIn (keys_of book) sire newborn.sire) (dam_is : IsIndexIn (keys_of book) dam newborn.dam) where
   more : Book
-  more = book ++ (number, animal) ∷ []
+  more = book ++ (number, birth_record newborn) ∷ []
 
-  once-more : IsDistinct bytes_eq (keys_of (book ++ (number, animal) ∷ []))
-  once-more = distinct-push book number animal k.lawful.once absent
+  once-more : IsDistinct bytes_eq (keys_of (book ++ (number, birth_record newborn) ∷ []))
+  once-more = distinct-push book number (birth_record newborn) k.lawful.once absent
 
-  sires-more : AreParents (book ++ (number, animal) ∷ []) (λ animal. animal.sire) (sires ++ sire ∷ [])
-  sires-more = AreParents-push book (λ animal. animal.sire) sires number animal sire k.sires_are sire_is
+  sires-more : AreParents (book ++ (number, birth_record newborn) ∷ []) (λ animal. animal.sire) (sires ++ sire ∷ [])
+  sires-more = AreParents-push book (λ animal. animal.sire) sires number (birth_record newborn) sire k.sires_are sire_is
 
-  dams-more : AreParents (book ++ (number, animal) ∷ []) (λ animal. animal.dam) (dams ++ dam ∷ [])
-  dams-more = AreParents-push book (λ animal. animal.dam) dams number animal dam k.dams_are dam_is
+  dams-more : AreParents (book ++ (number, birth_record newborn) ∷ []) (λ animal. animal.dam) (dams ++ dam ∷ [])
+  dams-more = AreParents-push book (λ animal. animal.dam) dams number (birth_record newborn) dam k.dams_are dam_is
 
   within : (o : Option ℕ) → IfSome o (λ p. p < length (keys_of book)) → IfSome o (λ p. p < length sires)
   within o h = subst (λ n. IfSome o (λ p. p < n)) (length-keys book ∙ sym k.sires_are.long) h
@@ -89,53 +90,53 @@ module _ (l most : ℕ) (book : Book) (sires dams : List (Option ℕ)) (depths :
   depths-more : (top : ℕ) → l ≤ top → depth_from (slice_index depths) sire dam ≤ top → AreDepths top (parentage_at (sires ++ sire ∷ []) (dams ++ dam ∷ [])) (slice_index (depths ++ depth_from (slice_index depths) sire dam ∷ []))
   depths-more top wide low =
       depths-push l sires dams depths k.depths_are (k.long ∙ sym k.sires_are.long) (k.dams_are.long ∙ sym k.sires_are.long) sire dam
-      (within sire (place-within (keys_of book) sire animal.sire sire_is)) (within dam (place-within (keys_of book) dam animal.dam dam_is))
+      (within sire (place-within (keys_of book) sire newborn.sire sire_is)) (within dam (place-within (keys_of book) dam newborn.dam dam_is))
       (depth_from (slice_index depths) sire dam) refl top wide low
 
   depth-most : depth_from (slice_index depths) sire dam ≤ l + 1
   depth-most =
       new_depth-most l sires dams depths k.depths_are (k.long ∙ sym k.sires_are.long) (k.dams_are.long ∙ sym k.sires_are.long) sire dam
-      (within sire (place-within (keys_of book) sire animal.sire sire_is)) (within dam (place-within (keys_of book) dam animal.dam dam_is))
+      (within sire (place-within (keys_of book) sire newborn.sire sire_is)) (within dam (place-within (keys_of book) dam newborn.dam dam_is))
 
   -- a birth makes too long a path exactly where its own depth is too great
-  pub too_deep-birth : nat_lt l (depth_from (slice_index depths) sire dam) ≡ is_too_deep l book number animal.sire animal.dam
+  pub too_deep-birth : nat_lt l (depth_from (slice_index depths) sire dam) ≡ is_too_deep l book number newborn.sire newborn.dam
   too_deep-birth =
       let v : ℕ = depth_from (slice_index depths) sire dam in
-      let told : is_too_deep l book number animal.sire animal.dam ≡ list_any (has_path (parentage_of (book ++ (number, animal) ∷ [])) (l + 1)) (number ∷ keys_of book) =
-      too_deep-written book (book ++ (number, animal) ∷ []) number animal (written-push book number animal absent) l in
+      let told : is_too_deep l book number newborn.sire newborn.dam ≡ list_any (has_path (parentage_of (book ++ (number, birth_record newborn) ∷ [])) (l + 1)) (number ∷ keys_of book) =
+      too_deep-written book (book ++ (number, birth_record newborn) ∷ []) number (birth_record newborn) (written-push book number (birth_record newborn) absent) l in
       ⊎_elim
       (λ (deep : l < v).
       let most = depth-most in
       let e : v ≡ l + 1 = omega (arith, deep, most) in
       let wide : AreDepths (l + 1) (parentage_at (sires ++ sire ∷ []) (dams ++ dam ∷ [])) (slice_index (depths ++ v ∷ [])) = depths-more (l + 1) (omega arith) most in
-      let at : slice_get (keys_of (book ++ (number, animal) ∷ [])) (length book) ≡ Some number = key_from_entry (book ++ (number, animal) ∷ []) (length book) number animal (push_last book (number, animal)) in
+      let at : slice_get (keys_of (book ++ (number, birth_record newborn) ∷ [])) (length book) ≡ Some number = key_from_entry (book ++ (number, birth_record newborn) ∷ []) (length book) number (birth_record newborn) (push_last book (number, birth_record newborn)) in
       let path : Path (parentage_at (sires ++ sire ∷ []) (dams ++ dam ∷ [])) (slice_index (depths ++ v ∷ []) (length book)) (length book) =
-      depths-path (l + 1) (parentage_at (sires ++ sire ∷ []) (dams ++ dam ∷ [])) (slice_index (depths ++ v ∷ [])) wide (length book) (there_by_place (book ++ (number, animal) ∷ []) (sires ++ sire ∷ []) (dams ++ dam ∷ []) once-more sires-more dams-more (length book) number at) in
+      depths-path (l + 1) (parentage_at (sires ++ sire ∷ []) (dams ++ dam ∷ [])) (slice_index (depths ++ v ∷ [])) wide (length book) (there_by_place (book ++ (number, birth_record newborn) ∷ []) (sires ++ sire ∷ []) (dams ++ dam ∷ []) once-more sires-more dams-more (length book) number at) in
       let same : slice_index (depths ++ v ∷ []) (length book) ≡ l + 1 = get_or_push depths v 0 (length book) k.long ∙ e in
-      let by_number : Path (parentage_of (book ++ (number, animal) ∷ [])) (l + 1) number =
-      path_by_number (book ++ (number, animal) ∷ []) (sires ++ sire ∷ []) (dams ++ dam ∷ []) once-more sires-more dams-more (l + 1) (length book) number at
+      let by_number : Path (parentage_of (book ++ (number, birth_record newborn) ∷ [])) (l + 1) number =
+      path_by_number (book ++ (number, birth_record newborn) ∷ []) (sires ++ sire ∷ []) (dams ++ dam ∷ []) once-more sires-more dams-more (l + 1) (length book) number at
       (subst (λ n. Path (parentage_at (sires ++ sire ∷ []) (dams ++ dam ∷ [])) n (length book)) same path) in
-      lt-ltb l v deep ∙ sym (told ∙ or_left (has_path (parentage_of (book ++ (number, animal) ∷ [])) (l + 1) number) (list_any (has_path (parentage_of (book ++ (number, animal) ∷ [])) (l + 1)) (keys_of book)) (test-from_path (parentage_of (book ++ (number, animal) ∷ [])) (l + 1) number by_number)))
+      lt-ltb l v deep ∙ sym (told ∙ or_left (has_path (parentage_of (book ++ (number, birth_record newborn) ∷ [])) (l + 1) number) (list_any (has_path (parentage_of (book ++ (number, birth_record newborn) ∷ [])) (l + 1)) (keys_of book)) (test-from_path (parentage_of (book ++ (number, birth_record newborn) ∷ [])) (l + 1) number by_number)))
       (λ (low : v ≤ l).
-      le-ltb l v low ∙ sym (told ∙ no_path-among l (book ++ (number, animal) ∷ []) (sires ++ sire ∷ []) (dams ++ dam ∷ []) once-more sires-more dams-more (slice_index (depths ++ v ∷ [])) (depths-more l (omega arith) low) (number ∷ keys_of book)))
+      le-ltb l v low ∙ sym (told ∙ no_path-among l (book ++ (number, birth_record newborn) ∷ []) (sires ++ sire ∷ []) (dams ++ dam ∷ []) once-more sires-more dams-more (slice_index (depths ++ v ∷ [])) (depths-more l (omega arith) low) (number ∷ keys_of book)))
       (cases_lt l v)
 
   -- a birth with no fault leaves what is kept as it has to be
-  pub IsKept-push : IsBirth l most book number animal → IsKept l most (book ++ (number, animal) ∷ []) (sires ++ sire ∷ []) (dams ++ dam ∷ []) (depths ++ depth_from (slice_index depths) sire dam ∷ [])
+  pub IsKept-push : IsBirth l most book number newborn → IsKept l most (book ++ (number, birth_record newborn) ∷ []) (sires ++ sire ∷ []) (dams ++ dam ∷ []) (depths ++ depth_from (slice_index depths) sire dam ∷ [])
   IsKept-push birth =
       let v : ℕ = depth_from (slice_index depths) sire dam in
-      let fine : HasNoFault l book number animal.birth animal.sire animal.dam animal.embryo = no_fault l book number animal.birth animal.sire animal.dam animal.embryo birth.parents in
+      let fine : HasNoFault l book number newborn.birth newborn.sire newborn.dam newborn.embryo = no_fault l book number newborn.birth newborn.sire newborn.dam newborn.embryo birth.parents in
       let low : v ≤ l =
       ⊎_elim
       (λ (deep : l < v). let t : true ≡ false = sym (lt-ltb l v deep) ∙ too_deep-birth ∙ fine.shallow in absurd (cc))
       (λ (low : v ≤ l). low)
       (cases_lt l v) in
       let w = depths-more l (omega arith) low in
-      let n = length_push book (number, animal) in
+      let n = length_push book (number, birth_record newborn) in
       let m = length_push depths v in
       let long = k.long in
       record {
-        lawful = lawful-birth l most book number animal k.lawful birth;
+        lawful = lawful-birth l most book number newborn k.lawful birth;
         sires_are = sires-more;
         dams_are = dams-more;
         long = omega (arith, n, m, long);
@@ -143,12 +144,12 @@ module _ (l most : ℕ) (book : Book) (sires dams : List (Option ℕ)) (depths :
       }
 
   -- and what is held, once the birth is noted
-  pub IsHeld-push : IsBirth l most book number animal → (log : List (ℕ × ℕ)) → IsHeld l most (book ++ (number, animal) ∷ []) (sires ++ sire ∷ []) (dams ++ dam ∷ []) (depths ++ depth_from (slice_index depths) sire dam ∷ []) log Birth
+  pub IsHeld-push : IsBirth l most book number newborn → (log : List (ℕ × ℕ)) → IsHeld l most (book ++ (number, birth_record newborn) ∷ []) (sires ++ sire ∷ []) (dams ++ dam ∷ []) (depths ++ depth_from (slice_index depths) sire dam ∷ []) log Birth
   IsHeld-push birth log = record {
     kept = IsKept-push birth;
-    within = let n = length_push book (number, animal) in omega (arith, n);
+    within = let n = length_push book (number, birth_record newborn) in omega (arith, n);
     before = λ old is.
-        let same : book ≡ old = sym (without_last-push book (number, animal)) ∙ same_Some _ _ is in
+        let same : book ≡ old = sym (without_last-push book (number, birth_record newborn)) ∙ same_Some _ _ is in
         rw (without_last-push sires sire, without_last-push dams dam, without_last-push depths (depth_from (slice_index depths) sire dam)) (subst (λ old. IsKept l most old sires dams depths) same k);
   }
 

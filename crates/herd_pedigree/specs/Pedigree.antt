@@ -8,6 +8,7 @@ use Rattle.herd_frozen.specs.rules.Book.{Book, is_there, record_of, has_calved_a
 use Rattle.herd_frozen.specs.rules.ParentFault.{fault_by_records, is_too_deep, parent_fault}
 use Rattle.herd_frozen.specs.places.Places.{IsIndexIn}
 use Rattle.herd_pedigree.specs.declared.found.Found.{Found}
+use Rattle.herd_pedigree.specs.declared.registration.Newborn.{Newborn}
 use Rattle.herd_pedigree.specs.declared.registration.Registration.{Registration}
 use Rattle.herd_pedigree.specs.declared.registration.Registration.TheVariants.{Added, AlreadyThere, Unsound}
 
@@ -20,18 +21,23 @@ pub record Pedigree : Type 0 where
 abbrev pub changed_to : Pedigree → Book → Pedigree
 changed_to pedigree book = record { book = book; before = Some pedigree.book }
 
--- the number is free, there is room for it, and the record is that of a birth
-pub record IsNewborn (most : ℕ) (book : Book) (number : List ℕ) (animal : Animal) : Type 0 where
-  pub absent : record_of book number ≡ None
-  pub room : length book < most
-  pub since : animal.since ≡ animal.birth
-  pub left : animal.left ≡ None
+-- the record that a birth makes: the herd owns the animal from its birth day on, and it is there
+abbrev pub birth_record : Newborn → Animal
+birth_record newborn = record {
+  birth = newborn.birth;
+  sire = newborn.sire;
+  dam = newborn.dam;
+  embryo = newborn.embryo;
+  herd = newborn.herd;
+  since = newborn.birth;
+  left = None;
+}
 
 -- what becomes of a birth: its number may be there, and else its parents may have a fault
-abbrev pub registration : ℕ → Book → List ℕ → Animal → Registration
-registration l book number animal =
+abbrev pub registration : ℕ → Book → List ℕ → Newborn → Registration
+registration l book number newborn =
     if is_there book number then AlreadyThere
-    else option_map_or Unsound (parent_fault l book number animal.birth animal.sire animal.dam animal.embryo) Added
+    else option_map_or Unsound (parent_fault l book number newborn.birth newborn.sire newborn.dam newborn.embryo) Added
 
 -- what becomes of one whose parents have this fault
 abbrev pub unsound : Book → List ℕ → ParentFault → Registration
@@ -42,10 +48,11 @@ pub record IsFound (book : Book) (found : Found) : Type 0 where
   pub within : found.place < length book
   pub at : slice_get (keys_of book) found.place ≡ Some found.number
 
--- the record may be added under the number
-pub record IsBirth (l most : ℕ) (book : Book) (number : List ℕ) (animal : Animal) : Type 0 where
-  pub newborn : IsNewborn most book number animal
-  pub parents : parent_fault l book number animal.birth animal.sire animal.dam animal.embryo ≡ None
+-- the animal may be born under the number: that is free, there is room, and the parents have no fault
+pub record IsBirth (l most : ℕ) (book : Book) (number : List ℕ) (newborn : Newborn) : Type 0 where
+  pub absent : record_of book number ≡ None
+  pub room : length book < most
+  pub parents : parent_fault l book number newborn.birth newborn.sire newborn.dam newborn.embryo ≡ None
 
 -- this tells whether some path would be too long, once the animal of the number has the parents at these places
 abbrev pub TellsTooDeep : ℕ → Book → List ℕ → Option ℕ → Option ℕ → Bool → Type 0

@@ -1,9 +1,7 @@
 -- What is kept of a book, by place.
 pub mod Kept
 pub mod Undo
-pub mod Progeny
 pub mod Records
 pub mod Calves
 pub mod Exchange
 pub mod Correction
-pub mod Carry

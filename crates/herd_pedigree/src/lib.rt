@@ -6,7 +6,7 @@
 //! The last change can be taken back. `Pedigree::freeze` gives the book in age order, as `herd_frozen` has it.
 //!
 //!     let mut pedigree = Pedigree::new(alloc);
-//!     let fault = pedigree.add_if_sound(number, animal)?;
+//!     let outcome = pedigree.add_if_new(number, newborn)?;
 //!     let frozen = pedigree.freeze(alloc)?;
 //!
 //! What a book may be stands in `herd_frozen` (`rules`). The folder **`store`** says how the book is kept, changed and
@@ -16,14 +16,13 @@
 #![tactic(auto)]
 
 mod found;
-mod named;
 mod pedigree;
 mod registration;
 mod store;
 
 pub use found::Found;
 pub use pedigree::Pedigree;
-pub use registration::Registration;
+pub use registration::{Newborn, Registration};
 // A crate can name a pedigree in a contract only if the types of its fields are exported.
 #[doc(hidden)]
 pub use store::progeny::{ChainNode, Progeny};

@@ -5,19 +5,17 @@ ghost use Rattle.herd_frozen.specs.freezing.Frozen.{IsFrozenFrom};
 ghost use Rattle.herd_frozen.specs.rules.Lawful.{IsLawful};
 ghost use Rattle.herd_frozen.specs.rules.ParentFault.{fault_by_records, parent_fault};
 ghost use Rattle.herd_frozen.specs.places.Places.{AreParents, IsIndexIn};
-ghost use Rattle.herd_pedigree.specs.Pedigree.{IfShownWith, IsBirth, IsCorrection, IsExit, IsFaultWith, IsFound, IsNewborn, IsPresentOn, TellsTooDeep, changed_to, registration, unsound};
+ghost use Rattle.herd_pedigree.specs.Pedigree.{IfShownWith, IsBirth, IsCorrection, IsExit, IsFaultWith, IsFound, IsPresentOn, TellsTooDeep, birth_record, changed_to, registration, unsound};
 ghost use Rattle.herd_pedigree.specs.store.Kept.{pushed_if};
 ghost use Rattle.herd_pedigree.specs.store.Records.{IsStoredAt, animal_of, set_value_at};
 ghost use Rattle.herd_frozen.specs.declared.TheConstants.{DEPTH_LIMIT, MOST_ANIMALS};
 
-use crate::found::Found;
-use crate::named::sound_parents;
-use crate::registration::Registration;
-use crate::store::correction::Correction;
-use crate::store::depth::{depth_with, undo_writes};
+use crate::found::{Found, sound_parents};
+use crate::registration::{Newborn, Registration};
+use crate::store::correction::{Correction, depth_with};
 use crate::store::progeny::Progeny;
 use crate::store::records::{Records, StoredRecord};
-use crate::store::undo::Undo;
+use crate::store::undo::{Undo, undo_writes};
 use herd_animal::{AnimalNumber, Day, Herd};
 use herd_frozen::{Animal, DEPTH_LIMIT, Frozen, Link, ParentFault, frozen_from};
 use std::alloc::{AllocError, Allocator};
@@ -125,39 +123,15 @@ impl<A: Allocator + Copy> Pedigree<A> {
 
     /// Adds an animal that isn't in the book. The only error is a growth of memory that is refused; then all is as it
     /// was.
-    pub fn add(&mut self, number: AnimalNumber, animal: Animal) -> Result<(), AllocError>
-        requires { IsBirth DEPTH_LIMIT MOST_ANIMALS self.old.book number animal }
-        ensures added { OnOk result (self.new ≡ changed_to self.old (self.old.book ++ (number, animal) ∷ [])) }
+    pub fn add(&mut self, number: AnimalNumber, newborn: Newborn) -> Result<(), AllocError>
+        requires { IsBirth DEPTH_LIMIT MOST_ANIMALS self.old.book number newborn }
+        ensures added { OnOk result
+            (self.new ≡ changed_to self.old (self.old.book ++ (number, birth_record newborn) ∷ [])) }
         ensures err { OnErr result (self.new ≡ self.old) }
     {
-        match self.add_if_sound(number, animal)? {
-            None => Ok(()),
-            Some(_) => unreachable!(),
-        }
-    }
-
-    /// Adds an animal that isn't in the book, unless its parents have a fault: the first that `check_parents` tells.
-    /// The only error is a growth of memory that is refused; then all is as it was.
-    pub fn add_if_sound(
-        &mut self,
-        number: AnimalNumber,
-        animal: Animal,
-    ) -> Result<Option<ParentFault>, AllocError>
-        requires { IsNewborn MOST_ANIMALS self.old.book number animal }
-        ensures fault { IfOk result (λ fault. fault
-            ≡ parent_fault DEPTH_LIMIT self.old.book number animal.birth animal.sire animal.dam animal.embryo) }
-        // What the parents' records show needs no memory.
-        ensures by_records { IfSome (fault_by_records self.old.book animal.birth animal.sire animal.dam animal.embryo)
-            (λ fault. result ≡ Ok (Some fault)) }
-        ensures added { result ≡ Ok None → self.new ≡ changed_to self.old (self.old.book ++ (number, animal) ∷ []) }
-        ensures refused { IfOk result (λ fault. IsSome fault → self.new ≡ self.old) }
-        ensures err { OnErr result (self.new ≡ self.old) }
-    {
-        match self.add_if_new(number, animal)? {
-            Registration::Added => Ok(None),
-            Registration::Unsound(fault) => Ok(Some(fault)),
-            Registration::AlreadyThere => unreachable!(),
-        }
+        // It is added: what is required leaves no other outcome.
+        self.add_if_new(number, newborn)?;
+        Ok(())
     }
 
     /// Adds an animal, unless its number is in the book, or its parents have a fault. Its number is looked up once.
@@ -165,29 +139,28 @@ impl<A: Allocator + Copy> Pedigree<A> {
     pub fn add_if_new(
         &mut self,
         number: AnimalNumber,
-        animal: Animal,
+        newborn: Newborn,
     ) -> Result<Registration, AllocError>
-        requires room { length self.old.book < MOST_ANIMALS }
-        requires since { animal.since ≡ animal.birth }
-        requires left { animal.left ≡ None }
-        ensures outcome { IfOk result (λ outcome. outcome ≡ registration DEPTH_LIMIT self.old.book number animal) }
+        requires { length self.old.book < MOST_ANIMALS }
+        ensures outcome { IfOk result (λ outcome. outcome ≡ registration DEPTH_LIMIT self.old.book number newborn) }
         // What the records of the number and of the parents show needs no memory.
         ensures there { IsTrue (is_there self.old.book number) → result ≡ Ok Registration.AlreadyThere }
-        ensures by_records { IfSome (fault_by_records self.old.book animal.birth animal.sire animal.dam animal.embryo)
+        ensures by_records { IfSome
+            (fault_by_records self.old.book newborn.birth newborn.sire newborn.dam newborn.embryo)
             (λ fault. result ≡ Ok (unsound self.old.book number fault)) }
         ensures added { result ≡ Ok Registration.Added
-            → self.new ≡ changed_to self.old (self.old.book ++ (number, animal) ∷ []) }
+            → self.new ≡ changed_to self.old (self.old.book ++ (number, birth_record newborn) ∷ []) }
         ensures refused { IfOk result (λ outcome. outcome ≢ Registration.Added → self.new ≡ self.old) }
         ensures err { OnErr result (self.new ≡ self.old) }
     {
         match sound_parents(
             &self.records,
-            animal.birth,
-            &animal.sire,
-            &animal.dam,
-            animal.embryo,
+            newborn.birth,
+            &newborn.sire,
+            &newborn.dam,
+            newborn.embryo,
         ) {
-            Ok(parents) => self.add_unless_too_deep(number, animal, parents),
+            Ok(parents) => self.add_unless_too_deep(number, newborn, parents),
             Err(fault) => Ok(self.unsound(&number, fault)),
         }
     }
@@ -207,19 +180,17 @@ impl<A: Allocator + Copy> Pedigree<A> {
     fn add_unless_too_deep(
         &mut self,
         number: AnimalNumber,
-        animal: Animal,
+        newborn: Newborn,
         parents: Link,
     ) -> Result<Registration, AllocError>
         requires room { length self.old.book < MOST_ANIMALS }
-        requires since { animal.since ≡ animal.birth }
-        requires left { animal.left ≡ None }
-        requires sound { fault_by_records self.old.book animal.birth animal.sire animal.dam animal.embryo ≡ None }
-        requires sire { IsIndexIn (keys_of self.old.book) parents.sire animal.sire }
-        requires dam { IsIndexIn (keys_of self.old.book) parents.dam animal.dam }
-        ensures outcome { IfOk result (λ outcome. outcome ≡ registration DEPTH_LIMIT self.old.book number animal) }
+        requires sound { fault_by_records self.old.book newborn.birth newborn.sire newborn.dam newborn.embryo ≡ None }
+        requires sire { IsIndexIn (keys_of self.old.book) parents.sire newborn.sire }
+        requires dam { IsIndexIn (keys_of self.old.book) parents.dam newborn.dam }
+        ensures outcome { IfOk result (λ outcome. outcome ≡ registration DEPTH_LIMIT self.old.book number newborn) }
         ensures there { IsTrue (is_there self.old.book number) → result ≡ Ok Registration.AlreadyThere }
         ensures added { result ≡ Ok Registration.Added
-            → self.new ≡ changed_to self.old (self.old.book ++ (number, animal) ∷ []) }
+            → self.new ≡ changed_to self.old (self.old.book ++ (number, birth_record newborn) ∷ []) }
         ensures refused { IfOk result (λ outcome. outcome ≢ Registration.Added → self.new ≡ self.old) }
         ensures err { OnErr result (self.new ≡ self.old) }
     {
@@ -232,7 +203,7 @@ impl<A: Allocator + Copy> Pedigree<A> {
             &mut self.sires,
             &mut self.dams,
             &mut self.depths,
-            (number, animal),
+            (number, newborn),
             parents,
             depth as u8,
         )?;
@@ -256,35 +227,15 @@ impl<A: Allocator + Copy> Pedigree<A> {
             (self.new ≡ changed_to self.old (changed self.old.book number (with_parents sire dam))) }
         ensures err { OnErr result (self.new ≡ self.old) }
     {
-        match self.set_parents_if_sound(number, sire, dam)? {
-            None => Ok(()),
-            Some(_) => unreachable!(),
-        }
-    }
-
-    /// Sets both parents of an animal of the book, unless they have a fault: the first that `check_parents` tells,
-    /// asked with the animal's own birth day and embryo flag. The only error is a growth of memory that is refused;
-    /// then all is as it was.
-    pub fn set_parents_if_sound(
-        &mut self,
-        number: AnimalNumber,
-        sire: Option<AnimalNumber>,
-        dam: Option<AnimalNumber>,
-    ) -> Result<Option<ParentFault>, AllocError>
-        requires { IsSome (record_of self.old.book number) }
-        ensures fault { IfOk result (IsFaultWith DEPTH_LIMIT self.old.book number sire dam) }
-        // What the parents' records show needs no memory.
-        ensures by_records { IfShownWith self.old.book number sire dam (λ fault. result ≡ Ok (Some fault)) }
-        ensures set { result ≡ Ok None
-            → self.new ≡ changed_to self.old (changed self.old.book number (with_parents sire dam)) }
-        ensures refused { IfOk result (λ fault. IsSome fault → self.new ≡ self.old) }
-        ensures err { OnErr result (self.new ≡ self.old) }
-    {
         let found = self.found(&number);
-        self.set_parents_at_if_sound(&found, sire, dam)
+        // They are set: what is required leaves no fault.
+        self.set_parents_at_if_sound(&found, sire, dam)?;
+        Ok(())
     }
 
-    /// Sets both parents of an animal that was found, as `set_parents_if_sound` does.
+    /// Sets both parents of an animal that was found, also to unknown, unless they have a fault: the first that
+    /// `check_parents` tells, asked with the animal's own birth day and embryo flag. The only error is a growth of
+    /// memory that is refused; then all is as it was.
     pub fn set_parents_at_if_sound(
         &mut self,
         found: &Found,
@@ -553,7 +504,7 @@ fn push_all_if_new<A: Allocator>(
     sires: &mut Progeny<A>,
     dams: &mut Progeny<A>,
     depths: &mut Vec<u8, A>,
-    entry: (AnimalNumber, Animal),
+    entry: (AnimalNumber, Newborn),
     parents: Link,
     depth: u8,
 ) -> Result<bool, AllocError>
@@ -564,19 +515,19 @@ fn push_all_if_new<A: Allocator>(
     requires dam { IsIndexIn (keys_of records.old.book) parents.dam entry.1.dam }
     ensures new { IfOk result (λ new. new ≡ not (is_there records.old.book entry.0)) }
     ensures absent { OnErr result (record_of records.old.book entry.0 ≡ None) }
-    ensures records { records.new.book ≡ pushed_if result records.old.book entry }
+    ensures records { records.new.book ≡ pushed_if result records.old.book (entry.0, birth_record entry.1) }
     ensures sires { sires.new.parents ≡ pushed_if result sires.old.parents parents.sire }
     ensures dams { dams.new.parents ≡ pushed_if result dams.old.parents parents.dam }
     ensures depths { depths.new.items ≡ pushed_if result depths.old.items depth }
 {
-    let (number, animal) = entry;
+    let (number, newborn) = entry;
     if let Err(refused) = make_room(depths, sires, dams) {
         return match records.place_of(&number) {
             Some(_) => Ok(false),
             None => Err(refused),
         };
     }
-    let new = records.push_if_new(number, animal, parents.sire, parents.dam)?;
+    let new = records.push_if_new(number, newborn, parents.sire, parents.dam)?;
     if new {
         depths.push_reserved(depth);
         sires.push(parents.sire);

@@ -2,7 +2,6 @@
 
 mod changes;
 mod corrections;
-mod days;
 mod deep_books;
 mod family;
 mod filing;

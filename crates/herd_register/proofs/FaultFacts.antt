@@ -12,6 +12,7 @@ use lib.Signed.{lt_z_no}
 use Rattle.herd_frozen.specs.rules.Book.{Book, record_of, is_there}
 use Rattle.herd_frozen.specs.rules.ParentFault.{first_that_holds, parent_fault, parent_faults}
 use Rattle.herd_frozen.specs.declared.rules.parent_fault.ParentFault.{ParentFault}
+use Rattle.herd_pedigree.specs.declared.registration.Newborn.{Newborn}
 use Rattle.herd_pedigree.specs.declared.registration.Registration.{Registration}
 use Rattle.herd_pedigree.specs.declared.registration.Registration.TheVariants.{Added, AlreadyThere as There, Unsound}
 use Rattle.herd_pedigree.specs.Pedigree.{IsBirth, IsCorrection, IsPresentOn, IsExit, registration}
@@ -22,7 +23,6 @@ use Rattle.herd_register.specs.declared.command.Command.TheVariants.{Birth, Pare
 use Rattle.herd_register.specs.Limits.{Limits}
 use Rattle.herd_register.specs.declared.reply.Refusal.{Refusal}
 use Rattle.herd_register.specs.declared.reply.Refusal.TheVariants.{AlreadyThere, BookFull, NotRegistered}
-use Rattle.herd_register.specs.Command.{IsAllowed}
 use Rattle.herd_register.specs.Refusal.{refusal_of}
 use Rattle.herd_register.specs.Run.{birth_refusals, correction_refusals, exit_refusals, fault, has_record, newborn, parent_refusals, transfer_refusals}
 
@@ -49,12 +49,12 @@ told-sound : (fault : Option ParentFault) → refusal_told (option_map_or Unsoun
 told-sound None = refl
 told-sound (Some fault) = refl
 
-pub birth-told : (limits : Limits) (book : Book) (number : List ℕ) (animal : Animal) → length book < limits.animals → (told : Registration) → told ≡ registration DEPTH_LIMIT book number animal →
-    refusal_told told ≡ first_that_holds (birth_refusals limits book number animal.birth animal.sire animal.dam animal.embryo)
-birth-told limits book number animal room told is = ap refusal_told is ∙ by (is_there book number) refl where
-  by : (there : Bool) → is_there book number ≡ there → refusal_told (registration DEPTH_LIMIT book number animal) ≡ first_that_holds (birth_refusals limits book number animal.birth animal.sire animal.dam animal.embryo)
+pub birth-told : (limits : Limits) (book : Book) (number : List ℕ) (newborn : Newborn) → length book < limits.animals → (told : Registration) → told ≡ registration DEPTH_LIMIT book number newborn →
+    refusal_told told ≡ first_that_holds (birth_refusals limits book number newborn.birth newborn.sire newborn.dam newborn.embryo)
+birth-told limits book number newborn room told is = ap refusal_told is ∙ by (is_there book number) refl where
+  by : (there : Bool) → is_there book number ≡ there → refusal_told (registration DEPTH_LIMIT book number newborn) ≡ first_that_holds (birth_refusals limits book number newborn.birth newborn.sire newborn.dam newborn.embryo)
   by true e = rw e refl
-  by false e = rw (e, lt-ltb (length book) limits.animals room) (told-sound (parent_fault DEPTH_LIMIT book number animal.birth animal.sire animal.dam animal.embryo) ∙ sym (first_of_parent_refusals book number animal.birth animal.sire animal.dam animal.embryo))
+  by false e = rw (e, lt-ltb (length book) limits.animals room) (told-sound (parent_fault DEPTH_LIMIT book number newborn.birth newborn.sire newborn.dam newborn.embryo) ∙ sym (first_of_parent_refusals book number newborn.birth newborn.sire newborn.dam newborn.embryo))
 
 -- a number that has a place has a record
 pub registered : (book : Book) (place : ℕ) (number : List ℕ) → slice_get (keys_of book) place ≡ Some number → (here : Animal) × (record_of book number ≡ Some here)
@@ -129,12 +129,8 @@ no_birth_fault : (limits : Limits) (book : Book) (animal : List ℕ) (day : ℤ)
 no_birth_fault limits book animal day sire dam herd embryo most none =
     let room = birth_room limits book animal day sire dam herd embryo none in
     record {
-      newborn = record {
-        absent = none_if (record_of book animal) room.0;
-        room = omega arith;
-        since = refl;
-        left = refl;
-      };
+      absent = none_if (record_of book animal) room.0;
+      room = omega arith;
       parents = no_parent_fault book animal day sire dam embryo room.2;
     }
 
@@ -157,6 +153,14 @@ pub no_exit_fault : (book : Book) (animal : List ℕ) (day : ℤ) → first_that
 no_exit_fault book animal day none =
     let failed = none_holds (exit_refusals book animal day) none in
     record { present = present book animal day failed.0 failed.1.0 failed.1.1.0; last = failed.1.1.1.0 }
+
+-- the change that the command makes leaves the book lawful
+abbrev pub IsAllowed : Book → Command → Type 0
+IsAllowed book (Birth animal day sire dam herd embryo) =
+    IsBirth DEPTH_LIMIT MOST_ANIMALS book animal (newborn day sire dam herd embryo)
+IsAllowed book (Parents animal sire dam) = IsCorrection DEPTH_LIMIT book animal sire dam
+IsAllowed book (Transfer animal day giver taker) = IsPresentOn book animal day
+IsAllowed book (Exit animal day) = IsExit book animal day
 
 -- a command without a fault is allowed
 pub allowed_of_no_fault : (limits : Limits) (book : Book) (command : Command) → limits.animals ≤ MOST_ANIMALS → fault limits book command ≡ None → IsAllowed book command

@@ -11,7 +11,7 @@ use Rattle.std.proofs.lemmas.Map.Made.{is_some-lookup}
 use Rattle.herd_frozen.specs.declared.rules.animal.Animal.{Animal}
 use Rattle.herd_frozen.specs.rules.Book.{Book, changed, is_there, record_of}
 use Rattle.herd_frozen.proofs.lemmas.rules.BookFacts.{keys-push, length-keys}
-use Rattle.herd_register.specs.CopiedRecords.{AreInRoom, with_record_in}
+use Rattle.herd_register.specs.Copybook.{AreInRoom, with_record_in}
 
 -- a number is there where some number of the book is equal to it
 is_there-list_any : (book : Book) (number : List ℕ) → is_there book number ≡ list_any (bytes_eq number) (keys_of book)

@@ -1,14 +1,40 @@
--- A copy of a register's records and journal, as contracts see it, and what it takes over.
-use Rattle.std.specs.Prelude.{◌≡◌, ℕ, ◌≤◌, List, [], ◌∷◌, ◌++◌, length, nat_lt, if◌then◌else◌}
-use Rattle.herd_frozen.specs.rules.Book.{Book}
+-- A copy of a register's records and journal, as contracts see it, and what it takes over: the records of a book, with
+-- room for a fixed number of them.
+use Rattle.std.specs.Prelude.{◌≡◌, ℕ, ◌-◌, ◌<◌, ◌≤◌, Bool, List, [], ◌∷◌, ◌++◌, length, nat_lt, ◌||◌, if◌then◌else◌}
+use Rattle.std.specs.Map.{keys_of}
+use Rattle.herd_frozen.specs.declared.rules.animal.Animal.{Animal}
+use Rattle.herd_frozen.specs.rules.Book.{Book, is_there}
+use Rattle.herd_pedigree.specs.Pedigree.{birth_record}
 use Rattle.herd_register.specs.declared.command.Command.{Command}
 use Rattle.herd_register.specs.declared.command.Command.TheVariants.{Birth, Parents, Transfer, Exit}
 use Rattle.herd_register.specs.Limits.{AreLimits, Limits}
 use Rattle.herd_register.specs.declared.reply.Reply.{Reply}
 use Rattle.herd_register.specs.declared.reply.Reply.TheVariants.{Accepted, Refused}
 use Rattle.herd_register.specs.declared.step.Step.{Step}
-use Rattle.herd_register.specs.CopiedRecords.{with_record_in}
-use Rattle.herd_register.specs.Run.{newborn, set}
+use Rattle.herd_register.specs.Run.{newborn, set, with_record}
+
+-- the records, and how many there may be
+pub record CopiedRecords : Type 0 where
+  pub book : Book
+  pub most : ℕ
+
+abbrev pub records_of : Book → ℕ → CopiedRecords
+records_of book most = record { book = book; most = most }
+
+-- whether a book of at most so many animals can have a record of the number
+abbrev pub has_room : ℕ → Book → List ℕ → Bool
+has_room most book number = is_there book number || nat_lt (length book) most
+
+-- the book with the record of a number, where it has room for it
+abbrev pub with_record_in : ℕ → Book → List ℕ → Animal → Book
+with_record_in most book number animal =
+    if has_room most book number then with_record book number animal else book
+
+-- the numbers stand in the order of the records, which have room for so many, and the numbers for one more
+pub record AreInRoom (most : ℕ) (book : Book) (capacity : ℕ) (numbers : List (List ℕ)) (spare : ℕ) : Type 0 where
+  pub same_order : numbers ≡ keys_of book
+  pub entries_room : most ≤ capacity
+  pub numbers_room : most - length book < spare
 
 -- the limits, the records, and the steps that were taken over
 pub record Copybook : Type 0 where
@@ -22,7 +48,7 @@ copybook_of limits book journal = record { limits = limits; book = book; journal
 -- the book of at most so many animals as a command sets it: a new record only where there is room for it
 abbrev pub set_in : ℕ → Book → Command → Book
 set_in most book (Birth animal day sire dam herd embryo) =
-    with_record_in most book animal (newborn day sire dam herd embryo)
+    with_record_in most book animal (birth_record (newborn day sire dam herd embryo))
 set_in most book (Parents animal sire dam) = set book (Parents animal sire dam)
 set_in most book (Transfer animal day giver taker) = set book (Transfer animal day giver taker)
 set_in most book (Exit animal day) = set book (Exit animal day)

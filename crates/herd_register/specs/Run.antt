@@ -1,10 +1,12 @@
 -- What a register of one thread does: the refusal of a command, its step, and the run of commands one after the other.
-use Rattle.std.specs.Prelude.{◌≡◌, ℕ, Bool, true, false, List, [], ◌∷◌, ◌++◌, map, length, not, nat_lt, nat_eq, int_lt, is_some, if◌then◌else◌, Option, None, ℤ}
+use Rattle.std.specs.Prelude.{◌≡◌, ℕ, Bool, true, false, List, [], ◌∷◌, ◌++◌, map, length, not, nat_lt, nat_eq, int_lt, is_some, if◌then◌else◌, Option, ℤ}
 use Rattle.std.specs.Option.{option_map_or}
 use Rattle.herd_frozen.specs.rules.Book.{Book, record_of, is_there, changed, with_parents, with_owner, with_left, has_calved_after}
 use Rattle.herd_frozen.specs.rules.ParentFault.{first_that_holds, parent_faults}
 use Rattle.herd_frozen.specs.declared.rules.animal.Animal.{Animal}
 use Rattle.herd_frozen.specs.declared.TheConstants.{DEPTH_LIMIT}
+use Rattle.herd_pedigree.specs.Pedigree.{birth_record}
+use Rattle.herd_pedigree.specs.declared.registration.Newborn.{Newborn}
 use Rattle.herd_register.specs.declared.command.Command.{Command}
 use Rattle.herd_register.specs.declared.command.Command.TheVariants.{Birth, Parents, Transfer, Exit}
 use Rattle.herd_register.specs.declared.reply.Refusal.{Refusal}
@@ -70,10 +72,9 @@ refusals limits book (Exit animal day) = exit_refusals book animal day
 abbrev pub fault : Limits → Book → Command → Option Refusal
 fault limits book command = first_that_holds (refusals limits book command)
 
--- the record of a birth: owned by the herd from the birth day on, and there
-abbrev pub newborn : ℤ → Option (List ℕ) → Option (List ℕ) → ℕ → Bool → Animal
-newborn day sire dam herd embryo =
-    record { birth = day; sire = sire; dam = dam; embryo = embryo; herd = herd; since = day; left = None }
+-- the animal whose birth a command files
+abbrev pub newborn : ℤ → Option (List ℕ) → Option (List ℕ) → ℕ → Bool → Newborn
+newborn day sire dam herd embryo = record { birth = day; sire = sire; dam = dam; embryo = embryo; herd = herd }
 
 -- the book with the record of a number: in its place, or at the end where the number is new
 abbrev pub with_record : Book → List ℕ → Animal → Book
@@ -82,7 +83,8 @@ with_record book number animal =
 
 -- the book with the record of the command's animal as the command leaves it
 abbrev pub set : Book → Command → Book
-set book (Birth animal day sire dam herd embryo) = with_record book animal (newborn day sire dam herd embryo)
+set book (Birth animal day sire dam herd embryo) =
+    with_record book animal (birth_record (newborn day sire dam herd embryo))
 set book (Parents animal sire dam) = changed book animal (with_parents sire dam)
 set book (Transfer animal day giver taker) = changed book animal (with_owner taker day)
 set book (Exit animal day) = changed book animal (with_left day)

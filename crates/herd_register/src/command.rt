@@ -2,7 +2,7 @@ ghost use Rattle.std.specs.Prelude.{◌≡◌};
 ghost use Rattle.herd_register.specs.Run.{newborn};
 
 use herd_animal::{AnimalNumber, Day, Herd};
-use herd_frozen::Animal;
+use herd_pedigree::Newborn;
 
 /// What a clerk files.
 #[derive(Clone, Copy, Debug, PartialEq, Eq)]
@@ -51,23 +51,21 @@ pub enum Command {
     },
 }
 
-/// The record that a birth makes.
+/// The animal whose birth a command files.
 pub(crate) fn newborn(
     day: Day,
     sire: Option<AnimalNumber>,
     dam: Option<AnimalNumber>,
     herd: Herd,
     embryo: bool,
-) -> Animal
+) -> Newborn
     ensures { result ≡ newborn day sire dam herd embryo }
 {
-    Animal {
+    Newborn {
         birth: day,
         sire,
         dam,
         embryo,
         herd,
-        since: day,
-        left: None,
     }
 }

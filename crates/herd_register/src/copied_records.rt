@@ -3,7 +3,7 @@ ghost use Rattle.std.specs.Prelude.{◌≡◌, [], IfOk};
 ghost use Rattle.std.specs.Fn.{FnOnceReturnsAt};
 ghost use Rattle.herd_frozen.specs.declared.rules.animal.Animal.{Animal};
 ghost use Rattle.herd_frozen.specs.rules.Book.{changed};
-ghost use Rattle.herd_register.specs.CopiedRecords.{records_of, with_record_in};
+ghost use Rattle.herd_register.specs.Copybook.{records_of, with_record_in};
 
 use herd_animal::AnimalNumber;
 use herd_frozen::Animal;
@@ -26,7 +26,7 @@ pub(crate) struct CopiedRecords<A: Allocator> {
 impl<A: Allocator> Model for CopiedRecords<A> {
     ghost use Rattle.std.specs.Prelude.{vec_capacity};
     ghost use Rattle.indexmap.specs.IndexMap.{keys, spare};
-    ghost use Rattle.herd_register.specs.CopiedRecords.{AreInRoom, CopiedRecords, records_of};
+    ghost use Rattle.herd_register.specs.Copybook.{AreInRoom, CopiedRecords, records_of};
 
     ghost Value = { CopiedRecords };
 

@@ -2,8 +2,7 @@ ghost use Rattle.std.specs.Prelude.{◌≡◌, ◌≤◌, [], IfOk, length};
 ghost use Rattle.herd_frozen.specs.freezing.Frozen.{IsFrozenFrom};
 ghost use Rattle.herd_frozen.specs.rules.Lawful.{IsLawful};
 ghost use Rattle.herd_frozen.specs.declared.TheConstants.{DEPTH_LIMIT, MOST_ANIMALS};
-ghost use Rattle.herd_register.specs.Copybook.{copybook_of, set_in, taken_over};
-ghost use Rattle.herd_register.specs.CopiedRecords.{records_of};
+ghost use Rattle.herd_register.specs.Copybook.{copybook_of, records_of, set_in, taken_over};
 ghost use Rattle.herd_register.specs.Run.{IsLegal, commands_of, run_book};
 
 use crate::command::{Command, newborn};
@@ -106,7 +105,7 @@ fn set<A: Allocator>(records: &mut CopiedRecords<A>, command: &Command)
             dam,
             herd,
             embryo,
-        } => records.put(animal, newborn(day, sire, dam, herd, embryo)),
+        } => records.put(animal, newborn(day, sire, dam, herd, embryo).animal()),
         Command::Parents { animal, sire, dam } => {
             records.change(&animal, |was| was.with_parents(sire, dam))
         }

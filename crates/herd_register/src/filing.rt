@@ -2,15 +2,14 @@
 ghost use Rattle.std.specs.Prelude.{◌≡◌, IfNone, IfOk, IsSome, OnOk, OnErr};
 ghost use Rattle.herd_frozen.specs.rules.Book.{changed, with_left, with_owner, with_parents};
 ghost use Rattle.herd_frozen.specs.rules.ParentFault.{first_that_holds};
-ghost use Rattle.herd_pedigree.specs.Pedigree.{IsFound, changed_to};
+ghost use Rattle.herd_pedigree.specs.Pedigree.{IsFound, birth_record, changed_to};
 ghost use Rattle.herd_register.specs.Run.{answer, birth_refusals, correction_refusals, exit_refusals, next, transfer_refusals, with_record};
 
 use crate::command::{Command, newborn};
 use crate::limits::Limits;
 use crate::reply::{Refusal, Reply};
 use herd_animal::{AnimalNumber, Day, Herd};
-use herd_frozen::Animal;
-use herd_pedigree::{Found, Pedigree, Registration};
+use herd_pedigree::{Found, Newborn, Pedigree, Registration};
 use std::alloc::{AllocError, Allocator};
 
 impl Command {
@@ -62,14 +61,12 @@ fn file_birth<A: Allocator + Copy>(
     limits: Limits,
     pedigree: &mut Pedigree<A>,
     number: AnimalNumber,
-    newborn: Animal,
+    newborn: Newborn,
 ) -> Result<Option<Refusal>, AllocError>
-    requires since { newborn.since ≡ newborn.birth }
-    requires left { newborn.left ≡ None }
     ensures refusal { IfOk result (λ refusal. refusal ≡ first_that_holds
         (birth_refusals limits pedigree.old.book number newborn.birth newborn.sire newborn.dam newborn.embryo)) }
     ensures set { result ≡ Ok None
-        → pedigree.new ≡ changed_to pedigree.old (with_record pedigree.old.book number newborn) }
+        → pedigree.new ≡ changed_to pedigree.old (with_record pedigree.old.book number (birth_record newborn)) }
     ensures refused { IfOk result (λ refusal. IsSome refusal → pedigree.new ≡ pedigree.old) }
     ensures err { OnErr result (pedigree.new ≡ pedigree.old) }
 {

@@ -170,7 +170,7 @@ impl Ends for Duel {
 }
 
 fn born(rt: &impl Abort, birth: Birth) -> Animal {
-    birth.newborn().expect(rt, "a day")
+    birth.newborn().expect(rt, "a day").animal()
 }
 
 fn sold(rt: &impl Abort, herd: Herd) -> Animal {

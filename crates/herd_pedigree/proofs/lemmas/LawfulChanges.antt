@@ -1,5 +1,5 @@
 -- A change keeps the book lawful: a birth, other parents, another owner, an exit.
-use Rattle.std.proofs.Common.{ℕ, ℤ, ◌+◌, ◌≤◌, ◌≡◌, ◌≤ℤ◌, ◌<ℤ◌, ◌⊎◌, ⊎_elim, inl, inr, arith, refl, sym, ap, ◌∙◌, subst, Bool, true, false, not, ◌&&◌, int_lt, if◌then◌else◌, IsTrue, IsFalse, List, [], ◌∷◌, ◌++◌, Option, Some, length}
+use Rattle.std.proofs.Common.{ℕ, ℤ, ◌+◌, ◌≤◌, ◌≡◌, ◌≤ℤ◌, ◌<ℤ◌, ◌⊎◌, ⊎_elim, inl, inr, arith, refl, sym, ap, ◌∙◌, subst, Bool, true, false, not, ◌&&◌, int_lt, if◌then◌else◌, IsTrue, IsFalse, List, [], ◌∷◌, ◌++◌, Option, None, Some, length}
 use Rattle.std.specs.Str.{bytes_eq}
 use Rattle.std.specs.List.{IsDistinct, list_any}
 use Rattle.std.specs.Map.{keys_of}
@@ -14,7 +14,8 @@ use Rattle.herd_frozen.specs.rules.Paths.{has_path}
 use Rattle.herd_frozen.specs.rules.Book.{Book, changed, is_calf_after, is_shallow, parentage_of, record_of, with_left, with_owner, with_parents}
 use Rattle.herd_frozen.specs.rules.ParentFault.{has_left_before, is_too_deep, parentage_with}
 use Rattle.herd_frozen.specs.rules.Lawful.{IsDamOf, IsLawful, IsLawfulRecord, IsSireOf}
-use Rattle.herd_pedigree.specs.Pedigree.{IsBirth, IsCorrection, IsExit, IsPresentOn}
+use Rattle.herd_pedigree.specs.declared.registration.Newborn.{Newborn}
+use Rattle.herd_pedigree.specs.Pedigree.{IsBirth, IsCorrection, IsExit, IsPresentOn, birth_record}
 use Rattle.herd_frozen.proofs.lemmas.Contained.{any_not}
 use Rattle.herd_frozen.proofs.lemmas.rules.BookFacts.{bytes_itself, distinct-push, keys-changed, keys-push, length-changed, place_of, same_bytes}
 use Rattle.herd_frozen.proofs.lemmas.rules.FaultFacts.{dam-may_be, no_fault, not_either, sire-may_be}
@@ -108,9 +109,11 @@ paths-written l old new number animal w low =
     or_parts (has_path (parentage_of new) (l + 1) number) (list_any (has_path (parentage_of new) (l + 1)) (keys_of old)) (sym (too_deep-written old new number animal w l) ∙ low)
 
 -- a birth that has no fault
-pub lawful-birth : (l most : ℕ) (book : Book) (number : List ℕ) (animal : Animal) → IsLawful l most book → IsBirth l most book number animal → IsLawful l most (book ++ (number, animal) ∷ [])
-lawful-birth l most book number animal lawful birth =
-    let absent = birth.newborn.absent in
+pub lawful-birth : (l most : ℕ) (book : Book) (number : List ℕ) (newborn : Newborn) → IsLawful l most book → IsBirth l most book number newborn → IsLawful l most (book ++ (number, birth_record newborn) ∷ [])
+lawful-birth l most book number newborn lawful birth =
+    let animal : Animal = birth_record newborn in
+    let since : newborn.birth ≤ℤ newborn.birth = grind (arith, ints) in
+    let absent = birth.absent in
     let more : Book = book ++ (number, animal) ∷ [] in
     let w = written-push book number animal absent in
     let fine = no_fault l book number animal.birth animal.sire animal.dam animal.embryo birth.parents in
@@ -119,12 +122,12 @@ lawful-birth l most book number animal lawful birth =
     let none : list_any too_long (keys_of more) ≡ false = ap (λ ks. list_any too_long ks) (keys-push book number animal) ∙ list_any-append too_long (keys_of book) (number ∷ []) ∙ (rw (short.1, short.0) refl) in
     lawful-written book more number animal w (λ was e. absurd (cc)) l most lawful
     (distinct-push book number animal lawful.once absent)
-    (let n = length_push book (number, animal) in let room = birth.newborn.room in omega (arith, n, room))
+    (let n = length_push book (number, animal) in let room = birth.room in omega (arith, n, room))
     (not_from_false (list_any too_long (keys_of more)) none)
     (sire-may_be book animal.birth animal.sire animal.dam animal.embryo fine.records)
     (dam-may_be book animal.birth animal.sire animal.dam animal.embryo fine.records)
-    (subst (λ day. animal.birth ≤ℤ day) (sym birth.newborn.since) (grind (arith, ints)))
-    (λ day e. let left = birth.newborn.left in absurd (cc))
+    since
+    (λ (day : ℤ) (e : None ≡ Some day). absurd (cc))
     (λ x calf e is d fresh. let there = d.there in absurd (cc))
 
 -- a book in which the record of an animal is changed, which keeps its birth day

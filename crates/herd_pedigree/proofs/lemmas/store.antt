@@ -1,12 +1,10 @@
 -- How what is kept changes with the book.
-pub mod MapFacts
 pub mod RecordsFacts
 pub mod PlaceFacts
 pub mod DepthFacts
 pub mod SetFacts
 pub mod UndoFacts
 pub mod ListFacts
-pub mod PigeonholeFacts
 pub mod ProgenyFacts
 pub mod JoinFacts
 pub mod PartFacts

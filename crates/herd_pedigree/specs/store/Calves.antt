@@ -1,7 +1,12 @@
--- The calves of each parent, which stand in a chain.
+-- One parent of each animal by place, and the calves of each parent, which stand in a chain.
 use Rattle.std.specs.Prelude.{◌≡◌, ℕ, zero, suc, ◌<◌, ◌^◌, ◌==◌, cond, List, [], ◌∷◌, length, map, slice_index_or, Option, Some, None}
 use Rattle.std.specs.Option.{option_map_or}
 use Rattle.herd_pedigree.specs.declared.store.progeny.ChainNode.{ChainNode}
+
+-- the place of the parent of each, and for how many more animals there is room
+pub record Progeny : Type 0 where
+  pub parents : List (Option ℕ)
+  pub room : ℕ
 
 -- what is kept of an animal with neither parent nor calves
 abbrev pub alone : ChainNode

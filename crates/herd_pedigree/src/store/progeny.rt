@@ -27,8 +27,7 @@ pub struct Progeny<A: Allocator> {
 
 impl<A: Allocator> Model for Progeny<A> {
     ghost use Rattle.std.specs.Prelude.{◌-◌, vec_len, vec_capacity};
-    ghost use Rattle.herd_pedigree.specs.store.Calves.{AreChained, parents_of};
-    ghost use Rattle.herd_pedigree.specs.store.Progeny.{Progeny};
+    ghost use Rattle.herd_pedigree.specs.store.Calves.{AreChained, Progeny, parents_of};
 
     ghost Value = { Progeny };
 

@@ -7,9 +7,11 @@ ghost use Rattle.indexmap.specs.IndexMap.{get};
 ghost use Rattle.herd_frozen.specs.rules.Book.{is_there, record_of};
 ghost use Rattle.herd_frozen.specs.places.PackedIndex.{nowhere};
 ghost use Rattle.herd_frozen.specs.places.Places.{IsIndexIn, number_at};
+ghost use Rattle.herd_pedigree.specs.Pedigree.{birth_record};
 ghost use Rattle.herd_pedigree.specs.store.Records.{IsStoredAt, NamesItsOwn, animal_of, set_value_at, stored_of};
 ghost use Rattle.herd_pedigree.specs.store.Undo.{without_last};
 
+use crate::registration::Newborn;
 use herd_animal::{AnimalNumber, Day, Herd};
 use herd_frozen::{Animal, Link, PackedIndex, Registered, RowRecord};
 use indexmap::IndexMap;
@@ -47,20 +49,20 @@ impl<A: Allocator> Model for Records<A> {
 }
 
 impl StoredRecord {
-    // What is kept of an animal whose parents stand at these places.
-    fn new(animal: Animal, sire: Option<u32>, dam: Option<u32>) -> StoredRecord
+    // What is kept of a newborn animal whose parents stand at these places.
+    fn new(newborn: Newborn, sire: Option<u32>, dam: Option<u32>) -> StoredRecord
         requires sire { IfSome sire (λ place. place < nowhere) }
         requires dam { IfSome dam (λ place. place < nowhere) }
-        ensures { result ≡ stored_of animal sire dam }
+        ensures { result ≡ stored_of (birth_record newborn) sire dam }
     {
         StoredRecord {
-            birth: animal.birth,
+            birth: newborn.birth,
             sire: PackedIndex::of(sire),
             dam: PackedIndex::of(dam),
-            embryo: animal.embryo,
-            herd: animal.herd,
-            since: animal.since,
-            left: animal.left,
+            embryo: newborn.embryo,
+            herd: newborn.herd,
+            since: newborn.birth,
+            left: None,
         }
     }
 
@@ -204,20 +206,20 @@ impl<A: Allocator> Records<A> {
     pub(crate) fn push_if_new(
         &mut self,
         number: AnimalNumber,
-        animal: Animal,
+        newborn: Newborn,
         sire: Option<u32>,
         dam: Option<u32>,
     ) -> Result<bool, AllocError>
         requires few { length self.old.book < 2 ^ 32 }
-        requires sire { IsIndexIn (keys_of self.old.book) sire animal.sire }
-        requires dam { IsIndexIn (keys_of self.old.book) dam animal.dam }
+        requires sire { IsIndexIn (keys_of self.old.book) sire newborn.sire }
+        requires dam { IsIndexIn (keys_of self.old.book) dam newborn.dam }
         ensures new { IfOk result (λ new. new ≡ not (is_there self.old.book number)) }
-        ensures added { result ≡ Ok true → self.new.book ≡ self.old.book ++ (number, animal) ∷ [] }
+        ensures added { result ≡ Ok true → self.new.book ≡ self.old.book ++ (number, birth_record newborn) ∷ [] }
         ensures there { result ≡ Ok false → self.new.book ≡ self.old.book }
         ensures err { OnErr result (self.new.book ≡ self.old.book) }
         ensures absent { OnErr result (record_of self.old.book number ≡ None) }
     {
-        let stored = StoredRecord::new(animal, sire, dam);
+        let stored = StoredRecord::new(newborn, sire, dam);
         insert_if_new(&mut self.entries, number, stored)
     }
 

@@ -1,11 +1,10 @@
-//! Changes of a pedigree, as tables write them.
+//! Days and changes of a pedigree, as tables write them.
 
-use super::days::day;
 use super::filing::{file_birth, file_correction, file_exit, file_transfer};
-use herd_animal::Herd;
+use herd_animal::{Day, Herd};
 use herd_fixtures::{DayText, Name, Pair};
-use herd_frozen::{Animal, ParentFault};
-use herd_pedigree::Pedigree;
+use herd_frozen::ParentFault;
+use herd_pedigree::{Newborn, Pedigree};
 use std::alloc::{AllocError, Allocator};
 use std::process::Abort;
 use std::test::Fail;
@@ -23,17 +22,17 @@ pub enum Change {
     Exit(Name, DayText),
 }
 
-// A newborn animal.
-fn born(rt: &impl Abort, text: DayText, parents: Pair, embryo: bool) -> Animal {
-    let birth = day(rt, text);
-    Animal {
-        birth,
+pub(super) fn day(rt: &impl Abort, text: DayText) -> Day {
+    Day::parse(&text).expect(rt, "a day")
+}
+
+fn newborn(rt: &impl Abort, text: DayText, parents: Pair, embryo: bool) -> Newborn {
+    Newborn {
+        birth: day(rt, text),
         sire: parents.sire_number(),
         dam: parents.dam_number(),
         embryo,
         herd: Herd::parse(b"1").expect(rt, "a herd"),
-        since: birth,
-        left: None,
     }
 }
 
@@ -45,12 +44,12 @@ pub(super) fn file<A: Allocator + Copy>(
 ) -> Result<Option<ParentFault>, AllocError> {
     match change {
         Change::Birth(name, day, parents) => {
-            let animal = born(rt, day, parents, false);
-            file_birth(rt, pedigree, name.number(), animal)
+            let newborn = newborn(rt, day, parents, false);
+            file_birth(rt, pedigree, name.number(), newborn)
         }
         Change::EmbryoBirth(name, day, parents) => {
-            let animal = born(rt, day, parents, true);
-            file_birth(rt, pedigree, name.number(), animal)
+            let newborn = newborn(rt, day, parents, true);
+            file_birth(rt, pedigree, name.number(), newborn)
         }
         Change::Parents(name, parents) => {
             let sire = parents.sire_number();

@@ -1,9 +1,8 @@
 //! Corrections of parents: what is asked of them, and what they leave.
 
-use super::changes::{Change, expect_faults, expect_filed, pedigree_of};
-use super::days::day;
+use super::changes::{Change, day, expect_faults, expect_filed, pedigree_of};
 use super::family::family;
-use super::seen::{depth_of, seen_of};
+use super::seen::{depth_of, has_calved_after, seen_of};
 use herd_animal::AnimalNumber;
 use herd_fixtures::Name::{Bull, Cow};
 use herd_fixtures::{Pair, UNKNOWN};
@@ -28,6 +27,15 @@ fn corrected(rt: &impl Abort, alloc: Global) -> Result<Pedigree<Global>, Fail> {
     let correction = Change::Parents(Bull(3), Pair::of(Bull(1), Cow(2)));
     expect_filed(rt, &mut pedigree, correction, None)?;
     Ok(pedigree)
+}
+
+#[test]
+fn a_calf_gets_its_dam(rt: HostRuntime) -> Result<(), Fail> {
+    let pedigree = corrected(&rt, rt.alloc())?;
+    assert_eq!(rt; depth_of(&pedigree, Bull(3)), Some(1));
+    assert!(rt; has_calved_after(&rt, &pedigree, Cow(2), *b"2001-12-31"));
+    assert!(rt; !has_calved_after(&rt, &pedigree, Cow(2), *b"2002-01-01"));
+    Ok(())
 }
 
 fn freeze_corrected(rt: &impl Abort, alloc: Global) -> Result<Frozen<Global>, Fail> {

@@ -2,7 +2,7 @@
 
 use herd_animal::{AnimalNumber, Day, Herd};
 use herd_frozen::{Animal, MOST_ANIMALS, ParentFault};
-use herd_pedigree::Pedigree;
+use herd_pedigree::{Newborn, Pedigree};
 use std::alloc::{AllocError, Allocator};
 use std::process::Abort;
 
@@ -11,20 +11,19 @@ pub(super) fn file_birth<A: Allocator + Copy>(
     rt: &impl Abort,
     pedigree: &mut Pedigree<A>,
     number: AnimalNumber,
-    animal: Animal,
+    newborn: Newborn,
 ) -> Result<Option<ParentFault>, AllocError> {
-    let Animal {
+    let Newborn {
         birth,
         sire,
         dam,
         embryo,
         ..
-    } = animal;
+    } = newborn;
     let fault = pedigree.check_parents(number, birth, sire, dam, embryo)?;
     if fault.is_none() {
         assert!(rt; pedigree.get(&number).is_none() && pedigree.len() < MOST_ANIMALS);
-        assert!(rt; animal.since == birth && animal.left.is_none());
-        pedigree.add(number, animal)?;
+        pedigree.add(number, newborn)?;
     }
     Ok(fault)
 }
@@ -43,7 +42,8 @@ pub(super) fn file_correction<A: Allocator + Copy>(
     if fault.is_none() {
         pedigree.set_parents(number, sire, dam)?;
     } else {
-        assert_eq!(rt; pedigree.set_parents_if_sound(number, sire, dam)?, fault);
+        let found = pedigree.find(&number).expect(rt, "an animal");
+        assert_eq!(rt; pedigree.set_parents_at_if_sound(&found, sire, dam)?, fault);
     }
     Ok(fault)
 }

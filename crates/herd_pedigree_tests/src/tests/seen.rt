@@ -1,8 +1,8 @@
 //! What a pedigree tells of its animals.
 
-use super::days::day;
-use herd_fixtures::Name;
+use super::changes::day;
 use herd_fixtures::Name::{Bull, Cow};
+use herd_fixtures::{DayText, Name};
 use herd_frozen::Animal;
 use herd_pedigree::Pedigree;
 use std::alloc::Allocator;
@@ -21,7 +21,7 @@ pub(super) fn seen_of<A: Allocator>(rt: &impl Abort, pedigree: &Pedigree<A>, nam
     Seen {
         animal: pedigree.get(&number),
         depth: pedigree.depth(&number),
-        has_calved: pedigree.calved_after(&number, day(rt, *b"1990-01-01")),
+        has_calved: has_calved_after(rt, pedigree, name, *b"1990-01-01"),
     }
 }
 
@@ -44,6 +44,15 @@ pub(super) fn tells<A: Allocator>(
     wanted: &[Seen; 6],
 ) -> bool {
     family_seen(rt, pedigree) == *wanted
+}
+
+pub(super) fn has_calved_after<A: Allocator>(
+    rt: &impl Abort,
+    pedigree: &Pedigree<A>,
+    name: Name,
+    text: DayText,
+) -> bool {
+    pedigree.calved_after(&name.number(), day(rt, text))
 }
 
 pub(super) fn depth_of<A: Allocator>(pedigree: &Pedigree<A>, name: Name) -> Option<u8> {

@@ -1,7 +1,9 @@
--- What a list or an option holds, what a filter leaves of a list, and what its front is.
-use Rattle.std.proofs.Common.{ℕ, ◌-◌, ◌<◌, ◌≡◌, ◌++◌, ◌∙◌, arith, refl, sym, List, [], ◌∷◌, is_some, Option, None, Some, length, slice_set, take}
+-- What a list or an option holds, what the front of a list is, and what a map sets.
+use Rattle.std.proofs.Common.{ℕ, zero, suc, ◌-◌, ◌<◌, ◌≡◌, ◌++◌, ◌∙◌, arith, refl, sym, ap, List, [], ◌∷◌, is_some, Option, None, Some, length, slice_set, take}
 use Rattle.std.specs.Option.{option_map}
 use Rattle.std.proofs.lemmas.List.{ext_get_or, get_or-set_other, get_or-take, length-set, length-take-le, length_push, take_at}
+use Rattle.indexmap.specs.IndexMap.{set_value_at as map_set_value_at}
+use Rattle.herd_pedigree.specs.store.Records.{set_value_at}
 use Rattle.herd_pedigree.specs.store.Undo.{without_last}
 
 -- without the last element that was pushed
@@ -28,3 +30,9 @@ nil_unless (x ∷ xs) never = absurd (never (omega arith))
 pub is_some-map : {X Y : Type 0} (f : X → Y) (o : Option X) → is_some (option_map f o) ≡ is_some o
 is_some-map f None = refl
 is_some-map f (Some x) = refl
+
+-- a value that is set: the map's own word for its entries is that of the records
+pub map-set : {X : Type 0} (es : List (List ℕ × X)) (i : ℕ) (x : X) → map_set_value_at es i x ≡ set_value_at es i x
+map-set [] i x = refl
+map-set (e ∷ es) zero x = refl
+map-set (e ∷ es) (suc i) x = ap (λ rest. e ∷ rest) (map-set es i x)

@@ -9,7 +9,7 @@ use Rattle.herd_pedigree.proofs.pedigree.Pedigree.add_if_new.Goals as goal
 
 pub returns-in-Err-clause-outcome : goal.returns-in-Err-clause-outcome
 returns-in-Err-clause-outcome g c =
-    let a = c.args.animal in
+    let a = c.args.newborn in
     let number : List ℕ = c.args.number in
     let book : Book = c.self.inside.records.book in
     c.unsound.ensures

@@ -5,7 +5,7 @@ use Rattle.herd_frozen.specs.declared.rules.parent_fault.ParentFault.TheVariants
 use Rattle.herd_frozen.specs.rules.Book.{Book}
 use Rattle.herd_frozen.specs.rules.Depths.{depth_from}
 use Rattle.herd_pedigree.specs.declared.registration.Registration.TheVariants.{Added}
-use Rattle.herd_pedigree.specs.Pedigree.{IsBirth, registration, unsound}
+use Rattle.herd_pedigree.specs.Pedigree.{IsBirth, birth_record, registration, unsound}
 use Rattle.herd_frozen.specs.places.Places.{IsIndexIn}
 use Rattle.herd_frozen.specs.declared.TheConstants.{DEPTH_LIMIT, MOST_ANIMALS}
 use Rattle.herd_pedigree.proofs.CheckFacts.{newborn-deep, newborn-none}
@@ -16,11 +16,11 @@ use Rattle.herd_pedigree.proofs.pedigree.Pedigree.add_unless_too_deep.Goals.{Aft
 use Rattle.herd_pedigree.proofs.pedigree.Pedigree.add_unless_too_deep.Goals as goal
 
 -- the places of the parents, in the book that is inside
-sire : (g : Over) (c : After-depth_with-depth g) → IsIndexIn (keys_of c.self.inside.records.book) c.args.parents.sire c.args.animal.sire
-sire g c = subst (λ p. IsIndexIn (keys_of p.book) c.args.parents.sire c.args.animal.sire) (sym c.self.view_is) c.requires.sire
+sire : (g : Over) (c : After-depth_with-depth g) → IsIndexIn (keys_of c.self.inside.records.book) c.args.parents.sire c.args.newborn.sire
+sire g c = subst (λ p. IsIndexIn (keys_of p.book) c.args.parents.sire c.args.newborn.sire) (sym c.self.view_is) c.requires.sire
 
-dam : (g : Over) (c : After-depth_with-depth g) → IsIndexIn (keys_of c.self.inside.records.book) c.args.parents.dam c.args.animal.dam
-dam g c = subst (λ p. IsIndexIn (keys_of p.book) c.args.parents.dam c.args.animal.dam) (sym c.self.view_is) c.requires.dam
+dam : (g : Over) (c : After-depth_with-depth g) → IsIndexIn (keys_of c.self.inside.records.book) c.args.parents.dam c.args.newborn.dam
+dam g c = subst (λ p. IsIndexIn (keys_of p.book) c.args.parents.dam c.args.newborn.dam) (sym c.self.view_is) c.requires.dam
 
 -- the depth that was computed
 depth : (g : Over) (c : After-depth_with-depth g) → c.depth_with-depth.result ≡ depth_from (slice_index c.self.inside.depths.items) c.args.parents.sire c.args.parents.dam
@@ -29,7 +29,7 @@ depth g c = c.depth_with-depth.ensures.depth ∙ ap (λ ds. depth_from (slice_in
 pub returns-then-depth-from-clause-outcome : goal.returns-then-depth-from-clause-outcome
 returns-then-depth-from-clause-outcome g c =
     let i = c.self.inside in
-    let a = c.args.animal in
+    let a = c.args.newborn in
     let number : List ℕ = c.args.number in
     rw c.unsound.ensures
     (subst (λ p. unsound p.book number TooDeep ≡ registration DEPTH_LIMIT p.book number a) c.self.view_is
@@ -39,19 +39,15 @@ returns-then-depth-from-clause-outcome g c =
     a c.requires.sound c.args.parents.sire c.args.parents.dam c.requires.sire c.requires.dam c.from.result c.depth_with-depth.result c.from.ensures (depth g (goal.at.returns-then-depth-from-clause-outcome g c).After-depth_with-depth) c.if-depth-from.true)))
 
 -- the animal that was added was born
-birth : (g : Over) (c : In_ok-new g) → c.in_ok-new.new ≡ true → c.depth_with-depth.result ≡ depth_from (slice_index c.self.inside.depths.items) c.args.parents.sire c.args.parents.dam → IsBirth DEPTH_LIMIT MOST_ANIMALS c.self.inside.records.book c.args.number c.args.animal
+birth : (g : Over) (c : In_ok-new g) → c.in_ok-new.new ≡ true → c.depth_with-depth.result ≡ depth_from (slice_index c.self.inside.depths.items) c.args.parents.sire c.args.parents.dam → IsBirth DEPTH_LIMIT MOST_ANIMALS c.self.inside.records.book c.args.number c.args.newborn
 birth g c new depth =
     let i = c.self.inside in
     let absent = absent-new i.records.book c.args.number _ c.in_ok-new.ensures.new new in
     record {
-      newborn = record {
-        absent = absent;
-        room = subst (λ p. length p.book < MOST_ANIMALS) (sym c.self.view_is) c.requires.room;
-        since = c.requires.since;
-        left = c.requires.left;
-      };
+      absent = absent;
+      room = subst (λ p. length p.book < MOST_ANIMALS) (sym c.self.view_is) c.requires.room;
       parents = sym (newborn-none DEPTH_LIMIT MOST_ANIMALS i.records.book c.args.self.now.book (ap (λ p. p.book) c.self.view_is) i.sires.parents i.dams.parents i.depths.items c.self.invariant.kept c.args.number absent
-          c.args.animal c.requires.sound c.args.parents.sire c.args.parents.dam c.requires.sire c.requires.dam c.from.result c.depth_with-depth.result c.from.ensures depth c.if-depth-from.false);
+          c.args.newborn c.requires.sound c.args.parents.sire c.args.parents.dam c.requires.sire c.requires.dam c.from.result c.depth_with-depth.result c.from.ensures depth c.if-depth-from.false);
     }
 
 pub invariant_of-self-2 : goal.invariant_of-self-2
@@ -64,16 +60,16 @@ invariant_of-self-2 g c =
     let here = goal.at.invariant_of-self-2 g c in
     let depth = depth g here.After-depth_with-depth in
     let birth = birth g here.In_ok-new c.if-not-new.false depth in
-    let entries : c.push_all_if_new.new.records.book ≡ book ++ (c.args.number, c.args.animal) ∷ [] = rw c.if-not-new.false at c.in_ok-new.ensures.records in
+    let entries : c.push_all_if_new.new.records.book ≡ book ++ (c.args.number, birth_record c.args.newborn) ∷ [] = rw c.if-not-new.false at c.in_ok-new.ensures.records in
     let sires_are : c.push_all_if_new.new.sires.parents ≡ sires ++ c.args.parents.sire ∷ [] = rw c.if-not-new.false at c.in_ok-new.ensures.sires in
     let dams_are : c.push_all_if_new.new.dams.parents ≡ dams ++ c.args.parents.dam ∷ [] = rw c.if-not-new.false at c.in_ok-new.ensures.dams in
     let depths_are : c.push_all_if_new.new.depths.items ≡ depths ++ depth_from (slice_index depths) c.args.parents.sire c.args.parents.dam ∷ [] = rw (c.if-not-new.false, depth) at c.in_ok-new.ensures.depths in
     rw (entries, sires_are, dams_are, depths_are)
-    (IsHeld-push DEPTH_LIMIT MOST_ANIMALS book sires dams depths c.self.invariant.kept c.args.number c.args.animal birth.newborn.absent c.args.parents.sire c.args.parents.dam (sire g here.After-depth_with-depth) (dam g here.After-depth_with-depth) birth i.old_depths.items)
+    (IsHeld-push DEPTH_LIMIT MOST_ANIMALS book sires dams depths c.self.invariant.kept c.args.number c.args.newborn birth.absent c.args.parents.sire c.args.parents.dam (sire g here.After-depth_with-depth) (dam g here.After-depth_with-depth) birth i.old_depths.items)
 
 pub returns-clause-outcome : goal.returns-clause-outcome
 returns-clause-outcome g c =
     let here = goal.at.returns-clause-outcome g c in
     let birth = birth g here.In_ok-new c.if-not-new.false (depth g here.After-depth_with-depth) in
-    subst (λ p. Added ≡ registration DEPTH_LIMIT p.book c.args.number c.args.animal) c.self.view_is
-    (registration-added DEPTH_LIMIT c.self.inside.records.book c.args.number c.args.animal birth.newborn.absent (sym birth.parents))
+    subst (λ p. Added ≡ registration DEPTH_LIMIT p.book c.args.number c.args.newborn) c.self.view_is
+    (registration-added DEPTH_LIMIT c.self.inside.records.book c.args.number c.args.newborn birth.absent (sym birth.parents))

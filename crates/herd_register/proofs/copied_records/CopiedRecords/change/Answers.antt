@@ -3,7 +3,7 @@ use Rattle.std.proofs.Common.{◌≡◌, set, ap, refl, sym, subst, ◌∙◌, a
 use Rattle.std.proofs.lemmas.Fn.{gave_at}
 use Rattle.herd_frozen.specs.rules.Book.{Book, changed}
 use Rattle.herd_frozen.specs.declared.rules.animal.Animal.{Animal}
-use Rattle.herd_register.specs.CopiedRecords.{CopiedRecords, records_of}
+use Rattle.herd_register.specs.Copybook.{CopiedRecords, records_of}
 use Rattle.herd_register.proofs.RecordFacts.{AreInRoom-set, changed-at, changed-nowhere}
 use Rattle.herd_register.proofs.copied_records.CopiedRecords.change.Goals as goal
 

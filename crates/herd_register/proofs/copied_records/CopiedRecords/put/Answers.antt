@@ -5,7 +5,7 @@ use Rattle.std.specs.Str.{bytes_eq}
 use Rattle.indexmap.proofs.CallerLemmas.{insert_entry-new}
 use Rattle.herd_frozen.specs.rules.Book.{Book}
 use Rattle.herd_frozen.proofs.lemmas.rules.BookFacts.{keys-push}
-use Rattle.herd_register.specs.CopiedRecords.{CopiedRecords, records_of, with_record_in}
+use Rattle.herd_register.specs.Copybook.{CopiedRecords, records_of, with_record_in}
 use Rattle.herd_register.proofs.RecordFacts.{AreInRoom-push, AreInRoom-set, with_record_in-at, with_record_in-full, with_record_in-new}
 use Rattle.herd_register.proofs.copied_records.CopiedRecords.put.Goals as goal
 

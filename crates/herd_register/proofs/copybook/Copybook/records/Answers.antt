@@ -5,7 +5,7 @@ use Rattle.herd_frozen.specs.declared.TheConstants.{DEPTH_LIMIT, MOST_ANIMALS}
 use Rattle.herd_register.specs.Copybook.{Copybook, copybook_of}
 use Rattle.herd_register.specs.Run.{commands_of, IsLegal, run_book}
 use Rattle.herd_register.proofs.CopybookFacts.{book_of_legal}
-use Rattle.herd_register.proofs.LawfulFacts.{IsLawful-run_book}
+use Rattle.herd_register.proofs.RunLemmas.{IsLawful-run_book}
 use Rattle.herd_register.proofs.copybook.Copybook.records.Goals as goal
 
 pub returns-clause-run : goal.returns-clause-run

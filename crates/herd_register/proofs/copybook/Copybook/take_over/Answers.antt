@@ -1,7 +1,6 @@
 -- `Copybook::take_over`: the invariant.
 use Rattle.std.proofs.Common.{◌<◌, length, refl, ap, ◌∙◌, arith}
-use Rattle.herd_register.specs.Copybook.{copybook_of}
-use Rattle.herd_register.specs.CopiedRecords.{CopiedRecords}
+use Rattle.herd_register.specs.Copybook.{CopiedRecords, copybook_of}
 use Rattle.herd_register.proofs.CopybookFacts.{IsCopybook-taken, set_where-accepted, set_where-refused}
 use Rattle.herd_register.proofs.copybook.Copybook.take_over.Goals as goal
 

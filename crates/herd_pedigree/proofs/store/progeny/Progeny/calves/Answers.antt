@@ -2,9 +2,8 @@
 use Rattle.std.proofs.Common.{ap, sym, ◌∙◌, subst, ◌<◌, ◌≡◌, ◌↔◌, ℕ, List, Some, Contains, length}
 use Rattle.std.specs.Option.{ForSome}
 use Rattle.herd_pedigree.specs.declared.store.progeny.ChainNode.{ChainNode}
-use Rattle.herd_pedigree.specs.store.Calves.{AreChained, chain, node_at, first_of}
+use Rattle.herd_pedigree.specs.store.Calves.{AreChained, Progeny, chain, first_of, node_at}
 use Rattle.herd_frozen.specs.places.Places.{parent_at}
-use Rattle.herd_pedigree.specs.store.Progeny.{Progeny}
 use Rattle.herd_pedigree.proofs.lemmas.store.ChainFacts.{calves-shown, first-within}
 use Rattle.herd_pedigree.proofs.store.progeny.Progeny.calves.Goals as goal
 

@@ -6,6 +6,7 @@ use Rattle.std.specs.Str.{bytes_eq}
 use Rattle.herd_frozen.specs.declared.rules.animal.Animal.{Animal}
 use Rattle.herd_frozen.specs.rules.Book.{is_there, record_of}
 use Rattle.herd_frozen.specs.places.Places.{IsIndexIn}
+use Rattle.herd_pedigree.specs.Pedigree.{birth_record}
 use Rattle.herd_pedigree.specs.store.Records.{AreClosed, stored_book, animal_of}
 use Rattle.herd_pedigree.specs.declared.store.records.StoredRecord.{StoredRecord}
 use Rattle.herd_pedigree.proofs.lemmas.store.ListFacts.{is_some-map}
@@ -16,7 +17,7 @@ use Rattle.herd_pedigree.proofs.store.records.Records.push_if_new.Goals as goal
 
 -- the places that are kept are those of the parents
 parents : (g : Over) (c : After-insert_if_new g) →
-    IsIndexIn (keys_of c.self.inside.entries.entries) c.new-stored.result.sire c.args.animal.sire × IsIndexIn (keys_of c.self.inside.entries.entries) c.new-stored.result.dam c.args.animal.dam
+    IsIndexIn (keys_of c.self.inside.entries.entries) c.new-stored.result.sire c.args.newborn.sire × IsIndexIn (keys_of c.self.inside.entries.entries) c.new-stored.result.dam c.args.newborn.dam
 parents g c =
     let keys : keys_of c.args.self.now.book ≡ keys_of c.self.inside.entries.entries = ap (λ r. keys_of r.book) (sym c.self.view_is) ∙ keys-stored_book c.self.inside.entries.entries in
     (rw (c.new-stored.ensures, ← keys) c.requires.sire, rw (c.new-stored.ensures, ← keys) c.requires.dam)
@@ -32,7 +33,7 @@ closed-after es new x e animal (Err error) closed are added there err = rw err c
 pub invariant_of-self : goal.invariant_of-self
 invariant_of-self g c =
     let told = c.insert_if_new.ensures in
-    closed-after c.self.inside.entries.entries c.insert_if_new.new.entries.entries c.args.number c.new-stored.result c.args.animal c.insert_if_new.result c.self.invariant
+    closed-after c.self.inside.entries.entries c.insert_if_new.new.entries.entries c.args.number c.new-stored.result (birth_record c.args.newborn) c.insert_if_new.result c.self.invariant
     (parents g (goal.at.invariant_of-self g c).After-insert_if_new) told.added told.there told.err
 
 pub returns-clause-new : goal.returns-clause-new
@@ -48,12 +49,13 @@ pub returns-clause-added : goal.returns-clause-added
 returns-clause-added g c =
     let es : List (List ℕ × StoredRecord) = c.self.inside.entries.entries in
     let entry : StoredRecord = c.new-stored.result in
+    let animal : Animal = birth_record c.args.newborn in
     let are = parents g (goal.at.returns-clause-added g c).After-insert_if_new in
-    let kept : animal_of (keys_of es) entry ≡ c.args.animal = animal_of-stored (keys_of es) entry c.args.animal c.args.sire c.args.dam c.new-stored.ensures are.0 are.1 in
+    let kept : animal_of (keys_of es) entry ≡ animal = animal_of-stored (keys_of es) entry animal c.args.sire c.args.dam c.new-stored.ensures are.0 are.1 in
     λ is.
-    subst (λ r. stored_book c.insert_if_new.new.entries.entries ≡ r.book ++ (c.args.number, c.args.animal) ∷ []) c.self.view_is
+    subst (λ r. stored_book c.insert_if_new.new.entries.entries ≡ r.book ++ (c.args.number, animal) ∷ []) c.self.view_is
     (ap (λ l. stored_book l) (c.insert_if_new.ensures.added is)
-    ∙ stored_book-push es c.self.invariant c.args.number entry c.args.animal are.0 are.1
+    ∙ stored_book-push es c.self.invariant c.args.number entry animal are.0 are.1
     ∙ ap (λ a. stored_book es ++ (c.args.number, a) ∷ []) kept)
 
 pub returns-clause-there : goal.returns-clause-there

@@ -3,7 +3,7 @@ use Rattle.std.proofs.Common.{◌≡◌, ◌<◌, ◌∙◌, sym, ap, subst, ℕ
 use Rattle.std.specs.Map.{keys_of}
 use Rattle.herd_pedigree.specs.store.Records.{AreClosed, animal_of, set_value_at, stored_book}
 use Rattle.herd_pedigree.specs.declared.store.records.StoredRecord.{StoredRecord}
-use Rattle.herd_pedigree.proofs.lemmas.store.MapFacts.{map-set}
+use Rattle.herd_pedigree.proofs.lemmas.store.ListFacts.{map-set}
 use Rattle.herd_pedigree.proofs.lemmas.store.RecordsFacts.{closed-set, keys-stored_book, length-stored_book, stored_book-set}
 use Rattle.herd_pedigree.proofs.store.records.Records.write.Goals as goal
 

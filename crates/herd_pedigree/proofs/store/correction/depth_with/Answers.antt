@@ -1,7 +1,7 @@
 -- `depth_with`: its clause `depth`.
 use Rattle.std.proofs.Common.{◌∙◌, slice_index}
 use Rattle.herd_frozen.proofs.lemmas.rules.DepthsFacts.{depth_from-read}
-use Rattle.herd_pedigree.proofs.store.depth.depth_with.Goals as goal
+use Rattle.herd_pedigree.proofs.store.correction.depth_with.Goals as goal
 
 pub returns-clause-depth : goal.returns-clause-depth
 returns-clause-depth c =

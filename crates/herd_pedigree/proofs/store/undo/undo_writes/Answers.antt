@@ -4,7 +4,7 @@ use Rattle.std.proofs.lemmas.List.{length-set}
 use Rattle.std.proofs.lemmas.List.Elements.{All-pop}
 use Rattle.herd_pedigree.specs.store.Undo.{undone_writes}
 use Rattle.herd_pedigree.proofs.lemmas.store.UndoFacts.{undone-last}
-use Rattle.herd_pedigree.proofs.store.depth.undo_writes.Goals as goal
+use Rattle.herd_pedigree.proofs.store.undo.undo_writes.Goals as goal
 
 pub loop-place-preserved : goal.loop-place-preserved
 loop-place-preserved g c =

@@ -1,7 +1,7 @@
 -- What is left of the log takes back what is left to take back.
 use Rattle.std.proofs.Common.{◌≡◌, ◌<◌, All, length, vec_len}
 use Rattle.herd_pedigree.specs.store.Undo.{undone_writes}
-use Rattle.herd_pedigree.proofs.store.depth.undo_writes.Given as goal
+use Rattle.herd_pedigree.proofs.store.undo.undo_writes.Given as goal
 
 abbrev pub invariant-loop-place : goal.invariant-loop-place
 invariant-loop-place g l = All (λ write. write.0 < length l.depths) l.log.items × (undone_writes l.log.items l.depths ≡ undone_writes l.fn.log.items l.fn.depths)

@@ -1,7 +1,7 @@
 -- `find`: its clause `place`.
 use Rattle.std.proofs.Common.{sym}
 use Rattle.herd_frozen.proofs.lemmas.rules.BookFacts.{at_position}
-use Rattle.herd_pedigree.proofs.named.find.Goals as goal
+use Rattle.herd_pedigree.proofs.found.find.Goals as goal
 
 pub returns-in-Some-place_of-clause-place : goal.returns-in-Some-place_of-clause-place
 returns-in-Some-place_of-clause-place g c =
