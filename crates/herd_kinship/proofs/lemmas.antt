@@ -1,5 +1,4 @@
 pub mod Lists
-pub mod Options
 pub mod numbers
 pub mod ancestry
 pub mod laws

@@ -1,10 +1,14 @@
--- The calves of some sires and of known dams, each by its rank with a numerator.
-use Rattle.std.specs.Prelude.{◌≡◌, ℕ, ◌/◌, ◌⊎◌, ◌++◌, All, Any, List, slice_index}
+-- The calves of some sires and of known dams, each by its rank with a numerator, and what is kept from one sire to the
+-- next while they are listed.
+use Rattle.std.specs.Prelude.{◌≡◌, ◌≢◌, ℕ, ◌*◌, ◌/◌, ◌≤◌, ◌⊎◌, ◌++◌, All, AllPairs, Any, List, length, slice_index}
 use Rattle.herd_frozen.specs.declared.freezing.frozen.Row.{Row}
 use Rattle.herd_kinship.specs.CalfLinks.{IsCalf}
 use Rattle.herd_kinship.specs.Columns.{at_parent}
+use Rattle.herd_kinship.specs.Pending.{mark}
 use Rattle.herd_kinship.specs.Ranks.{dam_rank}
-use Rattle.herd_kinship.specs.declared.calf_coefficients.CalfCoefficient.{CalfCoefficient}
+use Rattle.herd_kinship.specs.Tracing.{IsIdle}
+use Rattle.herd_kinship.specs.declared.calves.CalfCoefficient.{CalfCoefficient}
+use Rattle.herd_kinship.specs.declared.mates.Mates.{Mates}
 
 -- a calf with half the number that its dam has in the column, and 0 where the dam is unknown
 abbrev pub with_half : List Row → List ℕ → ℕ → CalfCoefficient
@@ -17,13 +21,14 @@ pub record IsCalfWith (rows : List Row) (sires : ℕ → Type 0) (f : ℕ → �
   pub is_calf : IsCalf rows sire calf.rank
   pub value : calf.numerator ≡ f calf.rank
 
--- all calves of these sires, each with f of its rank
+-- all calves of these sires, each once and with f of its rank
 pub record AreCalvesWith
     (rows : List Row) (sires : ℕ → Type 0) (f : ℕ → ℕ) (calves : List CalfCoefficient) : Type 0 where
   pub each : All (IsCalfWith rows sires f) calves
+  pub once : AllPairs (λ calf later. calf.rank ≢ later.rank) calves
   pub all : (s x : ℕ) → sires s → IsCalf rows s x → Any (λ calf. calf.rank ≡ x) calves
 
--- the list goes on with all calves of these sires, each with f of its rank
+-- the list goes on with all calves of these sires, each once and with f of its rank
 pub record GoesOnWith (rows : List Row) (sires : ℕ → Type 0) (f : ℕ → ℕ) (old new : List CalfCoefficient) : Type 0 where
   pub more : List CalfCoefficient
   pub appended : new ≡ old ++ more
@@ -45,3 +50,10 @@ AreWritten f known calves = All (λ calf. slice_index known calf.rank ≡ f calf
 pub record HasWritten (f : ℕ → ℕ) (calves : List CalfCoefficient) (old new : List ℕ) : Type 0 where
   pub kept : Keeps f old new
   pub written : AreWritten f new calves
+
+-- there is room for so many animals, nobody is marked, and nobody is traced
+pub record IsReady {A : Type 0} (animals : ℕ) (mates : Mates A) : Type 0 where
+  pub room : animals ≤ 64 * length mates.marked.chunks.items
+  pub unmarked : (distance : ℕ) → mark mates.marked.chunks.items distance ≡ 0
+  pub idle : IsIdle animals mates.tracing
+  pub each : length mates.column.items ≡ animals

@@ -14,4 +14,3 @@ pub mod Contributions
 pub mod Columns
 pub mod CalfLinks
 pub mod CalfCoefficients
-pub mod Mates

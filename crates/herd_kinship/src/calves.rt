@@ -1,5 +1,6 @@
-ghost use Rattle.std.specs.Prelude.{◌≡◌, ◌==◌, ℕ, ◌<◌, ◌⊎◌, is_some, length, true, IsTrue, IsFalse, IfOk, IfSome, IfNone, None, Some};
+ghost use Rattle.std.specs.Prelude.{◌≡◌, ◌==◌, ℕ, ◌<◌, ◌⊎◌, All, is_some, length, true, IsTrue, IsFalse, IfOk, IfSome, IfNone, None, Some};
 ghost use Rattle.std.specs.Iterator.{YieldsFirst, item_count};
+ghost use Rattle.herd_kinship.specs.CalfCoefficients.{HasWritten, HaveValues};
 ghost use Rattle.herd_kinship.specs.CalfLinks.{AreCalvesOf, IsCalf, calf_count, calves_of_sire};
 
 use herd_frozen::{Frozen, PackedIndex, Parents};
@@ -126,5 +127,25 @@ impl<A: Allocator> Calves<A> {
         ensures { result ≡ calf_count frozen.now sire }
     {
         self.of_sire(frozen, sire).count() as u32
+    }
+}
+
+/// A calf and its coefficient of inbreeding.
+#[derive(Clone, Copy)]
+pub struct CalfCoefficient {
+    /// The calf's rank.
+    pub rank: u32,
+    /// In units of 2^-120.
+    pub numerator: u128,
+}
+
+/// Writes the coefficients of calves at their ranks.
+pub fn write_calves(calves: &[CalfCoefficient], known: &mut [u128])
+    requires { All (λ calf. calf.rank < length known.old) calves.now }
+    ensures each { length known.new ≡ length known.old }
+    ensures written { (f : ℕ → ℕ) → HaveValues f calves.now → HasWritten f calves.now known.old known.new }
+{
+    for calf in calves {
+        known[calf.rank as usize] = calf.numerator;
     }
 }

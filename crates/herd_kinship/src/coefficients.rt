@@ -2,10 +2,9 @@ ghost use Rattle.std.specs.Prelude.{◌≡◌, ◌==◌, ℕ, ◌+◌, ◌*◌, 
 ghost use Rattle.herd_frozen.specs.declared.TheConstants.{DEPTH_LIMIT};
 ghost use Rattle.herd_kinship.specs.CalfLinks.{AreCalvesOf, IsCalf};
 ghost use Rattle.herd_kinship.specs.Coefficients.{AreCoefficients, IsBefore, KnowsReached};
-ghost use Rattle.herd_kinship.specs.Mates.{IsReady};
+ghost use Rattle.herd_kinship.specs.CalfCoefficients.{IsReady};
 
-use crate::calf_coefficients::{CalfCoefficient, write_calves};
-use crate::calves::{Calves, has_calves};
+use crate::calves::{CalfCoefficient, Calves, has_calves, write_calves};
 use crate::mates::Mates;
 use herd_frozen::Frozen;
 use std::alloc::{AllocError, Allocator};

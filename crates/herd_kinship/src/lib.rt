@@ -22,8 +22,8 @@
 //! | shares, A = T D T', the laws | `Shares`, `InverseRows`, `Laws` | `laws` | `ancestry`, `laws` |
 //! | a frozen book as an ancestry | `FrozenAncestry`, `Ranks` | | `books` |
 //! | columns of A | `Columns` | `columns` | `sires` |
-//! | sire by sire | `Mates`, `CalfCoefficients` | `coefficients`, `mates`, `calf_coefficients` | `sires` |
-//! | a sire's calves | `CalfLinks` | `calves` | `sires` |
+//! | sire by sire | `CalfCoefficients` | `coefficients`, `mates` | `sires` |
+//! | a sire's calves, and their coefficients | `CalfLinks`, `CalfCoefficients` | `calves` | `sires` |
 //! | animal by animal | `Tracing`, `Pending` | `tracing`, `pending` | `tracing`, `numbers` |
 //! | one animal's relationships | `Columns` | `relationships` | `sires` |
 //! | mating advice | `Mating` | `mating_advice`, `dam_matings` | `advice` |
@@ -41,7 +41,6 @@
 //! - `advice`: the faults and the coefficient of a mating, and Henderson's contributions.
 #![tactic(auto)]
 
-mod calf_coefficients;
 mod calves;
 mod coefficients;
 mod columns;
@@ -57,8 +56,7 @@ mod pending;
 mod relationships;
 mod tracing;
 
-pub use calf_coefficients::{CalfCoefficient, write_calves};
-pub use calves::Calves;
+pub use calves::{CalfCoefficient, Calves, write_calves};
 pub use coefficients::{Coefficients, coefficients_plain};
 pub use contribution::{Contribution, Contributions};
 pub use dam_matings::DamMatings;

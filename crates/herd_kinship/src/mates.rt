@@ -1,15 +1,13 @@
-ghost use Rattle.std.specs.Prelude.{◌≡◌, ℕ, ◌+◌, ◌-◌, ◌*◌, ◌/◌, ◌<◌, ◌≤◌, ◌++◌, All, length, map, IfOk, Some};
+ghost use Rattle.std.specs.Prelude.{◌≡◌, ℕ, ◌+◌, ◌-◌, ◌*◌, ◌/◌, ◌<◌, ◌≤◌, ◌++◌, All, length, map, IfOk, OnErr, Some};
 ghost use Rattle.herd_frozen.specs.declared.TheConstants.{DEPTH_LIMIT};
-ghost use Rattle.herd_kinship.specs.CalfCoefficients.{GoesOnWith, with_half};
+ghost use Rattle.herd_kinship.specs.CalfCoefficients.{GoesOnWith, IsReady, with_half};
 ghost use Rattle.herd_kinship.specs.CalfLinks.{AreCalvesOf, IsCalf, calves_of_sire};
 ghost use Rattle.herd_kinship.specs.Coefficients.{KnowsAncestors, coefficient_at};
 ghost use Rattle.herd_kinship.specs.Columns.{at_parent};
-ghost use Rattle.herd_kinship.specs.Mates.{IsReady};
 ghost use Rattle.herd_kinship.specs.Pending.{mark};
 ghost use Rattle.herd_kinship.specs.Ranks.{dam_rank};
 
-use crate::calf_coefficients::CalfCoefficient;
-use crate::calves::{Calves, SireCalves};
+use crate::calves::{CalfCoefficient, Calves, SireCalves};
 use crate::columns::{collect, mark_parent, relate, with_parent};
 use crate::pending::Pending;
 use crate::tracing::Tracing;
@@ -48,7 +46,7 @@ impl<A: Allocator + Clone> Mates<A> {
 
 impl<A: Allocator> Mates<A> {
     // Makes the relationships of a sire with its mates, by the coefficients of its ancestors. Half of that with its
-    // dam is a calf's coefficient.
+    // dam is a calf's coefficient. After refused memory the scratch is ready all the same.
     fn relate_to<F: Allocator>(
         &mut self,
         frozen: &Frozen<F>,
@@ -60,7 +58,7 @@ impl<A: Allocator> Mates<A> {
         requires calves { calves ≡ calves_of_sire frozen.now sire }
         requires known { KnowsAncestors DEPTH_LIMIT frozen.now known.now sire }
         requires sire { sire < length frozen.now }
-        ensures ready { IfOk result (λ _. IsReady (length frozen.now) self.new) }
+        ensures ready { IsReady (length frozen.now) self.new }
         ensures halves { IfOk result (λ _. (calf : ℕ) → IsCalf frozen.now sire calf
             → at_parent self.new.column.items (dam_rank frozen.now calf) / 2
             ≡ coefficient_at DEPTH_LIMIT frozen.now calf) }
@@ -82,8 +80,8 @@ impl<A: Allocator> Mates<A> {
     /// Appends the coefficients of a sire's calves by known dams to a list, in no promised order, if it has any.
     ///
     /// Each is half the sire's relationship with the calf's dam (Colleau 2002). Only the numerators of the sire's
-    /// ancestors need be right in `known`. The only error is a growth of memory that is refused; the scratch is of no
-    /// use then, and the list may have some of the calves.
+    /// ancestors need be right in `known`. The only error is a growth of memory that is refused; then the list is as
+    /// it was, and the scratch as ready as before.
     pub fn append_calves<F: Allocator, C: Allocator, L: Allocator>(
         &mut self,
         frozen: &Frozen<F>,
@@ -96,9 +94,10 @@ impl<A: Allocator> Mates<A> {
         requires calves { AreCalvesOf frozen.now calves.now }
         requires known { KnowsAncestors DEPTH_LIMIT frozen.now known.now sire }
         requires sire { sire < length frozen.now }
-        ensures ready { IfOk result (λ _. IsReady (length frozen.now) self.new) }
+        ensures ready { IsReady (length frozen.now) self.new }
         ensures calves { IfOk result (λ _. GoesOnWith frozen.now (λ s. s ≡ sire)
             (coefficient_at DEPTH_LIMIT frozen.now) list.old.items list.new.items) }
+        ensures err { OnErr result (list.new.items ≡ list.old.items) }
     {
         let its_calves = calves.of_sire(frozen, sire);
         if its_calves.is_empty() {
@@ -130,7 +129,7 @@ fn mark_mates<F: Allocator, P: Allocator>(
     }
 }
 
-// Appends calves, each with half the number that its dam has in the column.
+// Appends calves, each with half the number that its dam has in the column. After refused memory the list is as it was.
 fn append_halves<F: Allocator, L: Allocator>(
     frozen: &Frozen<F>,
     calves: SireCalves<'_>,
@@ -139,12 +138,17 @@ fn append_halves<F: Allocator, L: Allocator>(
 ) -> Result<(), AllocError>
     requires calves { All (λ calf. calf < length frozen.now) calves }
     requires column { length column.now ≡ length frozen.now }
-    ensures { IfOk result
+    ensures calves { IfOk result
         (λ _. list.new.items ≡ list.old.items ++ map (with_half frozen.now column.now) calves.entry) }
+    ensures err { OnErr result (list.new.items ≡ list.old.items) }
 {
+    let before = list.len();
     for rank in calves {
         let numerator = with_parent(column, frozen.parents(rank).dam) / 2;
-        list.push(CalfCoefficient { rank, numerator })?;
+        if let Err(refused) = list.push(CalfCoefficient { rank, numerator }) {
+            list.truncate(before);
+            return Err(refused.into());
+        }
     }
     Ok(())
 }

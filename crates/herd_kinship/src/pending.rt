@@ -33,6 +33,14 @@ impl<A: Allocator> Pending<A> {
         self.first = self.first.min(chunk);
     }
 
+    /// Takes all distances out.
+    pub fn clear(&mut self)
+        ensures room { length self.new.chunks.items ≡ length self.old.chunks.items }
+        ensures empty { (distance : ℕ) → mark self.new.chunks.items distance ≡ 0 }
+    {
+        self.chunks.fill(0);
+    }
+
     /// Takes the nearest distance out.
     pub fn take_nearest(&mut self) -> Option<usize>
         ensures found { IfSome result (λ distance. mark self.old.chunks.items distance ≡ 1) }

@@ -1,17 +1,20 @@
--- Which ranks a level has, and how many.
-use Rattle.std.proofs.Common.{◌≡◌, ℕ, ◌+◌, ◌*◌, ◌<◌, ◌≤◌, ◌==◌, List, [], ◌∷◌, ◌++◌, get_or, length, map, slice_index, take, arith, ap, ◌∙◌, subst, refl, sym}
+-- Which ranks a level has, how many, and what is known of them once all animals of less depth have their coefficients.
+use Rattle.std.proofs.Common.{◌≡◌, ℕ, ◌+◌, ◌-◌, ◌*◌, ◌^◌, ◌<◌, ◌≤◌, ◌==◌, List, [], ◌∷◌, ◌++◌, drop, get_or, length, map, min, slice_index, take, arith, ap, ◌∙◌, subst, refl, sym}
 use Rattle.std.specs.Int.{div_ceil}
-use Rattle.std.specs.List.{All, Contains, range_with_len}
+use Rattle.std.specs.List.{All, AllPairs, Contains, range_with_len}
 use Rattle.std.proofs.Math.Nat.{mul-le-mul_right}
 use Rattle.std.proofs.lemmas.Bool.{eq-eqb, eqb-true}
 use Rattle.std.proofs.lemmas.Grind.{div_ceil_times}
 use Rattle.std.proofs.lemmas.List.Elements.{All-drop, All-filter, All-from_get_or, All-same, All-take, Contains-get_or, filter_passes}
-use Rattle.std.proofs.lemmas.List.{map_more}
+use Rattle.std.proofs.lemmas.List.{get_or-drop, get_or-take, length-drop, length-take, map_more}
 use Rattle.std.proofs.lemmas.List.FromFn.{get_or-range_with_len, length-range_with_len}
+use Rattle.std.proofs.lemmas.List.Kept.{AllPairs-filter}
 use Rattle.std.proofs.lemmas.List.Sums.{count_by-le-length, length-filter}
 use Rattle.herd_frozen.specs.declared.freezing.frozen.Row.{Row}
-use Rattle.herd_frozen.specs.freezing.Frozen.{depth_at, level_of}
-use Rattle.herd_pool.specs.Levels.{block_of}
+use Rattle.herd_frozen.specs.freezing.Frozen.{IsFrozen, depth_at, level_of}
+use Rattle.herd_kinship.specs.Coefficients.{KnowsAncestors, coefficient_at, own_relationship}
+use Rattle.herd_kinship.proofs.lemmas.tracing.KnownFacts.{frozen-inbred_value, known-from_levels}
+use Rattle.herd_pool.specs.Levels.{KnowsBelow, block_of}
 use Rattle.herd_frozen.proofs.lemmas.Contained.{filter-keeps}
 
 -- a rank of the book, of this depth
@@ -53,6 +56,27 @@ pub block_of-ranks : (rows : List Row) (depth len number : ℕ) (ranks : List �
 block_of-ranks rows depth len number ranks is =
     All-same (IsRankOf rows depth) _ _ is (All-take (IsRankOf rows depth) len _ (All-drop (IsRankOf rows depth) (number * len) _ (level_of-ranks depth rows)))
 
+-- a part of a list keeps what holds of each two of its elements
+pairs-part : {X : Type 0} (R : X → X → Type 0) (n m : ℕ) (xs : List X) → AllPairs R xs → AllPairs R (take n (drop m xs))
+pairs-part R n m xs pairs i j d before within =
+    let long = length-take n (drop m xs) in
+    let rest = length-drop m xs in
+    let at : (k : ℕ) → k < n → get_or (take n (drop m xs)) k d ≡ get_or xs (m + k) d = λ k low. get_or-take n (drop m xs) k d low ∙ get_or-drop m xs k d in
+    rw (at i (omega arith), at j (omega arith)) (pairs (m + i) (m + j) d (omega (arith, before)) (omega arith))
+
+-- and they go up
+pub block_of-ascending : (rows : List Row) (depth len number : ℕ) (ranks : List ℕ) → ranks ≡ block_of len number (level_of depth rows) → AllPairs (λ rank later. rank < later) ranks
+unfolding level_of
+block_of-ascending rows depth len number ranks is =
+    let all = range_with_len 0 (length rows) in
+    let up : AllPairs (λ rank later. rank < later) all = λ i j d before within.
+    let long = length-range_with_len 0 (length rows) in
+    let first = get_or-range_with_len 0 (length rows) i d (omega arith) in
+    let second = get_or-range_with_len 0 (length rows) j d (omega arith) in
+    omega arith in
+    subst (AllPairs (λ rank later. rank < later)) (sym is)
+    (pairs-part (λ rank later. rank < later) len (number * len) (level_of depth rows) (AllPairs-filter (λ rank later. rank < later) (λ rank. depth_at rows rank == depth) all up))
+
 -- one more rank has its numerator
 pub numerators_more : (f : ℕ → ℕ) (ranks numerators pushed : List ℕ) (i value : ℕ) → i < length ranks → numerators ≡ map f (take i ranks) → value ≡ f (slice_index ranks i) → pushed ≡ numerators ++ value ∷ [] → pushed ≡ map f (take (i + 1) ranks)
 numerators_more f ranks numerators pushed i value below was is more =
@@ -64,3 +88,15 @@ longer_than_block n len some more =
     let times = div_ceil_times n len some in
     let two = mul-le-mul_right len more in
     omega (arith, times.1)
+
+-- the ancestors of an animal of the level are known
+pub ancestors_known : (l most : ℕ) (rows : List Row) (known : List ℕ) (depth rank : ℕ) → KnowsBelow l most rows known depth → IsRankOf rows depth rank → KnowsAncestors l rows known rank
+ancestors_known l most rows known depth rank knows at =
+    known-from_levels l most rows knows.frozen known rank at.within knows.each
+    (λ p low less. let deep = at.deep in knows.right p low (omega arith))
+
+-- the relationship of an animal with itself, less the whole and below 1, is its coefficient
+pub inbred-entry : (l most : ℕ) (rows : List Row) (rank value : ℕ) → IsFrozen l most rows → rank < length rows
+    → value ≡ own_relationship l rows rank
+    → min (value - 2 ^ (2 * l)) (2 ^ (2 * l) - 1) ≡ coefficient_at l rows rank
+inbred-entry l most rows rank value frozen within is = rw is (frozen-inbred_value l most rows frozen rank within)

@@ -1,8 +1,5 @@
--- lists
-pub mod Lists
 -- the ranks of a level, and what is known of them
 pub mod LevelFacts
-pub mod Known
 -- the rule of the queue, and the list that the blocks are written into
 pub mod Passes
 pub mod Writes

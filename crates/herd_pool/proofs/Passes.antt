@@ -1,8 +1,9 @@
 -- Each step of the pool keeps the rule.
-use Rattle.std.proofs.Common.{◌≡◌, ◌≢◌, ◌==◌, ℕ, zero, suc, ◌+◌, ◌-◌, ◌<◌, ◌≤◌, ◌⊎◌, List, [], ◌∷◌, ◌++◌, set, sym, refl, ap, ◌∙◌, subst, ⊎_elim, arith}
+use Rattle.std.proofs.Common.{◌≡◌, ◌≢◌, ◌==◌, ℕ, zero, suc, ◌+◌, ◌-◌, ◌<◌, ◌≤◌, ◌⊎◌, Bool, cond, List, [], ◌∷◌, ◌++◌, set, sym, refl, ap, ◌∙◌, subst, ⊎_elim, arith}
 use Rattle.std.specs.List.{count_by}
 use Rattle.std.proofs.lemmas.Bool.Decides.{nat_tests}
 use Rattle.std.proofs.lemmas.List.{map-append}
+use Rattle.std.proofs.lemmas.List.Sums.{sum_by-append}
 use mathlib.Core.Option.{some, some-injective, some-ne-none}
 use lib.ListN.{get_elem?}
 use Rattle.crossbeam_deque.proofs.Lists.{at_set, at_snoc}
@@ -11,7 +12,10 @@ use Rattle.herd_pool.specs.declared.queue.PassView.{PassView}
 use Rattle.herd_pool.specs.declared.work.ComputedBlock.{ComputedBlock}
 use Rattle.herd_pool.specs.Blocks.{pass_view, once_below, total, EachOnce}
 use Rattle.herd_pool.specs.Workers.{numbers}
-use Rattle.herd_pool.proofs.Lists.{count_by-append}
+
+-- what is counted in two lists that are joined
+count_by-append : {X : Type 0} (test : X → Bool) (xs ys : List X) → count_by test (xs ++ ys) ≡ count_by test xs + count_by test ys
+count_by-append test xs ys = sum_by-append (λ x. cond (test x) 1 0) xs ys
 
 once_below-more : (x n : ℕ) → once_below x (n + 1) ≡ once_below x n + count_by (λ n. n == x) (n ∷ [])
 once_below-more x n = grind (arith, nat_tests)

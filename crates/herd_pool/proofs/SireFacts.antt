@@ -1,7 +1,7 @@
 -- The calves of a level's sires: how they are collected, block by block, and what is known once they are written.
 use Rattle.std.proofs.Common.{◌≡◌, ◌==◌, ℕ, ◌+◌, ◌<◌, ◌≤◌, List, [], length, get_or, slice_index, Vec, sym, ap, inl, inr, ◌∙◌, ⊎_elim, arith}
 use Rattle.std.specs.Int.{div_ceil}
-use Rattle.std.specs.List.{All, count_by}
+use Rattle.std.specs.List.{All, AllPairs, count_by}
 use Rattle.std.proofs.lemmas.Bool.{cases_lt}
 use Rattle.std.proofs.lemmas.List.Elements.{All-weaker}
 use Rattle.herd_frozen.specs.declared.TheConstants.{DEPTH_LIMIT, MOST_ANIMALS}
@@ -10,7 +10,7 @@ use Rattle.herd_frozen.specs.freezing.Frozen.{depth_at, level_of}
 use Rattle.herd_kinship.specs.CalfCoefficients.{AreWritten, GoesOnWith, HaveValues, Keeps}
 use Rattle.herd_kinship.specs.CalfLinks.{IsCalf}
 use Rattle.herd_kinship.specs.Coefficients.{IsLessDeep, coefficient_at}
-use Rattle.herd_kinship.specs.declared.calf_coefficients.CalfCoefficient.{CalfCoefficient}
+use Rattle.herd_kinship.specs.declared.calves.CalfCoefficient.{CalfCoefficient}
 use Rattle.herd_kinship.specs.declared.calves.Calves.{Calves}
 use Rattle.herd_kinship.proofs.lemmas.sires.BySires.{less_deep-next, reached-more}
 use Rattle.herd_kinship.proofs.lemmas.sires.CalfFacts.{calf-within}
@@ -28,12 +28,13 @@ pub calves_at_first : (l : ℕ) (rows : List Row) (ranks : List ℕ) → AreCalv
 calves_at_first l rows ranks = calves-none rows (IsAmong ranks 0) (coefficient_at l rows) (λ s x is calf. absurd (omega (arith, is.1)))
 
 -- the calves of one sire more
-pub calves_further : (l : ℕ) (rows : List Row) (ranks : List ℕ) (i : ℕ) (old new : List CalfCoefficient) → AreCalvesAmong l rows ranks i old → GoesOnWith rows (λ s. s ≡ slice_index ranks i) (coefficient_at l rows) old new → AreCalvesAmong l rows ranks (i + 1) new
-calves_further l rows ranks i old new was on =
+pub calves_further : (l : ℕ) (rows : List Row) (ranks : List ℕ) (i : ℕ) (old new : List CalfCoefficient) → AllPairs (λ rank later. rank < later) ranks → i < length ranks → AreCalvesAmong l rows ranks i old → GoesOnWith rows (λ s. s ≡ slice_index ranks i) (coefficient_at l rows) old new → AreCalvesAmong l rows ranks (i + 1) new
+calves_further l rows ranks i old new ascending within was on =
     calves-more rows (IsAmong ranks i) (λ s. s ≡ slice_index ranks i) (IsAmong ranks (i + 1)) (coefficient_at l rows) old new
     (λ s is. (is.0, omega (arith, is.1), is.2))
     (λ s e. (i, omega arith, sym e))
     (λ s is. ⊎_elim (λ (low : is.0 < i). inl (is.0, low, is.2)) (λ (at : i ≤ is.0). let below = is.1 in let here : is.0 ≡ i = omega arith in inr (sym is.2 ∙ ap (slice_index ranks) here)) (cases_lt is.0 i))
+    (λ s before at. let lower : slice_index ranks before.0 < slice_index ranks i = ascending before.0 i 0 before.1 within in let is = before.2 in absurd (omega (arith, lower, is, at)))
     was on
 
 -- the blocks of a level have ranks of the book

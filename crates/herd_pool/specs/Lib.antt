@@ -1,5 +1,4 @@
 pub mod Blocks
 pub mod Levels
-pub mod Sharing
 pub mod Sires
 pub mod Workers

@@ -7,7 +7,7 @@ use Rattle.herd_frozen.specs.freezing.Frozen.{level_of}
 use Rattle.herd_kinship.specs.CalfCoefficients.{AreCalvesWith}
 use Rattle.herd_kinship.specs.CalfLinks.{AreCalvesOf, calf_count}
 use Rattle.herd_kinship.specs.Coefficients.{IsLessDeep, KnowsReached, coefficient_at}
-use Rattle.herd_kinship.specs.declared.calf_coefficients.CalfCoefficient.{CalfCoefficient}
+use Rattle.herd_kinship.specs.declared.calves.CalfCoefficient.{CalfCoefficient}
 use Rattle.herd_kinship.specs.declared.calves.Calves.{Calves}
 use Rattle.herd_pool.specs.Levels.{block_of}
 use Rattle.herd_pool.specs.declared.limits.TheConstants.{CALVES_FOR_A_WORKER}

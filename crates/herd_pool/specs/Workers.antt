@@ -1,4 +1,5 @@
--- What the starter and the workers of a level know of its queue, and what a worker brings back.
+-- What the starter and the workers of a level know of its queue, what the threads are given, and what a worker brings
+-- back.
 use Rattle.std.specs.Prelude.{◌≡◌, ◌==◌, ℕ, List, map, count_by}
 use Rattle.std.specs.List.{All}
 use Rattle.crossbeam_deque.specs.Handles.{Pass, view, IsPassOf, stealer_deque, worker_deque, worker_flavor, worker_port, worker_view}
@@ -54,3 +55,9 @@ module _ {W A S O : Type 0} (kind : WorkOf W A S O) (work : W) where
     computed : All (kind.is_computed work) output.blocks.items;
     ready : kind.is_ready work output.scratch;
   }
+
+-- the work can be done, and the starter is the one of the queue that is stolen from here
+pub record CanShare {W A S O P : Type 0} (kind : WorkOf W A S O) (work : W)
+    (stealer : Stealer ℕ A PassView P) (starter : Starter S O A) : Type 0 where
+  pub knows : kind.knows work
+  pub of_queue : IsStarterOf kind work stealer 0 (worker_view starter.queue).pushed starter

@@ -1,8 +1,7 @@
 //! The threads of a level.
 ghost use Rattle.std.specs.Prelude.{◌≡◌, ℕ, ◌<◌, All, IfOk, IfErr, OnOk, [], vec_len, get_or, vec_items};
 ghost use Rattle.crossbeam_deque.specs.Handles.{worker_view};
-ghost use Rattle.herd_pool.specs.Sharing.{CanShare};
-ghost use Rattle.herd_pool.specs.Workers.{AreBlocks, IsWorkerOutput, IsStarterOf, IsBlockPass};
+ghost use Rattle.herd_pool.specs.Workers.{AreBlocks, CanShare, IsBlockPass, IsStarterOf, IsWorkerOutput};
 ghost use Rattle.herd_pool.specs.declared.pool_fault.PoolFault.{PoolFault};
 
 use crate::pool_fault::PoolFault;
@@ -148,8 +147,10 @@ fn start_all<'s, E, R: Wait + Sync, A: Allocator + Copy + Send + Sync, W: Work<A
         starter.old }
     ensures starter { IfOk result (λ workers. IsStarterOf W.Work task.entry.work.now task.entry.stealer.now
         (vec_len workers) (worker_view starter.old.queue).pushed starter.new) }
+    ensures count { IfOk result (λ workers. vec_len workers ≡ threads) }
     ensures task { IfOk result
         (λ workers. (k : ℕ) (d : _) → k < vec_len workers → (get_or (vec_items workers) k d).promise ≡ task.entry) }
+    ensures no_thread { result ≡ Err PoolFault.NoThread → 0 < threads }
 {
     let mut workers = Vec::with_capacity(alloc, threads)?;
     for _ in 0..threads {

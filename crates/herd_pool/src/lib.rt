@@ -17,14 +17,13 @@
 //! - The numbers of the blocks go into one **queue**, from which each thread takes the next. Its rule is that each
 //!   block is taken once (`queue`; `specs/Blocks`, proof in `proofs/Passes`).
 //! - A **worker** computes the blocks that it takes, and brings them back with its pass to the queue and the scratch
-//!   that the next worker takes over (`worker`, `crew`; `specs/Workers`, `specs/Sharing`). The thread that starts the
+//!   that the next worker takes over (`worker`, `crew`; `specs/Workers`). The thread that starts the
 //!   others is a worker too (`starter`), so one worker starts none.
 //! - Once all are back, the blocks are written into one list (`merge`; `proofs/Writes`), and the next level begins
 //!   (`pool`).
 //!
-//! `proofs/Known` serves `traced` alone: a level's animals can be traced by what is known of the levels below it.
-//! `sires` has `proofs/SireFacts`, over lemmas of `herd_kinship`. What a level is worth is defined in `specs/Sires`,
-//! with `proofs/WorthFacts`.
+//! `traced` and `sires` have `proofs/LevelFacts`, and `sires` has `proofs/SireFacts`, over lemmas of `herd_kinship`. What
+//! a level is worth is defined in `specs/Sires`, with `proofs/WorthFacts`.
 #![tactic(auto)]
 
 mod crew;

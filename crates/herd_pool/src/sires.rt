@@ -55,7 +55,7 @@ impl<F: Allocator, A: Allocator> SireLevel<'_, '_, F, A> {
 impl<F: Allocator + Sync, A: Allocator + Copy + Send + Sync> Work<A> for SireLevel<'_, '_, F, A> {
     ghost use Rattle.std.specs.Prelude.{length};
     ghost use Rattle.herd_frozen.specs.declared.TheConstants.{DEPTH_LIMIT};
-    ghost use Rattle.herd_kinship.specs.Mates.{IsReady};
+    ghost use Rattle.herd_kinship.specs.CalfCoefficients.{IsReady};
     ghost use Rattle.herd_pool.specs.Sires.{HasCalvesOf, KnowsCalvesBelow};
 
     type Scratch = Mates<A>;

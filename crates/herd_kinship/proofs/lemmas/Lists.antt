@@ -1,10 +1,11 @@
--- Lists: what is mapped, one of two lists that are joined, where an element stands and how often, and what is written
--- over.
-use Rattle.std.proofs.Common.{ℕ, ◌+◌, ◌≡◌, ◌++◌, ⊎_elim, All, Bool, true, false, cond, List, [], ◌∷◌, length, get_or, map, take, drop, Some, lit<, refl, sym, ◌∙◌, ap, Contains, subst, arith}
+-- Lists: what is mapped, one of two lists that are joined, where an element stands and how often, what is written over,
+-- and what holds of each two elements. What clauses say of options.
+use Rattle.std.proofs.Common.{ℕ, suc, ◌+◌, ◌-◌, ◌<◌, ◌≤◌, ◌≡◌, ◌++◌, ⊎_elim, All, AllPairs, Bool, true, false, cond, IfNone, IfSome, is_some, List, [], ◌∷◌, length, get_or, map, take, drop, None, Option, Some, lit<, refl, sym, ◌∙◌, ap, Contains, subst, arith}
 use Rattle.std.specs.List.{Any, IsDistinct, AllByRecursion, count_by}
-use Rattle.std.proofs.lemmas.Bool.{cases_Bool}
+use Rattle.std.proofs.lemmas.Bool.{cases_Bool, cases_lt}
 use Rattle.std.proofs.lemmas.List.{get_or-append-add, get_or_append_left, length-append, take-append-le, take_all}
-use Rattle.std.proofs.lemmas.List.Elements.{All-contains, All-cons, All-nil, All-weaker, Contains-append_left, Contains-append_right}
+use Rattle.std.proofs.lemmas.List.Elements.{All-contains, All-cons, All-map, All-nil, All-weaker, Contains-append_left, Contains-append_right}
+use Rattle.std.proofs.lemmas.List.Kept.{AllPairs-cons}
 use Rattle.std.proofs.lemmas.List.Sums.{sum_by-cons}
 use Rattle.std.proofs.lemmas.Option.{get_or_from_slice_get, slice_get-get_or}
 use Rattle.herd_frozen.proofs.lemmas.Contained.{contains_cases}
@@ -56,3 +57,38 @@ count-one {X} e exact itself x (y ∷ ys) d c =
 -- a list that is written over as a whole, by way of a slice
 pub take-written : {X : Type 0} (n : ℕ) (new old : List X) → n ≡ length new → take n (new ++ drop (length new) old) ≡ new
 take-written n new old is = take-append-le n new (drop (length new) old) (omega arith) ∙ take_all n new (omega arith)
+
+-- what holds of each two elements of two lists, and of each of the first with each of the second, holds of each two of
+-- the lists joined
+pub pairs-append : {X : Type 0} (R : X → X → Type 0) (xs ys : List X) → AllPairs R xs → AllPairs R ys
+    → ((i j : ℕ) (d : X) → i < length xs → j < length ys → R (get_or xs i d) (get_or ys j d)) → AllPairs R (xs ++ ys)
+pairs-append R xs ys first second across i j d before within =
+    let long = length-append xs ys in
+    let front : (k : ℕ) → k < length xs → get_or (xs ++ ys) k d ≡ get_or xs k d = λ k low. get_or_append_left xs ys d k low in
+    let back : (k : ℕ) → length xs ≤ k → get_or (xs ++ ys) k d ≡ get_or ys (k - length xs) d = λ k high.
+    (let e : k ≡ length xs + (k - length xs) = omega arith in ap (λ n. get_or (xs ++ ys) n d) e) ∙ get_or-append-add xs ys (k - length xs) d in
+    ⊎_elim
+    (λ (low : j < length xs). rw (front i (omega arith), front j low) (first i j d before low))
+    (λ (high : length xs ≤ j).
+    ⊎_elim
+    (λ (low : i < length xs). rw (front i low, back j high) (across i (j - length xs) d low (omega arith)))
+    (λ (later : length xs ≤ i). rw (back i later, back j high) (second (i - length xs) (j - length xs) d (omega arith) (omega arith)))
+    (cases_lt i (length xs)))
+    (cases_lt j (length xs))
+
+-- and of what is mapped, where it holds of what that is made of
+pub pairs-map : {X Y : Type 0} (R : X → X → Type 0) (S : Y → Y → Type 0) (f : X → Y) → ((x later : X) → R x later → S (f x) (f later)) → (xs : List X) → AllPairs R xs → AllPairs S (map f xs)
+pairs-map R S f keeps [] pairs = λ i j d before within. absurd (omega (arith, within))
+pairs-map R S f keeps (x ∷ xs) pairs =
+    AllPairs-cons S (f x) (map f xs)
+    (All-map (S (f x)) f xs (All-weaker (R x) (λ later. S (f x) (f later)) (keeps x) xs (λ k d within. pairs 0 (suc k) d (omega arith) (omega (arith, within)))))
+    (pairs-map R S f keeps xs (λ i j d before within. pairs (suc i) (suc j) d (omega (arith, before)) (omega (arith, within))))
+
+-- what a clause says where an option has no value, and what it says of a value
+pub if-none : {X P : Type 0} (o : Option X) → is_some o ≡ false → IfNone o P → P
+if-none None none p = p
+if-none (Some x) none p = absurd (cc)
+
+pub if-some : {X : Type 0} (P : X → Type 0) (o : Option X) → is_some o ≡ true → IfSome o P → (x : X) × P x
+if-some P None some p = absurd (cc)
+if-some P (Some x) some p = (x, p)

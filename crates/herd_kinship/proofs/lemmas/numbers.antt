@@ -1,5 +1,4 @@
 -- Numbers, fractions and sets of bits.
-pub mod Products
 pub mod Sums
 pub mod Ints
 pub mod FractionFacts

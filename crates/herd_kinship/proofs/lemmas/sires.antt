@@ -1,7 +1,6 @@
 -- Columns of A, sire by sire.
 pub mod ColumnFacts
 pub mod PassedOn
-pub mod RelationshipFacts
 pub mod Collecting
 pub mod CalfFacts
 pub mod CalvesBelow

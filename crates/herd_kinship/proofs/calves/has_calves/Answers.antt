@@ -2,7 +2,7 @@
 use Rattle.std.proofs.Common.{◌≡◌, ℕ, ◌<◌, ◌≤◌, ◌⊎◌, ⊎_elim, false, is_some, true, None, Some, arith, subst}
 use Rattle.std.proofs.lemmas.Bool.{cases_lt}
 use Rattle.herd_kinship.specs.CalfLinks.{IsCalf}
-use Rattle.herd_kinship.proofs.lemmas.Options.{if-none, if-some}
+use Rattle.herd_kinship.proofs.lemmas.Lists.{if-none, if-some}
 use Rattle.herd_kinship.proofs.lemmas.sires.CalfFacts.{calf-pair, calf-within, no-calf}
 use Rattle.herd_kinship.proofs.calves.has_calves.Goals as goal
 

@@ -1,13 +1,24 @@
--- Sets of distances as bits: one bit written, and the lowest bit taken.
-use Rattle.std.proofs.Common.{ℕ, suc, ◌+◌, ◌*◌, ◌-◌, ◌/◌, ◌%◌, ◌^◌, ◌<◌, ◌≤◌, ◌≡◌, ⊎_elim, List, length, get_or, set, arith, sym, ◌∙◌, ap, subst}
+-- Sets of distances as bits: none, one bit written, and the lowest bit taken.
+use Rattle.std.proofs.Common.{ℕ, suc, ◌+◌, ◌*◌, ◌-◌, ◌/◌, ◌%◌, ◌^◌, ◌<◌, ◌≤◌, ◌≡◌, ⊎_elim, List, length, get_or, replicate, set, arith, sym, ◌∙◌, ap, subst}
 use Rattle.std.specs.Int.{w64, bit_at, trailing_zeros}
 use Rattle.std.specs.Prelude.{bit_and}
 use Rattle.std.proofs.Math.Pow.{pow_pos}
 use Rattle.std.proofs.lemmas.Bool.{cases_eq, cases_lt}
-use Rattle.std.proofs.lemmas.List.{get_or-set_same, get_or-set_other, length-set}
+use Rattle.std.proofs.lemmas.List.{get_or_past, get_or-replicate, get_or-set_same, get_or-set_other, length-replicate, length-set}
 use Rattle.std.proofs.lemmas.Nat.Bits.{bit_at-suc, bit_at-trailing_zeros, bit_at-zero, bit_at_and, bit_at_cat_high, bit_at_cat_low}
 use Rattle.herd_kinship.specs.Pending.{IsCleared, mark, Marks}
 use Rattle.herd_kinship.proofs.lemmas.numbers.FractionFacts.{split_trailing}
+
+-- chunks of 0 have no bit
+pub none-marked : (n distance : ℕ) → mark (replicate n 0) distance ≡ 0
+none-marked n distance =
+    let chunks : List ℕ = replicate n 0 in
+    let zero : get_or chunks (distance / 64) 0 ≡ 0 =
+    ⊎_elim
+    (λ (within : distance / 64 < n). get_or-replicate n (distance / 64) 0 0 within)
+    (λ (past : n ≤ distance / 64). get_or_past chunks (distance / 64) 0 (rw (length-replicate {A = ℕ} n 0) past))
+    (cases_lt (distance / 64) n) in
+    rw zero (bit_at-zero (distance % 64))
 
 -- one bit of one chunk is written
 pub marks-chunk : (chunks : List ℕ) (chunk k w w' v : ℕ) → chunk < length chunks → k < 64 → w ≡ get_or chunks chunk 0 → bit_at w' k ≡ v →

@@ -1,16 +1,18 @@
 -- Lists of calves with their coefficients: how they grow, and what stands in a list of numerators once they are written.
-use Rattle.std.proofs.Common.{ℕ, ◌+◌, ◌<◌, ◌≡◌, ◌++◌, [], ◌⊎◌, inl, inr, ⊎_elim, List, length, get_or, map, set, take, arith, refl, sym, ◌∙◌, ap, subst}
-use Rattle.std.specs.List.{All, Any}
+use Rattle.std.proofs.Common.{ℕ, ◌+◌, ◌<◌, ◌≡◌, ◌≢◌, ◌++◌, [], ◌⊎◌, inl, inr, ⊎_elim, List, length, get_or, map, set, take, arith, refl, sym, ◌∙◌, ap, subst}
+use Rattle.std.specs.List.{All, AllPairs, Any}
 use Rattle.std.proofs.lemmas.Bool.{cases_eq}
 use Rattle.std.proofs.lemmas.List.{get_or-map, get_or-set_other, get_or-set_same, length-map}
 use Rattle.std.proofs.lemmas.List.Elements.{All-append, All-contains, All-map, All-more, All-same, All-weaker}
-use Rattle.herd_kinship.proofs.lemmas.Lists.{any-left, any-right}
+use Rattle.std.proofs.lemmas.Option.{same_Some}
+use Rattle.herd_kinship.proofs.lemmas.Lists.{any-left, any-right, pairs-append, pairs-map}
 use Rattle.herd_frozen.specs.declared.freezing.frozen.Row.{Row}
 use Rattle.herd_kinship.specs.CalfCoefficients.{AreCalvesWith, GoesOnWith, HasWritten, HaveValues, IsCalfWith, Keeps}
 use Rattle.herd_kinship.specs.CalfLinks.{calves_of_sire, IsCalf}
-use Rattle.herd_kinship.specs.declared.calf_coefficients.CalfCoefficient.{CalfCoefficient}
+use Rattle.herd_kinship.specs.Ranks.{sire_rank}
+use Rattle.herd_kinship.specs.declared.calves.CalfCoefficient.{CalfCoefficient}
 use Rattle.herd_kinship.proofs.lemmas.sires.CalfFacts.{calf-within}
-use Rattle.herd_kinship.proofs.lemmas.sires.CalvesBelow.{below-all, below-each}
+use Rattle.herd_kinship.proofs.lemmas.sires.CalvesBelow.{below-all, below-descending, below-each}
 
 module _ (rows : List Row) where
   -- other sires without calves, or fewer of them
@@ -18,22 +20,37 @@ module _ (rows : List Row) where
       AreCalvesWith rows P f calves → AreCalvesWith rows Q f calves
   calves-same P Q f calves more less are = record {
     each = All-weaker (IsCalfWith rows P f) (IsCalfWith rows Q f) (λ calf is. record { sire = is.sire; of_these = more is.sire is.of_these; is_calf = is.is_calf; value = is.value }) calves are.each;
+    once = are.once;
     all = λ s x is calf. are.all s x (less s x is calf) calf;
   }
 
   -- the calves of no sire
   pub calves-none : (P : ℕ → Type 0) (f : ℕ → ℕ) → ((s x : ℕ) → P s → IsCalf rows s x → ⊥) → AreCalvesWith rows P f []
-  calves-none P f none = record { each = λ k d low. absurd (omega (arith, low)); all = λ s x is calf. absurd (none s x is calf) }
+  calves-none P f none = record {
+    each = λ k d low. absurd (omega (arith, low));
+    once = λ i j d before low. absurd (omega (arith, low));
+    all = λ s x is calf. absurd (none s x is calf);
+  }
+
+  -- calves of different sires are different
+  calves-apart : (P N : ℕ → Type 0) (f : ℕ → ℕ) → ((s : ℕ) → P s → N s → ⊥) → (calf later : CalfCoefficient) → IsCalfWith rows P f calf → IsCalfWith rows N f later → calf.rank ≢ later.rank
+  calves-apart P N f apart calf later is is' same =
+      let sires : is.sire ≡ is'.sire = same_Some _ _ (sym is.is_calf.0 ∙ ap (sire_rank rows) same ∙ is'.is_calf.0) in
+      apart is'.sire (subst P sires is.of_these) is'.of_these
 
   -- the calves of further sires
-  pub calves-more : (P N Q : ℕ → Type 0) (f : ℕ → ℕ) (old new : List CalfCoefficient) → ((s : ℕ) → P s → Q s) → ((s : ℕ) → N s → Q s) → ((s : ℕ) → Q s → P s ⊎ N s) →
+  pub calves-more : (P N Q : ℕ → Type 0) (f : ℕ → ℕ) (old new : List CalfCoefficient) → ((s : ℕ) → P s → Q s) → ((s : ℕ) → N s → Q s) → ((s : ℕ) → Q s → P s ⊎ N s) → ((s : ℕ) → P s → N s → ⊥) →
       AreCalvesWith rows P f old → GoesOnWith rows N f old new → AreCalvesWith rows Q f new
-  calves-more P N Q f old new first second either are on = record {
+  calves-more P N Q f old new first second either apart are on = record {
     each =
         All-same (IsCalfWith rows Q f) new (old ++ on.more) on.appended
         (All-append (IsCalfWith rows Q f) old on.more
         (All-weaker (IsCalfWith rows P f) (IsCalfWith rows Q f) (λ calf is. record { sire = is.sire; of_these = first is.sire is.of_these; is_calf = is.is_calf; value = is.value }) old are.each)
         (All-weaker (IsCalfWith rows N f) (IsCalfWith rows Q f) (λ calf is. record { sire = is.sire; of_these = second is.sire is.of_these; is_calf = is.is_calf; value = is.value }) on.more on.calves.each));
+    once =
+        subst (AllPairs (λ calf later. calf.rank ≢ later.rank)) (sym on.appended)
+        (pairs-append (λ calf later. calf.rank ≢ later.rank) old on.more are.once on.calves.once
+        (λ i j d low within. calves-apart P N f apart (get_or old i d) (get_or on.more j d) (are.each i d low) (on.calves.each j d within)));
     all = λ s x is calf.
         subst (λ xs. Any (λ c. c.rank ≡ x) xs) (sym on.appended)
         (⊎_elim (λ (before : P s). any-left (λ c. c.rank ≡ x) old on.more (are.all s x before calf)) (λ (now : N s). any-right (λ c. c.rank ≡ x) old on.more (on.calves.all s x now calf))
@@ -74,6 +91,9 @@ goes-on rows s f make old new rank value push =
             All-map (IsCalfWith rows (λ t. t ≡ s) f) make calves
             (All-weaker (IsCalf rows s) (λ x. IsCalfWith rows (λ t. t ≡ s) f (make x))
             (λ x calf. record { sire = s; of_these = refl; is_calf = subst (IsCalf rows s) (sym (rank x)) calf; value = value x calf ∙ ap f (sym (rank x)) }) calves (below-each rows s (length rows)));
+        once =
+            pairs-map (λ x y. y < x) (λ calf later. calf.rank ≢ later.rank) make
+            (λ x y low same. let is : x ≡ y = sym (rank x) ∙ same ∙ rank y in absurd (omega (arith, low, is))) calves (below-descending rows s (length rows));
         all = λ t x is calf.
             let mine : IsCalf rows s x = subst (λ v. IsCalf rows v x) is calf in
             All-contains (λ v. Any (λ c. c.rank ≡ v) (map make calves)) calves x made (below-all rows s (length rows) x (calf-within rows s x mine) mine);

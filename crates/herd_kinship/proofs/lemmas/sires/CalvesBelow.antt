@@ -1,8 +1,9 @@
 -- The calves of a sire below a border: which they are, how many, and that the links lead through them.
-use Rattle.std.proofs.Common.{ℕ, zero, suc, ◌<◌, ◌≤◌, ◌≡◌, ◌⊎◌, inl, inr, ⊎_elim, All, Bool, true, false, ◌&&◌, cond, Contains, is_some, List, [], ◌∷◌, length, get_or, nat_eq, Option, Some, None, arith, refl, sym, ◌∙◌, ap, subst}
+use Rattle.std.proofs.Common.{ℕ, zero, suc, ◌<◌, ◌≤◌, ◌≡◌, ◌⊎◌, inl, inr, ⊎_elim, All, AllPairs, Bool, true, false, ◌&&◌, cond, Contains, is_some, List, [], ◌∷◌, length, get_or, nat_eq, Option, Some, None, arith, refl, sym, ◌∙◌, ap, subst}
 use Rattle.std.specs.Option.{option_map_or}
 use Rattle.std.proofs.lemmas.Bool.{cases_eq, eq-eqb, eqb-true}
 use Rattle.std.proofs.lemmas.List.Elements.{All-append, All-nil, All-push, All-weaker, Contains-append_left, Contains-append_right, Contains-push}
+use Rattle.std.proofs.lemmas.List.Kept.{AllPairs-cons}
 use Rattle.herd_frozen.specs.declared.freezing.frozen.Row.{Row}
 use Rattle.herd_kinship.specs.CalfLinks.{AreLinked, calf_count, calves_below, chain, is_calf, IsCalf, IsLink, LeadToOlder}
 use Rattle.herd_kinship.specs.Ranks.{sire_rank, dam_rank}
@@ -52,6 +53,30 @@ below-each rows s (suc n) = elim (step rows s n) [
 
 pub below-within : (rows : List Row) (s n : ℕ) → All (λ x. x < length rows) (calves_below rows s n)
 below-within rows s n = All-weaker (IsCalf rows s) (λ x. x < length rows) (calf-within rows s) (calves_below rows s n) (below-each rows s n)
+
+-- it stands below the border
+below-border : (rows : List Row) (s n : ℕ) → All (λ x. x < n) (calves_below rows s n)
+unfolding calves_below
+below-border rows s zero = All-nil (λ x. x < 0)
+below-border rows s (suc n) =
+    let lower = All-weaker (λ x. x < n) (λ x. x < suc n) (λ x low. omega (arith, low)) (calves_below rows s n) (below-border rows s n) in
+    elim (step rows s n) [
+      | inl at ↦
+          subst (All (λ x. x < suc n)) (sym at.1)
+          (All-append (λ x. x < suc n) (n ∷ []) (calves_below rows s n) (All-push (λ x. x < suc n) [] n (All-nil (λ x. x < suc n)) (omega arith)) lower)
+      | inr at ↦ subst (All (λ x. x < suc n)) (sym at.1) lower
+    ]
+
+-- and before the older ones
+pub below-descending : (rows : List Row) (s n : ℕ) → AllPairs (λ x y. y < x) (calves_below rows s n)
+unfolding calves_below
+below-descending rows s zero = λ i j d before within. absurd (omega (arith, within))
+below-descending rows s (suc n) = elim (step rows s n) [
+  | inl at ↦
+      subst (AllPairs (λ x y. y < x)) (sym at.1)
+      (AllPairs-cons (λ x y. y < x) n (calves_below rows s n) (below-border rows s n) (below-descending rows s n))
+  | inr at ↦ subst (AllPairs (λ x y. y < x)) (sym at.1) (below-descending rows s n)
+]
 
 -- and they are all below the border
 pub below-all : (rows : List Row) (s n x : ℕ) → x < n → IsCalf rows s x → Contains (calves_below rows s n) x

@@ -1,25 +1,26 @@
--- The column of an animal s in a frozen book, by ranks and in whole numbers.
-use Rattle.std.proofs.Common.{ℕ, suc, ◌+◌, ◌*◌, ◌-◌, ◌/◌, ◌^◌, ◌<◌, ◌≤◌, ◌≡◌, ◌⊎◌, inl, inr, ⊎_elim, List, length, Option, Some, arith, refl, sym, ◌∙◌, ap, subst}
+-- The column of an animal s in a frozen book, by ranks and in whole numbers; its relationships with all, by numbers.
+use Rattle.std.proofs.Common.{ℕ, suc, ◌+◌, ◌*◌, ◌-◌, ◌/◌, ◌^◌, ◌<◌, ◌≤◌, ◌≡◌, ◌⊎◌, inl, inr, ⊎_elim, List, length, get_or, Option, Some, arith, refl, sym, ◌∙◌, ap, subst}
 use Rattle.std.proofs.Math.Nat.{mul-div_cancel_left}
 use Rattle.std.proofs.Math.Pow.{pow_pos}
 use Rattle.std.proofs.lemmas.Nat.{pow-add}
+use Rattle.herd_frozen.specs.declared.TheConstants.{MOST_ANIMALS}
 use Rattle.herd_frozen.specs.declared.freezing.frozen.Row.{Row}
 use Rattle.herd_frozen.specs.freezing.Frozen.{IsFrozen, depth_at}
 use Rattle.herd_kinship.specs.Ancestry.{PathTo}
-use Rattle.herd_kinship.specs.Columns.{related, inherited, IsColumn}
+use Rattle.herd_kinship.specs.Columns.{related, inherited, AreRelationships, IsColumn}
 use Rattle.herd_kinship.specs.FrozenAncestry.{ancestry_of, number_of_row}
 use Rattle.herd_kinship.specs.Ranks.{sire_rank, dam_rank, ranked}
 use Rattle.herd_kinship.specs.Shares.{share}
 use Rattle.herd_kinship.specs.Table.{coefficient, entry, mendelian}
 use Rattle.herd_kinship.specs.Tracing.{IsShareOf}
 use Rattle.herd_kinship.proofs.lemmas.ancestry.Ancestors.{share-reached, path-joined}
-use Rattle.herd_kinship.proofs.lemmas.numbers.Products.{cancel}
+use Rattle.herd_kinship.proofs.lemmas.numbers.Sums.{cancel}
 use Rattle.herd_kinship.proofs.lemmas.laws.ColumnSums.{column}
 use Rattle.herd_kinship.proofs.lemmas.ancestry.Depth.{Below, Below-sire, Below-dam, known_some, unit}
 use Rattle.herd_kinship.proofs.lemmas.ancestry.Exact.{term-exact}
 use Rattle.herd_kinship.proofs.lemmas.books.FrozenDepths.{depth-at_most, parent-less_deep, ranked-below_depth, ranked-below_limit, ranked-depth}
 use Rattle.herd_kinship.proofs.lemmas.books.FrozenFacts.{frozen-renamed, ranked-lawful, ranked-shallow}
-use Rattle.herd_kinship.proofs.lemmas.tracing.KnownFacts.{mendelian-rank}
+use Rattle.herd_kinship.proofs.lemmas.tracing.KnownFacts.{entry-rank, mendelian-rank}
 use Rattle.herd_kinship.proofs.lemmas.books.Ranks.{rank-in}
 use Rattle.herd_kinship.proofs.lemmas.ancestry.Renamed.{coefficient-renamed}
 use Rattle.herd_kinship.proofs.lemmas.ancestry.Shares.{share-itself}
@@ -146,3 +147,12 @@ module _ (l most : ℕ) (rows : List Row) (f : IsFrozen l most rows) (s : ℕ) (
       let whole : related l rows s (Some d) ≡ 2 * entry kin k (Some s) (Some d) = ap (λ n. entry kin n (Some s) (Some d)) next ∙ step in
       let half : related l rows s (Some d) / 2 ≡ entry kin k (Some s) (Some d) = omega (arith, whole) in
       half ∙ (half_of x d is is' ∙ sym (coefficient-renamed kin (ancestry_of rows) (number_of_row rows) w (frozen-renamed l most rows f) l x (rank-in (length rows) x lx)))
+
+module _ (l : ℕ) (rows : List Row) (f : IsFrozen l MOST_ANIMALS rows) where
+  -- by the numbers of the animals
+  pub relationships-made : (rank : ℕ) (column : List ℕ) → rank < length rows → length column ≡ length rows →
+      ((j : ℕ) → j < length rows → get_or column j 0 ≡ related l rows rank (Some j)) → AreRelationships l rows rank column
+  relationships-made rank column lp each right = record {
+    each = each;
+    right = λ j lj. right j lj ∙ entry-rank l MOST_ANIMALS rows f (2 * l) rank j lp lj;
+  }

@@ -13,7 +13,7 @@ use Rattle.herd_kinship.proofs.lemmas.ancestry.LawfulAncestry.{IsLawful, IsShall
 use Rattle.herd_kinship.proofs.lemmas.ancestry.Depth.{Below, Below-shallow, known_some}
 use Rattle.herd_kinship.proofs.lemmas.ancestry.Shares.{share-none, share-itself, share-halved, share-later}
 use Rattle.herd_kinship.proofs.lemmas.ancestry.Exact.{share-even}
-use Rattle.herd_kinship.proofs.lemmas.numbers.Products.{cancel}
+use Rattle.herd_kinship.proofs.lemmas.numbers.Sums.{cancel}
 use Rattle.herd_frozen.proofs.lemmas.ListFacts.{range-more}
 use Rattle.herd_kinship.proofs.lemmas.books.Ranks.{AreRanked, ranks-are_lawful, rank-in}
 

@@ -8,7 +8,7 @@ use Rattle.herd_kinship.specs.Shares.{share}
 use Rattle.herd_kinship.proofs.lemmas.ancestry.LawfulAncestry.{IsLawful, Path}
 use Rattle.herd_kinship.proofs.lemmas.ancestry.Depth.{Below}
 use Rattle.herd_kinship.proofs.lemmas.ancestry.Exact.{share-finer}
-use Rattle.herd_kinship.proofs.lemmas.numbers.Products.{cancel}
+use Rattle.herd_kinship.proofs.lemmas.numbers.Sums.{cancel}
 
 -- half of y's share, brought from y's unit to that of its parent p
 pub half-own : (l gx gy gp s : ℕ) → gx ≤ l → gp < gy → s * 2 ^ (l - gx + gy) / 2 ≡ s * 2 ^ (gy - gp - 1) * 2 ^ (l - gx + gp)

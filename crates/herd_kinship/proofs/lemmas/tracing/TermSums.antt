@@ -13,7 +13,7 @@ use Rattle.herd_kinship.specs.Shares.{share, shared}
 use Rattle.herd_kinship.specs.Ranks.{sire_rank, dam_rank, ranked}
 use Rattle.herd_kinship.specs.Tracing.{IsMetAs, IsNext}
 use Rattle.herd_kinship.specs.declared.tracing.Met.{Met}
-use Rattle.herd_kinship.proofs.lemmas.numbers.Products.{cancel}
+use Rattle.herd_kinship.proofs.lemmas.numbers.Sums.{cancel}
 use Rattle.herd_kinship.proofs.lemmas.tracing.Brought.{later_none}
 use Rattle.herd_kinship.proofs.lemmas.laws.Decompose.{decomposition}
 use Rattle.herd_kinship.proofs.lemmas.ancestry.Depth.{known_some}

@@ -14,7 +14,7 @@ use Rattle.herd_kinship.specs.Ranks.{AreParentsAt, sire_rank, dam_rank, ranked}
 use Rattle.herd_kinship.specs.Tracing.{brought, given, kept_share, HasRoom, IsTracing, IsNext, IsShareOf}
 use Rattle.herd_kinship.proofs.lemmas.ancestry.Ancestors.{share-reached, path-joined}
 use Rattle.herd_kinship.proofs.lemmas.tracing.Brought.{brought-agree, brought-more, brought-none, brought-add, share-within, of_known, own-share, lowered, passed_on}
-use Rattle.herd_kinship.proofs.lemmas.numbers.Products.{cancel}
+use Rattle.herd_kinship.proofs.lemmas.numbers.Sums.{cancel}
 use Rattle.herd_kinship.proofs.lemmas.books.FrozenDepths.{ranked-depth, ranked-below_depth, depth-at_most, parent-less_deep}
 use Rattle.herd_kinship.proofs.lemmas.books.FrozenFacts.{frozen-ranked, ranked-lawful, ranked-shallow}
 use Rattle.herd_kinship.proofs.lemmas.tracing.OwnUnits.{half-own, share-own}

@@ -4,7 +4,7 @@ use Rattle.std.proofs.lemmas.List.{append_assoc, map-append}
 use Rattle.herd_frozen.specs.declared.TheConstants.{DEPTH_LIMIT, MOST_ANIMALS}
 use Rattle.herd_kinship.specs.CalfCoefficients.{with_half}
 use Rattle.herd_kinship.specs.Columns.{at_parent}
-use Rattle.herd_kinship.specs.declared.calf_coefficients.CalfCoefficient.{CalfCoefficient}
+use Rattle.herd_kinship.specs.declared.calves.CalfCoefficient.{CalfCoefficient}
 use Rattle.herd_kinship.proofs.lemmas.books.ParentsFacts.{parents-dam}
 use Rattle.herd_kinship.proofs.lemmas.sires.CalfFacts.{dam-within}
 use Rattle.herd_kinship.proofs.mates.append_halves.Goals as goal
@@ -25,7 +25,7 @@ loop-rank-preserved g c =
     let entry : CalfCoefficient = record { rank = rank; numerator = c.with_parent-numerator.result / 2 } in
     let dam = parents-dam c.args.frozen.now rank c.parents.result c.parents.ensures.parents in
     let is : entry ≡ make rank = ap (λ (v : ℕ). record { rank = rank; numerator = v / 2 }) (c.with_parent-numerator.ensures ∙ ap (at_parent column) (sym dam)) in
-    c.in_ok-push.ensures.items
+    c.in_default.ensures.items
     ∙ ap (λ (xs : List CalfCoefficient). xs ++ entry ∷ []) c.loop-rank.invariant
     ∙ append_assoc old so_far (entry ∷ [])
     ∙ ap (λ (e : CalfCoefficient). old ++ (so_far ++ e ∷ [])) is

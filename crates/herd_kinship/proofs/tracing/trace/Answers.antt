@@ -2,7 +2,7 @@
 use Rattle.std.proofs.Common.{◌≡◌, ℕ, lit<, false, is_some, true, Some, arith, sym, ◌∙◌}
 use Rattle.herd_frozen.specs.declared.TheConstants.{DEPTH_LIMIT, MOST_ANIMALS}
 use Rattle.herd_kinship.proofs.lemmas.books.FrozenFacts.{frozen-few}
-use Rattle.herd_kinship.proofs.lemmas.Options.{if-none, if-some}
+use Rattle.herd_kinship.proofs.lemmas.Lists.{if-none, if-some}
 use Rattle.herd_kinship.proofs.lemmas.sires.CalfFacts.{calf-pair, pair-known}
 use Rattle.herd_kinship.proofs.lemmas.tracing.KnownFacts.{entry-one_unknown}
 use Rattle.herd_kinship.proofs.lemmas.tracing.TermSums.{IsAdded, added, summed-start, summed-end}

@@ -3,7 +3,7 @@ use Rattle.std.proofs.Common.{ℕ, List, Vec, arith, get_or, subst, sym}
 use Rattle.std.specs.List.{All}
 use Rattle.std.proofs.lemmas.List.{take_all}
 use Rattle.herd_kinship.specs.CalfCoefficients.{AreWritten, HasWritten, HaveValues}
-use Rattle.herd_kinship.specs.declared.calf_coefficients.CalfCoefficient.{CalfCoefficient}
+use Rattle.herd_kinship.specs.declared.calves.CalfCoefficient.{CalfCoefficient}
 use Rattle.herd_kinship.proofs.lemmas.sires.CalfListFacts.{kept-stays}
 use Rattle.herd_pool.specs.declared.work.ComputedBlock.{ComputedBlock}
 use Rattle.herd_pool.proofs.Writes.{block_written}

@@ -1,7 +1,7 @@
 use Rattle.std.proofs.Common.{length}
 use Rattle.std.specs.List.{All}
 use Rattle.herd_frozen.specs.declared.TheConstants.{DEPTH_LIMIT}
-use Rattle.herd_kinship.specs.Mates.{IsReady}
+use Rattle.herd_kinship.specs.CalfCoefficients.{IsReady}
 use Rattle.herd_pool.specs.Sires.{KnowsCalvesBelow}
 use Rattle.herd_pool.proofs.pool.coefficients_by_sires.Given as goal
 

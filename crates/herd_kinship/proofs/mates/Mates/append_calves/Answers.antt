@@ -6,7 +6,7 @@ use Rattle.std.proofs.lemmas.Result.{IfOk-weaker}
 use Rattle.herd_frozen.specs.declared.TheConstants.{DEPTH_LIMIT}
 use Rattle.herd_kinship.specs.CalfCoefficients.{GoesOnWith, with_half}
 use Rattle.herd_kinship.specs.Coefficients.{coefficient_at}
-use Rattle.herd_kinship.specs.declared.calf_coefficients.CalfCoefficient.{CalfCoefficient}
+use Rattle.herd_kinship.specs.declared.calves.CalfCoefficient.{CalfCoefficient}
 use Rattle.herd_kinship.proofs.lemmas.sires.CalvesBelow.{below-within}
 use Rattle.herd_kinship.proofs.lemmas.sires.CalfListFacts.{goes-on}
 use Rattle.herd_kinship.proofs.mates.Mates.append_calves.Goals as goal
@@ -25,7 +25,7 @@ returns-clause-calves g c =
     let values = c.in_ok-relate_to.ensures.halves in
     IfOk-weaker c.append_halves.result (λ _. new ≡ old ++ map make c.of_sire.result) (λ _. GoesOnWith rows (λ s. s ≡ c.args.sire) (coefficient_at DEPTH_LIMIT rows) old new)
     (λ _ push. goes-on rows c.args.sire (coefficient_at DEPTH_LIMIT rows) make old new (λ x. refl) (λ x calf. rw c.deref.ensures.value (values x calf)) (push ∙ ap (λ xs. old ++ map make xs) c.of_sire.ensures))
-    c.append_halves.ensures
+    c.append_halves.ensures.calves
 
 pub returns-then-is_empty-clause-calves : goal.returns-then-is_empty-clause-calves
 returns-then-is_empty-clause-calves g c =

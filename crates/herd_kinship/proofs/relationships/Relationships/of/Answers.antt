@@ -5,7 +5,7 @@ use Rattle.herd_frozen.specs.declared.TheConstants.{DEPTH_LIMIT, MOST_ANIMALS}
 use Rattle.herd_kinship.proofs.lemmas.books.ParentsFacts.{parents-within}
 use Rattle.herd_kinship.proofs.lemmas.sires.PassedOn.{AreRelated, IsPassing, related-next, related-passing}
 use Rattle.herd_kinship.proofs.lemmas.Lists.{take-written}
-use Rattle.herd_kinship.proofs.lemmas.sires.RelationshipFacts.{relationships-made}
+use Rattle.herd_kinship.proofs.lemmas.sires.ColumnFacts.{relationships-made}
 use Rattle.herd_kinship.proofs.relationships.Relationships.of.Given.{Over}
 use Rattle.herd_kinship.proofs.relationships.Relationships.of.Goals.{After-parents}
 use Rattle.herd_kinship.proofs.relationships.Relationships.of.Goals as goal

@@ -3,7 +3,7 @@ use Rattle.std.proofs.Common.{◌≡◌, ℕ, List, arith, length, slice_index, 
 use Rattle.herd_frozen.specs.declared.TheConstants.{DEPTH_LIMIT, MOST_ANIMALS}
 use Rattle.herd_kinship.proofs.lemmas.sires.BySires.{less_deep-ancestors}
 use Rattle.herd_pool.specs.Sires.{AreCalvesAmong}
-use Rattle.herd_pool.proofs.LevelFacts.{block_of-ranks}
+use Rattle.herd_pool.proofs.LevelFacts.{block_of-ascending, block_of-ranks}
 use Rattle.herd_pool.proofs.SireFacts.{calves_at_first, calves_further}
 use Rattle.herd_pool.proofs.sires.SireLevelWork.compute.Goals as goal
 
@@ -32,11 +32,15 @@ append_calves-requires-clause-known g c =
     less_deep-ancestors DEPTH_LIMIT MOST_ANIMALS level.frozen.now c.requires.knows.linked.frozen level.depth (slice_index ranks i) c.args.self.now.known.now at.within (omega arith) c.requires.knows.reached
 
 pub loop-sire-preserved : goal.loop-sire-preserved
-loop-sire-preserved g c = record {
-  ranks = c.ranks-sire-items.ensures;
-  ready = c.in_ok-append_calves.ensures.ready;
-  calves = calves_further DEPTH_LIMIT c.args.self.now.level.frozen.now c.ranks-sire-items.result.now c.loop-sire.sire-index c.loop-sire.output.items c.append_calves.new.list.items c.loop-sire.invariant.calves c.in_ok-append_calves.ensures.calves;
-}
+loop-sire-preserved g c =
+    let level = c.args.self.now.level in
+    let ranks = c.ranks-sire-items.result.now in
+    let ascending = block_of-ascending level.frozen.now level.depth level.block c.args.number ranks c.ranks-sire-items.ensures in
+    record {
+      ranks = c.ranks-sire-items.ensures;
+      ready = c.append_calves.ensures.ready;
+      calves = calves_further DEPTH_LIMIT level.frozen.now ranks c.loop-sire.sire-index c.loop-sire.output.items c.append_calves.new.list.items ascending c.loop-sire-test.true c.loop-sire.invariant.calves c.in_ok-append_calves.ensures.calves;
+    }
 
 pub returns-clause-computed : goal.returns-clause-computed
 returns-clause-computed g c =

@@ -2,8 +2,7 @@
 use Rattle.std.proofs.Common.{◌≡◌, ◌∙◌, slice_index}
 use Rattle.herd_frozen.specs.declared.TheConstants.{DEPTH_LIMIT, MOST_ANIMALS}
 use Rattle.herd_kinship.specs.Coefficients.{coefficient_at}
-use Rattle.herd_pool.proofs.Known.{ancestors_known, inbred-entry}
-use Rattle.herd_pool.proofs.LevelFacts.{block_of-ranks, numerators_more}
+use Rattle.herd_pool.proofs.LevelFacts.{ancestors_known, block_of-ranks, inbred-entry, numerators_more}
 use Rattle.herd_pool.proofs.traced.TracedLevelWork.compute.Goals as goal
 
 pub trace-requires-clause-rank : goal.trace-requires-clause-rank

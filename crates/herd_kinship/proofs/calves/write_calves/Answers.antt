@@ -2,9 +2,9 @@
 use Rattle.std.proofs.Common.{◌≡◌, ℕ, ◌<◌, length, get_or, arith, ◌∙◌, subst}
 use Rattle.std.proofs.lemmas.List.{length-set, take_all}
 use Rattle.herd_kinship.specs.CalfCoefficients.{HasWritten}
-use Rattle.herd_kinship.specs.declared.calf_coefficients.CalfCoefficient.{CalfCoefficient}
+use Rattle.herd_kinship.specs.declared.calves.CalfCoefficient.{CalfCoefficient}
 use Rattle.herd_kinship.proofs.lemmas.sires.CalfListFacts.{written-next}
-use Rattle.herd_kinship.proofs.calf_coefficients.write_calves.Goals as goal
+use Rattle.herd_kinship.proofs.calves.write_calves.Goals as goal
 
 pub loop-calf-preserved : goal.loop-calf-preserved
 loop-calf-preserved c =

@@ -1,6 +1,6 @@
 use Rattle.std.proofs.Common.{◌≡◌, ℕ, length, take}
 use Rattle.herd_kinship.specs.CalfCoefficients.{HasWritten, HaveValues}
-use Rattle.herd_kinship.proofs.calf_coefficients.write_calves.Given as goal
+use Rattle.herd_kinship.proofs.calves.write_calves.Given as goal
 
 -- the calves so far are written
 abbrev pub invariant-loop-calf : goal.invariant-loop-calf
