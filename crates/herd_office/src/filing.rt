@@ -40,7 +40,8 @@ pub fn file_on<N: OfficeName, W: Wait, R: Wait + Drop, A: Allocator + Copy>(
     file_claimed(rt, inside, desk, command)
 }
 
-// Files a command, once its step is claimed: apart from `file_on`, since the two together take the prover twice as long.
+// Files a command, once its step is claimed. It stands apart from `file_on`, since the two together take the prover
+// twice as long.
 fn file_claimed<N: OfficeName, W: Wait, R: Wait + Drop, A: Allocator + Copy>(
     rt: &W,
     inside: &mut Inside<N, R, A>,

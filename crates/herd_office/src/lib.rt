@@ -31,8 +31,8 @@
 //!
 //! Readers take one of two copies of the register's records and journal, which `left_right` keeps, with the history
 //! that was told with it. A copy whose history is as long as its journal has that journal; an inspector reads no other.
-//! The rule of the copies ties each seat to the office. An inspector reads twice: for the number of records, by which it
-//! makes room while it reads nothing, and then to copy them out. It leaves, and sorts its own copy.
+//! The rule of the copies ties each seat to the office. An inspector reads twice: for the number of records, by
+//! which it makes room while it reads nothing, and then to copy them out. It leaves, and sorts its own copy.
 //!
 //! # Who waits for whom
 //!

@@ -94,8 +94,8 @@ fn work_beside<N: OfficeName + Send + Sync, R: Threads + Wait + Clock + Sync>(
     Ok((desk, inspector, early.saturating_add(late), times))
 }
 
-// Files so many transfers, with a pause before each, and times each call. The desk, how many were accepted, and what the
-// calls took.
+// Files so many transfers, with a pause before each, and times each call. The desk, how many were accepted, and what
+// the calls took.
 fn file_timed<N: OfficeName, R: Wait + Clock>(
     rt: &R,
     office: &Office<N, &R>,

@@ -1,5 +1,5 @@
-//! What the tests file, and what they do with desks and offices. Births of founders are on the first day of 2000, and all
-//! are in herd 1.
+//! What the tests file, and what they do with desks and offices. Births of founders are on the first day of 2000, and
+//! all are in herd 1.
 ghost use Rattle.std.specs.Prelude.{◌≡◌, ◌≤◌};
 ghost use Rattle.herd_register.specs.declared.limits.TheConstants.{MOST_STEPS};
 
