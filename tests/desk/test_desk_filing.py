@@ -89,11 +89,10 @@ def test_mistakes(site: Site, kind: str, fields: dict[str, str], told: str) -> N
         assert book and book.change and book.change.number == 1
 
 
-@pytest.mark.usefixtures("with_sessions")
-def test_by_the_session(site: Site, monkeypatch: pytest.MonkeyPatch) -> None:
+def test_by_the_session(session_site: Site, monkeypatch: pytest.MonkeyPatch) -> None:
     """Replies, and the answers of questions, come from the one session: the program isn't run for them."""
-    site.post("/file/exit", id=DAM, day="2024-05-01")
-    session = site.desk.program.session
+    session_site.post("/file/exit", id=DAM, day="2024-05-01")
+    session = session_site.desk.program.session
     assert session and not session.has_ended
 
     def run(*_: object) -> str:
@@ -107,53 +106,52 @@ def test_by_the_session(site: Site, monkeypatch: pytest.MonkeyPatch) -> None:
             ("exit", {"id": "NEW-1", "day": "2024-06-02"}),
         )
     ):
-        assert site.post(f"/file/{kind}", **fields).headers["Location"] == f"/answer/{at + 3}"
-    assert "it has left already" in shown(site.page("/answer/5"))
-    assert "sires, the least related first" in shown(site.page(f"/matings?dam={DAM}"))
-    assert site.desk.program.session is session
+        assert session_site.post(f"/file/{kind}", **fields).headers["Location"] == f"/answer/{at + 3}"
+    assert "it has left already" in shown(session_site.page("/answer/5"))
+    assert "sires, the least related first" in shown(session_site.page(f"/matings?dam={DAM}"))
+    assert session_site.desk.program.session is session
 
 
-@pytest.mark.usefixtures("with_sessions")
-def test_session_killed(site: Site) -> None:
+def test_session_killed(session_site: Site) -> None:
     """A session that ends is started anew, and nothing is lost."""
-    site.post("/file/birth", **BIRTH)
-    session = site.desk.program.session
+    session_site.post("/file/birth", **BIRTH)
+    session = session_site.desk.program.session
     assert session
     session.process.kill()
     session.process.wait()
-    assert site.post("/file/exit", id="NEW-1", day="2024-06-01").headers["Location"] == "/answer/3"
-    assert site.desk.program.session is not session
-    Desk(site.desk.folder.parent, site.desk.program.path.as_posix()).good("verify")
+    assert session_site.post("/file/exit", id="NEW-1", day="2024-06-01").headers["Location"] == "/answer/3"
+    assert session_site.desk.program.session is not session
+    Desk(session_site.desk.folder.parent, session_site.desk.program.path.as_posix()).good("verify")
 
 
-@pytest.mark.usefixtures("with_sessions")
-def test_beside_a_terminal(site: Site, society_desk: Desk) -> None:
+def test_beside_a_terminal(session_site: Site, society_desk: Desk) -> None:
     """Commands of a terminal between those of a form: the session catches up, and an undo there begins a new one."""
-    site.post("/file/birth", **BIRTH)
+    session_site.post("/file/birth", **BIRTH)
     society_desk.good("exit", "NEW-1", "--day", "2024-06-01")
     assert "it has left already" in shown(
-        site.page(site.post("/file/exit", id="NEW-1", day="2024-07-01").headers["Location"])
+        session_site.page(session_site.post("/file/exit", id="NEW-1", day="2024-07-01").headers["Location"])
     )
     society_desk.good("undo", "--to", "1")
-    assert TEXTS["accepted"][0] in shown(site.page(site.post("/file/birth", **BIRTH).headers["Location"]))
+    assert TEXTS["accepted"][0] in shown(
+        session_site.page(session_site.post("/file/birth", **BIRTH).headers["Location"])
+    )
     society_desk.good("verify")
-    assert site.desk.program.journal.edition == 2
+    assert session_site.desk.program.journal.edition == 2
 
 
-@pytest.mark.usefixtures("with_sessions")
-def test_stored_reply_differs(site: Site, society_desk: Desk) -> None:
+def test_stored_reply_differs(session_site: Site, society_desk: Desk) -> None:
     """Where a stored reply isn't the session's, nothing goes on."""
     import contextlib
     import sqlite3
 
-    with contextlib.closing(sqlite3.connect(site.desk.folder / "book.sqlite")) as connection:
+    with contextlib.closing(sqlite3.connect(session_site.desk.folder / "book.sqlite")) as connection:
         connection.execute("UPDATE command SET refusal = 3 WHERE place = 400")
         connection.commit()
-    page = shown(site.page(f"/matings?dam={DAM}"))
+    page = shown(session_site.page(f"/matings?dam={DAM}"))
     assert "the program's reply to command 400 isn't the stored one: nothing goes on" in page
-    answer = site.post("/file/exit", id=DAM, day="2024-05-01")
+    answer = session_site.post("/file/exit", id=DAM, day="2024-05-01")
     assert answer.status_code == 400
-    with site.desk.opened() as book:
+    with session_site.desk.opened() as book:
         assert book and book.change and book.change.number == 1
 
 
