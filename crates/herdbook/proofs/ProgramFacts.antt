@@ -3,7 +3,6 @@ use Rattle.std.proofs.Common.{◌≡◌, ℕ, List, [], inl, Option, Some, None,
 use Rattle.std.specs.Prelude.{IfErr, IfSome, OnOk}
 use Rattle.clap.specs.Words.{fault_of, subcommand_of}
 use Rattle.herd_register.specs.Limits.{Limits}
-use Rattle.herd_report.specs.reading.CommandFile.{commands}
 use Rattle.herdbook.specs.CommandLine.{command_line}
 use Rattle.herdbook.specs.Ending.{end_of_request}
 use Rattle.herdbook.specs.Program.{CanEnd, CanEndServing, EndsServing, IsEnded, IsServed}
@@ -14,8 +13,8 @@ use Rattle.herdbook.specs.declared.request_fault.RequestFault.{RequestFault}
 -- what was begun for a request ends the program
 pub ended-request : {T : Type 0} (known : Option (List ℕ)) (limits : Limits) (words : List (List ℕ)) (old new : Option (List ℕ)) (request : Request) (result : Result T RequestFault)
     → fault_of command_line words ≡ [] → IsAsked (subcommand_of command_line words) request
-    → OnOk result (IfSome known (λ bytes. IsServed request limits (commands bytes limits.steps) old new))
-    → IfErr result (λ fault. IfSome known (λ bytes. EndsServing request limits (commands bytes limits.steps) old new fault))
+    → OnOk result (IfSome known (λ bytes. IsServed request limits bytes old new))
+    → IfErr result (λ fault. IfSome known (λ bytes. EndsServing request limits bytes old new fault))
     → IfSome known (λ bytes. IsEnded limits words bytes old new (end_of_request result))
 ended-request None limits words old new request result taken asked ok err = tt
 ended-request (Some bytes) limits words old new request (Ok done) taken asked ok err =

@@ -1,13 +1,16 @@
 -- How the program ends for its words and the bytes of a command file.
-use Rattle.std.specs.Prelude.{◌≡◌, ◌⊎◌, ℕ, List, [], Option}
+use Rattle.std.specs.Prelude.{◌≡◌, ◌⊎◌, ℕ, List, [], Option, Some}
 use Rattle.clap.specs.Words.{fault_of, subcommand_of}
 use Rattle.herd_register.specs.Limits.{Limits}
-use Rattle.herd_report.specs.reading.CommandFile.{CommandFile, commands}
+use Rattle.herd_report.specs.reading.CommandFile.{commands}
 use Rattle.herd_report.specs.Run.{CanEndBy, EndsBy, IsAnswered}
 use Rattle.herd_report.specs.declared.orders.Order.{Order}
+use Rattle.herd_session.specs.Closing.{EndsEarly, IsClosedSession}
+use Rattle.herd_session.specs.Requests.{records_in}
 use Rattle.herdbook.specs.Clerks.{CanEndClerks, EndsClerks, IsFiledBy}
 use Rattle.herdbook.specs.CommandLine.{command_line}
 use Rattle.herdbook.specs.Ending.{Explains}
+use Rattle.herdbook.specs.Sessions.{CanEndSession}
 use Rattle.herdbook.specs.Words.{IsAsked, IsOrderFor, IsRefused}
 use Rattle.herdbook.specs.declared.arguments.OwnedOrder.{OwnedOrder}
 use Rattle.herdbook.specs.declared.arguments.Request.{Request}
@@ -24,23 +27,31 @@ pub record Lends (asked : OwnedOrder) (Holds : Order → Type 0) : Type 0 where
   pub for : IsOrderFor asked order
   pub holds : Holds order
 
--- what a request asks for was carried out on a command file
-abbrev pub IsServed : Request → Limits → CommandFile → Option (List ℕ) → Option (List ℕ) → Type 0
-IsServed (request.Run asked) limits file old new = Lends asked (λ order. IsAnswered limits order file old new)
-IsServed (request.Clerks plan) limits file old new = IsFiledBy limits plan.desks plan.base file old new
+-- what a request asks for was carried out on the bytes of a command file, or of requests
+abbrev pub IsServed : Request → Limits → List ℕ → Option (List ℕ) → Option (List ℕ) → Type 0
+IsServed (request.Run asked) limits bytes old new =
+    Lends asked (λ order. IsAnswered limits order (commands bytes limits.steps) old new)
+IsServed (request.Clerks plan) limits bytes old new =
+    IsFiledBy limits plan.desks plan.base (commands bytes limits.steps) old new
+IsServed (request.Session plan) limits bytes old new =
+    IsClosedSession plan.limits (records_in (Some bytes)) old new
 
 -- how it may end early
-abbrev pub EndsServing : Request → Limits → CommandFile → Option (List ℕ) → Option (List ℕ) → RequestFault → Type 0
-EndsServing (request.Run asked) limits file old new (Run fault) =
-    Lends asked (λ order. EndsBy limits order file old new fault)
-EndsServing (request.Run asked) limits file old new NoPlace = ⊥
-EndsServing (request.Clerks plan) limits file old new fault = EndsClerks limits plan.desks plan.base file old new fault
+abbrev pub EndsServing : Request → Limits → List ℕ → Option (List ℕ) → Option (List ℕ) → RequestFault → Type 0
+EndsServing (request.Run asked) limits bytes old new (Run fault) =
+    Lends asked (λ order. EndsBy limits order (commands bytes limits.steps) old new fault)
+EndsServing (request.Run asked) limits bytes old new NoPlace = ⊥
+EndsServing (request.Clerks plan) limits bytes old new fault =
+    EndsClerks limits plan.desks plan.base (commands bytes limits.steps) old new fault
+EndsServing (request.Session plan) limits bytes old new fault =
+    EndsEarly plan.limits (records_in (Some bytes)) old new
 
 -- the faults that it can end by, whatever is read
 abbrev pub CanEndServing : Request → RequestFault → Type 0
 CanEndServing (request.Run asked) (Run fault) = Lends asked (λ order. CanEndBy order fault)
 CanEndServing (request.Run asked) NoPlace = ⊥
 CanEndServing (request.Clerks plan) fault = CanEndClerks fault
+CanEndServing (request.Session plan) fault = CanEndSession fault
 
 -- `clap` takes the words, and a fact holds of the request that they make
 pub record Asks (words : List (List ℕ)) (Holds : Request → Type 0) : Type 0 where
@@ -55,15 +66,12 @@ pub record AsksNothing (words : List (List ℕ)) (ending : Ending) : Type 0 wher
   pub refused : IsRefused words fault
   pub explained : Explains fault ending
 
--- the program did what the words ask for with a command file, or it ended early, or the words ask for nothing
-abbrev pub IsEndedWith : Limits → List (List ℕ) → CommandFile → Option (List ℕ) → Option (List ℕ) → Ending → Type 0
-IsEndedWith limits words file old new Done = Asks words (λ request. IsServed request limits file old new)
-IsEndedWith limits words file old new (Early fault) =
-    Asks words (λ request. EndsServing request limits file old new fault) ⊎ AsksNothing words (Early fault)
-IsEndedWith limits words file old new ending = AsksNothing words ending
-
+-- the program did what the words ask for with these bytes, or it ended early, or the words ask for nothing
 abbrev pub IsEnded : Limits → List (List ℕ) → List ℕ → Option (List ℕ) → Option (List ℕ) → Ending → Type 0
-IsEnded limits words bytes old new ending = IsEndedWith limits words (commands bytes limits.steps) old new ending
+IsEnded limits words bytes old new Done = Asks words (λ request. IsServed request limits bytes old new)
+IsEnded limits words bytes old new (Early fault) =
+    Asks words (λ request. EndsServing request limits bytes old new fault) ⊎ AsksNothing words (Early fault)
+IsEnded limits words bytes old new ending = AsksNothing words ending
 
 -- only what was asked for, and memory that ran out, leave it open whether anything was written
 abbrev pub IsUntouchedUnlessAsked : Type 0 → Ending → Type 0

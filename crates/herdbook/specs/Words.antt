@@ -6,15 +6,16 @@ use Rattle.clap.specs.declared.error.kind.ErrorKind.TheVariants.{OutOfMemory}
 use Rattle.herd_animal.specs.AnimalNumber.{IsAnimalNumber}
 use Rattle.herd_animal.specs.NumberFault.{IsNumberFault}
 use Rattle.herd_animal.specs.declared.number.NumberFault.{NumberFault}
-use Rattle.herd_office.specs.declared.limits.TheConstants.{MOST_DESKS}
+use Rattle.herd_office.specs.declared.limits.TheConstants.{MOST_DESKS, MOST_INSPECTORS}
 use Rattle.herd_pool.specs.declared.limits.TheConstants.{DEFAULT_BLOCK, MOST_WORKERS}
 use Rattle.herd_report.specs.declared.orders.Order.{Order}
 use Rattle.herd_report.specs.declared.orders.Order.TheVariants.{File, Inbreeding, Certificate, Mating, Inverse, Relationships}
+use Rattle.herd_session.specs.declared.plan.SessionPlan.{SessionPlan}
 use Rattle.herdbook.specs.CommandLine.{command_line}
 use Rattle.herdbook.specs.declared.arguments.OwnedOrder.{OwnedOrder}
 use Rattle.herdbook.specs.declared.arguments.OwnedOrder.TheVariants as asked
 use Rattle.herdbook.specs.declared.arguments.Request.{Request}
-use Rattle.herdbook.specs.declared.arguments.Request.TheVariants.{Run, Clerks}
+use Rattle.herdbook.specs.declared.arguments.Request.TheVariants.{Run, Clerks, Session}
 use Rattle.herdbook.specs.declared.arguments.WordsFault.{WordsFault}
 use Rattle.herdbook.specs.declared.arguments.WordsFault.TheVariants.{Words, Number}
 use Rattle.herdbook.specs.declared.plans.DeskPlan.{DeskPlan}
@@ -63,11 +64,20 @@ IsDeskPlanOf rows plan =
     IsNumberOr 1 MOST_DESKS 2 (one_of (codes "desks") rows) plan.desks
     × IsNumberOr 0 program_limits.steps 0 (one_of (codes "base") rows) plan.base
 
+-- how large a session's office is
+abbrev pub IsSessionPlanOf : List Row → SessionPlan → Type 0
+IsSessionPlanOf rows plan =
+    IsNumberOr 1 MOST_DESKS 4 (one_of (codes "desks") rows) plan.desks
+    × IsNumberOr 1 MOST_INSPECTORS 4 (one_of (codes "inspectors") rows) plan.inspectors
+    × IsNumberOr 1 program_limits.animals program_limits.animals (one_of (codes "limit-animals") rows) plan.limits.animals
+    × IsNumberOr 1 program_limits.steps program_limits.steps (one_of (codes "limit-steps") rows) plan.limits.steps
+
 abbrev pub IsAskedOfRun : Found → OwnedOrder → Type 0
 IsAskedOfRun found asked.File =
     (name_in found ≢ Some (codes "inbreeding")) × (name_in found ≢ Some (codes "certificate"))
     × (name_in found ≢ Some (codes "mating")) × (name_in found ≢ Some (codes "inverse"))
     × (name_in found ≢ Some (codes "relationships")) × (name_in found ≢ Some (codes "clerks"))
+    × (name_in found ≢ Some (codes "session"))
 IsAskedOfRun found (asked.Inbreeding plan) =
     (name_in found ≡ Some (codes "inbreeding")) × IsWorkPlanOf (rows_in found) plan
 IsAskedOfRun found (asked.Certificate number) =
@@ -85,6 +95,7 @@ IsAskedOfRun found (asked.Relationships numbers others) =
 abbrev pub IsAsked : Found → Request → Type 0
 IsAsked found (Run order) = IsAskedOfRun found order
 IsAsked found (Clerks plan) = (name_in found ≡ Some (codes "clerks")) × IsDeskPlanOf (rows_in found) plan
+IsAsked found (Session plan) = (name_in found ≡ Some (codes "session")) × IsSessionPlanOf (rows_in found) plan
 
 -- mating advice is ordered for this dam and these sires
 abbrev pub IsAdvice : List ℕ → List (List ℕ) → Order → Type 0

@@ -1,7 +1,6 @@
 //! What the program does, but for printing help and what it tells on standard error.
 
 ghost use Rattle.std.specs.Prelude.{◌≡◌, IfErr, IfSome, OnOk, map, string_bytes};
-ghost use Rattle.herd_report.specs.reading.CommandFile.{commands};
 ghost use Rattle.herdbook.specs.Program.{CanEnd, CanEndServing, EndsServing, IsEnded, IsServed, IsUntouchedUnlessAsked};
 ghost use Rattle.herdbook.specs.Limits.{program_limits};
 
@@ -12,6 +11,7 @@ use crate::request_fault::RequestFault;
 use herd_frozen::MOST_ANIMALS;
 use herd_register::{Limits, MOST_STEPS};
 use herd_report::run;
+use herd_session::session;
 use std::alloc::Global;
 use std::io::{Read, Write};
 use std::sync::Wait;
@@ -25,7 +25,7 @@ pub const LIMITS: Limits = Limits {
 
 /// Reads the words of the command line, the program's own name first, and does what they ask for. Where they ask for
 /// nothing, nothing is read or written.
-pub fn carry_out<H: Threads + Wait + Sync, R: Read + Drop, W: Write>(
+pub fn carry_out<H: Threads + Wait + Sync, R: Read + Drop, W: Write + Send + Drop>(
     rt: &H,
     alloc: Global,
     words: &[String],
@@ -46,7 +46,7 @@ pub fn carry_out<H: Threads + Wait + Sync, R: Read + Drop, W: Write>(
 }
 
 // Does what is asked for.
-fn served<H: Threads + Wait + Sync, R: Read + Drop, W: Write>(
+fn served<H: Threads + Wait + Sync, R: Read + Drop, W: Write + Send + Drop>(
     rt: &H,
     alloc: Global,
     request: &Request,
@@ -54,15 +54,16 @@ fn served<H: Threads + Wait + Sync, R: Read + Drop, W: Write>(
     writer: &mut W,
 ) -> Result<(), RequestFault>
     ensures ok { OnOk result (IfSome (R.remaining reader)
-        (λ bytes. IsServed request.now program_limits (commands bytes program_limits.steps)
+        (λ bytes. IsServed request.now program_limits bytes
         (W.contents writer.old) (W.contents writer.new))) }
     ensures err { IfErr result (λ fault. IfSome (R.remaining reader)
-        (λ bytes. EndsServing request.now program_limits (commands bytes program_limits.steps)
+        (λ bytes. EndsServing request.now program_limits bytes
         (W.contents writer.old) (W.contents writer.new) fault)) }
     ensures possible { IfErr result (CanEndServing request.now) }
 {
     match request {
         Request::Run(asked) => Ok(run(rt, alloc, LIMITS, asked.lend(), reader, writer)?),
         Request::Clerks(plan) => clerks(rt, alloc, LIMITS, *plan, reader, writer),
+        Request::Session(plan) => Ok(session(rt, alloc, *plan, reader, writer)?),
     }
 }

@@ -3,6 +3,7 @@ ghost use Rattle.std.specs.Prelude.{◌≡◌};
 ghost use Rattle.herdbook.specs.declared.request_fault.RequestFault.TheVariants.{Run};
 
 use herd_report::{LineFault, ReportFault, RunFault};
+use herd_session::SessionFault;
 
 /// Why a request ended early.
 #[derive(Clone, Copy, Debug, PartialEq, Eq, Drop)]
@@ -39,5 +40,21 @@ impl From<ReportFault> for RequestFault {
 
     fn from(fault: ReportFault) -> RequestFault {
         RequestFault::Run(RunFault::from(fault))
+    }
+}
+
+impl From<SessionFault> for RequestFault {
+    ghost use Rattle.herdbook.specs.Sessions.{told_of};
+
+    ghost from_gives = { λ fault told. told ≡ told_of fault };
+
+    fn from(fault: SessionFault) -> RequestFault {
+        match fault {
+            SessionFault::Line(fault) => RequestFault::Run(RunFault::Line(fault)),
+            SessionFault::NoThread => RequestFault::Run(RunFault::NoThread),
+            SessionFault::Memory => RequestFault::Run(RunFault::Memory),
+            SessionFault::Write => RequestFault::Run(RunFault::Write),
+            SessionFault::NoPlace => RequestFault::NoPlace,
+        }
     }
 }
