@@ -8,6 +8,7 @@ from __future__ import annotations
 import itertools
 import os
 import pathlib
+import signal
 
 import pytest
 from _pytest.terminal import TerminalReporter
@@ -28,6 +29,11 @@ def program() -> str:
         what_to_do = "say where it is, as export HERDBOOK=/home/me/herdbook" if named else "call ./herdbook --version"
         pytest.fail(f"{path}, the program of the herd book, isn't there: {what_to_do}", pytrace=False)
     return str(path)
+
+
+def pytest_configure() -> None:
+    """What tests start can be ended by Ctrl-C, also where a shell in the background ignores it for all that it begins."""
+    signal.signal(signal.SIGINT, signal.default_int_handler)
 
 
 def pytest_assertion_pass(item: pytest.Item) -> None:
