@@ -22,8 +22,8 @@
 //! - Once all are back, the blocks are written into one list (`merge`; `proofs/Writes`), and the next level begins
 //!   (`pool`).
 //!
-//! `traced` and `sires` have `proofs/LevelFacts`, and `sires` has `proofs/SireFacts`, over lemmas of `herd_kinship`. What
-//! a level is worth is defined in `specs/Sires`, with `proofs/WorthFacts`.
+//! `traced` and `sires` have `proofs/LevelFacts`, and `sires` has `proofs/SireFacts`, over lemmas of `herd_kinship`.
+//! What a level is worth is defined in `specs/Sires`, with `proofs/WorthFacts`.
 #![tactic(auto)]
 
 mod crew;
