@@ -18,10 +18,10 @@ from html import escape
 
 # what bench.sh calls a program, what it is, and its colour
 PROGRAMS = {
-    "program": ("herdbook: proved, exact", "#0f6e8c"),
-    "exact-colleau-lists": ("native, the same method, exact", "#8fb8c6"),
-    "f64-hybrid": ("native, the best in doubles, rounded", "#c9a45c"),
-    "exact-breed": ("native, tracing each animal, exact", "#b9bec6"),
+    "program": ("herdbook (proved, exact)", "#0f6e8c"),
+    "exact-colleau-lists": ("native program, same method (exact)", "#8fb8c6"),
+    "f64-hybrid": ("native program, best in doubles (rounded)", "#c9a45c"),
+    "exact-breed": ("native program, tracing each animal (exact)", "#b9bec6"),
 }
 SHAPES = {
     "narrow": "closed breed",
