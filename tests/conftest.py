@@ -31,8 +31,9 @@ def program() -> str:
     return str(path)
 
 
-def pytest_configure() -> None:
-    """What tests start can be ended by Ctrl-C, also where a shell in the background ignores it for all that it begins."""
+def pytest_runtest_setup() -> None:
+    """What a test starts can be ended by Ctrl-C, also where a shell in the background ignores it for all that it begins, or
+    a change that an earlier test made without a process of its own."""
     signal.signal(signal.SIGINT, signal.default_int_handler)
 
 

@@ -1,6 +1,7 @@
 """The history of a book: its changes, as they are kept and read."""
 from __future__ import annotations
 
+import contextvars
 import datetime
 import json
 import os
@@ -15,13 +16,17 @@ from society.book.many_rows import insert_many
 
 COLUMNS = "change, kind, time, login, edition, length, file, path, digest, undone_to"
 EPOCH = datetime.datetime(1970, 1, 1, tzinfo=datetime.timezone.utc)
+# who works here by a name of the society's own, as those at a desk with accounts; empty for whom the system names
+WORKER: contextvars.ContextVar[str] = contextvars.ContextVar("worker", default="")
 
 
 text_of = json.JSONEncoder(ensure_ascii=False).encode
 
 
 def login() -> str:
-    """Who works here, by the name that the system has."""
+    """Who works here, by the name that the desk has, else the system."""
+    if WORKER.get():
+        return WORKER.get()
     try:
         return pwd.getpwuid(os.getuid()).pw_name
     except KeyError:

@@ -1,7 +1,10 @@
 """The application of the desk: its pages, what each of them can say, and how mistakes are shown."""
 from __future__ import annotations
 
-from flask import Flask, current_app, render_template, request
+import pathlib
+import traceback
+
+from flask import Flask, current_app, g, render_template, request
 from flask.typing import ResponseReturnValue
 from flask_wtf.csrf import CSRFError
 from werkzeug.exceptions import HTTPException, RequestEntityTooLarge
@@ -9,6 +12,8 @@ from werkzeug.exceptions import HTTPException, RequestEntityTooLarge
 from society.book.cells import for_terminals
 from society.desk.desk import EXTENSION, Desk, the_desk
 from society.desk.routes import PAGES
+from society.desk.people import the_person
+from society.desk.rules import may
 from society.desk.security import Gate, guard
 from society.desk.shown_mistakes import without_paths
 from society.desk.texts import TEXTS
@@ -17,14 +22,16 @@ from society.mistake import Mistake
 from society.pages.page import finished
 from society.reading.sheet import MOST_BYTES
 
-# what stands above the pages, by their blueprints, and which of them only a desk has that isn't only to be read
+# what stands above the pages: those that whoever asks may ask for
 MENU = {
     "start.page": "start", "animals.page": "animals", "sheet.page": "sheet", "filing.page": "filing",
     "matings.page": "matings", "breed.page": "breed", "history.page": "history", "settings.page": "settings",
+    "accounts.page": "accounts",
 }  # fmt: skip
-WRITING = ("sheet.page", "filing.page")
 # a form has something beside the sheet
 ROOM_BESIDE = 100_000
+# so many places of a fault are told
+MOST_PLACES = 6
 
 
 def desk_app(desk: Desk, gate: Gate) -> Flask:
@@ -45,9 +52,17 @@ def desk_app(desk: Desk, gate: Gate) -> Flask:
 def said() -> dict[str, object]:
     """What each template can say."""
     desk = the_desk()
-    menu = [(to, name) for to, name in MENU.items() if not (desk.read_only and to in WRITING)]
+    menu = [(to, name) for to, name in MENU.items() if may(to)]
     here = (request.endpoint or "").partition(".")[0]
-    return {"say": the_words(), "menu": menu, "here": here, "languages": NAMES, "read_only": desk.read_only}
+    return {
+        "say": the_words(),
+        "menu": menu,
+        "here": here,
+        "languages": NAMES,
+        "may": may,
+        "person": the_person(),
+        "read_only": desk.read_only,
+    }
 
 
 def show_mistake(mistake: Mistake) -> ResponseReturnValue:
@@ -64,12 +79,20 @@ def show_refused(error: HTTPException) -> ResponseReturnValue:
         what = "refused size"
     elif f"refused {error.description}" in TEXTS:
         what = f"refused {error.description}"
+    g.refused = what
     words = the_words()
     sentence = words(what if what in TEXTS else "refused other")
     return render_template("mistake.html", title="not done", sentences=[sentence]), error.code or 500
 
 
 def show_fault(error: Exception) -> ResponseReturnValue:
-    """A fault of the desk itself: the terminal has what it is, the page doesn't."""
-    current_app.logger.error("%s: %s", type(error).__name__, for_terminals(str(error)), exc_info=error)
+    """A fault of the desk itself: the terminal has where it is, the page doesn't. What it says may be of somebody's
+    form, and is told nowhere."""
+    current_app.logger.error("%s at %s", type(error).__name__, for_terminals(places_of(error)))
     return render_template("mistake.html", title="mistake", sentences=[the_words()("fault")]), 500
+
+
+def places_of(error: Exception) -> str:
+    """Where a fault came to be, from the outermost place inwards."""
+    frames = traceback.extract_tb(error.__traceback__)
+    return ", ".join(f"{pathlib.Path(frame.filename).name}:{frame.lineno}" for frame in frames[-MOST_PLACES:])

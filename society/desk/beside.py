@@ -12,6 +12,7 @@ from collections.abc import Callable, Iterator
 from dataclasses import dataclass
 from typing import BinaryIO
 
+from society.book.history import WORKER
 from society.mistake import Mistake
 
 TOP = pathlib.Path(__file__).resolve().parent.parent.parent
@@ -54,7 +55,7 @@ def started(work: Callable[..., object], values: tuple[object, ...]) -> subproce
     )  # fmt: skip
     assert process.stdin
     with process.stdin:
-        pickle.dump((work, values), process.stdin)
+        pickle.dump((WORKER.get(), work, values), process.stdin)
     return process
 
 
@@ -76,7 +77,8 @@ def work_beside(given: BinaryIO, out: BinaryIO) -> None:
         pickle.dump(message, out)
         out.flush()
 
-    work, values = pickle.load(given)
+    worker, work, values = pickle.load(given)
+    WORKER.set(worker)
     try:
         tell(Made(work(*values, lambda what: tell(Told(what)))))
     except Mistake as mistake:

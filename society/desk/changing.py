@@ -2,6 +2,7 @@
 from __future__ import annotations
 
 import contextlib
+import sqlite3
 from collections.abc import Iterator
 
 from society.book.book import Book
@@ -17,20 +18,27 @@ from society.mistake import Mistake
 def to_change(desk: Desk) -> Iterator[Book]:
     """The book, which nobody else changes until this ends. It is seen before whether it is whole, unless nobody changed
     it since that was seen."""
-    with changing(desk.folder) as connection:
-        if connection is None:
-            raise no_book(desk.folder)
-        book = Book(desk.folder, connection)
-        if mark_of(book) != desk.whole:
-            verify(book, desk.program, quickly=True)
-        try:
-            yield book
-        except BaseException:
-            # the session may have filed what isn't stored
-            desk.program.close()
-            raise
-    with desk.opened() as changed:
-        desk.whole = mark_of(changed) if changed else (0, 0)
+    with desk.turn:
+        with changing(desk.folder) as connection:
+            yield from whole(desk, connection)
+        with desk.opened() as changed:
+            desk.whole = mark_of(changed) if changed else (0, 0)
+
+
+def whole(desk: Desk, connection: sqlite3.Connection | None) -> Iterator[Book]:
+    if desk.is_closing:
+        raise Mistake("the desk is being closed: nothing is filed. Try again when it is open")
+    if connection is None:
+        raise no_book(desk.folder)
+    book = Book(desk.folder, connection)
+    if mark_of(book) != desk.whole:
+        verify(book, desk.program, quickly=True)
+    try:
+        yield book
+    except BaseException:
+        # the session may have filed what isn't stored
+        desk.program.close()
+        raise
 
 
 def see_whole(desk: Desk) -> None:
@@ -42,3 +50,10 @@ def see_whole(desk: Desk) -> None:
             if not desk.read_only:
                 verify(book, desk.program, quickly=True)
                 desk.whole = mark_of(book)
+
+
+def end_changes(desk: Desk) -> None:
+    """Waits for a change that is under way; no other begins."""
+    desk.is_closing = True
+    with desk.turn:
+        pass

@@ -2,6 +2,7 @@
 book that it is of."""
 from __future__ import annotations
 
+import contextvars
 import enum
 import subprocess
 import threading
@@ -72,7 +73,9 @@ class Jobs:
             job = self.jobs.get(key)
             if job is None:
                 job = self.jobs[key] = Job(key)
-                threading.Thread(target=self.do, args=(job, work, values), daemon=True).start()
+                # it is done for whoever asks
+                given = (self.do, job, work, values)
+                threading.Thread(target=contextvars.copy_context().run, args=given, daemon=True).start()
                 self.forget_old()
         job.is_over.wait(SOON)
         return job

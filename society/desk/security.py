@@ -1,23 +1,20 @@
-"""Who gets in: whoever has the server's secret link, in a browser that asks this server under its own name. Nothing is
-changed by a page of another site, nor by any page of a desk that is only to be read."""
+"""What each request is looked at for before it is answered: whether this server is meant, who asks, and whether that is
+allowed. Nothing is changed by a page of another site."""
 from __future__ import annotations
 
-import hmac
-from dataclasses import dataclass
+from typing import Protocol
 
-from flask import Blueprint, Flask, abort, current_app, redirect, request, session, url_for
-from flask_wtf.csrf import CSRFProtect
+from flask import Flask, abort, current_app, g, request
+from flask.typing import ResponseReturnValue
 from flask.wrappers import Response
-from werkzeug.wrappers import Response as AnyResponse
+from flask_wtf.csrf import CSRFProtect
 
-from society.desk.desk import the_desk
+from society.book.history import WORKER
+from society.desk.people import Person
+from society.desk.rules import OPEN_TO_ALL, may
 from society.desk.styles import digests_of
 
-# what marks a browser that came by the link
-ENTERED = "entered"
 READS = ("GET", "HEAD", "OPTIONS")
-# what anybody may ask for: the door and the styles of the page that says how one gets in
-OPEN_TO_ALL = ("door.enter", "static")
 POLICY = (
     "default-src 'none'; script-src 'self'; style-src 'self'{}; img-src 'self'; connect-src 'self'; "
     "form-action 'self'; base-uri 'none'; frame-ancestors 'none'"
@@ -31,70 +28,73 @@ HEADERS = {
     "Permissions-Policy": "camera=(), geolocation=(), microphone=()",
 }
 
-door = Blueprint("door", __name__)
 tokens = CSRFProtect()
 
 
-@dataclass(frozen=True)
-class Gate:
-    """The secret of the link, and the port at which the server is asked."""
+class Gate(Protocol):
+    """Who gets in."""
 
-    secret: str
-    port: int
+    def set_up(self, app: Flask) -> None:
+        """Has the app the cookies and the pages that a way in needs."""
 
-    @property
-    def hosts(self) -> tuple[str, ...]:
-        return f"127.0.0.1:{self.port}", f"localhost:{self.port}"
+    def origin(self) -> str:
+        """As which this server is asked by its own pages; another name than its own is refused."""
+
+    def person(self) -> Person | None:
+        """Who asks, if that is known."""
+
+    def stranger(self) -> ResponseReturnValue:
+        """What is answered to somebody who isn't known."""
+
+    def not_allowed(self) -> str:
+        """Why somebody who is known isn't answered, by the name of the text."""
 
 
 def guard(app: Flask, gate: Gate) -> None:
     """Has each request of an app looked at before it is answered, and each answer tell browsers what they may do."""
     app.config.update(
-        SECRET_KEY=gate.secret,
-        # cookies are the same for all ports
-        SESSION_COOKIE_NAME=f"desk-{gate.port}",
         SESSION_COOKIE_HTTPONLY=True,
         SESSION_COOKIE_SAMESITE="Strict",
         # a form that was left open over night is still taken
         WTF_CSRF_TIME_LIMIT=None,
+        # the origin is looked at here
+        WTF_CSRF_SSL_STRICT=False,
     )
     app.extensions["gate"] = gate
+    gate.set_up(app)
     app.before_request(look_at_request)
     tokens.init_app(app)
-    app.register_blueprint(door)
     app.after_request(with_headers)
 
 
-def look_at_request() -> None:
-    gate: Gate = the_gate()
-    if request.headers.get("Host") not in gate.hosts:
-        abort(400, "host")
-    if request.endpoint not in OPEN_TO_ALL and not session.get(ENTERED):
-        abort(403, "enter")
-    if request.method in READS:
-        return
-    origin = request.headers.get("Origin")
-    if origin is not None and origin != f"http://{request.headers['Host']}":
+def look_at_request() -> ResponseReturnValue | None:
+    gate = the_gate()
+    WORKER.set("")
+    origin = gate.origin()
+    if request.method not in READS and is_of_another_site(origin):
         abort(403, "other site")
-    if request.headers.get("Sec-Fetch-Site", "same-origin") not in ("same-origin", "none"):
-        abort(403, "other site")
-    if the_desk().read_only:
-        abort(403, "read only")
+    g.person = person = gate.person()
+    WORKER.set(person.name if person else "")
+    if request.endpoint in OPEN_TO_ALL:
+        return None
+    if person is None:
+        return gate.stranger()
+    # a page that isn't there is told as such
+    if request.endpoint and not may(request.endpoint):
+        abort(403, gate.not_allowed())
+    return None
+
+
+def is_of_another_site(origin: str) -> bool:
+    given = request.headers.get("Origin")
+    return (given is not None and given != origin) or (
+        request.headers.get("Sec-Fetch-Site", "same-origin") not in ("same-origin", "none")
+    )
 
 
 def the_gate() -> Gate:
-    found = current_app.extensions["gate"]
-    assert isinstance(found, Gate)
-    return found
-
-
-@door.get("/enter/<secret>")
-def enter(secret: str) -> AnyResponse:
-    """The link that the terminal shows; it may be opened again."""
-    if not hmac.compare_digest(secret.encode(), the_gate().secret.encode()):
-        abort(403, "enter")
-    session[ENTERED] = True
-    return redirect(url_for("start.page"))
+    gate: Gate = current_app.extensions["gate"]
+    return gate
 
 
 def with_headers(response: Response) -> Response:

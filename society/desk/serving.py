@@ -1,4 +1,4 @@
-"""Serves the desk on this machine, until it is ended from the keyboard."""
+"""Serves the desk on this machine, until it is ended."""
 from __future__ import annotations
 
 import contextlib
@@ -10,19 +10,20 @@ import socket
 import tempfile
 import threading
 import webbrowser
-from collections.abc import Iterator
+from collections.abc import Callable, Iterator
 
+from flask import Flask
 from waitress import create_server
 
 from society.book.book_changed import up_to_date
 from society.book.old_folder import take_over
 from society.desk.app import desk_app
-from society.desk.changing import see_whole
+from society.desk.changing import end_changes, see_whole
 from society.desk.desk import Desk
 from society.desk.exporting import Exports
 from society.desk.jobs import Jobs
+from society.desk.link import LinkGate
 from society.desk.office import Office
-from society.desk.security import Gate
 from society.desk.taking_beside import TAKING
 from society.desk.uploads import Uploads
 from society.mistake import Mistake
@@ -30,42 +31,65 @@ from society.reading.sheet import MOST_BYTES
 
 ADDRESS = "127.0.0.1"
 THREADS = 8
+# so long answers that are under way at the end are waited for
+SECONDS_FOR_ANSWERS = 10
 
 
-def serve(folder: pathlib.Path, program: Office, port: int, read_only: bool, opens_browser: bool) -> None:
-    with bound(port) as listening, room() as path:
-        gate = Gate(secrets.token_urlsafe(24), listening.getsockname()[1])
-        desk = Desk(folder, program, read_only, Uploads(path), Jobs(), Exports(folder))
-        server = create_server(
-            desk_app(desk, gate), sockets=[listening], threads=THREADS, ident=None,
-            max_request_body_size=MOST_BYTES * 2, expose_tracebacks=False,
-        )  # fmt: skip
-        if not read_only:
-            take_over(folder, program)
-        up_to_date(folder)
+def open_desk(folder: pathlib.Path, program: Office, port: int, read_only: bool, opens_browser: bool) -> None:
+    """The desk of one person, in a browser that comes by a secret link."""
+    otherwise = "name another one, or leave out --port"
+    with bound(ADDRESS, port, otherwise) as listening, desk_of(folder, program, read_only) as desk:
+        gate = LinkGate(secrets.token_urlsafe(24), listening.getsockname()[1], read_only)
         link = f"http://{ADDRESS}:{gate.port}/enter/{gate.secret}"
-        threading.Thread(target=see_whole, args=(desk,), daemon=True).start()
-        signal.signal(signal.SIGTERM, signal.default_int_handler)
-        with contextlib.suppress(KeyboardInterrupt):
+
+        def begin() -> None:
             print(f"{link}\nThe desk is open. Open this link in a browser; Ctrl-C ends it.", flush=True)
             if opens_browser and not webbrowser.open(link):
                 print("No browser could be opened here: open the link in one yourself.", flush=True)
-            server.run()
-        # what changes the book is done to its end
-        signal.signal(signal.SIGINT, signal.SIG_IGN)
-        desk.jobs.end(TAKING)
-        desk.exports.end()
-        desk.program.close()
-        print("The desk is closed.", flush=True)
+
+        answer(desk, desk_app(desk, gate), listening, THREADS, begin)
 
 
-def bound(port: int) -> socket.socket:
+@contextlib.contextmanager
+def desk_of(folder: pathlib.Path, program: Office, read_only: bool) -> Iterator[Desk]:
+    """The desk of a folder, whose book is brought up to date."""
+    with room() as path:
+        desk = Desk(folder, program, read_only, Uploads(path), Jobs(), Exports(folder))
+        if not read_only:
+            take_over(folder, program)
+        up_to_date(folder)
+        yield desk
+
+
+def answer(desk: Desk, app: Flask, listening: socket.socket, threads: int, begin: Callable[[], None]) -> None:
+    """Answers until Ctrl-C or SIGTERM. What changes the book is done to its end then, and told."""
+    server = create_server(
+        app, sockets=[listening], threads=threads, ident=None, max_request_body_size=MOST_BYTES * 2,
+        expose_tracebacks=False,
+    )  # fmt: skip
+    threading.Thread(target=see_whole, args=(desk,), daemon=True).start()
+    signal.signal(signal.SIGTERM, signal.default_int_handler)
+    with contextlib.suppress(KeyboardInterrupt):
+        begin()
+        server.run()
+    for one in signal.SIGINT, signal.SIGTERM:
+        signal.signal(one, signal.SIG_IGN)
+    end_changes(desk)
+    desk.jobs.end(TAKING)
+    server.task_dispatcher.shutdown(cancel_pending=False, timeout=SECONDS_FOR_ANSWERS)
+    desk.exports.end()
+    desk.program.close()
+    print("The desk is closed.", flush=True)
+
+
+def bound(address: str, port: int, otherwise: str) -> socket.socket:
     """A socket at a port of this machine, 0 for one that is free."""
+    family = socket.AF_INET6 if ":" in address else socket.AF_INET
     try:
-        return socket.create_server((ADDRESS, port))
+        return socket.create_server((address, port), family=family)
     except (OSError, OverflowError) as error:
         told = getattr(error, "strerror", None) or error
-        raise Mistake(f"port {port} can't be used ({told}): name another one, or leave out --port") from None
+        raise Mistake(f"port {port} can't be used ({told}): {otherwise}") from None
 
 
 @contextlib.contextmanager

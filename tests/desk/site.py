@@ -18,7 +18,7 @@ from society.desk.desk import Desk
 from society.desk.exporting import Exports
 from society.desk.jobs import Jobs
 from society.desk.office import Office
-from society.desk.security import Gate
+from society.desk.link import LinkGate
 from society.desk.uploads import Uploads
 
 SECRET, PORT = "a secret", 4711
@@ -90,7 +90,7 @@ def site_of(folder: pathlib.Path, program: str, room: pathlib.Path, read_only: b
     room.mkdir(mode=0o700)
     desk = Desk(folder, Office(), read_only, Uploads(room), Jobs(), Exports(folder))
     try:
-        yield Site(desk, desk_app(desk, Gate(SECRET, PORT)))
+        yield Site(desk, desk_app(desk, LinkGate(SECRET, PORT, read_only)))
     finally:
         desk.jobs.end("")
         desk.exports.end()

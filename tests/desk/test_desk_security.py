@@ -8,6 +8,7 @@ import pytest
 from werkzeug.routing import Rule
 
 from desk.site import HOST, PORT, SECRET, Site, shown
+from society.desk.rules import OPEN_TO_ALL
 from society.desk.texts import TEXTS
 
 # what an address of a page may be made of
@@ -20,7 +21,6 @@ VALUES = {
     "secret": "x",
     "filename": "desk.css",
 }
-OPEN_TO_ALL = ("static", "door.enter", "start.language")
 
 
 def address_of(rule: Rule) -> str:

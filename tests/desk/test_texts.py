@@ -23,7 +23,7 @@ from society.book.kinds import ChangeKind
 HERE = pathlib.Path(texts.__file__).resolve().parent.parent
 # texts whose names are made of what they are about
 MADE = re.compile(
-    r"(what|field|change|counted|fact|command|standing|refusal|mating refused|refused|unmated|level|wait|option|day of|half sibs by)\b"
+    r"(what|role|field|change|counted|fact|command|standing|refusal|mating refused|refused|unmated|level|wait|option|day of|half sibs by)\b"
 )
 
 

@@ -12,6 +12,7 @@ from society.command_line.parser import Words
 # the words that each module adds
 FAMILIES = {
     "desk": ("open",),
+    "serving": ("serve", "account"),
     "taking": ("take",),
     "filing": ("birth", "parents", "transfer", "exit"),
     "questions": ("show", "find", "kinship", "export"),

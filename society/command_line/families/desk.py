@@ -33,6 +33,6 @@ def do_open(asked: argparse.Namespace) -> None:
     need(Group.BROWSER)
     need(Group.BREED)
     from society.desk.office import Office
-    from society.desk.serving import serve
+    from society.desk.serving import open_desk
 
-    serve(asked.book, Office(), asked.port, asked.read_only, not asked.no_browser)
+    open_desk(asked.book, Office(), asked.port, asked.read_only, not asked.no_browser)

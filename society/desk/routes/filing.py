@@ -21,16 +21,12 @@ page = Blueprint("filing", __name__)
 @page.get("/file", endpoint="page")
 @with_book
 def filing(book: Book) -> Answer:
-    if the_desk().read_only:
-        abort(403, "read only")
     return render_template("filing.html", kinds=list(KINDS))
 
 
 @page.get("/file/<kind>")
 @with_book
 def form(book: Book, kind: str) -> Answer:
-    if the_desk().read_only:
-        abort(403, "read only")
     given = {name: text for name, text in request.args.items() if text}
     if kind == ChangeKind.PARENTS.value and "id" in given:
         given |= parents_now(book, given["id"])

@@ -10,6 +10,7 @@ from society.book.history import all_changes
 from society.desk.desk import Answer, the_desk
 from society.desk.example import EXAMPLE
 from society.desk.glance import glance_of
+from society.desk.here import is_here
 from society.desk.shown_changes import line_of
 from society.desk.words import CHOSEN, the_words
 from society.pages.languages import LANGUAGES
@@ -42,6 +43,4 @@ def language(language: str) -> Response:
     if language in LANGUAGES:
         session[CHOSEN] = language
     to = request.args.get("to", "")
-    # a path on this server, and nothing that a browser would take for another one
-    is_here = to.startswith("/") and not to.startswith("//") and "\\" not in to and to.isprintable()
-    return redirect(to if is_here else url_for("start.page"))
+    return redirect(to if is_here(to) else url_for("start.page"))

@@ -1,0 +1,75 @@
+"""The page of accounts, for keepers: who may use the book, and as what."""
+from __future__ import annotations
+
+from collections.abc import Callable
+
+from flask import Blueprint, flash, redirect, render_template, request, url_for
+
+from society.desk.desk import Answer
+from society.desk.people import AccountRole
+from society.desk.words import the_words
+from society.mistake import Mistake
+from society.serving.accounts import Accounts
+from society.serving.gate import the_account_gate
+
+page = Blueprint("accounts", __name__)
+
+
+@page.get("/accounts", endpoint="page")
+def accounts() -> Answer:
+    return shown([])
+
+
+def shown(faults: tuple[str, ...] | list[str]) -> Answer:
+    given = {"name": request.form.get("name", ""), "role": request.form.get("role", "")} if faults else {}
+    text = render_template(
+        "accounts.html", accounts=the_account_gate().accounts.all(), roles=list(AccountRole), faults=faults, given=given
+    )
+    return (text, 400) if faults else text
+
+
+def done(change: Callable[[Accounts], None], what: str) -> Answer:
+    """Changes the accounts, and says so."""
+    try:
+        change(the_account_gate().accounts)
+    except Mistake as mistake:
+        return shown(mistake.sentences)
+    flash(the_words()(what, request.form.get("name", "")), "done")
+    return redirect(url_for("accounts.page"))
+
+
+def role_given() -> AccountRole:
+    try:
+        return AccountRole(request.form.get("role", ""))
+    except ValueError:
+        raise Mistake("the role is missing: choose one") from None
+
+
+@page.post("/accounts")
+def add() -> Answer:
+    given = request.form
+    return done(
+        lambda accounts: accounts.add(
+            given.get("name", ""), role_given(), given.get("password", ""), given.get("again", "")
+        ),
+        "account added",
+    )
+
+
+@page.post("/accounts/change")
+def change() -> Answer:
+    """Another role, or another password for somebody who forgot it."""
+    given = request.form
+
+    def changed(accounts: Accounts) -> None:
+        if given.get("password"):
+            accounts.change_password(given.get("name", ""), given["password"], given.get("again", ""))
+        else:
+            accounts.change_role(given.get("name", ""), role_given())
+
+    return done(changed, "account changed")
+
+
+@page.post("/accounts/remove")
+def remove() -> Answer:
+    return done(lambda accounts: accounts.remove(request.form.get("name", "")), "account removed")

@@ -1,0 +1,33 @@
+"""Serves the desk of a book to several people, each with an account."""
+from __future__ import annotations
+
+import logging
+import pathlib
+import sys
+
+from society.desk.app import desk_app
+from society.desk.office import Office
+from society.desk.serving import answer, bound, desk_of
+from society.mistake import CALLED, Mistake
+from society.serving.access_log import AccessLog
+from society.serving.accounts import Accounts
+from society.serving.gate import AccountGate
+from society.serving.throttle import Throttle
+from society.serving.way import Place, Way
+
+# clerks who wait for each other leave threads for readers
+THREADS = 40
+
+
+def serve(folder: pathlib.Path, program: Office, place: Place, way: Way) -> None:
+    accounts = Accounts(folder)
+    if not accounts.all():
+        raise Mistake(f"nobody has an account yet: make one for a keeper, as {CALLED} account NAME --role keeper")
+    # what waitress tells of a fault would have a trace
+    logging.getLogger("waitress").addHandler(logging.NullHandler())
+    logging.getLogger("waitress").propagate = False
+    with bound(place.address, place.port, "name another one by --listen") as listening:
+        with desk_of(folder, program, read_only=False) as desk:
+            gate = AccountGate(accounts, way, Throttle(), AccessLog(sys.stderr))
+            told = f"The desk answers at {way.scheme}://{way.hosts[-1]}/; Ctrl-C or SIGTERM ends it."
+            answer(desk, desk_app(desk, gate), listening, THREADS, lambda: print(told, flush=True))

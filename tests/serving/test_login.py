@@ -1,0 +1,236 @@
+"""Logging in and out: passwords, guesses, cookies, and how long a login holds."""
+from __future__ import annotations
+
+import hashlib
+import hmac
+
+import pytest
+
+from desk.site import HOST, shown
+from serving.visitor import WORD, Served, Visitor
+from society.desk.people import AccountRole
+from society.desk.texts import TEXTS
+from society.serving import passwords
+from society.serving.accounts import A_DAY
+from society.serving.throttle import FREE_BY_ADDRESS, FREE_BY_NAME, LONGEST, SECONDS, Throttle
+
+WRONG = TEXTS["login wrong"][0]
+
+
+def test_in_and_out(served: Served) -> None:
+    """Whoever has an account gets in by name and password, and after logging out isn't in, also with the old cookie."""
+    visitor = Visitor(served)
+    assert visitor.get("/animals").headers["Location"] == "/login?to=%2Fanimals"
+    answer = visitor.log_in("cARL ", to="/animals?words=mill")
+    assert answer.headers["Location"] == "/animals?words=mill" and visitor.is_in()
+    assert "<bdi>Carl</bdi> (clerk)" in visitor.page("/")
+    cookie = served.app.config["SESSION_COOKIE_NAME"]
+    kept = answer.headers["Set-Cookie"].partition(f"{cookie}=")[2].partition(";")[0]
+    visitor.post("/logout")
+    assert not visitor.is_in()
+    stranger = served.app.test_client(use_cookies=False)
+    assert stranger.get("/", headers={"Host": HOST, "Cookie": f"{cookie}={kept}"}).status_code == 302
+    assert Visitor(served, "Carl").is_in()
+    assert Visitor(served).log_in("Carl", to="//evil.example/").headers["Location"] == "/"
+
+
+@pytest.mark.parametrize("name, password", [("Carl", "x"), ("Carl", ""), ("nobody", WORD), ("", ""), ("Carl", WORD + " "),
+                                            ("Carl", "x" * 5000), ("Kim' OR 1=1 --", WORD), ("Carl\0", WORD)])  # fmt: skip
+def test_wrong(served: Served, name: str, password: str) -> None:
+    """A wrong name and a wrong password are told alike."""
+    answer = Visitor(served).log_in(name, password)
+    assert answer.status_code == 401 and WRONG in shown(answer.get_data(as_text=True))
+
+
+def test_kept(monkeypatch: pytest.MonkeyPatch) -> None:
+    """A password is kept by scrypt with a salt of its own; it costs as much where there is no account."""
+    one, other = passwords.kept_of(WORD), passwords.kept_of(WORD)
+    assert one.digest == hashlib.scrypt(WORD.encode(), salt=one.salt, n=1 << 15, r=8, p=3, maxmem=1 << 27, dklen=32)
+    assert len(one.salt) == 16 and one.salt != other.salt and one.digest != other.digest
+    compared: list[object] = []
+    costs: list[tuple[int, ...]] = []
+    compare, scrypt = hmac.compare_digest, hashlib.scrypt
+
+    def seen_compare(*values: bytes) -> bool:
+        compared.append(values)
+        return compare(*values)
+
+    def seen_scrypt(text: bytes, *, salt: bytes, n: int, r: int, p: int, maxmem: int, dklen: int) -> bytes:
+        costs.append((n, r, p))
+        return scrypt(text, salt=salt, n=n, r=r, p=p, maxmem=maxmem, dklen=dklen)
+
+    monkeypatch.setattr(hmac, "compare_digest", seen_compare)
+    monkeypatch.setattr(hashlib, "scrypt", seen_scrypt)
+    assert passwords.fits(WORD, one) and not passwords.fits("x", one)
+    assert not passwords.fits(WORD, None) and not passwords.fits("x" * 10_000, one)
+    assert len(compared) == 4 and costs == [passwords.COST] * 4
+    # an accent typed as one letter or as two
+    assert passwords.fits("cafe\u0301 au lait noir", passwords.kept_of("caf\u00e9 au lait noir"))
+
+
+def test_a_day(served: Served, clerk: Visitor) -> None:
+    """A login holds a day, however much is asked meanwhile."""
+    served.clock.now += A_DAY - 1
+    assert clerk.is_in()
+    served.clock.now += 2
+    assert not clerk.is_in()
+
+
+@pytest.mark.parametrize("change", ["password", "role", "removed"])
+def test_ended_by_a_change(served: Served, clerk: Visitor, change: str) -> None:
+    """Another password, another role and the end of an account end its logins; those of others stay."""
+    other, keeper = Visitor(served, "Clara"), Visitor(served, "Kim")
+    if change == "removed":
+        keeper.post("/accounts/remove", name="Carl")
+    elif change == "role":
+        keeper.post("/accounts/change", name="Carl", role="inspector")
+    else:
+        keeper.post("/accounts/change", name="Carl", password="quite another word", again="quite another word")
+    assert not clerk.is_in() and other.is_in() and keeper.is_in()
+    assert clerk.log_in("Carl").status_code == (302 if change == "role" else 401)
+    assert clerk.get("/sheet").status_code == (403 if change == "role" else 302)
+
+
+def test_own_password(served: Served, clerk: Visitor) -> None:
+    """Somebody's own new password ends what else is logged in, and wants the one of now."""
+    elsewhere = Visitor(served, "Carl")
+    new = {"new": "a wholly new word", "again": "a wholly new word"}
+    assert clerk.post("/password", password="x", **new).status_code == 400
+    assert clerk.post("/password", password=WORD, new="short", again="short").status_code == 400
+    assert clerk.post("/password", password=WORD, new=new["new"], again="x").status_code == 400
+    assert elsewhere.is_in()
+    assert clerk.post("/password", password=WORD, **new).status_code == 302
+    assert clerk.is_in() and not elsewhere.is_in()
+    assert elsewhere.log_in("Carl", new["new"]).status_code == 302
+
+
+def test_cookies(served: Served) -> None:
+    """No script reads the cookie, and no other site sends it with a form."""
+    cookie = Visitor(served).log_in("Carl").headers["Set-Cookie"]
+    assert cookie.startswith("herdbook=") and "HttpOnly" in cookie and "SameSite=Lax" in cookie and "Path=/" in cookie
+    assert "Secure" not in cookie and "Domain" not in cookie
+
+
+def test_cookies_behind_a_proxy(proxied: Served) -> None:
+    """There it goes in secret alone, and is taken from this server alone."""
+    visitor = Visitor(proxied, address="10.0.0.2")
+    headers = {"Host": "herd.example", "X-Forwarded-For": "1.2.3.4", "X-Forwarded-Proto": "https"}
+    answer = visitor.client.get("/login", headers=headers, base_url="https://herd.example")
+    cookie = answer.headers["Set-Cookie"]
+    assert (
+        cookie.startswith("__Host-herdbook=") and "Secure" in cookie and "HttpOnly" in cookie and "Domain" not in cookie
+    )
+
+
+def test_new_login_is_new(served: Served) -> None:
+    """What a browser had before it logged in isn't what it has afterwards: nobody is given a known token."""
+    visitor = Visitor(served)
+    before = visitor.token()
+    visitor.log_in("Carl")
+    with visitor.client.session_transaction(base_url=f"http://{HOST}") as session:
+        first = dict(session)
+    visitor.log_in("Carl")
+    with visitor.client.session_transaction(base_url=f"http://{HOST}") as session:
+        second = dict(session)
+    assert first["login"] != second["login"]
+    answer = visitor.client.post("/file/exit", data={"csrf_token": before}, headers={"Host": HOST})
+    assert answer.status_code == 400 and TEXTS["refused form"][0] in shown(answer.get_data(as_text=True))
+
+
+def test_guesses_by_name(served: Served) -> None:
+    """After a few wrong guesses by a name, from wherever, each waits longer; the right password waits too."""
+    for at in range(FREE_BY_NAME):
+        assert Visitor(served, address=f"10.0.0.{at}").log_in("Carl", "x").status_code == 401
+    waited = []
+    for _ in range(4):
+        answer = Visitor(served, address="10.0.1.1").log_in("Carl")
+        assert answer.status_code == 429
+        told = shown(answer.get_data(as_text=True))
+        waited.append(next(s for s in range(1, LONGEST) if TEXTS["login wait"][0].format(s) in told))
+        served.clock.now += waited[-1]
+        assert Visitor(served, address="10.0.1.1").log_in("Carl", "x").status_code == 401
+    assert waited == [1, 2, 4, 8]
+    assert Visitor(served, address="10.0.1.1").log_in("Clara").status_code == 302
+    served.clock.now += SECONDS + 1
+    assert Visitor(served).log_in("Carl").status_code == 302
+
+
+def test_guesses_by_address(served: Served) -> None:
+    """From one address, or one network of IPv6, the same for whatever names; other addresses don't wait."""
+    for address in "10.0.0.1", "2001:db8::1":
+        for at in range(FREE_BY_ADDRESS):
+            assert Visitor(served, address=address).log_in(f"nobody {at} {address}", "x").status_code == 401
+        assert Visitor(served, address=address).log_in("Kim").status_code == 429
+    assert Visitor(served, address="2001:db8::2").log_in("Kim").status_code == 429
+    assert Visitor(served, address="2001:db8:0:1::1").log_in("Kim").status_code == 302
+
+
+def test_throttle_ends() -> None:
+    """No wait is longer than the longest, what is right is forgotten, and what is kept in mind has a bound."""
+    now = [0.0]
+    throttle = Throttle(lambda: now[0])
+    for at in range(40):
+        now[0] += throttle.begin("a", "1.1.1.1")
+        assert throttle.begin("a", f"1.1.1.{at}") <= LONGEST
+    throttle.was_right("a", "1.1.1.1")
+    assert throttle.begin("a", "2.2.2.2") == 0
+    for at in range(30_000):
+        throttle.begin(f"name {at}", f"10.{at >> 16}.{at >> 8 & 255}.{at & 255}")
+    assert len(throttle.guesses) <= 20_000
+
+
+def test_log(served: Served) -> None:
+    """The log has who asked for what, from where, and what was refused; it has no password, no token, and no text that
+    somebody wrote."""
+    visitor = Visitor(served, address="10.0.0.9")
+    visitor.log_in("Carl", "my secret guess")
+    visitor.log_in("my secret in the wrong field", "x")
+    visitor.log_in("Carl")
+    address = visitor.drop("sheet.csv", b"id,birth\nA,2001-01-01\n")
+    visitor.get(address)
+    visitor.post("/file/exit", id="no such animal", day="2001-01-01")
+    visitor.get("/history/0/undo")
+    visitor.get("/animals?words=looked-for\r\nforged line")
+    with visitor.client.session_transaction(base_url=f"http://{HOST}") as session:
+        tokens = [str(value) for value in session.values()]
+    log = served.log.getvalue()
+    lines = log.splitlines()
+    assert any(
+        line.endswith("10.0.0.9 - POST /login 401 refused login as Carl") or "refused login as Carl" in line
+        for line in lines
+    )
+    assert any("refused login of an unknown name" in line for line in lines)
+    assert any("10.0.0.9 Carl (clerk) POST /login 302" in line for line in lines)
+    assert any("Carl (clerk) GET /sheet/<token> 200" in line for line in lines)
+    assert any(
+        "Carl (clerk) GET /history/<int(max=999999999):number>/undo 403" in line and "refused role" in line
+        for line in lines
+    )
+    for secret in ("my secret", WORD, "looked-for", "forged", "no such animal", address.rpartition("/")[2], *tokens):
+        assert secret == "True" or secret not in log, secret
+
+
+def test_faults(
+    served: Served, clerk: Visitor, monkeypatch: pytest.MonkeyPatch, caplog: pytest.LogCaptureFixture
+) -> None:
+    """A fault's text and trace stand neither on the page nor in the log."""
+
+    def fail(_: object) -> None:
+        raise ValueError("what somebody wrote")
+
+    monkeypatch.setattr("society.desk.routes.history.all_changes", fail)
+    answer = clerk.get("/history")
+    assert answer.status_code == 500 and "somebody wrote" not in answer.get_data(as_text=True)
+    assert "Traceback" not in caplog.text and "somebody wrote" not in caplog.text
+    assert "ValueError at" in caplog.text and "history.py:" in caplog.text
+
+
+def test_file(served: Served) -> None:
+    """The file of accounts is its owner's alone, has no password and no token, and no role that there isn't."""
+    Visitor(served, "Carl")
+    path = served.gate.accounts.path
+    assert path.stat().st_mode & 0o777 == 0o600
+    with Visitor(served, "Kim").client.session_transaction(base_url=f"http://{HOST}") as session:
+        token = session["login"]
+    assert WORD.encode() not in path.read_bytes() and token.encode() not in path.read_bytes()
+    assert [(one.name, one.role) for one in served.gate.accounts.all()][1] == ("Clara", AccountRole.CLERK)
