@@ -46,6 +46,17 @@ class TestPages(Rooms):
         lost = [link for link in links if not (TOP / link).is_file()]
         self.count(bool(links) and not lost, f"what README points to isn't there: {lost}")
 
+    def test_program_to_begin_with(self) -> None:
+        """The program that engineers are shown, and its proof file, stand so in the crate that is proved."""
+        lines = (TOP / "docs/LIBRARY.md").read_text().splitlines()
+        shown = [line[4:] for line in lines if line.startswith("    ") and line[4:].strip()]
+        sources = [TOP / "crates/office_example" / name for name in ("src/main.rt", "proofs/main/Invariants.antt")]
+        there = {line for source in sources for line in source.read_text().splitlines()}
+        begin = shown.index("fn main(rt: HostRuntime) -> Result<()> {")
+        end = max(at for at, line in enumerate(shown) if line.startswith("ghosts-keep_office-"))
+        lost = [line for line in shown[begin : end + 1] if line not in there]
+        self.count(end - begin > 20 and not lost, f"lines that the crate doesn't have: {lost}")
+
     def test_table_of_statuses(self) -> None:
         """Each row of the table has a group of checks, and each group's row is there."""
         table = re.search(
