@@ -28,6 +28,25 @@ impl<N: OfficeName> Slip<N> {
     {
         self.history.len()
     }
+
+    /// A copy.
+    pub fn again(&self) -> Slip<N>
+        ensures { result.history ≡ self.now.history }
+    {
+        Slip {
+            history: self.history.again(),
+        }
+    }
+
+    /// Takes over the history of another slip, where it is longer.
+    pub fn learn(&mut self, other: &Slip<N>)
+        ensures this { IsPrefix self.old.history self.new.history }
+        ensures that { IsPrefix other.now.history self.new.history }
+    {
+        if !other.history.begins(&self.history) {
+            self.history = other.history.again();
+        }
+    }
 }
 
 /// The answer to a call.

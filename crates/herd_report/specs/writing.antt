@@ -3,6 +3,7 @@ pub mod Text
 pub mod RefusedText
 pub mod Replies
 pub mod CoefficientText
+pub mod CoefficientLine
 pub mod InbreedingList
 pub mod Ancestors
 pub mod Certificate

@@ -30,7 +30,7 @@
 //! | refusals, in replies and in advice | `RefusedText` | `refused_text` | |
 //! | fractions and percentages | `CoefficientText` | `coefficient_text` | `CoefficientFacts` |
 //! | the ends of lines, made once for equal values | | `line_end` | |
-//! | the list of coefficients | `InbreedingList` | `inbreeding_list` | `CoefficientFacts` |
+//! | the list of coefficients; the line of one animal | `InbreedingList`; `CoefficientText` | `inbreeding_list`; `coefficient_line` | `CoefficientFacts` |
 //! | certificates | `Certificate`, `Ancestors` | `certificate`, `ancestors` | `CertificateFacts`, `AncestorFacts` |
 //! | mating advice | `MatingList` | `mating_list` | `MatingFacts` |
 //! | the inverse of A | `InverseList` | `inverse_list` | `ContributionFacts` |
@@ -47,14 +47,17 @@ mod work_plan;
 mod writing;
 
 pub use orders::{Order, answer_file, run, write_report};
+pub use reading::columns::command_behind;
 #[doc(hidden)]
 pub use reading::command_file::list_commands;
 pub use reading::command_file::{Commands, read_commands};
 pub use reading::line_fault::{LineCause, LineFault};
+pub use reading::records::{open_records, read_record};
 pub use run_fault::RunFault;
 pub use work_plan::WorkPlan;
 pub use writing::certificate::write_certificate;
 pub use writing::certificate_fault::CertificateFault;
+pub use writing::coefficient_line::write_coefficient;
 pub use writing::inbreeding_list::write_inbreeding;
 pub use writing::inverse_list::write_inverse;
 pub use writing::mating_list::write_mating;

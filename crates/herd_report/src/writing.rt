@@ -3,6 +3,7 @@
 pub(crate) mod ancestors;
 pub(crate) mod certificate;
 pub(crate) mod certificate_fault;
+pub(crate) mod coefficient_line;
 pub(crate) mod coefficient_text;
 pub(crate) mod inbreeding_list;
 pub(crate) mod inverse_list;

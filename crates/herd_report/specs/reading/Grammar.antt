@@ -1,5 +1,5 @@
 -- What one record of a command file means.
-use Rattle.std.specs.Prelude.{ℕ, List, [], ◌∷◌, ◌++◌, length, unwrap_or, codes, Bool, false, ◌==◌, if◌then◌else◌, Option, Some, None, Result, Ok, Err}
+use Rattle.std.specs.Prelude.{ℕ, List, [], ◌∷◌, ◌++◌, drop, length, unwrap_or, codes, Bool, false, ◌==◌, if◌then◌else◌, Option, Some, None, Result, Ok, Err}
 use Rattle.std.specs.Option.{option_map_or}
 use Rattle.std.specs.Str.{bytes_eq}
 use Rattle.std.specs.Cmp.Lexicographic.{pointwise}
@@ -123,3 +123,7 @@ command_in_columns c = option_map_or (λ kind. command_or_fault kind c) (kind_of
 unfoldable pub command_of : Version → Fields → Result Command LineCause
 command_of version fields =
     if length fields == length (header version) then command_in_columns (texts_in fields) else Err cause.Fields
+
+-- the command of the fields that stand behind so many others, in the columns of version 2, or its fault
+abbrev pub command_behind : ℕ → Fields → Result Command LineCause
+command_behind others fields = command_of Two (drop others fields)

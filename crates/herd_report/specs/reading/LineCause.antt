@@ -1,5 +1,5 @@
 -- The causes of line faults.
-use Rattle.std.specs.Prelude.{ℕ, Bool, true, false}
+use Rattle.std.specs.Prelude.{ℕ, Bool, true, false, List, codes}
 use Rattle.herd_report.specs.declared.reading.line_fault.LineCause.{LineCause}
 use Rattle.csv.specs.declared.error.ErrorKind.{ErrorKind}
 use Rattle.csv.specs.declared.error.ErrorKind.TheVariants as error
@@ -21,6 +21,23 @@ cause_number Read = 11
 cause_number TooMany = 12
 cause_number Memory = 13
 cause_number Embryo = 14
+
+-- the name that the program prints
+abbrev pub cause_name : LineCause → List ℕ
+cause_name Header = codes "Header"
+cause_name Fields = codes "Fields"
+cause_name Kind = codes "Kind"
+cause_name Animal = codes "Animal"
+cause_name Day = codes "Day"
+cause_name Sire = codes "Sire"
+cause_name Dam = codes "Dam"
+cause_name FromHerd = codes "FromHerd"
+cause_name ToHerd = codes "ToHerd"
+cause_name FieldNotUsed = codes "FieldNotUsed"
+cause_name Read = codes "Read"
+cause_name TooMany = codes "TooMany"
+cause_name Memory = codes "Memory"
+cause_name Embryo = codes "Embryo"
 
 -- a cause that the bytes don't show: the reader failed, or memory ran out
 abbrev pub is_interruption : LineCause → Bool

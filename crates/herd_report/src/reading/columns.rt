@@ -1,7 +1,7 @@
 //! The columns of a record, and the command that they give.
-ghost use Rattle.std.specs.Prelude.{◌≡◌, IfErr, false};
+ghost use Rattle.std.specs.Prelude.{◌≡◌, IfErr, drop, false};
 ghost use Rattle.csv.specs.Records.{fields_of};
-ghost use Rattle.herd_report.specs.reading.Grammar.{texts_in, command_of, field};
+ghost use Rattle.herd_report.specs.reading.Grammar.{texts_in, command_behind, command_of, field};
 ghost use Rattle.herd_report.specs.reading.LineCause.{is_interruption};
 
 use crate::reading::field::{animal, day, embryo, herd, parent, unused};
@@ -70,6 +70,22 @@ impl<'a> Columns<'a> {
             from: column(row, 5),
             to: column(row, 6),
             embryo: column(row, 7),
+        }
+    }
+
+    // The same behind so many other fields.
+    pub(crate) fn behind(row: &'a ByteRecord, others: u8) -> Columns<'a>
+        ensures { texts_of result ≡ texts_in (drop others (fields_of row.now)) }
+    {
+        Columns {
+            kind: column_behind(row, others, 0),
+            animal: column_behind(row, others, 1),
+            day: column_behind(row, others, 2),
+            sire: column_behind(row, others, 3),
+            dam: column_behind(row, others, 4),
+            from: column_behind(row, others, 5),
+            to: column_behind(row, others, 6),
+            embryo: column_behind(row, others, 7),
         }
     }
 
@@ -183,9 +199,29 @@ pub(crate) fn parse_command(version: Version, row: &ByteRecord) -> Result<Comman
     Columns::of(row).command()
 }
 
+/// The command in the fields of a record that stand behind so many others, as version 2 has them, or its fault. No such
+/// fault is an interruption.
+#[tactic(auto, unfolding(crate::specs::reading::Grammar::command_of))]
+pub fn command_behind(others: u8, row: &ByteRecord) -> Result<Command, LineCause>
+    ensures command { result ≡ command_behind others (fields_of row.now) }
+    ensures known { IfErr result (λ cause. is_interruption cause ≡ false) }
+{
+    if row.len() != usize::from(others) + Version::Two.columns() {
+        return Err(LineCause::Fields);
+    }
+    Columns::behind(row, others).command()
+}
+
 // The field at a place, and an empty one where the record has fewer.
 fn column(row: &ByteRecord, place: usize) -> &[u8]
     ensures { result.now ≡ field place (fields_of row.now) }
 {
     row.get(place).unwrap_or(&[])
+}
+
+// The field at a place behind so many others, and an empty one where the record has fewer.
+fn column_behind(row: &ByteRecord, others: u8, place: u8) -> &[u8]
+    ensures { result.now ≡ field place (drop others (fields_of row.now)) }
+{
+    column(row, usize::from(others) + usize::from(place))
 }

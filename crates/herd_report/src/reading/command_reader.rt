@@ -10,7 +10,7 @@ ghost use Rattle.herd_report.specs.reading.Upcoming.{IsSetUp, ReadsOne, upcoming
 
 use crate::reading::columns::parse_command;
 use crate::reading::line_fault::{LineCause, LineFault};
-use crate::reading::records::{open, read_record};
+use crate::reading::records::{open_records, read_record};
 use crate::reading::version::Version;
 use csv::{ByteRecord, Reader};
 use herd_register::Command;
@@ -35,7 +35,7 @@ impl<R: Read + Drop> CommandReader<R> {
         ensures opens { IfSome (R.remaining reader) (λ bytes. Opens R.remaining most (commands bytes most) result) }
         ensures record_number { IfErr result (λ fault. fault.record_number ≡ 0) }
     {
-        let mut records = open(alloc, reader);
+        let mut records = open_records(alloc, reader);
         let mut row = ByteRecord::new(alloc);
         match read_header(&mut records, &mut row) {
             Ok(Some(version)) => Ok(CommandReader {

@@ -1,5 +1,5 @@
 ghost use Rattle.std.specs.Prelude.{◌≡◌};
-ghost use Rattle.herd_report.specs.reading.LineCause.{cause_number};
+ghost use Rattle.herd_report.specs.reading.LineCause.{cause_name, cause_number};
 
 use thiserror::Error;
 
@@ -71,8 +71,30 @@ impl LineCause {
         }
     }
 
-    // This cause at the record of a number.
-    pub(crate) fn at(self, record_number: u32) -> LineFault
+    /// The name that the program prints.
+    pub fn name(self) -> &'static str
+        ensures { result.now ≡ cause_name self }
+    {
+        match self {
+            LineCause::Header => "Header",
+            LineCause::Fields => "Fields",
+            LineCause::Kind => "Kind",
+            LineCause::Animal => "Animal",
+            LineCause::Day => "Day",
+            LineCause::Sire => "Sire",
+            LineCause::Dam => "Dam",
+            LineCause::FromHerd => "FromHerd",
+            LineCause::ToHerd => "ToHerd",
+            LineCause::FieldNotUsed => "FieldNotUsed",
+            LineCause::Read => "Read",
+            LineCause::TooMany => "TooMany",
+            LineCause::Memory => "Memory",
+            LineCause::Embryo => "Embryo",
+        }
+    }
+
+    /// This cause at the record of a number.
+    pub fn at(self, record_number: u32) -> LineFault
         ensures { result ≡ record { record_number = record_number; cause = self } }
     {
         LineFault {

@@ -10,8 +10,8 @@ use csv::{ByteRecord, Error, ErrorKind, Reader, ReaderBuilder};
 use std::alloc::Global;
 use std::io::Read;
 
-/// A reader whose next record is the header.
-pub(crate) fn open<R: Read>(alloc: Global, reader: R) -> Reader<R>
+/// A reader of records of any length, whose next record is the first.
+pub fn open_records<R: Read>(alloc: Global, reader: R) -> Reader<R>
     ensures set_up { IsSetUp result }
     ensures upcoming { upcoming R.remaining result
         ≡ option_map (λ bytes. records default_config (strip_bom bytes)) (R.remaining reader) }
@@ -22,11 +22,8 @@ pub(crate) fn open<R: Read>(alloc: Global, reader: R) -> Reader<R>
         .from_reader(alloc, reader)
 }
 
-/// Reads the next record, if there is one.
-pub(crate) fn read_record<R: Read>(
-    reader: &mut Reader<R>,
-    row: &mut ByteRecord,
-) -> Result<bool, LineCause>
+/// Reads the next record, if there is one. The only errors are `Read` and `Memory`, and nothing is read after one.
+pub fn read_record<R: Read>(reader: &mut Reader<R>, row: &mut ByteRecord) -> Result<bool, LineCause>
     requires { IsSetUp reader.old }
     ensures set_up { IfOk result (λ found. found ≡ true → IsSetUp reader.new) }
     ensures takes { IfOk result (TakesRecord (upcoming R.remaining reader.old)

@@ -1,0 +1,36 @@
+ghost use Rattle.std.specs.Prelude.{◌≡◌, IfErr, OnOk};
+ghost use Rattle.herd_frozen.specs.declared.TheConstants.{DEPTH_LIMIT};
+ghost use Rattle.herd_kinship.specs.Coefficients.{AreCoefficients};
+ghost use Rattle.herd_report.specs.writing.CoefficientLine.{EndsCoefficient, IsCoefficientTold};
+
+use crate::writing::certificate_fault::CertificateFault;
+use crate::writing::coefficient_text::{Coefficient, push_coefficient_line};
+use crate::writing::text::Text;
+use herd_animal::AnimalNumber;
+use herd_frozen::Frozen;
+use herd_kinship::Coefficients;
+use std::alloc::Allocator;
+use std::io::Write;
+
+/// Writes the line of one animal, as the list of coefficients has it.
+pub fn write_coefficient<W: Write, A: Allocator, F: Allocator, C: Allocator>(
+    alloc: A,
+    frozen: &Frozen<F>,
+    coefficients: &Coefficients<C>,
+    number: AnimalNumber,
+    writer: &mut W,
+) -> Result<(), CertificateFault>
+    requires { AreCoefficients DEPTH_LIMIT frozen.now coefficients.now }
+    ensures ok { OnOk result (IsCoefficientTold frozen.now number (W.contents writer.old) (W.contents writer.new)) }
+    ensures err { IfErr result (EndsCoefficient frozen.now number (W.contents writer.old) (W.contents writer.new)) }
+{
+    let Some(rank) = frozen.rank(&number) else {
+        return Err(CertificateFault::NotRegistered);
+    };
+    let coefficient = Coefficient {
+        numerator: coefficients.numerator(rank),
+    };
+    let mut text = Text::new(alloc);
+    push_coefficient_line(&mut text, number, coefficient)?;
+    Ok(text.finish(writer)?)
+}
