@@ -11,6 +11,8 @@ if unknown:
     sys.exit(f"{sys.argv[1]} has no row of: {', '.join(unknown)}")
 named = [ids.index(id) for id in sys.argv[2:]]
 # the columns of the relationship matrix that are named, and no others
-columns = inverse.solve(numpy.eye(len(ids))[:, named])
+wanted = numpy.zeros((len(ids), len(named)))
+wanted[named, range(len(named))] = 1
+columns = inverse.solve(wanted)
 for row, column in ((row, column) for row in range(len(named)) for column in range(row, len(named))):
     print(ids[named[row]], ids[named[column]], f"{columns[named[row], column] / 2:.6f}")
