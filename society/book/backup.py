@@ -24,6 +24,7 @@ from society.book.database import (
 from society.book.files import cant_be_written, put, source_of, sync_folder
 from society.book.history import last_change, next_number, now, write_change
 from society.book.kinds import ChangeKind
+from society.book.last_backup import remember
 from society.book.old_folder import OLD
 from society.book.out import check
 from society.book.schema import VERSION
@@ -43,6 +44,7 @@ def backup(book: Book, path: pathlib.Path, force: bool) -> None:
         raise Mistake(f"{path} is there already: name another file, or write over it with --force") from None
     except OSError as error:
         raise cant_be_written(path, error) from None
+    remember(book)
 
 
 def bytes_of(connection: sqlite3.Connection) -> bytes:

@@ -18,7 +18,7 @@ from society.mistake import Mistake
 def to_change(desk: Desk) -> Iterator[Book]:
     """The book, which nobody else changes until this ends. It is seen before whether it is whole, unless nobody changed
     it since that was seen."""
-    with desk.turn:
+    with desk.jobs.turn:
         with changing(desk.folder) as connection:
             yield from whole(desk, connection)
         with desk.opened() as changed:
@@ -55,5 +55,5 @@ def see_whole(desk: Desk) -> None:
 def end_changes(desk: Desk) -> None:
     """Waits for a change that is under way; no other begins."""
     desk.is_closing = True
-    with desk.turn:
+    with desk.jobs.turn:
         pass

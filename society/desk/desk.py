@@ -4,7 +4,6 @@ from __future__ import annotations
 import contextlib
 import functools
 import pathlib
-import threading
 from collections.abc import Callable, Iterator
 from dataclasses import dataclass, field
 from typing import Concatenate, ParamSpec, cast
@@ -40,8 +39,7 @@ class Desk:
     kept: Kept = field(default_factory=Kept)
     # the book as it was when it was last seen to be whole
     whole: tuple[int, int] = (0, 0)
-    # who changes the book does so one at a time, and nobody once the desk is being closed
-    turn: threading.Lock = field(default_factory=threading.Lock)
+    # nobody changes the book any more
     is_closing: bool = False
 
     @contextlib.contextmanager

@@ -2,6 +2,7 @@
 book that it is of."""
 from __future__ import annotations
 
+import contextlib
 import contextvars
 import enum
 import subprocess
@@ -18,6 +19,8 @@ SOON = 1.5
 # so many processes work at once
 AT_ONCE = 2
 Key = tuple[object, ...]
+# the kind of what changes the book
+TAKING = "taking"
 
 
 class Stage(enum.Enum):
@@ -65,6 +68,8 @@ class Jobs:
 
     def __init__(self) -> None:
         self.lock, self.room = threading.Lock(), threading.Semaphore(AT_ONCE)
+        # whoever changes the book waits for this, so that one after the other does
+        self.turn = threading.Lock()
         self.jobs: OrderedDict[Key, Job] = OrderedDict()
 
     def of(self, key: Key, work: Callable[..., object], values: tuple[object, ...]) -> Job:
@@ -81,7 +86,10 @@ class Jobs:
         return job
 
     def do(self, job: Job, work: Callable[..., object], values: tuple[object, ...]) -> None:
-        with self.room:
+        with contextlib.ExitStack() as stack:
+            stack.enter_context(self.room)
+            if job.key[0] == TAKING:
+                stack.enter_context(self.turn)
             job.do(work, values)
 
     def found(self, key: Key) -> Job | None:
@@ -104,11 +112,11 @@ class Jobs:
         for key in over[: max(0, len(self.jobs) - MOST)]:
             del self.jobs[key]
 
-    def end(self, waits_for: str) -> None:
-        """Ends what is under way, but for work of a kind that changes the book: that is waited for."""
+    def end(self) -> None:
+        """Ends what is under way, but for work that changes the book: that is waited for."""
         with self.lock:
             under_way = [job for job in self.jobs.values() if not job.is_over.is_set()]
         for job in under_way:
-            if job.key[0] != waits_for and job.process:
+            if job.key[0] != TAKING and job.process:
                 job.process.kill()
             job.is_over.wait()

@@ -5,8 +5,9 @@ import threading
 
 from society.book.book import Book
 from society.book.commands import Command
+from society.book.history import login
 from society.book.journal import NO_JOURNAL, Journal, Part, lines_with_refusals, parts_of
-from society.desk.session import Session, SessionEnded, SessionFault
+from society.desk.session import Places, Session, SessionEnded, SessionFault
 from society.herdbook import Herdbook
 from society.mistake import Mistake
 from society.refusals import Refusal
@@ -26,8 +27,11 @@ class Office(Herdbook):
     an earlier moment, and where no session can be kept, the program is run once. Each stored reply is compared with the
     session's."""
 
-    def __init__(self) -> None:
+    def __init__(self, places: Places = Places()) -> None:
         super().__init__()
+        self.places = places
+        # who files at which desk
+        self.desks: dict[str, int] = {}
         self.lock = threading.RLock()
         self.session: Session | None = None
         # the journal that the session has filed, and the moment of the change after which it is that
@@ -65,7 +69,7 @@ class Office(Herdbook):
                 if session is None:
                     continue
                 try:
-                    refusal = session.file([",".join(command)])[0]
+                    refusal = session.file([",".join(command)], self.desk_of(login()))[0]
                 except SessionEnded:
                     self.forget(session)
                     continue
@@ -74,6 +78,10 @@ class Office(Herdbook):
                 self.journal = Journal(self.journal.edition, self.journal.length + 1)
                 return refusal
         return super().reply(command, book)
+
+    def desk_of(self, name: str) -> int:
+        """Everybody has a desk; where there are more people than desks some share one."""
+        return self.desks.setdefault(name, len(self.desks) % self.places.desks + 1)
 
     def at(self, book: Book, to_file: bool = False) -> Session | None:
         """The session where it stands at a book's journal, or can be brought there; none for an earlier moment, nor
@@ -88,12 +96,13 @@ class Office(Herdbook):
     def brought_to(self, book: Book, to_file: bool) -> Session | None:
         """The same; the lock is held."""
         journal, moment = book.journal, book.change.moment if book.change else 0
-        goes_on = journal.edition == self.journal.edition and journal.length >= self.journal.length
+        is_of_it = journal.edition == self.journal.edition and self.is_known_to(book)
+        goes_on = is_of_it and journal.length >= self.journal.length
         if self.session and not self.session.has_ended and not goes_on and moment <= self.moment and not to_file:
             return None
         if not self.session or self.session.has_ended or not goes_on:
             self.forget(self.session)
-            self.session = Session(self)
+            self.session = Session(self, self.places)
             self.journal = Journal(journal.edition, 0)
         try:
             self.catch_up(self.session, book)
@@ -106,6 +115,12 @@ class Office(Herdbook):
             raise Mistake(f"the program can't file the stored journal: {fault}") from None
         self.moment = max(self.moment, moment)
         return self.session
+
+    def is_known_to(self, book: Book) -> bool:
+        """Is the change after which the session stands one of this book? It isn't where another book was restored."""
+        assert book.connection is not None
+        asked = "SELECT 1 FROM change WHERE time = ?"
+        return not self.moment or book.connection.execute(asked, (self.moment // 1000,)).fetchone() is not None
 
     def catch_up(self, session: Session, book: Book) -> None:
         """Files the commands of a book that the session lacks, and compares each reply with the stored one."""

@@ -30,6 +30,12 @@ class Person:
     role: AccountRole
 
 
+def the_name() -> str:
+    """The name of who asks, empty for whom the system names."""
+    person = the_person()
+    return person.name if person else ""
+
+
 def the_person() -> Person | None:
     """Who asks for the page that is answered; none where nobody knows."""
     person: Person | None = g.get("person")

@@ -19,6 +19,8 @@ LEAST = {
     "sheet.take_suggestion": CLERK, "sheet.take": CLERK, "sheet.taking": CLERK, "sheet.leave": CLERK,
     "filing.page": CLERK, "filing.form": CLERK, "filing.file": CLERK,
     "history.ask_undo": KEEPER, "history.bring_back": KEEPER, "settings.change": KEEPER,
+    "restoring.page": KEEPER, "restoring.drop": KEEPER, "restoring.look": KEEPER, "restoring.bring_back": KEEPER,
+    "restoring.under_way": KEEPER,
     "login.leave": INSPECTOR, "login.password": INSPECTOR, "login.change_password": INSPECTOR,
     "accounts.page": KEEPER, "accounts.add": KEEPER, "accounts.change": KEEPER, "accounts.remove": KEEPER,
 }  # fmt: skip

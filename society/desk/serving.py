@@ -24,7 +24,6 @@ from society.desk.exporting import Exports
 from society.desk.jobs import Jobs
 from society.desk.link import LinkGate
 from society.desk.office import Office
-from society.desk.taking_beside import TAKING
 from society.desk.uploads import Uploads
 from society.mistake import Mistake
 from society.reading.sheet import MOST_BYTES
@@ -75,7 +74,7 @@ def answer(desk: Desk, app: Flask, listening: socket.socket, threads: int, begin
     for one in signal.SIGINT, signal.SIGTERM:
         signal.signal(one, signal.SIG_IGN)
     end_changes(desk)
-    desk.jobs.end(TAKING)
+    desk.jobs.end()
     server.task_dispatcher.shutdown(cancel_pending=False, timeout=SECONDS_FOR_ANSWERS)
     desk.exports.end()
     desk.program.close()

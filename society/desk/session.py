@@ -13,11 +13,16 @@ from dataclasses import dataclass, field
 from society.herdbook import Herdbook
 from society.refusals import Refusal
 
-DESKS, INSPECTORS = 1, 4
 # so much memory it may use, and so long an answer may take
 MOST_BYTES, MOST_SECONDS = 2 << 30, 300
-# the desk at which all commands are filed: they stand in the journal in their order
-DESK = 1
+
+
+@dataclass(frozen=True)
+class Places:
+    """How many desks and inspectors an office has: 1 to 16 of each."""
+
+    desks: int = 1
+    inspectors: int = 4
 
 
 class SessionFault(Exception):
@@ -57,8 +62,8 @@ class Answer:
 class Session:
     """The process, with threads that wait for its answers."""
 
-    def __init__(self, program: Herdbook) -> None:
-        words = ["session", "--desks", str(DESKS), "--inspectors", str(INSPECTORS)]
+    def __init__(self, program: Herdbook, places: Places) -> None:
+        words = ["session", "--desks", str(places.desks), "--inspectors", str(places.inspectors)]
         # it stays for as long as the desk is open
         self.process = program.start(words, subprocess.PIPE, subprocess.DEVNULL, MOST_BYTES, None)
         self.writing, self.lock = threading.Lock(), threading.Lock()
@@ -66,7 +71,7 @@ class Session:
         self.waiting: dict[str, tuple[Answer, bool]] = {}
         self.has_ended = False
         self.free: queue.SimpleQueue[int] = queue.SimpleQueue()
-        for inspector in range(1, INSPECTORS + 1):
+        for inspector in range(1, places.inspectors + 1):
             self.free.put(inspector)
         threading.Thread(target=self.collect, daemon=True).start()
 
@@ -113,9 +118,9 @@ class Session:
         except (OSError, ValueError):
             raise SessionEnded from None
 
-    def file(self, lines: list[str]) -> list[Refusal | None]:
-        """The replies to commands, each written as in the command file, in their order."""
-        answer = self.send((f"desk,{DESK},{line}" for line in lines), Answer(len(lines)), True)
+    def file(self, lines: list[str], desk: int = 1) -> list[Refusal | None]:
+        """A desk's replies to commands, each written as in the command file, in their order."""
+        answer = self.send((f"desk,{desk},{line}" for line in lines), Answer(len(lines)), True)
         if answer.fault:
             raise SessionFault(answer.fault)
         return [refusal_of(reply) for reply in answer.lines]

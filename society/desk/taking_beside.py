@@ -26,8 +26,8 @@ from society.taking.suggestions import Suggestion
 from society.taking.wishes import Wishes
 
 Value = TypeVar("Value")
-# the kinds of work: what is looked at, and what changes the book
-LOOKING, TAKING = "looking", "taking"
+# the kind of work that looks at what was dropped
+LOOKING = "looking"
 
 
 @dataclass(frozen=True)

@@ -1,6 +1,7 @@
 """Files that somebody dropped and didn't take yet: they lie outside the book, for an hour."""
 from __future__ import annotations
 
+import collections
 import pathlib
 import secrets
 import shutil
@@ -13,7 +14,7 @@ from werkzeug.datastructures import FileStorage
 from society.mistake import Mistake
 
 SECONDS = 3600
-# so many lie there at once
+# so many of one person lie there at once
 MOST = 20
 LONGEST_NAME = 120
 
@@ -21,9 +22,10 @@ LONGEST_NAME = 120
 @dataclass
 class Upload:
     """A file with its own name. `columns` are the titles that somebody chose for fields, `options` the other choices
-    for its reading."""
+    for its reading; `who` dropped it, and nobody else sees it."""
 
     token: str
+    who: str
     path: pathlib.Path
     time: float
     columns: dict[str, str] = field(default_factory=dict)
@@ -37,12 +39,12 @@ class Uploads:
         self.room, self.lock = room, threading.Lock()
         self.found: dict[str, Upload] = {}
 
-    def add(self, file: FileStorage) -> Upload:
+    def add(self, file: FileStorage, who: str) -> Upload:
         self.drop_old()
         token = secrets.token_urlsafe(16)
         folder = self.room / token
         folder.mkdir(mode=0o700)
-        upload = Upload(token, folder / harmless(file.filename or ""), time.monotonic())
+        upload = Upload(token, who, folder / harmless(file.filename or ""), time.monotonic())
         try:
             file.save(upload.path)
         except OSError as error:
@@ -52,11 +54,12 @@ class Uploads:
             self.found[token] = upload
         return upload
 
-    def of(self, token: str) -> Upload | None:
-        """The file of a token, unless its hour is over."""
+    def of(self, token: str, who: str) -> Upload | None:
+        """The file of a token, if it is somebody's own and its hour isn't over."""
         self.drop_old()
         with self.lock:
-            return self.found.get(token)
+            upload = self.found.get(token)
+        return upload if upload and upload.who == who else None
 
     def drop(self, token: str) -> None:
         with self.lock:
@@ -65,11 +68,14 @@ class Uploads:
             shutil.rmtree(upload.path.parent, ignore_errors=True)
 
     def drop_old(self) -> None:
-        """Drops those whose hour is over, and the oldest where there are too many."""
-        oldest_first = sorted(self.found.values(), key=lambda one: one.time)
-        over = {one.token for one in oldest_first if time.monotonic() - one.time > SECONDS}
-        for token in over | {one.token for one in oldest_first[: -MOST or None]}:
-            self.drop(token)
+        """Drops those whose hour is over, and the oldest where somebody has too many."""
+        with self.lock:
+            newest_first = sorted(self.found.values(), key=lambda one: -one.time)
+        counts = collections.Counter[str]()
+        for one in newest_first:
+            counts[one.who] += 1
+            if counts[one.who] > MOST or time.monotonic() - one.time > SECONDS:
+                self.drop(one.token)
 
 
 def harmless(name: str) -> str:

@@ -92,6 +92,6 @@ def site_of(folder: pathlib.Path, program: str, room: pathlib.Path, read_only: b
     try:
         yield Site(desk, desk_app(desk, LinkGate(SECRET, PORT, read_only)))
     finally:
-        desk.jobs.end("")
+        desk.jobs.end()
         desk.exports.end()
         desk.program.close()

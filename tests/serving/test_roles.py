@@ -17,6 +17,7 @@ from society.desk.texts import TEXTS
 KEEPERS = {
     "history.ask_undo", "history.bring_back", "settings.change", "accounts.page", "accounts.add", "accounts.change",
     "accounts.remove",
+    "restoring.page", "restoring.drop", "restoring.look", "restoring.bring_back", "restoring.under_way",
 }  # fmt: skip
 OWN = {"login.leave", "login.change_password"}
 

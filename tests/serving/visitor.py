@@ -92,7 +92,7 @@ def served_of(folder: pathlib.Path, program: str, room: pathlib.Path, way: Way) 
     try:
         yield Served(desk, desk_app(desk, gate), gate, clock, log)
     finally:
-        desk.jobs.end("")
+        desk.jobs.end()
         desk.exports.end()
         desk.program.close()
 

@@ -10,9 +10,11 @@ from society.book.backup import bytes_of
 from society.book.book import Book
 from society.book.exports import report_text
 from society.book.history import all_changes, change_numbered
+from society.book.last_backup import last_backup, remember
 from society.book.undo import undo
 from society.desk.changing import to_change
 from society.desk.desk import Answer, the_desk, with_book
+from society.desk.rules import may
 from society.desk.shown_changes import differences_of, line_of, told_of_change
 from society.desk.words import the_words
 
@@ -26,7 +28,7 @@ MOST_SHOWN = 200
 def history(book: Book) -> Answer:
     assert book.connection is not None
     changes = [line_of(change, the_words()) for change in all_changes(book.connection)[::-1]]
-    return render_template("history.html", changes=changes)
+    return render_template("history.html", changes=changes, backed_up=last_backup(book.folder))
 
 
 @page.get("/history/<int(max=999999999):number>")
@@ -89,6 +91,9 @@ def backup(book: Book) -> Answer:
     """The whole book with its history, as the word `backup` writes it."""
     assert book.connection is not None
     response = Response(bytes_of(book.connection), mimetype="application/vnd.sqlite3")
+    # a copy of somebody who only reads isn't the society's
+    if may("sheet.page"):
+        remember(book)
     name = f"book-{datetime.date.today()}.sqlite"
     response.headers["Content-Disposition"] = f"attachment; filename={name}"
     return response

@@ -9,14 +9,15 @@ from werkzeug.wrappers import Response
 from society.book.changes import Option
 from society.book.kinds import Field
 from society.desk.desk import Answer, the_desk
-from society.desk.jobs import Job, Stage
+from society.desk.jobs import TAKING, Job, Stage
 from society.desk.example import EXAMPLE
 from society.desk.finding_words import sentence_of
+from society.desk.people import the_name
 from society.desk.shown_findings import groups_of
 from society.desk.shown_mistakes import without_paths
 from society.desk.suggested import COLUMNS, field_of, proposed, suggestions_of
 from society.desk.suggested import choose as choose_suggested
-from society.desk.taking_beside import LOOKING, TAKING, Chosen, Look, Taken, looked_at, taken
+from society.desk.taking_beside import LOOKING, Chosen, Look, Taken, looked_at, taken
 from society.desk.uploads import Upload
 from society.desk.words import the_words
 
@@ -39,7 +40,7 @@ def drop() -> Answer:
     file = request.files.get("sheet")
     if file is None or not file.filename:
         return render_template("sheet.html", faults=[the_words()("no file")]), 400
-    return to_look(the_desk().uploads.add(file))
+    return to_look(the_desk().uploads.add(file, the_name()))
 
 
 @page.post("/sheet/example")
@@ -48,7 +49,7 @@ def drop_example() -> Answer:
     if not EXAMPLE.exists():
         abort(404)
     with open(EXAMPLE, "rb") as file:
-        return to_look(the_desk().uploads.add(FileStorage(file, EXAMPLE.name)))
+        return to_look(the_desk().uploads.add(FileStorage(file, EXAMPLE.name), the_name()))
 
 
 def to_look(upload: Upload) -> Response:
@@ -57,7 +58,7 @@ def to_look(upload: Upload) -> Response:
 
 def upload_of(token: str) -> Upload:
     """A page that isn't there where a file's hour is over, or it is taken or left."""
-    upload = the_desk().uploads.of(token)
+    upload = the_desk().uploads.of(token, the_name())
     if upload is None:
         abort(404, "upload")
     return upload

@@ -61,6 +61,33 @@ TEXTS = {
         "Das ist eine neue Änderung: was danach kam, bleibt im Verlauf und lässt sich auch zurückholen.",
         "C'est une nouvelle modification : ce qui suivait reste dans l'historique et peut être rétabli aussi.",
     ),
+    "last backup": (
+        "The last backup was made on {}, after change {}.", "Die letzte Kopie wurde am {} gesichert, nach Änderung {}.",
+        "La dernière copie a été enregistrée le {}, après la modification {}.",
+    ),
+    "no backup yet": (
+        "No backup was made yet.", "Es wurde noch keine Kopie gesichert.", "Aucune copie n'a encore été enregistrée.",
+    ),
+    "restore": ("Restore a backup", "Kopie zurückspielen", "Restaurer une copie"),
+    "restore how": (
+        "You see what the copy has before anything is changed.",
+        "Sie sehen, was die Kopie enthält, bevor etwas geändert wird.",
+        "Vous voyez ce que contient la copie avant que rien ne soit changé.",
+    ),
+    "backup file": ("A copy of the book", "Eine Kopie des Herdbuchs", "Une copie du livre"),
+    "ask restore": ("Restore {}?", "{} zurückspielen?", "Restaurer {} ?"),
+    "changes": ("Changes", "Änderungen", "Modifications"),
+    "last change": ("The last change", "Die letzte Änderung", "La dernière modification"),
+    "restore keeps": (
+        "The copy comes in the place of the book. The book of now is kept in the folder 'old' on the server.",
+        "Die Kopie kommt an die Stelle des Herdbuchs. Das jetzige bleibt im Ordner „old“ auf dem Server erhalten.",
+        "La copie prend la place du livre. Le livre actuel est gardé dans le dossier « old » du serveur.",
+    ),
+    "yes restore": ("Yes, restore it", "Ja, zurückspielen", "Oui, restaurer"),
+    "backup restored": (
+        "The backup {} is restored.", "Die Kopie {} ist zurückgespielt.", "La copie {} est restaurée.",
+    ),
+    "wait restoring": ("The backup is looked at", "Die Kopie wird geprüft", "La copie est examinée"),
     "yes undo": ("Yes, bring it back", "Ja, zurückholen", "Oui, rétablir"),
     "no": ("No", "Nein", "Non"),
     "brought back": (

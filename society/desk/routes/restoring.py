@@ -1,0 +1,94 @@
+"""The pages on which a keeper restores a backup: a file is dropped, then it is seen what it has, and then it is put in the
+place of the book, or left."""
+from __future__ import annotations
+
+from flask import Blueprint, abort, flash, redirect, render_template, request, url_for
+from werkzeug.wrappers import Response
+
+from society.desk.desk import Answer, the_desk
+from society.desk.jobs import TAKING, Job, Stage
+from society.desk.people import the_name
+from society.desk.restoring_beside import Backup, change_now, looked_into, restored
+from society.desk.shown_mistakes import without_paths
+from society.desk.taking_beside import LOOKING, Taken
+from society.desk.uploads import Upload
+from society.desk.words import the_words
+
+page = Blueprint("restoring", __name__)
+
+
+@page.get("/restore", endpoint="page")
+def restoring() -> Answer:
+    return render_template("restore.html", faults=[])
+
+
+@page.post("/restore")
+def drop() -> Answer:
+    file = request.files.get("backup")
+    if file is None or not file.filename:
+        return render_template("restore.html", faults=[the_words()("no file")]), 400
+    return to_look(the_desk().uploads.add(file, the_name()))
+
+
+def to_look(upload: Upload) -> Response:
+    return redirect(url_for("restoring.look", token=upload.token))
+
+
+def upload_of(token: str) -> Upload:
+    upload = the_desk().uploads.of(token, the_name())
+    if upload is None:
+        abort(404, "upload")
+    return upload
+
+
+@page.get("/restore/<token>")
+def look(token: str) -> Answer:
+    upload, desk = upload_of(token), the_desk()
+    job = desk.jobs.of((LOOKING, token), looked_into, (upload.path,))
+    if job.stage is Stage.DONE:
+        assert isinstance(job.value, Backup)
+        now = change_now(desk.folder)
+        return render_template("backup.html", upload=upload, backup=job.value, now=now)
+    return not_done(job)
+
+
+def not_done(job: Job) -> Answer:
+    """A page that asks again by itself, or why it came to nothing."""
+    if job.stage is Stage.UNDER_WAY:
+        return render_template("waiting.html", what="restoring", told=job.told, seconds=job.seconds)
+    desk = the_desk()
+    desk.jobs.forget(job.key)
+    faults = [the_words()("work ended")] if job.failed.is_fault else list(job.failed.sentences)
+    return render_template("restore.html", faults=without_paths(faults, desk)), 400
+
+
+@page.post("/restore/<token>")
+def bring_back(token: str) -> Answer:
+    """Restores it, if the book is the one that was looked at."""
+    upload, desk, looked = upload_of(token), the_desk(), request.form.get("change", "")
+    if not looked.isdecimal() or len(looked) > 9:
+        abort(400)
+    desk.jobs.of((TAKING, token), restored, (desk.folder, upload.path, int(looked)))
+    return redirect(url_for("restoring.under_way", token=token))
+
+
+@page.get("/restore/<token>/under-way")
+def under_way(token: str) -> Answer:
+    """Waits for the end of a restoring."""
+    upload, desk = upload_of(token), the_desk()
+    job = desk.jobs.found((TAKING, token))
+    if job is None:
+        return to_look(upload)
+    if job.stage is not Stage.DONE:
+        return not_done(job)
+    desk.jobs.forget(job.key)
+    assert isinstance(job.value, Taken)
+    if job.value.book_changed:
+        flash(the_words()("book changed"), "look")
+        return to_look(upload)
+    # the session has another journal
+    desk.program.close()
+    desk.uploads.drop(token)
+    desk.exports.wish()
+    flash(the_words()("backup restored", upload.path.name), "done")
+    return redirect(url_for("history.change", number=job.value.change))

@@ -1,0 +1,167 @@
+"""Several people at one book: each sees what the others did, nothing is filed twice, and the history names who did what."""
+from __future__ import annotations
+
+import html
+import io
+import re
+import threading
+
+import pytest
+
+from desk.site import HOST, shown
+from front_desk.desk import Desk
+from serving.visitor import Served, Visitor
+from society.desk.texts import TEXTS
+from society.serving.accounts import A_DAY
+
+DAM = "GK-17/472c"
+SHEET = b"id,name,sex,birth,sire,dam\nNEW-%d,,f,2024-01-01,,\n"
+
+
+def names(visitor: Visitor) -> list[str]:
+    """Who made the changes, from the first on."""
+    with visitor.desk.opened() as book:
+        assert book and book.connection
+        return [name for (name,) in book.connection.execute("SELECT login FROM change ORDER BY change")]
+
+
+def looked_at(visitor: Visitor, at: int) -> str:
+    """Drops a sheet of one new animal that is to be taken anyway, and looks at it; answers its address."""
+    address = visitor.drop(f"{at}.csv", SHEET % at)
+    visitor.post(f"{address}/columns", anyway="1")
+    visitor.page(address)
+    return address
+
+
+def test_two_sheets(served: Served) -> None:
+    """The second clerk sees what the first changed before "take", and nothing of it is undone."""
+    carl, clara = Visitor(served, "Carl"), Visitor(served, "Clara")
+    first, second = looked_at(carl, 1), looked_at(clara, 2)
+    page = clara.page(second)
+    change = re.search(r'name="change" value="(\d+)"', page)
+    assert change and change[1] == "1"
+    carl.take(first)
+    # what Clara looked at isn't there any more: she is shown the book of now, and nothing is taken
+    page = clara.page(clara.post(f"{second}/take", change=change[1]).headers["Location"])
+    assert TEXTS["book changed"][0] in shown(page) and 'value="2"' in page
+    assert names(clara)[1:] == ["Carl"]
+    clara.take(second)
+    assert names(clara)[1:] == ["Carl", "Clara"]
+    with served.desk.opened() as book:
+        assert book and {"NEW-1", "NEW-2"} <= book.known.keys()
+
+
+def test_own_sheets(served: Served) -> None:
+    """What one clerk dropped no other sees, takes or leaves, though the address be known."""
+    carl, clara, kim = (Visitor(served, name) for name in ("Carl", "Clara", "Kim"))
+    address = looked_at(carl, 1)
+    for other in clara, kim:
+        assert other.get(address).status_code == 404
+        for way in "take", "leave", "columns", "suggested":
+            assert other.post(f"{address}/{way}", change="1").status_code == 404
+    assert carl.get(address).status_code == 200
+
+
+def test_one_animal(served: Served) -> None:
+    """Commands on one animal at once are answered in an order, as the replies say: one is accepted, the others see it."""
+    people = [Visitor(served, name) for name in ("Carl", "Clara", "Kim", "Carl", "Clara")]
+    tokens = [one.token() for one in people]
+    ready, found = threading.Barrier(len(people)), [""] * len(people)
+
+    def file(at: int) -> None:
+        fields = {"csrf_token": tokens[at], "id": DAM, "day": f"2024-05-0{at + 1}"}
+        ready.wait()
+        found[at] = people[at].client.post("/file/exit", data=fields, headers={"Host": HOST}).headers["Location"]
+
+    threads = [threading.Thread(target=file, args=(at,)) for at in range(len(people))]
+    for one in threads:
+        one.start()
+    for one in threads:
+        one.join()
+    assert sorted(found) == [f"/answer/{number}" for number in range(2, 7)]
+    pages = {address: shown(people[0].page(address)) for address in found}
+    assert TEXTS["accepted"][0] in pages["/answer/2"]
+    assert all("it has left already" in pages[f"/answer/{number}"] for number in range(3, 7))
+    assert len(served.desk.program.desks) == 3
+    Desk(served.desk.folder.parent, str(served.desk.program.path)).good("verify")
+
+
+def test_names(served: Served, society_desk: Desk) -> None:
+    """The history names who filed, took, undid and restored; what a terminal does has the system's name."""
+    carl, kim = Visitor(served, "Carl"), Visitor(served, "Kim")
+    carl.post("/file/exit", id=DAM, day="2024-05-01")
+    copy = kim.get("/book.sqlite").get_data()
+    carl.take(looked_at(carl, 1))
+    kim.post("/history/2/undo", last="3")
+    society_desk.good("birth", "NEW-9", "--sex", "f", "--day", "2024-06-01")
+    # a backup is looked at, and restored by a keeper
+    data = {"csrf_token": kim.token(), "backup": (io.BytesIO(copy), "../copy.sqlite")}
+    address = kim.client.post("/restore", data=data, headers={"Host": HOST}).headers["Location"]
+    page = kim.page(address)
+    assert TEXTS["ask restore"][0].format("copy.sqlite") in shown(page) and "502" in shown(page)
+    now = re.search(r'name="change" value="(\d+)"', page)
+    assert now and now[1] == "5"
+    assert TEXTS["book changed"][0] in shown(kim.page(kim.post(address, change="4").headers["Location"]))
+    page = kim.page(kim.post(address, change=now[1]).headers["Location"])
+    assert TEXTS["backup restored"][0].format("copy.sqlite") in shown(page)
+    own = names(kim)
+    assert own[1:] == ["Carl", "Kim"]
+    assert "<bdi>Carl</bdi>" in kim.page("/history") and society_desk.good("history").out.count("Carl:") == 1
+    # the book of before is kept, and the session answers for the one of now
+    assert len(list((served.desk.folder / "old").glob("book-*.sqlite"))) == 1
+    assert TEXTS["accepted"][0] in shown(
+        carl.page(carl.post("/file/exit", id="GK-16/433c", day="2024-05-01").headers["Location"])
+    )
+    society_desk.good("verify")
+
+
+@pytest.mark.parametrize("kind, fields", [("exit", {"id": DAM, "day": "2024-05-01"}),
+                                          ("birth", {"id": 'NEW-1 "<b>', "sex": "F", "day": "2024-05-01", "name": "Ä & Ö"})])  # fmt: skip
+def test_login_over(served: Served, clerk: Visitor, kind: str, fields: dict[str, str]) -> None:
+    """A login that runs out in the middle of a form keeps what was written: it is sent after logging in, and filed once."""
+    token = clerk.token()
+    served.clock.now += A_DAY + 1
+    answer = clerk.client.post(f"/file/{kind}", data={"csrf_token": token, **fields}, headers={"Host": HOST})
+    page = answer.get_data(as_text=True)
+    assert answer.status_code == 401 and TEXTS["login over"][0] in shown(page)
+    kept = {name: html.unescape(text) for name, text in re.findall(r'name="(kept[- ][^"]*)" value="([^"]*)"', page)}
+    assert kept == {"kept to": f"/file/{kind}"} | {f"kept-{name}": text for name, text in fields.items()}
+    # a wrong password keeps it too
+    page = clerk.log_in("Carl", "wrong", **kept).get_data(as_text=True)
+    assert all(f'value="{text}"' in html.unescape(page) for text in kept.values())
+    page = clerk.log_in("Carl", **kept).get_data(as_text=True)
+    assert TEXTS["send again how"][0] in shown(page) and names(clerk) == names(clerk)[:1]
+    again = {
+        name: html.unescape(text) for name, text in re.findall(r'type="hidden" name="([^"]*)" value="([^"]*)"', page)
+    }
+    again.pop("csrf_token")
+    assert re.findall(r'<form class="line" method="post" action="([^"]*)"', page) == [f"/file/{kind}"]
+    assert {name: again[name] for name in fields} == fields
+    assert clerk.post(f"/file/{kind}", **again).headers["Location"] == "/answer/2"
+    assert names(clerk)[1:] == ["Carl"]
+
+
+def test_login_over_elsewhere(served: Served) -> None:
+    """What is kept is sent to a form of this desk alone, and no password is kept."""
+    visitor = Visitor(served)
+    for path in ("http://evil.example/", "//evil.example/file/exit", "/nothing", "/animals", "javascript:alert(1)"):
+        assert visitor.log_in("Carl", **{"kept to": path, "kept-id": "x"}).status_code == 302
+        visitor.post("/logout")
+    page = visitor.post("/accounts", name="Eve", role="keeper", password="one secret word", again="one secret word")
+    assert page.status_code == 401 and "secret word" not in page.get_data(as_text=True)
+
+
+def test_backup(served: Served, society_desk: Desk) -> None:
+    """Backups are made while others work, and the page says when the last one was made; the accounts aren't in it."""
+    carl, ines = Visitor(served, "Carl"), Visitor(served, "Ines")
+    assert TEXTS["no backup yet"][0] in shown(ines.page("/history"))
+    ines.get("/book.sqlite")
+    assert TEXTS["no backup yet"][0] in shown(ines.page("/history"))
+    with served.desk.opened():
+        society_desk.good("backup", "copy.sqlite")
+    first = shown(ines.page("/history"))
+    assert TEXTS["last backup"][0].partition("{}")[0] in first and "after change 1." in first
+    carl.post("/file/exit", id=DAM, day="2024-05-01")
+    copy = carl.get("/book.sqlite").get_data()
+    assert "after change 2." in shown(ines.page("/history"))
+    assert b"scrypt" not in copy and b"account" not in copy and b"Ines" not in copy
