@@ -54,7 +54,7 @@ def do_serve(asked: argparse.Namespace) -> None:
     from society.desk.office import Office
     from society.desk.session import Places
     from society.serving.serve import serve
-    from society.serving.way import place_of, way_of
+    from society.serving.way import place_of
 
     place, proxy = place_of(asked.listen), asked.behind_proxy
     if not place.is_loopback and not proxy and not asked.insecure:
@@ -62,7 +62,7 @@ def do_serve(asked: argparse.Namespace) -> None:
             f"{place.address} is an address of the network, on which passwords would be read by others: say "
             "--behind-proxy where a proxy has a certificate, or --insecure if it has to be so"
         )
-    serve(asked.book, Office(Places(16, 16)), place, way_of(place, asked.name, proxy))
+    serve(asked.book, Office(Places(16, 16)), place, asked.name, proxy)
 
 
 def do_account(asked: argparse.Namespace) -> None:

@@ -1,0 +1,88 @@
+"""The word `serve` in a folder, and browsers that ask it over the network of the machine."""
+from __future__ import annotations
+
+import http.client
+import os
+import pathlib
+import re
+import signal
+import subprocess
+import tempfile
+import urllib.parse
+
+from front_desk.desk import TOP
+from serving.visitor import WORD
+
+SECONDS = 60
+TOKEN = re.compile(r'name="csrf_token" value="([^"]+)"')
+
+
+class Server:
+    """The word `serve`, until it is ended."""
+
+    def __init__(self, room: pathlib.Path, program: str, *words: str, port: int = 0) -> None:
+        known = {"PATH": os.environ["PATH"], "HERDBOOK": program, "LANG": "C"}
+        command = [str(TOP / "society/society"), "serve", "--listen", f"127.0.0.1:{port}", *words]
+        self.log = tempfile.TemporaryFile("w+", encoding="utf-8")
+        self.process = subprocess.Popen(
+            command, cwd=room, env=known, stdout=subprocess.PIPE, stderr=self.log, text=True
+        )
+        assert self.process.stdout
+        told = self.process.stdout.readline()
+        found = re.match(r"The desk answers at (https?)://([^/]+)/; Ctrl-C or SIGTERM ends it\.", told)
+        assert found, f"{told}{self.logged()}"
+        self.host = found[2]
+        self.port = int(self.host.rpartition(":")[2]) if ":" in self.host else port
+
+    def logged(self) -> str:
+        self.log.flush()
+        with open(f"/proc/self/fd/{self.log.fileno()}", encoding="utf-8") as file:
+            return file.read()
+
+    def end(self, how: signal.Signals = signal.SIGTERM) -> str:
+        """What it printed last; it ends well."""
+        self.process.send_signal(how)
+        told = self.process.communicate(timeout=SECONDS)[0]
+        assert self.process.returncode == 0, self.logged()
+        return told
+
+    def kill(self) -> None:
+        self.process.kill()
+        self.process.communicate()
+
+
+class Browser:
+    """One connection that is kept, with its cookie."""
+
+    def __init__(self, server: Server, name: str = "") -> None:
+        self.host, self.cookie = server.host, ""
+        self.connection = http.client.HTTPConnection("127.0.0.1", server.port, timeout=SECONDS)
+        if name:
+            self.token = self.token_of("/login")
+            status, to, _ = self.post("/login", name=name, password=WORD)
+            assert status == 302 and to == "/"
+            self.token = self.token_of("/settings")
+
+    def ask(self, method: str, path: str, body: bytes | None = None, **headers: str) -> tuple[int, str, str]:
+        """The status, where it leads, and the page."""
+        self.connection.request(method, path, body, {"Host": self.host, "Cookie": self.cookie} | headers)
+        answer = self.connection.getresponse()
+        page = answer.read().decode("utf-8", "replace")
+        for cookie in answer.headers.get_all("Set-Cookie") or []:
+            self.cookie = cookie.partition(";")[0]
+        return answer.status, answer.headers.get("Location", ""), page
+
+    def get(self, path: str) -> str:
+        status, _, page = self.ask("GET", path)
+        assert status == 200, f"{path}: {status}"
+        return page
+
+    def post(self, path: str, **fields: str) -> tuple[int, str, str]:
+        body = urllib.parse.urlencode({"csrf_token": self.token} | fields).encode()
+        kind = {"Content-Type": "application/x-www-form-urlencoded"}
+        return self.ask("POST", path, body, **kind)
+
+    def token_of(self, path: str) -> str:
+        found = TOKEN.search(self.get(path))
+        assert found
+        return found[1]

@@ -1,0 +1,121 @@
+"""Many at one book at once: what was answered stands once in the journal, as it was shown, also where the server is
+killed in the midst."""
+from __future__ import annotations
+
+import contextlib
+import pathlib
+import sqlite3
+import time
+from collections.abc import Iterator
+
+import pytest
+
+from front_desk.desk import Desk
+from serving.load import Plan, Sent, Work, at_work
+from serving.server import Browser, Server
+from serving.visitor import WORD
+from society.desk.people import AccountRole
+from society.serving.accounts import Accounts
+
+SMALL = Plan(clerks=4, commands=6, inspectors=6, seconds=2, pause=0.1)
+LARGE = Plan(clerks=8, commands=100, inspectors=15, seconds=60, pause=0.5)
+# the first change took the sheet
+CHANGES = "SELECT change, login, kind, length FROM change WHERE change > 1"
+
+
+@pytest.fixture
+def room(society_desk: Desk, cheap: None) -> Desk:
+    """The society's book, with an account for each who works at it."""
+    accounts = Accounts(society_desk.room / "book")
+    accounts.add("keeper", AccountRole.KEEPER, WORD, WORD)
+    for at in range(LARGE.clerks):
+        accounts.add(f"clerk {at}", AccountRole.CLERK, WORD, WORD)
+    for at in range(LARGE.inspectors):
+        accounts.add(f"inspector {at}", AccountRole.INSPECTOR, WORD, WORD)
+    return society_desk
+
+
+@contextlib.contextmanager
+def book_of(room: pathlib.Path) -> Iterator[sqlite3.Connection]:
+    with contextlib.closing(sqlite3.connect(room / "book/book.sqlite")) as connection:
+        yield connection
+
+
+def animals_of(room: pathlib.Path) -> tuple[list[str], list[str]]:
+    """The ids and the numbers of the animals."""
+    with book_of(room) as book:
+        rows = book.execute(
+            "SELECT id, number FROM animal WHERE until IS NULL AND standing <> 'dropped' ORDER BY id"
+        ).fetchall()
+    females = [id for id, number in rows if number[6] == "F"]
+    return females, [number for _, number in rows]
+
+
+def stands_once(desk: Desk, work: Work, all_are_answered: bool) -> None:
+    """Each answered command is a change and a step of the journal, by whom it was, with the reply that was shown; none
+    else is there but those of which nobody was told."""
+    with book_of(desk.room) as book:
+        changes = {number: (login, kind, length) for number, login, kind, length in book.execute(CHANGES)}
+        steps = {
+            place: (kind, animal, day, refusal)
+            for place, kind, animal, day, refusal in book.execute(
+                "SELECT place, kind, animal, day, refusal FROM command"
+            )
+        }
+        ids = dict(book.execute("SELECT DISTINCT id, number FROM animal"))
+    assert len({length for _, _, length in changes.values()}) == len(changes)
+    for number, ((kind, fields), accepted) in work.answered.items():
+        login, of_kind, length = changes[number]
+        step = steps[length]
+        assert of_kind == step[0] == kind
+        assert (step[3] == 0) == accepted, (number, kind, fields, step)
+        assert step[2] == fields["day"] and (step[1] == ids.get(fields["id"]) or not accepted)
+        assert kind != "birth" or login == f"clerk {fields['id'][1]}"
+    told_of_none = len(changes) - len(work.answered)
+    assert 0 <= told_of_none <= len(work.open) and (told_of_none == 0 or not all_are_answered)
+    assert not work.faults
+    assert "is whole" in desk.good("verify").out
+
+
+def all_at_work(desk: Desk, plan: Plan) -> Work:
+    server = Server(desk.room, desk.program)
+    work = at_work(server, plan, *animals_of(desk.room))
+    assert server.end().splitlines()[-1] == "The desk is closed."
+    assert len(work.answered) == plan.clerks * plan.commands and not work.open
+    stands_once(desk, work, all_are_answered=True)
+    return work
+
+
+def killed_at_work(desk: Desk, plan: Plan) -> Work:
+    """The server is killed when half is answered, and started again."""
+    server, half = Server(desk.room, desk.program), plan.clerks * plan.commands // 2
+    work = at_work(server, plan, *animals_of(desk.room), until=lambda work: len(work.answered) >= half)
+    again = Server(desk.room, desk.program)
+    clerk = Browser(again, "clerk 0")
+    status, to, _ = clerk.post("/file/birth", id="AFTERWARDS", sex="M", day="2025-01-01")
+    assert status == 302
+    again.end()
+    after: Sent = ("birth", {"id": "AFTERWARDS", "sex": "M", "day": "2025-01-01"})
+    assert half <= len(work.answered) < plan.clerks * plan.commands
+    work.open.append(after)
+    stands_once(desk, work, all_are_answered=False)
+    return work
+
+
+def test_load(room: Desk) -> None:
+    all_at_work(room, SMALL)
+
+
+def test_killed(room: Desk) -> None:
+    killed_at_work(room, SMALL)
+
+
+@pytest.mark.slow
+def test_full_load(room: Desk) -> None:
+    began = time.monotonic()
+    print(f"\n{all_at_work(room, LARGE).told()}; {time.monotonic() - began:.0f} s in all")
+
+
+@pytest.mark.slow
+def test_killed_under_full_load(room: Desk) -> None:
+    print(f"\n{killed_at_work(room, LARGE).told()}")
