@@ -4,7 +4,8 @@ import sys
 import numpy
 from scipy.io import mmread
 from scipy.sparse.linalg import splu
-inverse = splu(mmread(sys.argv[1]).tocsc())
+# the matrix is symmetric: in this order of its rows the factor of a large pedigree stays sparse
+inverse = splu(mmread(sys.argv[1]).tocsc(), "MMD_AT_PLUS_A", diag_pivot_thresh=0, options={"SymmetricMode": True})
 ids = open(sys.argv[1] + ".ids", encoding="utf-8").read().splitlines()
 unknown = [id for id in sys.argv[2:] if id not in ids]
 if unknown:

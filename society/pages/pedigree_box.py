@@ -39,7 +39,7 @@ class Drawn:
 class Box:
     def __init__(self, book: Book, drawn: Drawn, place: Place, language: Language) -> None:
         self.book, self.drawn, self.place, self.language = book, drawn, place, language
-        self.percent = language.percent_of(drawn.coefficient) if drawn.coefficient.is_inbred else ""
+        self.percent = self.percent_shown()
 
     def picture(self) -> str:
         at = self.place
@@ -50,6 +50,14 @@ class Box:
             f'<svg x="{at.x:.1f}" y="{at.y:.1f}" width="{at.width:.1f}" height="{height:.1f}">'
             f'{"".join(lines)}{self.badge()}</svg></g>'
         )
+
+    def percent_shown(self) -> str:
+        """The coefficient of one that is inbred. One line has room for the number alone, and for none where the page on
+        which the animal goes on shows it."""
+        coefficient, is_line = self.drawn.coefficient, self.place.height < TWO_LINES
+        if not coefficient.is_inbred or (is_line and self.drawn.page):
+            return ""
+        return self.language.percent(coefficient.percent) if is_line else self.language.percent_of(coefficient)
 
     @property
     def round_by(self) -> float:
@@ -63,9 +71,9 @@ class Box:
 
     def frame(self) -> str:
         """A male has corners, a female is round; a common ancestor has a thick edge."""
-        at, known, letter = self.place, self.drawn.known, self.drawn.letter
-        fill, edge = (INBRED, INBRED_INK) if self.percent else (SIRE if known.is_male else DAM, LINE)
-        edge, thick = (INK, 2.6) if letter else (edge, 2.0 if self.percent else 1.2)
+        at, known, letter, is_inbred = self.place, self.drawn.known, self.drawn.letter, self.drawn.coefficient.is_inbred
+        fill, edge = (INBRED, INBRED_INK) if is_inbred else (SIRE if known.is_male else DAM, LINE)
+        edge, thick = (INK, 2.6) if letter else (edge, 2.0 if is_inbred else 1.2)
         return (
             f'<rect x="{at.x:.1f}" y="{at.y:.1f}" width="{at.width:.1f}" height="{at.height:.1f}" rx="{self.round_by:.1f}" '
             f'fill="{fill}" stroke="{edge}" stroke-width="{thick}"/>'
@@ -116,9 +124,9 @@ class Box:
         drawn_times = [self.language.texts["drawn times"].format(times)] if times > 1 else []
         return ", ".join([year_of(self.book, self.drawn.known, self.language), *drawn_times])
 
-    def id_size(self, most: float, least: float) -> float:
-        """So large that the id fits, within bounds."""
-        room = self.place.width - 2 * PADDING - self.taken
+    def id_size(self, most: float, least: float, less: float = 0.0) -> float:
+        """So large that the id fits, within bounds, in a line that is so much shorter."""
+        room = self.place.width - 2 * PADDING - self.taken - less
         return max(least, min(most, most * room / max(width_of(self.drawn.known.id, most, True), 1.0)))
 
     def three(self) -> list[str]:
@@ -144,7 +152,8 @@ class Box:
     def one(self) -> list[str]:
         known = self.drawn.known
         y, less = self.place.height / 2 + 3.5, self.taken + self.room_for_percent(9)
-        size = min(10.0, self.place.height * 0.62)
+        most = min(10.0, self.place.height * 0.62)
+        size = self.id_size(most, min(most, 7.5), self.room_for_percent(9))
         id = fitted_id(known.id, self.place.width - 2 * PADDING - less, size, True)
         used = width_of(id, size, True) + 5
         name = known.name if id == known.id else ""

@@ -36,9 +36,11 @@ class Pedigree:
         whole = grow(book, known.number, 0, generations, 0.0)[0]
         nodes = nodes_of(whole)
         self.times = collections.Counter(node.number for node in nodes)
-        self.letters = common_ancestors(book, known.number, [node.number for node in nodes[1:]])
         pages = math.ceil(min(generations, depth_of(whole)) / ON_A_PAGE)
         self.most = generations if pages < 2 else math.ceil(generations / pages)
+        # the letters begin on the first page
+        in_order = sorted(nodes[1:], key=lambda node: node.generation > self.most)
+        self.letters = common_ancestors(book, known.number, [node.number for node in in_order])
         last = [node for node in nodes if node.generation == self.most and node.parents]
         self.tops = list(dict.fromkeys([known.number, *(node.number for node in last)]))
         self.left = generations - self.most

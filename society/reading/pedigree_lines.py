@@ -16,6 +16,8 @@ STANDARD_INPUT = pathlib.Path("-")
 # where blanks stand between cells, an id with blanks has quotation marks
 QUOTED = r'"(?:\\"|[^"])*"'
 CELL = re.compile(rf"{QUOTED}|\S+")
+# the titles of PLINK 2 begin as a comment does
+TITLES_OF_PLINK = re.compile(r"#(?=[FI]ID\s)")
 
 
 class Line(NamedTuple):
@@ -31,7 +33,7 @@ class Line(NamedTuple):
 def read_lines(path: pathlib.Path) -> list[Line]:
     """The lines that have cells; `#` begins a comment. The first line says what stands between cells."""
     text, _ = decoded(path, read_bytes(path))
-    numbered = enumerate(text.splitlines(), 1)
+    numbered = enumerate((TITLES_OF_PLINK.sub("", line) if line[:1] == "#" else line for line in text.splitlines()), 1)
     lines = [(number, part) for number, part in numbered if part.strip() and not part.lstrip().startswith("#")]
     separator = next((one for one in ";\t," if lines and one in lines[0][1]), None)
     if separator:

@@ -12,13 +12,14 @@ from society.reading.words import listed, plain
 # and of the programs of evaluation centres.
 TITLES = {
     Field.ID: "indiv, individual, ind, idnum, iid, label, calf, anim, aid, progeny, offspring, kid, child, self, "
-    "subject, genotype, clone, tree, fish, name, filho, produto, animal_id, nom, hijo, cria",
+    "subject, genotype, clone, tree, fish, name, filho, produto, animal_id, nom, hijo, cria, individuo",
     Field.SIRE: "pat, dad, dadid, fatherid, father id, paternal id, pid, sid, sire number, pai, padre, pere, "
     "male parent, pollen parent",
     Field.DAM: "mat, mom, momid, mum, motherid, mother id, maternal id, mid, did, dam number, mae, madre, mere, "
     "female parent, seed parent",
     Field.SEX: "sexo, sexo animal, sex code",
-    Field.BIRTH: "yob, byear, birthyear, birthdate, bdate, cohort, nascimento, nacimiento",
+    Field.BIRTH: "yob, byear, birthyear, birthdate, bdate, cohort, nascimento, data de nascimento, nacimiento, "
+    "fecha de nacimiento, fechanacimiento",
 }  # fmt: skip
 # titles that are read beside others alone: an animal may have such an id
 SHORT = {Field.SIRE: "s, f, p", Field.DAM: "d, m"}

@@ -3,7 +3,7 @@ from __future__ import annotations
 
 import pathlib
 
-from society.mistake import Mistake, counted, some_of
+from society.mistake import Mistake, some_of
 from society.pedigree_order import ancestors
 from society.reading.animal import Animal
 from society.reading.id_lists import read_ids
@@ -19,5 +19,5 @@ def keep_with_ancestors(animals: dict[str, Animal], path: pathlib.Path) -> str:
     kept = ancestors(wanted, lambda id: (parent for parent in animals[id].parent_ids() if parent in animals))
     for id in animals.keys() - kept - set(wanted):
         del animals[id]
-    named = counted(len(wanted), "animal")
+    named = f"{len(wanted):,} animal{'s' * (len(wanted) != 1)}"
     return f"kept: {named} of {path} with their ancestors, {len(animals):,} of {before:,} lines"

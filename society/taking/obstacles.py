@@ -192,8 +192,8 @@ class LinksLost(Obstacle):
 
     def words(self) -> str:
         return (
-            f"nothing is taken, since that changes coefficients ({counted(self.links, 'link')}): mend these lines, or take "
-            "the pedigree without these links"
+            f"{counted(self.links, 'link')} can't stand in a book, and to leave a link out changes coefficients: mend the "
+            "lines, or take the pedigree without"
         )
 
     def suggestions(self) -> tuple[Suggestion, ...]:
@@ -210,8 +210,8 @@ class SiresAndDams(Obstacle):
     def words(self) -> str:
         are = "is" if self.animals == 1 else "are"
         return (
-            f"{counted(self.animals, 'animal')} {are} both sire and dam: {self.told}. Nothing is taken: a book has each "
-            "animal as a male or as a female, and a link that is left out changes coefficients"
+            f"{counted(self.animals, 'animal')} {are} both sire and dam: {self.told}. A book has each animal as a male or "
+            "as a female, and to leave a link out changes coefficients"
         )
 
     def suggestions(self) -> tuple[Suggestion, ...]:

@@ -68,9 +68,8 @@ def about(outcome: Outcome) -> list[str]:
     lines = list(outcome.about)
     if outcome.after is None:
         return lines
-    counts = outcome.counts()
-    if counts[What.CHANGED]:
-        lines.append("changed: " + ", ".join(f"{name} {count}" for name, count in outcome.changed().most_common()))
+    if changed := outcome.changed():
+        lines.append("changed: " + ", ".join(f"{name} {count}" for name, count in changed.most_common()))
     if outcome.after.is_anew:
         lines.append(f"{outcome.folder / COMMANDS} is written anew, since something in it was corrected or dropped")
     if outcome.after.numbers_begin:

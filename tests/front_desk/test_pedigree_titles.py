@@ -17,8 +17,10 @@ FILES = {
     "Calf,Sire,Dam,Sex": ("{0},{1},{2},{3}", ""),
     "Anim S D": ("{0} {1} {2}", "."),
     "FID IID PAT MAT SEX": ("1 {0} {1} {2} {5}", "0"),
+    "## of PLINK 2\n#FID\tIID\tPAT\tMAT\tSEX": ("1\t{0}\t{1}\t{2}\t{5}", "0"),
     "Progeny Father Mother": ("{0} {1} {2}", "-9"),
     "Label Pai Mãe": ("{0} {1} {2}", "*"),
+    "Individuo;Padre;Madre;Sexo;FechaNacimiento": ("{0};{1};{2};{5};{4}", "0"),
     "id dam sire": ("{0} {2} {1}", "unk"),
     "animal\tdam\tsire\tyob": ("{0}\t{2}\t{1}\t{4}", "-1"),
 }
@@ -36,7 +38,7 @@ def test_titles_of_programs(desk: Desk, titles: str) -> None:
     assert "columns: id from '" in done.out and " 5 new" in done.last and " 0 left out, 0 added" in done.last
     found = {row["id"]: (row["coefficient"], row["birth"]) for row in desk.listed("list")}
     assert {id: coefficient for id, (coefficient, _) in found.items()} == dict.fromkeys("abcd", "0") | {"e": "1/4"}
-    has_birth = "Born" in titles or "yob" in titles
+    has_birth = any(title in titles for title in ("Born", "yob", "Fecha"))
     assert found["e"][1].startswith("1994-") == has_birth
     assert ("birth days" in done.out) != has_birth
     assert ("the sexes" in done.out) != ("sex" in titles.lower())

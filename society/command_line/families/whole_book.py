@@ -18,6 +18,16 @@ from society.command_line.parser import Words
 from society.herdbook import Herdbook
 from society.mistake import Mistake, counted
 
+# what each setting is
+SETTINGS = {
+    Setting.NAME: "the society's name",
+    Setting.ADDRESS: "its address",
+    Setting.BREED: "the breed with which new numbers begin, three letters",
+    Setting.COUNTRY: "the country in new numbers, three letters",
+    Setting.UNKNOWN: "words for an unknown parent, as take --unknown names them",
+    Setting.LANGUAGE: "the language of the desk in a browser, en, de or fr",
+}
+
 
 def add_words(words: Words) -> None:
     history = words.add_for_book("history", do_history, "write what was changed, when and by whom")
@@ -29,10 +39,13 @@ def add_words(words: Words) -> None:
     )
     back.add_argument("--to", type=whole_number, metavar="N", help="the state after this change, 0 for the empty book")
     settings = words.add(
-        "settings", do_settings, "keep what the society says of itself, or write it", "Certificates show it."
+        "settings",
+        do_settings,
+        "keep what the society says of itself, or write it",
+        "Certificates show name and address.",
     )
     for setting in Setting:
-        settings.add_argument(f"--{setting}", metavar="TEXT", help=f"the society's {setting}, '' for none [as it is]")
+        settings.add_argument(f"--{setting}", metavar="TEXT", help=f"{SETTINGS[setting]}, '' for none [as it is]")
     words.add_for_book(
         "verify", do_verify, "see whether the book is whole, and its replies and coefficients are the program's"
     )
