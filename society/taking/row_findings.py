@@ -47,6 +47,32 @@ class IdUsedAgain(LeftOut):
 
 
 @dataclass(frozen=True, slots=True)
+class BornAfterOffspring(LeftOut):
+    """The row has the name and the sex that the book has, but a birth day years later, and after that of an offspring."""
+
+    born_there: datetime.date
+    born_here: datetime.date
+    offspring: str
+    offspring_born: datetime.date
+
+    part = Part.ROW
+    harm = Harm.ANIMALS
+
+    def thing(self) -> str:
+        return "the row"
+
+    def why(self) -> str:
+        return (
+            f"born {self.born_here}, it would be younger than its offspring {self.offspring}, born {self.offspring_born}; "
+            f"the book has born {self.born_there}: if the day is mistyped, mend it; if the tag was used again, give this "
+            "animal an id of its own, also where its offspring name it"
+        )
+
+    def suggestions(self) -> tuple[Suggestion, ...]:
+        return (Suggestion("if it is the same animal, born on this day", (ANYWAY,)),)
+
+
+@dataclass(frozen=True, slots=True)
 class CommandLeftOut(LeftOut):
     """An exit or a transfer that the program refuses, and the offspring for which an exit is."""
 

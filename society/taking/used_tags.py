@@ -2,10 +2,11 @@
 from __future__ import annotations
 
 from society.book.book import Book
+from society.book.commands import Record
 from society.book.known import Known
 from society.reading.animal import Animal
 from society.taking.report import Report
-from society.taking.row_findings import IdUsedAgain
+from society.taking.row_findings import BornAfterOffspring, IdUsedAgain
 
 # an animal that is born so many days later may be another one
 YEARS_LATER = 700
@@ -17,12 +18,19 @@ def leave_out_used_tags(animals: dict[str, Animal], book: Book, report: Report) 
     calves = earliest_calves(book)
     for id, animal in list(animals.items()):
         known = book.known.get(id)
-        if known and is_another(animal, known, book, calves.get(known.number)):
-            born = book.records[known.number].born
+        if not known or not is_years_later(animal, known, book):
+            continue
+        born, calf = book.records[known.number].born, calves.get(known.number)
+        if is_another(animal, known):
             lines = lines_that_name(animals, animal)
             report.add(animal.line, id, IdUsedAgain(born, known.name, animal.birth.first, animal.name, lines))
-            del animals[id]
-            found.add(id)
+        elif calf and calf.born <= animal.birth.first:
+            first = book.by_number()[calf.number].id
+            report.add(animal.line, id, BornAfterOffspring(born, animal.birth.first, first, calf.born))
+        else:
+            continue
+        del animals[id]
+        found.add(id)
     return found
 
 
@@ -41,24 +49,25 @@ def tell_used_again(animals: dict[str, Animal], others: list[Animal], report: Re
         report.add(other.line, other.id, found)
 
 
-def earliest_calves(book: Book) -> dict[str, int]:
-    """The day on which the first offspring of each parent was born."""
-    found: dict[str, int] = {}
+def earliest_calves(book: Book) -> dict[str, Record]:
+    """The first offspring of each parent."""
+    found: dict[str, Record] = {}
     for record in book.records.values():
         for parent in (record.sire, record.dam):
-            if parent:
-                found[parent] = min(found.get(parent, record.born.toordinal()), record.born.toordinal())
+            if parent and (parent not in found or record.born < found[parent].born):
+                found[parent] = record
     return found
 
 
-def is_another(animal: Animal, known: Known, book: Book, first_calf: int | None) -> bool:
-    """Was it born years after the animal of the book, and has it another name or another sex, or has that one offspring
-    that is older?"""
-    record = book.records[known.number]
+def is_years_later(animal: Animal, known: Known, book: Book) -> bool:
+    """Was it born years after the animal of the book? A day that was inferred tells nothing."""
     if not animal.has_day() or known.birth.is_inferred:
         return False
-    if (animal.birth.first - record.born).days < YEARS_LATER:
-        return False
+    return (animal.birth.first - book.records[known.number].born).days >= YEARS_LATER
+
+
+def is_another(animal: Animal, known: Known) -> bool:
+    """Has it another name or another sex than the animal of the book?"""
     has_other_name = animal.name and known.name and animal.name.casefold() != known.name.casefold()
     has_other_sex = animal.sex and not known.sex.is_inferred and animal.sex != known.number[6]
-    return bool(has_other_name or has_other_sex or (first_calf and first_calf <= animal.birth.first.toordinal()))
+    return bool(has_other_name or has_other_sex)

@@ -70,6 +70,23 @@ def test_tag_used_again(desk: Desk) -> None:
     assert desk.born()["DE 8"] == "2012-03-02"
 
 
+def test_birth_after_offspring(desk: Desk) -> None:
+    """An animal of the same name and sex, born after the offspring that the book has, may have a mistyped day: nobody is
+    told that it is another one."""
+    desk.take(TITLES + FLOCK + "c1;;F;2004-01-01;DE 007;DE 8\nc2;;F;2003-01-01;DE 007;DE 8\n")
+    for row in "DE 8;Eva;F;2012-03-02;;", "DE 8;;;2012-03-02;;":
+        done = desk.take(TITLES + FLOCK.splitlines()[0] + f"\n{row}\nc1;;F;2004-01-01;DE 007;DE 8\nc2;;F;2003;DE 007;DE 8\n")
+        done.tells(
+            "line 3: DE 8: the row is left out: born 2012-03-02, it would be younger than its offspring c2, born 2003-01-01; "
+            "the book has born 2001-03-02: if the day is mistyped, mend it; if the tag was used again, give this animal an "
+            "id of its own, also where its offspring name it; if it is the same animal, born on this day, say --anyway"
+        )
+        assert (desk.born()["DE 8"], desk.parents()["c2"]) == ("2001-03-02", ("DE 007", "DE 8"))
+        assert "another animal" not in done.out and " 0 gone" in done.last
+    desk.typed(done.commands()[0])
+    assert desk.born()["DE 8"] == "2012-03-02"
+
+
 @pytest.mark.parametrize("is_first", [True, False])
 def test_tag_twice_in_a_sheet(desk: Desk, is_first: bool) -> None:
     """The animal that was born first is taken, in whatever order the rows are; the other is told, with the lines that name

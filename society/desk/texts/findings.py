@@ -39,6 +39,13 @@ FINDINGS: dict[str, tuple[str, str]] = {
         "la ligne est omise : le livre a cette boucle pour un autre animal, né le {born_there} ; ici né le {born_here}. Si "
         "c'en est un autre, donnez-lui une autre boucle",
     ),
+    "born after offspring": (
+        "die Zeile ist weggelassen: geboren am {born_here}, wäre es jünger als sein Nachkomme {offspring}, geboren am "
+        "{offspring_born}; das Herdbuch hat den {born_there}. Berichtigen Sie den Tag, oder geben Sie einem anderen Tier eine "
+        "andere Ohrmarke",
+        "la ligne est omise : né le {born_here}, il serait plus jeune que son descendant {offspring}, né le {offspring_born} ; "
+        "le livre a le {born_there}. Corrigez la date, ou donnez une autre boucle à un autre animal",
+    ),
     "command left out": (
         "{command} am {day} ist weggelassen: {refusal}[ ({offspring})]", "{command} le {day} : omis, {refusal}[ ({offspring})]",
     ),
