@@ -8,6 +8,7 @@ from society.reading.cell_findings import DayLeftOut, EmbryoUnread, ExitInferred
 from society.reading.day_cells import DayCell, DayCells
 from society.reading.days import ANY_DAY, DayFault, Span
 from society.reading.encodings import Letters
+from society.reading.exits import exit_word
 from society.reading.sexes import Sexes
 from society.reading.unknown import UnknownParents
 from society.reading.unread import Unread
@@ -87,6 +88,8 @@ class AnimalCells:
             left = None
         if left:
             animal.left, animal.exit_basis = left.last, exit.basis
+            if not exit.is_span and not exit_word(text):
+                self.unread.other_words.append((text, animal.line))
             if animal.exit_basis.is_inferred or not exit.is_span:
                 inferred = ExitInferred(animal.left, animal.exit_basis, "" if exit.is_span else text)
                 self.report.add(animal.line, animal.id, inferred)

@@ -73,6 +73,34 @@ class LineAgain(IdAgain):
         return "the line"
 
 
+class OddRow(Finding):
+    """A row that may be no animal is taken as one."""
+
+    what = What.LOOK
+    harm = Harm.ANIMALS
+
+
+@dataclass(frozen=True, slots=True)
+class LikeASum(OddRow):
+    """A row that seems to count or to sum up."""
+
+    def words(self) -> str:
+        return (
+            "is this row an animal? It is taken as one: leave out rows that count or sum up, and take the sheet again"
+        )
+
+
+@dataclass(frozen=True, slots=True)
+class IdAlone(OddRow):
+    """A row that says nothing of an animal but its id, and of which no animal has that as a parent."""
+
+    def words(self) -> str:
+        return (
+            "is this row an animal? It has an id alone, and no animal has it as a parent. It is taken as one: leave out rows "
+            "that count or sum up, and take the sheet again"
+        )
+
+
 class CellLeftOut(LeftOut):
     part = Part.CELL
 

@@ -12,6 +12,7 @@ from society.reading.animal_cells import AnimalCells
 from society.reading.cell_findings import DAYS, NoId, TooManyCells
 from society.reading.column_findings import SheetFinding
 from society.reading.errors import ErrorValues
+from society.reading.odd_rows import tell_odd_rows
 from society.reading.order import Order
 from society.reading.same_ids import SameIds
 from society.reading.sexes import Sexes
@@ -19,8 +20,7 @@ from society.reading.sheet import Sheet
 from society.reading.sheet_findings import CutNumber, FormulaCell, Place
 from society.reading.unknown import UnknownParents
 from society.reading.unread import Unread
-from society.reading.words import KNOWN_SUMS, is_error_value, plain
-from society.taking.look_findings import LikeASum
+from society.reading.words import is_error_value
 from society.taking.report import Report
 from society.taking.used_tags import tell_used_again
 
@@ -123,9 +123,7 @@ class Rows:
     def look_at_all(self, animals: dict[str, Animal]) -> None:
         """What is told of the sheet as a whole, and of rows that seem to count or to sum up."""
         self.errors.leave_out(animals, self.report)
-        for animal in animals.values():
-            if plain(animal.id.split()[0]) in KNOWN_SUMS:
-                self.report.add(animal.line, animal.id, LikeASum())
+        tell_odd_rows(animals, self.sheet.rows, self.report)
         order = Order(self.slashed_days())
         fault, note = order.fault(self.month_first), order.note(self.month_first)
         self.faults += [*([fault] if fault else []), *self.cut_numbers(), *self.unread.mostly(), *self.errors.mostly()]

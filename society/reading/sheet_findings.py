@@ -7,7 +7,6 @@ from society.book.changes import Option
 from society.book.kinds import Field
 from society.mistake import counted
 from society.reading.column_findings import SheetFinding, column
-from society.reading.exits import exit_word
 from society.taking.suggestions import Suggestion
 
 # so many texts are shown
@@ -153,21 +152,6 @@ class CellsUnread(SheetFinding):
 
 
 OPTIONAL_WORDS = {Field.EXIT: "exits", Field.SINCE: "changes of owners", Field.EMBRYO: "stored embryos"}
-
-
-@dataclass(frozen=True, slots=True)
-class ExitsWithoutDay(SheetFinding):
-    """Cells such as `sold`."""
-
-    cells: Cells
-
-    def words(self) -> str:
-        word = exit_word(self.cells.texts[0].text)
-        return (
-            f"an exit without a day stands in {self.cells.place()}, {self.cells.shown()}: such an animal counts as gone, "
-            "on a day that isn't known unless the book has it; where you know the day, write it as 01.03.2001, or "
-            f"behind the word, as {word} 01.03.2001"
-        )
 
 
 @dataclass(frozen=True, slots=True)

@@ -5,8 +5,9 @@ import collections
 
 from society.book.kinds import Field
 from society.reading.column_findings import SheetFinding
+from society.reading.exit_findings import ExitsInOtherWords, ExitsWithoutDay
 from society.reading.exits import exit_word
-from society.reading.sheet_findings import MOST_TEXTS, Cells, CellsUnread, ExitsWithoutDay, TextCount
+from society.reading.sheet_findings import MOST_TEXTS, Cells, CellsUnread, TextCount
 
 # a text, and its line
 Cell = tuple[str, int]
@@ -21,6 +22,8 @@ class Unread:
         self.cells: collections.defaultdict[str, list[Cell]] = collections.defaultdict(list)
         # texts such as `sold`, which say something, though no day
         self.exits: list[Cell] = []
+        # texts with a day that is taken for that of an exit, though no word tells of one
+        self.other_words: list[Cell] = []
         self.read: collections.Counter[str] = collections.Counter()
 
     def add(self, field: str, text: str, line: int) -> None:
@@ -29,7 +32,8 @@ class Unread:
 
     def found(self) -> list[SheetFinding]:
         told: list[SheetFinding] = [CellsUnread(self.of(field, cells)) for field, cells in self.cells.items()]
-        return told + ([ExitsWithoutDay(self.of(Field.EXIT, self.exits))] if self.exits else [])
+        told += [ExitsWithoutDay(self.of(Field.EXIT, self.exits))] if self.exits else []
+        return told + ([ExitsInOtherWords(self.of(Field.EXIT, self.other_words))] if self.other_words else [])
 
     def of(self, field: str, cells: list[Cell]) -> Cells:
         counts = collections.Counter(text for text, _ in cells).most_common()

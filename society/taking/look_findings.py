@@ -187,35 +187,6 @@ class MostChanged(Look):
 
 
 @dataclass(frozen=True, slots=True)
-class BirthMovedByYears(Look):
-    """The birth day of the book and that of the sheet are years apart, and nothing else tells that these are two
-    animals."""
-
-    before: datetime.date
-    now: datetime.date
-
-    harm = Harm.ANIMALS
-
-    def words(self) -> str:
-        return (
-            f"its birth day is {self.now}, and was {self.before}: is this another animal, whose tag was used again? Then "
-            "undo this, and give it an id of its own, also where its offspring name it"
-        )
-
-
-@dataclass(frozen=True, slots=True)
-class LikeASum(Look):
-    """A row that seems to count or to sum up."""
-
-    harm = Harm.ANIMALS
-
-    def words(self) -> str:
-        return (
-            "is this row an animal? It is taken as one: leave out rows that count or sum up, and take the sheet again"
-        )
-
-
-@dataclass(frozen=True, slots=True)
 class OwnerRespelt(Look):
     """All animals of an owner have one now whose name is much alike, and whom the book didn't have."""
 

@@ -13,9 +13,10 @@ from society.book.role import Role
 from society.reading.animal import Animal
 
 from society.taking.look_findings import (
-    BirthMovedByYears, BirthsTooNear, CastratedSire, ManyOldAsLiving, OldAsLiving, SireLeftLongBefore, YoungParent,
+    BirthsTooNear, CastratedSire, ManyOldAsLiving, OldAsLiving, SireLeftLongBefore, YoungParent,
 )  # fmt: skip
 from society.taking.report import Report
+from society.taking.row_findings import BirthMovedByYears
 from society.taking.used_tags import YEARS_LATER
 
 YOUNGEST, APART = 180, 100

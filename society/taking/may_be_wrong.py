@@ -8,7 +8,8 @@ from dataclasses import dataclass
 
 from society.book.kinds import Field
 from society.reading.cell_findings import CellLeftOut, ErrorValue
-from society.reading.sheet_findings import CellsUnread, ErrorCells, ExitsWithoutDay
+from society.reading.exit_findings import ExitsWithoutDay
+from society.reading.sheet_findings import CellsUnread, ErrorCells
 from society.taking.harm import Harm
 from society.taking.report import Entry, Finding, Report, What
 from society.taking.sentences import sentences_of

@@ -1,4 +1,4 @@
-"""Rows that a book doesn't take: each kind as data, and in words."""
+"""Rows that don't fit what a book has: each kind as data, and in words."""
 from __future__ import annotations
 
 import datetime
@@ -70,6 +70,24 @@ class BornAfterOffspring(LeftOut):
 
     def suggestions(self) -> tuple[Suggestion, ...]:
         return (Suggestion("if it is the same animal, born on this day", (ANYWAY,)),)
+
+
+@dataclass(frozen=True, slots=True)
+class BirthMovedByYears(Finding):
+    """The birth day of the book and that of the sheet are years apart, and nothing else tells that these are two
+    animals."""
+
+    before: datetime.date
+    now: datetime.date
+
+    what = What.LOOK
+    harm = Harm.ANIMALS
+
+    def words(self) -> str:
+        return (
+            f"its birth day is {self.now}, and was {self.before}: is this another animal, whose tag was used again? Then "
+            "undo this, and give it an id of its own, also where its offspring name it"
+        )
 
 
 @dataclass(frozen=True, slots=True)

@@ -108,6 +108,8 @@ EXITS = {
     "† 3. April 2010": "2010-04-03",
     "sold 01.01.2000": "day unknown",
     "01.01.2000": "day unknown",
+    "gekört 2020": "2020-12-31",
+    "an Meier, 03.04.2020": "2020-04-03",
 }
 
 
@@ -116,12 +118,17 @@ def test_exits(desk: Desk) -> None:
     rows = "".join(f"a{at};F;2001-01-01;;;{text}\n" for at, text in enumerate(EXITS))
     done = desk.take(TITLES + rows)
     left = {line.split(",")[1]: line.split(",")[2] for line in desk.commands() if line.startswith("exit")}
-    exits = [left.get(row["number"], row["exit"].partition(":")[0]) for row in desk.table("book/ids.csv")]
-    assert exits == list(EXITS.values())
+    exits = {row["id"]: left.get(row["number"], row["exit"].partition(":")[0]) for row in desk.table("book/ids.csv")}
+    assert [exits[f"a{at}"] for at, _ in enumerate(EXITS)] == list(EXITS.values())
     done.tells(
         "line 10: a8: its exit is left out: the day in 'sold 01.01.2000' would be before its birth; the animal counts as "
         "gone",
         "line 11: a9: its exit is left out: 01.01.2000 is before its birth; the animal counts as gone",
+    )
+    done.shows(
+        "to look at: a day beside words that tell of no exit stands in 2 of 8 cells that tell of an exit in the column 'exit', "
+        "the first in line 12: 'gekört 2020', 'an Meier, 03.04.2020': each counts as an exit on this day; where the animal "
+        "hasn't left, write nothing or alive, lebt or vivant"
     )
 
 

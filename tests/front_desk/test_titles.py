@@ -107,10 +107,20 @@ def test_column_without_cells(desk: Desk) -> None:
     assert desk.table("book/ids.csv")[0]["name"] == "Bonny"
 
 
+LOOK = "to look at: is this row an animal? It "
+
+
 def test_sums(desk: Desk) -> None:
-    done = desk.take("id;birth;sire;dam\na;2001-01-01;;\nSumme: 1;;;\n")
-    done.tells(
-        "line 3: Summe: 1: to look at: is this row an animal? It is taken as one: leave out rows that count or sum up, and "
-        "take the sheet again"
-    )
-    assert "2 animals" in done.last
+    """A row that counts or sums up is told, in whatever column its word is; so is one that has an id alone."""
+    rows = "Hof;Rex;a;2001-01-01;;\nHof;Count;b;2002-01-01;;\nHof;;c;2003-01-01;;\nHof;;d;2003-01-02;;d 0\n;;d0;;;\n"
+    odd = ";;Summe: 4;;;\nGesamt;;4;;;\n;;04;;Anzahl:;\nBöcke;;2;;;\n"
+    done = desk.take("Besitzer;Name;id;birth;sire;dam\n" + rows + odd)
+    alone = "has an id alone, and no animal has it as a parent. It is taken as one"
+    beginnings = [
+        f"line 7: Summe: 4: {LOOK}is taken as one", f"line 8: 4: {LOOK}is taken as one", f"line 9: 04: {LOOK}is taken as one",
+        f"line 10: 2: {LOOK}{alone}",
+    ]  # fmt: skip
+    told = [line for line in done.out.splitlines() if "is this row an animal" in line]
+    assert len(told) == 4 and all(line.startswith(beginning) for line, beginning in zip(told, beginnings)), told
+    # a list of ids has no odd rows
+    assert "is this row" not in desk.take("id;birth;sire;dam\na;;;\nb;;;\n", "--book", "ids").out

@@ -108,6 +108,10 @@ FINDINGS: dict[str, tuple[str, str]] = {
         "ist diese Zeile ein Tier? Sie wird so übernommen: lassen Sie Zeilen weg, die zählen oder zusammenfassen",
         "cette ligne est-elle un animal ? Elle est reprise ainsi : omettez les lignes de totaux",
     ),
+    "id alone": (
+        "ist diese Zeile ein Tier? Sie hat nur eine Ohrmarke, und kein Tier hat es als Elterntier. Sie wird so übernommen",
+        "cette ligne est-elle un animal ? Elle n'a qu'une boucle, et aucun animal ne l'a pour parent. Elle est reprise ainsi",
+    ),
     "owner respelt": (
         "die {animals} Tiere von „{before}“ sind jetzt von „{now}“, den das Herdbuch nicht hatte: ist es derselbe, anders "
         "geschrieben?",

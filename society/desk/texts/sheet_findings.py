@@ -47,6 +47,12 @@ FINDINGS: dict[str, tuple[str, str]] = {
         "{cells_count} sorties sans date dans la colonne « {cells_title} », la première à la ligne {cells_line} : "
         "{cells_texts}. Les animaux comptent comme sortis",
     ),
+    "exits in other words": (
+        "ein Tag neben Wörtern, die von keinem Abgang sprechen, steht in {cells_count} Zellen der Spalte „{cells_title}“, zuerst "
+        "in Zeile {cells_line}: {cells_texts}. Jeder zählt als Abgang: schreiben Sie „lebt“, wo ein Tier nicht abgegangen ist",
+        "une date à côté de mots qui ne disent aucune sortie est dans {cells_count} cellules de la colonne « {cells_title} », "
+        "d'abord à la ligne {cells_line} : {cells_texts}. Chacune compte comme sortie : écrivez « vivant » si l'animal est là",
+    ),
     "error cells": (
         "{count} Zellen mit einem Fehler der Tabelle in {titles}, die erste in Zeile {line}: sie zählen als leer",
         "{count} cellules avec une erreur du tableur dans {titles}, la première à la ligne {line} : elles comptent comme vides",
