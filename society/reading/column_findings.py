@@ -124,13 +124,29 @@ class NamedColumnLacks(SheetFinding):
         return (Suggestion(f"if '{self.meant}' is meant", (column(self.field, self.meant),)),)
 
 
+# what a column has, in words
+HAS = {Field.ID: "the ids", Field.BIRTH: "the birth days", Field.SIRE: "the sires", Field.DAM: "the dams"}
+
+
+@dataclass(frozen=True, slots=True)
+class LikelyColumn:
+    """A column whose cells may be those of a field."""
+
+    field: Field
+    title: str
+
+    def words(self) -> str:
+        return f"'{self.title}' has {HAS.get(self.field, self.field)}"
+
+
 @dataclass(frozen=True, slots=True)
 class ColumnsLack(SheetFinding):
-    """No column is found for fields that a sheet has to have."""
+    """No column is found for fields that a sheet has to have; `likely` are those whose cells may be theirs."""
 
     line: int
     fields: tuple[Field, ...]
     titles: tuple[str, ...]
+    likely: tuple[LikelyColumn, ...] = ()
 
     def words(self) -> str:
         titles = ": does this line have the titles of the columns?" * (len(self.fields) >= MANY)
@@ -140,8 +156,48 @@ class ColumnsLack(SheetFinding):
         )
 
     def suggestions(self) -> tuple[Suggestion, ...]:
+        titles = ",".join(f"{one.field}={one.title}" for one in self.likely)
+        case = " and ".join(one.words() for one in self.likely)
+        found = (Suggestion(f"if {case}", (Option("--columns", titles),)),) if self.likely else ()
         if Field.ID in self.fields or len(self.fields) >= MANY:
-            return ()
+            return found
         none = ",".join(f"{field}=" for field in self.fields)
         which = "there is none" if len(self.fields) == 1 else "there are none"
-        return (Suggestion(f"if {which}", (Option("--columns", none),)),)
+        return (*found, Suggestion(f"if {which}", (Option("--columns", none),)))
+
+
+@dataclass(frozen=True, slots=True)
+class ColumnLost(SheetFinding):
+    """No column is found for a field that the last sheet had; `likely` is the title of one that may have it."""
+
+    field: Field
+    title: str
+    likely: str
+
+    def words(self) -> str:
+        return f"no column for {self.field} is found: it was '{self.title}' at the last time; what the book has stays"
+
+    def suggestions(self) -> tuple[Suggestion, ...]:
+        likely = (
+            (Suggestion(f"if '{self.likely}' is the one", (column(self.field, self.likely),)),) if self.likely else ()
+        )
+        return (*likely, Suggestion("if there is none", (column(self.field, ""),)))
+
+
+@dataclass(frozen=True, slots=True)
+class IdsCountRows(SheetFinding):
+    """The column of the ids counts the rows, and another one has a text of its own in each."""
+
+    title: str
+    other: str
+
+    harm = Harm.ANIMALS
+
+    def words(self) -> str:
+        return (
+            f"the ids are read from '{self.title}', which counts the rows: sorted otherwise, another animal would have each "
+            "number"
+        )
+
+    def suggestions(self) -> tuple[Suggestion, ...]:
+        return (Suggestion(f"if '{self.other}' has the ids", (column(Field.ID, self.other),)),)

@@ -8,10 +8,11 @@ from society.alike import closest
 from society.book.kinds import Field
 
 from society.reading.column_findings import (
-    ColumnsLack, LikelierColumn, NamedColumnLacks, SheetFinding, TellsNoExits, TitleTwice,
+    ColumnLost, ColumnsLack, LikelierColumn, NamedColumnLacks, SheetFinding, TellsNoExits, TitleTwice,
 )  # fmt: skip
 from society.reading.days import is_span
 from society.reading.id_column import IdColumn
+from society.reading.likely_columns import LikelyColumns
 from society.reading.sheet import Sheet
 
 from society.reading.titles import (
@@ -82,7 +83,9 @@ def find_columns(
     parents = [name for name in PARENTS if name not in named and name not in columns.found]
     IdColumn(columns, parents, unknown, ids, before.get(Field.ID, "")).find()
     tell_likelier(columns, given, before)
-    tell_missing(columns, named)
+    likely = LikelyColumns(columns, unknown)
+    tell_missing(columns, named, likely)
+    tell_lost(columns, before, likely)
     return columns
 
 
@@ -144,9 +147,17 @@ def tell_likelier(columns: Columns, given: Mapping[str, str], before: Mapping[st
             columns.notes.append(LikelierColumn(Field(name), title, columns.title(likelier[0])))
 
 
-def tell_missing(columns: Columns, named: Mapping[str, str]) -> None:
+def tell_missing(columns: Columns, named: Mapping[str, str], likely: LikelyColumns) -> None:
     missing = [name for name in NEEDED if name not in columns.found and (name == Field.ID or named.get(name) != "")]
     # a title that is named and isn't there is told already
     missing = [name for name in missing if not (named.get(name) and columns.faults)]
     if missing:
-        columns.faults.append(ColumnsLack(columns.sheet.line, tuple(missing), tuple(columns.sheet.titles)))
+        titles = tuple(columns.sheet.titles)
+        columns.faults.append(ColumnsLack(columns.sheet.line, tuple(missing), titles, likely.of_needed(missing)))
+
+
+def tell_lost(columns: Columns, before: Mapping[str, str], likely: LikelyColumns) -> None:
+    """The last sheet had a column that this one lacks, as where it has another title now."""
+    for name, title in before.items():
+        if title and name not in columns.found and name not in NEEDED:
+            columns.notes.append(ColumnLost(Field(name), title, likely.of_lost(Field(name))))

@@ -5,7 +5,7 @@ from __future__ import annotations
 from typing import TYPE_CHECKING, Collection, Container, NamedTuple
 
 from society.book.kinds import Field
-from society.reading.column_findings import IdsFromOther, IdsMoved
+from society.reading.column_findings import IdsCountRows, IdsFromOther, IdsMoved
 from society.reading.ids import nearly
 from society.reading.titles import KNOWN_TITLES
 from society.reading.words import plain
@@ -95,6 +95,9 @@ class IdColumn:
             best = other
         if best and usual and best.at != usual[0]:
             columns.notes.append(IdsFromOther(columns.title(best.at), best.found, columns.title(usual[0])))
+        texts = [fit.at for fit in more if fit.is_no_row_number and "" not in columns.cells(fit.at)]
+        if best and not best.is_no_row_number and not best.found and texts:
+            columns.notes.append(IdsCountRows(columns.title(best.at), columns.title(texts[0])))
         return best
 
     def fit(self, at: int, likely: int) -> Fit:

@@ -75,7 +75,9 @@ def test_birth_after_offspring(desk: Desk) -> None:
     told that it is another one."""
     desk.take(TITLES + FLOCK + "c1;;F;2004-01-01;DE 007;DE 8\nc2;;F;2003-01-01;DE 007;DE 8\n")
     for row in "DE 8;Eva;F;2012-03-02;;", "DE 8;;;2012-03-02;;":
-        done = desk.take(TITLES + FLOCK.splitlines()[0] + f"\n{row}\nc1;;F;2004-01-01;DE 007;DE 8\nc2;;F;2003;DE 007;DE 8\n")
+        done = desk.take(
+            TITLES + FLOCK.splitlines()[0] + f"\n{row}\nc1;;F;2004-01-01;DE 007;DE 8\nc2;;F;2003;DE 007;DE 8\n"
+        )
         done.tells(
             "line 3: DE 8: the row is left out: born 2012-03-02, it would be younger than its offspring c2, born 2003-01-01; "
             "the book has born 2001-03-02: if the day is mistyped, mend it; if the tag was used again, give this animal an "

@@ -101,6 +101,35 @@ def test_likelier_column_comes_later(desk: Desk) -> None:
     assert sum(line.startswith("exit") for line in desk.commands()) == 1
 
 
+def test_column_that_is_lost(desk: Desk) -> None:
+    """A column of the last sheet that isn't found is told, with the one that may be it, until it is said that there is
+    none."""
+    desk.take("id;birth;sire;dam;owner;sex\na;2001-01-01;;;Groß;f\n")
+    now = "id;birth;sire;dam;Owner or breeder;Nature\na;2001-01-01;;;Weiß;f\n"
+    for _ in range(2):
+        done = desk.take(now)
+        done.shows(
+            "to look at: no column for owner is found: it was 'owner' at the last time; what the book has stays",
+            "to look at: no column for sex is found: it was 'sex' at the last time; what the book has stays",
+        )
+        assert [one.partition("--columns ")[2] for one in done.commands()] == [
+            "sex=Nature", "sex=", "'owner=Owner or breeder'", "owner=",
+        ]  # fmt: skip
+    assert "for owner is found" not in desk.take(now, "--columns", "owner=").out
+    done = desk.typed(done.commands()[2])
+    assert "changed: owner 1" in done.out and "for owner is found" not in done.out
+
+
+def test_ids_that_count_rows(desk: Desk) -> None:
+    """Where no parent shows which column has the ids, and another one may have them."""
+    done = desk.take("Nr;Kürzel;birth;sire;dam\n1;DE4;2001-01-01;;\n2;DE3;2002-01-01;;\n3;DE9;2003-01-01;;\n")
+    done.shows(
+        "to look at: the ids are read from 'Nr', which counts the rows: sorted otherwise, another animal would have each number"
+    )
+    desk.write("sheet.csv", "Nr;Kürzel;birth;sire;dam\n1;DE4;2001-01-01;;\n2;DE3;2002-01-01;;\n")
+    assert "counts the rows" not in desk.typed(done.commands()[0].replace("take", "take --book other")).out
+
+
 def test_column_without_cells(desk: Desk) -> None:
     """Of two columns with usual titles one that has nothing is read last."""
     desk.take("id;birth;sire;dam;Name;Dog Name\na;2001-01-01;;;;Bonny\n")

@@ -23,6 +23,14 @@ FINDINGS: dict[str, tuple[str, str]] = {
         "die Ohrmarken werden aus „{title}“ gelesen, wo {found} Zellen der Eltern stehen, und nicht aus „{usual}“",
         "les boucles sont lues dans « {title} », où sont {found} cellules des parents, et pas dans « {usual} »",
     ),
+    "ids count rows": (
+        "die Ohrmarken werden aus „{title}“ gelesen, was die Zeilen zählt: anders sortiert hätte ein anderes Tier jede Nummer",
+        "les boucles sont lues dans « {title} », qui compte les lignes : trié autrement, un autre animal aurait chaque numéro",
+    ),
+    "column lost": (
+        "keine Spalte gefunden für {field}: beim letzten Mal war es „{title}“; was das Herdbuch hat, bleibt",
+        "aucune colonne trouvée pour {field} : la dernière fois c'était « {title} » ; ce que le livre a reste",
+    ),
     "named column lacks": (
         "die Spalte „{title}“ für {field} gibt es nicht[: ist „{meant}“ gemeint?]",
         "la colonne « {title} » pour {field} n'existe pas[ : s'agit-il de « {meant} » ?]",
