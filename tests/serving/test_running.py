@@ -1,0 +1,148 @@
+"""The examples for whoever sets a server up: the unit for systemd, and the proxy."""
+from __future__ import annotations
+
+import os
+import pathlib
+import re
+import shutil
+import signal
+import socket
+import subprocess
+import time
+
+import pytest
+
+from front_desk.desk import TOP, Desk
+from serving.visitor import WORD
+from society.desk.people import AccountRole
+from society.serving.accounts import Accounts
+
+EXAMPLES = TOP / "examples/serving"
+UNIT = (EXAMPLES / "herdbook.service").read_text(encoding="utf-8")
+NAME = "herdbook.example.org"
+SECONDS = 60
+
+
+def free_port() -> int:
+    with socket.create_server(("127.0.0.1", 0)) as taken:
+        return int(taken.getsockname()[1])
+
+
+def started_as_unit(desk: Desk, port: int, name: str = NAME) -> subprocess.Popen[str]:
+    """What the unit starts, with a folder, a port and a name of the test's own."""
+    Accounts(desk.room / "book").add("Kim", AccountRole.KEEPER, WORD, WORD)
+    begun = re.search(r"^ExecStart=(.*)$", UNIT, re.MULTILINE)
+    assert begun
+    own = {
+        "/opt/gudokeyi": str(TOP),
+        "/var/lib/herdbook/book": str(desk.room / "book"),
+        "127.0.0.1:8080": f"127.0.0.1:{port}",
+        NAME: name,
+    }
+    words = begun[1].split()
+    for before, after in own.items():
+        assert any(before in word for word in words)
+        words = [word.replace(before, after) for word in words]
+    known = {"PATH": os.environ["PATH"], "HERDBOOK": desk.program}
+    process = subprocess.Popen(words, env=known, stdout=subprocess.PIPE, stderr=subprocess.DEVNULL, text=True)
+    assert process.stdout
+    assert process.stdout.readline() == f"The desk answers at https://{name}/; Ctrl-C or SIGTERM ends it.\n"
+    return process
+
+
+def test_unit(society_desk: Desk, cheap: None) -> None:
+    """The unit's command serves the book to its proxy alone, and ends by SIGTERM, which goes to the server alone."""
+    process = started_as_unit(society_desk, port := free_port())
+    with socket.create_connection(("127.0.0.1", port), timeout=SECONDS) as connection:
+        connection.sendall(f"GET / HTTP/1.0\r\nHost: {NAME}\r\n\r\n".encode())
+        assert connection.recv(4096).startswith(b"HTTP/1.0 403")
+    process.send_signal(signal.SIGTERM)
+    assert process.communicate(timeout=SECONDS)[0] == "The desk is closed.\n" and process.returncode == 0
+    assert "KillMode=mixed" in UNIT and "User=herdbook" in UNIT
+
+
+@pytest.mark.slow
+def test_unit_as_systemd_reads_it(tmp_path: pathlib.Path) -> None:
+    """systemd finds nothing to say about the unit, and little that it leaves open."""
+    unit = tmp_path / "herdbook.service"
+    unit.write_text(UNIT.replace("/opt/gudokeyi", str(TOP)).replace("User=herdbook", "User=www-data"), encoding="utf-8")
+    done = subprocess.run(["systemd-analyze", "verify", str(unit)], capture_output=True, text=True, timeout=SECONDS)
+    assert not [line for line in done.stderr.splitlines() if "herdbook.service" in line], done.stderr
+    words = ["systemd-analyze", "security", "--offline=yes", "--threshold=35", str(unit)]
+    done = subprocess.run(words, capture_output=True, text=True, timeout=SECONDS)
+    assert done.returncode == 0, done.stdout
+
+
+def curl(room: pathlib.Path, port: int, path: str, *words: str) -> str:
+    """What a browser is answered by the proxy, with the headers."""
+    command = ["curl", "-sik", "-b", "cookies", "-c", "cookies", "--resolve", f"{NAME}:{port}:127.0.0.1", *words]
+    return subprocess.run(
+        [*command, f"https://{NAME}:{port}{path}"], cwd=room, capture_output=True, text=True, check=True
+    ).stdout
+
+
+@pytest.mark.slow
+def test_proxy(society_desk: Desk, cheap: None, tmp_path: pathlib.Path) -> None:
+    """nginx as in the example: one logs in by https, and files; what is asked without it is sent there."""
+    assert shutil.which("nginx") and shutil.which("openssl"), "as root `apt install nginx-light openssl` on Debian"
+    port, inner, plain = free_port(), free_port(), free_port()
+    made = [
+        "openssl",
+        "req",
+        "-x509",
+        "-newkey",
+        "rsa:2048",
+        "-nodes",
+        "-keyout",
+        "privkey.pem",
+        "-out",
+        "fullchain.pem",
+    ]
+    subprocess.run([*made, "-subj", f"/CN={NAME}", "-days", "2"], cwd=tmp_path, check=True, capture_output=True)
+    text = (EXAMPLES / "nginx.conf").read_text(encoding="utf-8")
+    own = {f"/etc/letsencrypt/live/{NAME}": str(tmp_path), "listen [::]": "# listen [::]", "127.0.0.1:8080": f"127.0.0.1:{inner}",
+           "listen 443": f"listen 127.0.0.1:{port}", "listen 80": f"listen 127.0.0.1:{plain}"}  # fmt: skip
+    for before, after in own.items():
+        assert before in text
+        text = text.replace(before, after)
+    (tmp_path / "nginx.conf").write_text(
+        f"daemon off; pid {tmp_path}/pid; error_log {tmp_path}/errors; events {{}}\nhttp {{ access_log off; {text} }}\n"
+    )
+    # browsers say the port where it isn't the usual one
+    server = started_as_unit(society_desk, inner, f"{NAME}:{port}")
+    proxy = subprocess.Popen(
+        ["nginx", "-p", str(tmp_path), "-c", str(tmp_path / "nginx.conf"), "-e", str(tmp_path / "errors")]
+    )
+    try:
+        time.sleep(1)
+        page = curl(tmp_path, port, "/login")
+        assert "__Host-herdbook=" in page and "Secure" in page and "Strict-Transport-Security" in page
+        token = page.partition('name="csrf_token" value="')[2].partition('"')[0]
+        origin = f"Origin: https://{NAME}:{port}"
+        words = [
+            "-H",
+            origin,
+            "--data-urlencode",
+            f"csrf_token={token}",
+            "-d",
+            "name=Kim",
+            "--data-urlencode",
+            f"password={WORD}",
+        ]
+        assert "302" in curl(tmp_path, port, "/login", *words).splitlines()[0]
+        page = curl(tmp_path, port, "/settings")
+        token = page.partition('name="csrf_token" value="')[2].partition('"')[0]
+        form = ["-d", f"csrf_token={token}", "-d", "id=GK-17/472c", "-d", "day=2024-05-01"]
+        assert "location: /answer/2" in curl(tmp_path, port, "/file/exit", "-H", origin, *form).lower()
+        assert (
+            " 403 " in curl(tmp_path, port, "/file/exit", "-H", "Origin: https://evil.example", *form).splitlines()[0]
+        )
+        plainly = subprocess.run(
+            ["curl", "-si", "-H", f"Host: {NAME}", f"http://127.0.0.1:{plain}/"], capture_output=True, text=True
+        )
+        assert " 301 " in plainly.stdout.splitlines()[0] and f"https://{NAME}/" in plainly.stdout
+    finally:
+        proxy.send_signal(signal.SIGTERM)
+        server.send_signal(signal.SIGTERM)
+        assert proxy.wait(SECONDS) == 0 and server.wait(SECONDS) == 0
+    society_desk.good("verify")
