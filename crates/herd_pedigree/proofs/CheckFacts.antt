@@ -181,14 +181,14 @@ fault-told l book now same number birth s d embryo sire dam shown si di deep tol
     (told s d (subst (λ b. IsIndexIn (keys_of b) sire s) same si) (subst (λ b. IsIndexIn (keys_of b) dam d) same di))
 
 -- of an animal that isn't in the book its depth does, by what is read of the depths of its parents and of the limit
-module _ (l most : ℕ) (book now : Book) (same : book ≡ now) (sires dams : List (Option ℕ)) (depths : List ℕ) (k : IsKept l most book sires dams depths) (number : List ℕ) (absent : record_of book number ≡ None)
-    (newborn : Newborn) (shown : fault_by_records now newborn.birth newborn.sire newborn.dam newborn.embryo ≡ None)
-    (sire dam : Option ℕ) (sire_is : IsIndexIn (keys_of now) sire newborn.sire) (dam_is : IsIndexIn (keys_of now) dam newborn.dam)
+module _ (l most : ℕ) (book : Book) (sires dams : List (Option ℕ)) (depths : List ℕ) (k : IsKept l most book sires dams depths) (number : List ℕ) (absent : record_of book number ≡ None)
+    (newborn : Newborn) (shown : fault_by_records book newborn.birth newborn.sire newborn.dam newborn.embryo ≡ None)
+    (sire dam : Option ℕ) (sire_is : IsIndexIn (keys_of book) sire newborn.sire) (dam_is : IsIndexIn (keys_of book) dam newborn.dam)
     (limit depth : ℕ) (limit_is : limit ≡ l) (depth_is : depth ≡ depth_from (slice_index depths) sire dam) where
   newborn-told : (deep : Bool) → nat_lt l (depth_from (slice_index depths) sire dam) ≡ deep → (if deep then Some TooDeep else None) ≡ parent_fault l book number newborn.birth newborn.sire newborn.dam newborn.embryo
   newborn-told deep e =
-      fault-told l now book (sym same) number newborn.birth newborn.sire newborn.dam newborn.embryo sire dam shown sire_is dam_is deep
-      (λ s d si di. sym e ∙ too_deep-absent l most book sires dams depths k number absent sire dam s d si di)
+      fault-rest l book number newborn.birth newborn.sire newborn.dam newborn.embryo deep shown
+      (sym e ∙ too_deep-absent l most book sires dams depths k number absent sire dam newborn.sire newborn.dam sire_is dam_is)
 
   pub newborn-deep : limit < depth → Some TooDeep ≡ parent_fault l book number newborn.birth newborn.sire newborn.dam newborn.embryo
   newborn-deep more = newborn-told true (lt-ltb l (depth_from (slice_index depths) sire dam) (omega (arith, more, limit_is, depth_is)))

@@ -153,47 +153,16 @@ impl<A: Allocator + Copy> Pedigree<A> {
         ensures refused { IfOk result (λ outcome. outcome ≢ Registration.Added → self.new ≡ self.old) }
         ensures err { OnErr result (self.new ≡ self.old) }
     {
-        match sound_parents(
+        let parents = match sound_parents(
             &self.records,
             newborn.birth,
             &newborn.sire,
             &newborn.dam,
             newborn.embryo,
         ) {
-            Ok(parents) => self.add_unless_too_deep(number, newborn, parents),
-            Err(fault) => Ok(self.unsound(&number, fault)),
-        }
-    }
-
-    // What becomes of a birth whose parents have a fault.
-    fn unsound(&self, number: &AnimalNumber, fault: ParentFault) -> Registration
-        ensures { result ≡ unsound self.now.book number.now fault }
-    {
-        if self.records.place_of(number).is_some() {
-            Registration::AlreadyThere
-        } else {
-            Registration::Unsound(fault)
-        }
-    }
-
-    // Adds an animal whose parents stand at these places, unless its number is there or its depth is above the limit.
-    fn add_unless_too_deep(
-        &mut self,
-        number: AnimalNumber,
-        newborn: Newborn,
-        parents: Link,
-    ) -> Result<Registration, AllocError>
-        requires room { length self.old.book < MOST_ANIMALS }
-        requires sound { fault_by_records self.old.book newborn.birth newborn.sire newborn.dam newborn.embryo ≡ None }
-        requires sire { IsIndexIn (keys_of self.old.book) parents.sire newborn.sire }
-        requires dam { IsIndexIn (keys_of self.old.book) parents.dam newborn.dam }
-        ensures outcome { IfOk result (λ outcome. outcome ≡ registration DEPTH_LIMIT self.old.book number newborn) }
-        ensures there { IsTrue (is_there self.old.book number) → result ≡ Ok Registration.AlreadyThere }
-        ensures added { result ≡ Ok Registration.Added
-            → self.new ≡ changed_to self.old (self.old.book ++ (number, birth_record newborn) ∷ []) }
-        ensures refused { IfOk result (λ outcome. outcome ≢ Registration.Added → self.new ≡ self.old) }
-        ensures err { OnErr result (self.new ≡ self.old) }
-    {
+            Ok(parents) => parents,
+            Err(fault) => return Ok(self.unsound(&number, fault)),
+        };
         let depth = depth_with(&self.depths, parents.sire, parents.dam);
         if depth > u16::from(DEPTH_LIMIT) {
             return Ok(self.unsound(&number, ParentFault::TooDeep));
@@ -212,6 +181,17 @@ impl<A: Allocator + Copy> Pedigree<A> {
         }
         self.undo = Undo::Birth;
         Ok(Registration::Added)
+    }
+
+    // What becomes of a birth whose parents have a fault.
+    fn unsound(&self, number: &AnimalNumber, fault: ParentFault) -> Registration
+        ensures { result ≡ unsound self.now.book number.now fault }
+    {
+        if self.records.place_of(number).is_some() {
+            Registration::AlreadyThere
+        } else {
+            Registration::Unsound(fault)
+        }
     }
 
     /// Sets both parents of an animal, also to unknown, and carries depths on to its descendants. The only error is a

@@ -3,7 +3,6 @@ ghost use Rattle.std.specs.Prelude.{◌≡◌, ◌<◌, ◌^◌, [], ◌++◌, �
 ghost use Rattle.std.specs.List.{IsDistinct};
 ghost use Rattle.std.specs.Map.{keys_of, values_of};
 ghost use Rattle.std.specs.Str.{bytes_eq};
-ghost use Rattle.indexmap.specs.IndexMap.{get};
 ghost use Rattle.herd_frozen.specs.rules.Book.{is_there, record_of};
 ghost use Rattle.herd_frozen.specs.places.PackedIndex.{nowhere};
 ghost use Rattle.herd_frozen.specs.places.Places.{IsIndexIn, number_at};
@@ -220,7 +219,11 @@ impl<A: Allocator> Records<A> {
         ensures absent { OnErr result (record_of self.old.book number ≡ None) }
     {
         let stored = StoredRecord::new(newborn, sire, dam);
-        insert_if_new(&mut self.entries, number, stored)
+        let Entry::Vacant(entry) = self.entries.entry(number)? else {
+            return Ok(false);
+        };
+        entry.insert(stored);
+        Ok(true)
     }
 
     /// Writes what is kept at a place. It takes no memory.
@@ -270,27 +273,5 @@ impl<A: Allocator> Registered for Records<A> {
     #[inline(always)]
     fn link_at(&self, place: usize) -> Link {
         self.entries[place].parents()
-    }
-}
-
-// Inserts a record last, unless its number is there, and returns whether it was new.
-#[inline(always)]
-fn insert_if_new<A: Allocator>(
-    entries: &mut IndexMap<AnimalNumber, StoredRecord, BuildHasherDefault<FoldHasher>, A>,
-    number: AnimalNumber,
-    stored: StoredRecord,
-) -> Result<bool, AllocError>
-    ensures new { IfOk result (λ new. new ≡ not (is_some (get bytes_eq entries.old number))) }
-    ensures added { result ≡ Ok true → entries.new.entries ≡ entries.old.entries ++ (number, stored) ∷ [] }
-    ensures there { result ≡ Ok false → entries.new.entries ≡ entries.old.entries }
-    ensures err { OnErr result (entries.new.entries ≡ entries.old.entries) }
-    ensures absent { OnErr result (get bytes_eq entries.old number ≡ None) }
-{
-    match entries.entry(number)? {
-        Entry::Vacant(entry) => {
-            entry.insert(stored);
-            Ok(true)
-        }
-        Entry::Occupied(_) => Ok(false),
     }
 }

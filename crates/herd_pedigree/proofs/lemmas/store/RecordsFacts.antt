@@ -1,5 +1,5 @@
 -- Entries with the places of parents, and the book of them.
-use Rattle.std.proofs.Common.{ℕ, zero, suc, ◌+◌, ◌<◌, ◌≡◌, ⊎_elim, arith, refl, sym, ap, ◌∙◌, subst, Bool, true, false, List, [], ◌∷◌, ◌++◌, is_some, Option, Some, None, IfSome, IsSome, Result, Ok, Err, OnErr, length, slice_get, option_to_list}
+use Rattle.std.proofs.Common.{ℕ, zero, suc, ◌+◌, ◌<◌, ◌≡◌, ⊎_elim, arith, refl, sym, ap, ◌∙◌, subst, Bool, true, false, List, [], ◌∷◌, ◌++◌, is_some, Option, Some, None, IfSome, IsSome, length, slice_get, option_to_list}
 use Rattle.std.specs.List.{IsDistinct}
 use Rattle.std.specs.Map.{keys_of, values_of, lookup}
 use Rattle.std.specs.Option.{option_map}
@@ -269,7 +269,3 @@ popped old new (Some (x, e)) is some closed book same once childless =
     let once = rw was at once in
     let childless = rw was at childless in
     (closed-pop new x e closed once childless, rw was (stored_book-pop new x e closed once childless))
-
-pub OnErr-each : {A E : Type 0} (result : Result A E) (P Q : Type 0) → (P → Q) → OnErr result P → OnErr result Q
-OnErr-each (Ok value) P Q each told = tt
-OnErr-each (Err error) P Q each told = each told
