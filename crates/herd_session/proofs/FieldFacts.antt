@@ -1,0 +1,19 @@
+-- The fields of a record from a place on.
+use Rattle.std.proofs.Common.{◌≡◌, ℕ, zero, suc, ◌<◌, ◌≤◌, [], ◌∷◌, length, drop, refl, arith}
+use Rattle.csv.specs.Records.{field_at}
+use Rattle.herd_report.specs.reading.Grammar.{Fields, field}
+
+-- the field at a place, and those behind it
+pub drop_field : (place : ℕ) (fields : Fields) → place < length fields
+    → drop place fields ≡ field place fields ∷ drop (suc place) fields
+unfolding field_at
+drop_field place [] within = absurd (omega arith)
+drop_field zero (first ∷ others) within = refl
+drop_field (suc place) (first ∷ others) within = drop_field place others (omega arith)
+
+-- no field is behind the last
+pub drop_all : (place : ℕ) (fields : Fields) → length fields ≤ place → drop place fields ≡ []
+drop_all zero [] within = refl
+drop_all (suc place) [] within = refl
+drop_all zero (first ∷ others) within = absurd (omega arith)
+drop_all (suc place) (first ∷ others) within = drop_all place others (omega arith)

@@ -1,0 +1,9 @@
+pub mod Addressees
+pub mod Answers
+pub mod Closing
+pub mod Faults
+pub mod Filed
+pub mod Output
+pub mod Questions
+pub mod Requests
+pub mod Tag

@@ -1,0 +1,87 @@
+-- What an inspector is asked, and the text that answers it.
+use Rattle.std.specs.Prelude.{◌≡◌, ◌⊎◌, ◌≤◌, ℕ, List, [], codes, drop, length, if◌then◌else◌, Option, Some, None, false}
+use Rattle.std.specs.Str.{bytes_eq}
+use Rattle.herd_frozen.specs.rules.Book.{is_there}
+use Rattle.herd_frozen.specs.freezing.Frozen.{book_of}
+use Rattle.herd_frozen.specs.declared.TheConstants.{DEPTH_LIMIT}
+use Rattle.herd_frozen.specs.declared.freezing.frozen.Row.{Row}
+use Rattle.herd_kinship.specs.FrozenAncestry.{ancestry_of}
+use Rattle.herd_kinship.specs.Table.{coefficient}
+use Rattle.herd_report.specs.reading.Grammar.{Fields, field}
+use Rattle.herd_report.specs.writing.Certificate.{certificate_of}
+use Rattle.herd_report.specs.writing.CoefficientLine.{coefficient_of}
+use Rattle.herd_report.specs.writing.InbreedingList.{inbreeding_text}
+use Rattle.herd_report.specs.writing.InverseList.{inverse_text}
+use Rattle.herd_report.specs.writing.MatingList.{mating_text}
+use Rattle.herd_report.specs.writing.RelationshipList.{relationships_text}
+use Rattle.herd_report.specs.declared.reading.line_fault.LineCause.{LineCause}
+use Rattle.herd_report.specs.declared.reading.line_fault.LineCause.TheVariants as cause
+use Rattle.herd_session.specs.declared.fault.Fault.{Fault as WhyNot}
+use Rattle.herd_session.specs.declared.fault.Fault.TheVariants as fault
+use Rattle.herd_session.specs.declared.question.Question.{Question}
+use Rattle.herd_session.specs.declared.question.Question.TheVariants.{Inbreeding, Inverse, Certificate, Mating, Relationships, Coefficient, Seen}
+use Rattle.herd_session.specs.declared.word.Word.{Word}
+use Rattle.herd_session.specs.declared.word.Word.TheVariants as word
+
+-- the kind of question that a text names
+abbrev pub word_of : List ℕ → Option Word
+word_of text =
+    if bytes_eq text (codes "inbreeding") then Some word.Inbreeding
+    else if bytes_eq text (codes "inverse") then Some word.Inverse
+    else if bytes_eq text (codes "certificate") then Some word.Certificate
+    else if bytes_eq text (codes "mating") then Some word.Mating
+    else if bytes_eq text (codes "relationships") then Some word.Relationships
+    else if bytes_eq text (codes "coefficient") then Some word.Coefficient
+    else if bytes_eq text (codes "seen") then Some word.Seen
+    else None
+
+-- the kind of question in a record, behind the tag, `inspector` and the inspector's number
+abbrev pub word_in : Fields → Option Word
+word_in fields = word_of (field 3 fields)
+
+-- a record's word and the fields behind it ask this question
+abbrev pub IsAskedIn : Fields → Question → Type 0
+IsAskedIn fields Inbreeding = (word_in fields ≡ Some word.Inbreeding) × (length fields ≡ 4)
+IsAskedIn fields Inverse = (word_in fields ≡ Some word.Inverse) × (length fields ≡ 4)
+IsAskedIn fields (Certificate number) =
+    (word_in fields ≡ Some word.Certificate) × (length fields ≡ 5) × (field 4 fields ≡ number)
+IsAskedIn fields (Mating dam sires) =
+    (word_in fields ≡ Some word.Mating) × (6 ≤ length fields) × (field 4 fields ≡ dam) × (drop 5 fields ≡ sires.items)
+IsAskedIn fields (Relationships numbers) =
+    (word_in fields ≡ Some word.Relationships) × (5 ≤ length fields) × (drop 4 fields ≡ numbers.items)
+IsAskedIn fields (Coefficient number) =
+    (word_in fields ≡ Some word.Coefficient) × (length fields ≡ 5) × (field 4 fields ≡ number)
+IsAskedIn fields Seen = (word_in fields ≡ Some word.Seen) × (length fields ≡ 4)
+
+-- why the question in a record can't be read
+abbrev pub CanBeUnread : Fields → WhyNot → Type 0
+CanBeUnread fields fault.Question = word_in fields ≡ None
+CanBeUnread fields (fault.Fields cause.Fields) = Unit {0}
+CanBeUnread fields (fault.Fields cause.Animal) = Unit {0}
+CanBeUnread fields (fault.Fields cause.Dam) = word_in fields ≡ Some word.Mating
+CanBeUnread fields (fault.Fields cause.Sire) = word_in fields ≡ Some word.Mating
+CanBeUnread fields fault.Memory = Unit {0}
+CanBeUnread fields other = ⊥
+
+-- a number is none, in a field of this cause; or there are too few or too many fields, or no memory
+abbrev pub IsNumberFault : LineCause → WhyNot → Type 0
+IsNumberFault at fault.Memory = Unit {0}
+IsNumberFault at (fault.Fields told) = (told ≡ at) ⊎ (told ≡ cause.Fields)
+IsNumberFault at other = ⊥
+
+-- the text that answers a question from frozen rows
+abbrev pub text_of : Question → List Row → List ℕ
+text_of Inbreeding rows = inbreeding_text (coefficient (ancestry_of rows) DEPTH_LIMIT) rows
+text_of Inverse rows = inverse_text rows
+text_of (Certificate number) rows = certificate_of rows number
+text_of (Mating dam sires) rows = mating_text (book_of rows) dam sires.items
+text_of (Relationships numbers) rows = relationships_text (book_of rows) numbers.items []
+text_of (Coefficient number) rows = coefficient_of rows number
+text_of Seen rows = []
+
+-- why a question isn't answered from frozen rows: it is for one animal, which isn't in the book; or memory was refused
+abbrev pub CanBeUnanswered : Question → List Row → WhyNot → Type 0
+CanBeUnanswered (Certificate number) rows fault.NotRegistered = is_there (book_of rows) number ≡ false
+CanBeUnanswered (Coefficient number) rows fault.NotRegistered = is_there (book_of rows) number ≡ false
+CanBeUnanswered question rows fault.Memory = Unit {0}
+CanBeUnanswered question rows other = ⊥

@@ -1,0 +1,99 @@
+//! The end of a session.
+ghost use Rattle.std.specs.Prelude.{◌≡◌, ◌++◌, [], All, IfOk, List, OnErr, OnOk, ℕ};
+ghost use mathlib.Core.List.{IsPrefix};
+ghost use Rattle.herd_register.specs.Run.{IsLegal};
+ghost use Rattle.herd_session.specs.Closing.{Ends, IsOfDesks, last_line};
+ghost use Rattle.herd_session.specs.Filed.{HasFiledInTurn};
+ghost use Rattle.herd_report.specs.writing.Text.{PassesOn};
+
+use crate::name::SessionName;
+use crate::output::Output;
+use crate::pieces::write_pieces;
+use crate::session_fault::SessionFault;
+use crate::staff::Staff;
+use herd_office::{Office, Slip};
+use herd_register::Register;
+use herd_report::ReportFault;
+use itoa::Buffer;
+use std::alloc::Global;
+use std::io::Write;
+use std::sync::Wait;
+
+/// Closes the office and writes the last line, unless the work ended early or a write has failed.
+pub(crate) fn end<N: SessionName, H: Wait, R: Wait + Drop, W: Write + Drop>(
+    rt: &H,
+    office: Office<N, R>,
+    worked: Result<Staff<N>, SessionFault>,
+    output: Output<N, W>,
+) -> (W, Result<(), SessionFault>)
+    requires { IfOk worked (λ back. All (λ desk. ∥ HasFiledInTurn N.records desk ∥₁) back.desks.items) }
+    ensures { ∥ Ends N.limits N.records N.before (W.contents result.0) result.1 ∥₁ }
+{
+    let Output {
+        mut writer,
+        mut waiting,
+        told,
+        has_failed,
+    } = output;
+    if has_failed {
+        return (writer, Err(SessionFault::Write));
+    }
+    match closed(rt, office, worked, &told) {
+        Ok(register) => {
+            let written = write_last_line(&mut writer, &mut waiting, &register);
+            (writer, written.map_err(SessionFault::from))
+        }
+        Err(fault) => (writer, Err(fault)),
+    }
+}
+
+// Closes the office, once an inspector has learnt the longest history that was told.
+fn closed<N: SessionName, H: Wait, R: Wait + Drop>(
+    rt: &H,
+    office: Office<N, R>,
+    worked: Result<Staff<N>, SessionFault>,
+    told: &Slip<N>,
+) -> Result<Register<Global>, SessionFault>
+    requires { IfOk worked (λ back. All (λ desk. ∥ HasFiledInTurn N.records desk ∥₁) back.desks.items) }
+    ensures limits { IfOk result (λ register. register.limits ≡ N.limits) }
+    ensures begins { IfOk result (λ register. IsPrefix told.now.history register.journal) }
+    ensures desks { IfOk result
+        (λ register. (numbers : List ℕ) × IsOfDesks N.records register.journal numbers) }
+{
+    let Staff {
+        desks,
+        mut inspectors,
+    } = worked?;
+    if inspectors.is_empty() {
+        return Err(SessionFault::NoPlace);
+    }
+    inspectors[0].learn(told);
+    match office.close(rt, desks, inspectors) {
+        Ok(register) => Ok(register),
+        Err(unclosed) => Err(SessionFault::from(unclosed.cause)),
+    }
+}
+
+// Writes how many steps and animals there are.
+fn write_last_line<W: Write>(
+    writer: &mut W,
+    waiting: &mut Vec<u8>,
+    register: &Register<Global>,
+) -> Result<(), ReportFault>
+    ensures legal { IsLegal register.now.limits register.now.journal }
+    ensures ok { OnOk result (PassesOn (W.contents writer.old) (W.contents writer.new)
+        (waiting.old.items ++ last_line register.now) []) }
+    ensures err { OnErr result ((rest : List ℕ) × PassesOn (W.contents writer.old) (W.contents writer.new)
+        (waiting.old.items ++ last_line register.now) rest) }
+{
+    let mut steps_text = Buffer::new();
+    let mut animals_text = Buffer::new();
+    let steps = steps_text.format(register.journal().len()).as_bytes();
+    let animals = animals_text.format(register.pedigree().len()).as_bytes();
+    write_pieces(
+        writer,
+        waiting,
+        &[b"closed,", steps, b",", animals, b"\n"],
+        false,
+    )
+}

@@ -1,0 +1,106 @@
+//! Reading requests and handing them on.
+ghost use Rattle.std.specs.Prelude.{◌≡◌, ◌-◌, ◌<◌, ◌^◌};
+ghost use Rattle.csv.specs.Records.{fields_of};
+ghost use Rattle.herd_session.specs.Requests.{IsRecordAt, records_in};
+
+use crate::fault::Fault;
+use crate::hall::Hall;
+use crate::name::SessionName;
+use crate::request::{Asked, Request, request_in};
+use crate::session_fault::SessionFault;
+use crate::staff::Queues;
+use crate::tasks::{DeskTask, InspectorTask, Task};
+use crossbeam_channel::{SendError, Sender};
+use csv::ByteRecord;
+use herd_report::{LineCause, LineFault, ReportFault, open_records, read_record};
+use std::alloc::Global;
+use std::io::{Read, Write};
+use std::marker::PhantomData;
+use std::sync::Wait;
+
+/// Reads requests up to the end of the input, and hands each to whom it is for. It ends early once a write has failed.
+pub(crate) fn take_requests<N: SessionName, H: Wait, R: Wait + Drop, I: Read + Drop, W: Write>(
+    rt: &H,
+    alloc: Global,
+    hall: &Hall<N, R, W>,
+    queues: &Queues<N>,
+    reader: I,
+) -> Result<(), SessionFault>
+    requires { records_in (I.remaining reader) ≡ N.records }
+{
+    let mut records = open_records(alloc, reader);
+    let mut row = ByteRecord::new(alloc);
+    for before in 0..u64::MAX {
+        match read_record(&mut records, &mut row) {
+            Ok(true) => hand_on(rt, alloc, hall, queues, before, &row)?,
+            Ok(false) => break,
+            Err(cause) => return Err(SessionFault::Line(fault_after(before, cause))),
+        }
+    }
+    Ok(())
+}
+
+// The fault of the record that has so many before it.
+fn fault_after(before: u64, cause: LineCause) -> LineFault {
+    let number = before.min(u64::from(u32::MAX) - 1) as u32 + 1;
+    cause.at(number)
+}
+
+// Hands the request of a record to whom it is for, or tells why it is for nobody.
+fn hand_on<N: SessionName, H: Wait, R: Wait + Drop, W: Write>(
+    rt: &H,
+    alloc: Global,
+    hall: &Hall<N, R, W>,
+    queues: &Queues<N>,
+    before: u64,
+    row: &ByteRecord,
+) -> Result<(), ReportFault>
+    requires there { IsRecordAt N.records before (fields_of row.now) }
+    requires few { before < 2 ^ 64 - 1 }
+{
+    let (desks, inspectors) = (queues.desks.as_slice(), queues.inspectors.as_slice());
+    match request_in(alloc, desks.len(), inspectors.len(), row) {
+        Request::Desk(place, asked) => {
+            let Asked { tag, wanted } = asked;
+            let task = DeskTask {
+                before,
+                desk: place + 1,
+                tag,
+                wanted,
+                of: PhantomData,
+            };
+            send(rt, hall, &desks[place], task)
+        }
+        Request::Inspector(place, asked) => {
+            let Asked { tag, wanted } = asked;
+            let task = InspectorTask {
+                before,
+                inspector: place + 1,
+                tag,
+                wanted,
+                of: PhantomData,
+            };
+            send(rt, hall, &inspectors[place], task)
+        }
+        Request::Nobody(tag, fault) => match tag {
+            Some(tag) => hall.output.lock(rt).fault(tag.text(), fault),
+            None => hall.output.lock(rt).fault(&[], fault),
+        },
+    }
+}
+
+// Puts a task into a queue. One that nobody works off is that of a thread which met a failed write.
+fn send<N: SessionName, H: Wait, R: Wait + Drop, W: Write, T: Task<N>>(
+    rt: &H,
+    hall: &Hall<N, R, W>,
+    queue: &Sender<T>,
+    task: T,
+) -> Result<(), ReportFault> {
+    match queue.send(rt, task) {
+        Ok(()) => Ok(()),
+        Err(SendError::Disconnected(_)) => Err(ReportFault::Write),
+        Err(SendError::OutOfMemory(task)) => {
+            hall.output.lock(rt).fault(task.tag(), Fault::Memory)
+        }
+    }
+}

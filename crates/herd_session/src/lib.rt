@@ -1,0 +1,65 @@
+//! An office at work. Requests are read from one reader, handed to the desks and inspectors that they name, who have a
+//! thread and a queue each, and answered on one writer.
+//!
+//!     session(&rt, alloc, SessionPlan { desks, inspectors, limits }, reader, &mut writer)?;
+//!
+//! # What follows a request
+//!
+//! No clause follows a value through a queue or a lock, so what is to be known stands on types. A task in a queue
+//! (`DeskTask`, `InspectorTask`) knows that a record of the input asks for it; a `Clerk` takes only tasks for its desk, in
+//! the order of the records, and knows that it filed just their commands; an `Answer` knows the history and the book that
+//! it is made of. The `Output` under its lock knows that the writer has answers alone, each of a beginning of the longest
+//! history told, but for those that wait. `SessionName` names what was there before: the records to be read, and what
+//! the writer held.
+//!
+//! # Who waits for whom
+//!
+//! - The reading thread waits for its input, and for the writer's lock where it tells a fault.
+//! - A clerk waits for its queue, in the office for other clerks, and for the writer. Where another task waits already,
+//!   its reply is written with the next one's.
+//! - An inspector waits for its queue, for the lock of the longest history told, under which histories are only compared,
+//!   and for the writer's lock.
+//!
+//! # Where it stands
+//!
+//! | | definition (`specs/`) | code (`src/`) | proof (`proofs/`) |
+//! |---|---|---|---|
+//! | requests | `Requests`, `Addressees`, `Tag` | `request`, `tag` | `FieldFacts` |
+//! | questions, the texts that answer them | `Questions` | `question`, `word`, `reading` | `FieldFacts` |
+//! | faults | `Faults` | `fault`, `session_fault` | |
+//! | reading requests, queues | `Requests` | `intake`, `tasks`, `staff` | `IntakeFacts` |
+//! | clerks | `Filed` | `desk_work` | `FiledFacts` |
+//! | inspectors | `Answers` | `inspector_work`, `observer` | `AskedFacts` |
+//! | answers, the writer | `Answers`, `Output` | `answers`, `pieces`, `output` | `AnswerFacts`, `PieceFacts` |
+//! | a whole session, and its end | `Closing` | `holding`, `closing`, `hall`, `plan`, `name` | `ClosingFacts` |
+#![tactic(auto)]
+
+mod answers;
+mod closing;
+mod desk_work;
+mod fault;
+mod hall;
+mod holding;
+mod inspector_work;
+mod intake;
+mod name;
+mod observer;
+mod output;
+mod pieces;
+mod plan;
+mod question;
+mod reading;
+mod request;
+mod session_fault;
+mod staff;
+mod tag;
+mod tasks;
+mod word;
+
+pub use fault::Fault;
+pub use holding::session;
+pub use plan::SessionPlan;
+pub use question::Question;
+pub use request::{Asked, Request, request_in};
+pub use session_fault::SessionFault;
+pub use tag::{LONGEST_TAG, Tag};

@@ -1,0 +1,115 @@
+//! A frozen book that is kept for the questions to come.
+ghost use Rattle.std.specs.Prelude.{◌≡◌, IfErr, IfOk, IsTrue};
+ghost use mathlib.Core.List.{IsPrefix};
+ghost use Rattle.herd_frozen.specs.freezing.Frozen.{IsFrozenFrom};
+ghost use Rattle.herd_frozen.specs.declared.TheConstants.{DEPTH_LIMIT, MOST_ANIMALS};
+ghost use Rattle.herd_kinship.specs.Coefficients.{AreCoefficients};
+ghost use Rattle.herd_register.specs.Run.{commands_of, run_book};
+ghost use Rattle.herd_session.specs.Questions.{CanBeUnanswered, text_of};
+
+use crate::fault::Fault;
+use crate::question::Question;
+use herd_frozen::Frozen;
+use herd_kinship::{Coefficients, coefficients_plain};
+use herd_office::{Inspector, OfficeName, Slip};
+use herd_report::{
+    write_certificate, write_coefficient, write_inbreeding, write_inverse, write_mating,
+    write_relationships,
+};
+use std::alloc::Global;
+
+/// A frozen book with its coefficients, and the history that it was made of.
+#[derive(Drop)]
+pub(crate) struct Reading<N: OfficeName> {
+    pub(crate) of: Slip<N>,
+    frozen: Frozen<Global>,
+    coefficients: Coefficients<Global>,
+    pub ghost book: { ∥ IsFrozenFrom DEPTH_LIMIT MOST_ANIMALS (run_book N.limits (commands_of of.history)) frozen ∥₁ },
+    pub ghost known: { AreCoefficients DEPTH_LIMIT frozen coefficients },
+}
+
+impl<N: OfficeName> Reading<N> {
+    /// The text that answers a question.
+    pub(crate) fn report(&self, alloc: Global, question: &Question) -> Result<Vec<u8>, Fault>
+        ensures text { IfOk result (λ text. text.items ≡ text_of question.now self.now.frozen) }
+        ensures fault { IfErr result (CanBeUnanswered question.now self.now.frozen) }
+    {
+        let (frozen, coefficients) = (&self.frozen, &self.coefficients);
+        let mut text = Vec::new(alloc);
+        match question {
+            Question::Inbreeding => write_inbreeding(alloc, frozen, coefficients, &mut text)?,
+            Question::Inverse => write_inverse(alloc, frozen, coefficients, &mut text)?,
+            Question::Certificate(number) => {
+                write_certificate(alloc, frozen, coefficients, *number, &mut text)?
+            }
+            Question::Mating { dam, sires } => {
+                write_mating(
+                    alloc,
+                    frozen,
+                    coefficients,
+                    *dam,
+                    sires.as_slice(),
+                    &mut text,
+                )?
+            }
+            Question::Relationships(numbers) => {
+                write_relationships(
+                    alloc,
+                    frozen,
+                    coefficients,
+                    numbers.as_slice(),
+                    &[],
+                    &mut text,
+                )?
+            }
+            Question::Coefficient(number) => {
+                write_coefficient(alloc, frozen, coefficients, *number, &mut text)?
+            }
+            Question::Seen => {}
+        }
+        Ok(text)
+    }
+
+    // Whether it is of the history that an inspector holds.
+    fn is_of(&self, inspector: &Inspector<N>) -> bool
+        ensures { IsTrue result → self.now.of.history ≡ inspector.now.history }
+    {
+        let mut both = inspector.slip();
+        both.learn(&self.of);
+        self.of.steps() == inspector.steps_seen()
+    }
+}
+
+/// A reading of all that an inspector has seen: the one that was kept, or where that is older a new one.
+pub(crate) fn current<N: OfficeName>(
+    alloc: Global,
+    inspector: &mut Inspector<N>,
+    kept: Option<Reading<N>>,
+) -> Result<Reading<N>, Fault>
+    ensures of { IfOk result (λ reading. reading.of.history ≡ inspector.new.history) }
+    ensures seen { IsPrefix inspector.old.history inspector.new.history }
+{
+    if let Some(reading) = kept {
+        if reading.is_of(inspector) {
+            return Ok(reading);
+        }
+    }
+    frozen_by(alloc, inspector)
+}
+
+// Freezes the book, and computes its coefficients.
+fn frozen_by<N: OfficeName>(
+    alloc: Global,
+    inspector: &mut Inspector<N>,
+) -> Result<Reading<N>, Fault>
+    ensures of { IfOk result (λ reading. reading.of.history ≡ inspector.new.history) }
+    ensures seen { IsPrefix inspector.old.history inspector.new.history }
+{
+    let frozen = inspector.freeze(alloc)?;
+    let coefficients = coefficients_plain(alloc, &frozen)?;
+    Ok(Reading {
+        of: inspector.slip(),
+        frozen,
+        coefficients,
+    })
+}

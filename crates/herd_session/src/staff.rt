@@ -1,0 +1,143 @@
+//! The threads of a session, each with its queue.
+ghost use Rattle.std.specs.Prelude.{◌≡◌, [], All, OnOk};
+ghost use Rattle.herd_session.specs.Filed.{HasFiledInTurn};
+
+use crate::desk_work::{Clerk, work_at_desk};
+use crate::hall::Hall;
+use crate::inspector_work::work_as_inspector;
+use crate::name::SessionName;
+use crate::session_fault::SessionFault;
+use crate::tasks::{DeskTask, InspectorTask};
+use crossbeam_channel::{Receiver, Sender, unbounded};
+use herd_office::{Desk, Inspector};
+use herd_report::ReportFault;
+use std::alloc::Global;
+use std::io::Write;
+use std::sync::Wait;
+use std::thread::{JoinHandle, Scope, Threads};
+
+/// All desks and inspectors of a session.
+#[derive(Drop)]
+pub(crate) struct Staff<N: SessionName> {
+    pub(crate) desks: Vec<Desk<N>>,
+    pub(crate) inspectors: Vec<Inspector<N>>,
+}
+
+/// The queues of a session, by the places of desks and inspectors.
+#[derive(Drop)]
+pub(crate) struct Queues<N: SessionName> {
+    pub(crate) desks: Vec<Sender<DeskTask<N>>>,
+    pub(crate) inspectors: Vec<Sender<InspectorTask<N>>>,
+}
+
+type DeskThread<N> = JoinHandle<Result<Clerk<N>, ReportFault>>;
+
+type InspectorThread<N> = JoinHandle<Result<Inspector<N>, ReportFault>>;
+
+/// Starts a thread for each desk, at which nothing was filed.
+pub(crate) fn start_desks<
+    's,
+    N: SessionName + Send + Sync,
+    E,
+    H: Wait + Sync,
+    R: Wait + Drop + Send + Sync,
+    W: Write + Send,
+>(
+    scope: &'s Scope<'s, E>,
+    rt: &'s H,
+    alloc: Global,
+    hall: &'s Hall<N, R, W>,
+    desks: Vec<Desk<N>>,
+    queues: &mut Queues<N>,
+) -> Result<Vec<DeskThread<N>>, SessionFault>
+    requires { All (λ desk. (desk.answered ≡ 0) × (desk.history ≡ [])) desks.items }
+{
+    let mut started = Vec::new(alloc);
+    for desk in desks {
+        let (sender, queue) = unbounded(alloc)?;
+        started.push(start_desk(scope, rt, hall, desk, queue)?)?;
+        queues.desks.push(sender)?;
+    }
+    Ok(started)
+}
+
+// Starts the thread of a desk.
+fn start_desk<
+    's,
+    N: SessionName + Send + Sync,
+    E,
+    H: Wait + Sync,
+    R: Wait + Drop + Send + Sync,
+    W: Write + Send,
+>(
+    scope: &'s Scope<'s, E>,
+    rt: &'s H,
+    hall: &'s Hall<N, R, W>,
+    desk: Desk<N>,
+    queue: Receiver<DeskTask<N>>,
+) -> Result<DeskThread<N>, SessionFault>
+    requires { (desk.answered ≡ 0) × (desk.history ≡ []) }
+{
+    let started = scope.spawn(
+        move || -> Result<Clerk<N>, ReportFault>
+            requires { (desk.answered ≡ 0) × (desk.history ≡ []) }
+        { work_at_desk(rt, hall, desk, queue) },
+    );
+    started.or(Err(SessionFault::NoThread))
+}
+
+/// Starts a thread for each inspector.
+pub(crate) fn start_inspectors<
+    's,
+    N: SessionName + Send + Sync,
+    E,
+    H: Wait + Sync,
+    R: Wait + Drop + Send + Sync,
+    W: Write + Send,
+>(
+    scope: &'s Scope<'s, E>,
+    rt: &'s H,
+    alloc: Global,
+    hall: &'s Hall<N, R, W>,
+    inspectors: Vec<Inspector<N>>,
+    queues: &mut Queues<N>,
+) -> Result<Vec<InspectorThread<N>>, SessionFault> {
+    let mut started = Vec::new(alloc);
+    for inspector in inspectors {
+        let (sender, queue) = unbounded(alloc)?;
+        let thread = scope
+            .spawn(move || work_as_inspector(rt, alloc, hall, inspector, queue))
+            .or(Err(SessionFault::NoThread))?;
+        started.push(thread)?;
+        queues.inspectors.push(sender)?;
+    }
+    Ok(started)
+}
+
+/// Waits for the desks.
+pub(crate) fn join_desks<N: SessionName, H: Threads>(
+    rt: &H,
+    started: Vec<DeskThread<N>>,
+    desks: &mut Vec<Desk<N>>,
+) -> Result<(), SessionFault>
+    requires { All (λ desk. ∥ HasFiledInTurn N.records desk ∥₁) desks.old.items }
+    ensures { OnOk result (All (λ desk. ∥ HasFiledInTurn N.records desk ∥₁) desks.new.items) }
+{
+    for thread in started {
+        let Clerk { desk, .. } = thread.join(rt)?;
+        desks.push(desk)?;
+    }
+    Ok(())
+}
+
+/// Waits for the inspectors.
+pub(crate) fn join_inspectors<N: SessionName, H: Threads>(
+    rt: &H,
+    started: Vec<InspectorThread<N>>,
+    inspectors: &mut Vec<Inspector<N>>,
+) -> Result<(), SessionFault> {
+    for thread in started {
+        inspectors.push(thread.join(rt)?)?;
+    }
+    Ok(())
+}
