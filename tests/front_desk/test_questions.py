@@ -91,6 +91,35 @@ def test_list_of_some(society_desk: Desk) -> None:
     society_desk.wrong("there is no column 'color'", "list", "--columns", "id,color")
 
 
+def test_edges_of_choices(desk: Desk) -> None:
+    """First and last days, days of which the year isn't known, exits without a day, animals that were filed, and parents
+    without a row."""
+    desk.take(
+        """
+        id,sex,birth,sire,dam,owner,exit
+        first,m,2010-01-01,,,Low Mill,
+        last,f,2012-12-31,,,Low Mill,
+        after,f,2013-01-01,,,Low Mill,
+        before,f,2009-12-31,,,Low Mill,
+        in its year,f,2011,,,Low Mill,
+        gone,f,2011-05-05,,,Low Mill,verkauft
+        sold,m,2011-05-06,,,Low Mill,2015-01-01
+        calf,f,2012-06-01,added,,Hill,
+        """
+    )
+    desk.good("birth", "filed", "--sex", "f", "--day", "2012-07-01", "--owner", "Low Mill")
+    rows = desk.listed("list", "--born", "2010..2012", "--columns", "id,birth,exit")
+    assert [row["id"] for row in rows] == ["first", "gone", "sold", "in its year", "calf", "filed", "last"]
+    assert (rows[1]["exit"], rows[2]["exit"], rows[3]["birth"]) == (
+        "day unknown: 'verkauft'",
+        "2015-01-01",
+        "2011-07-02 (inferred)",
+    )
+    living = ["before", "first", "in its year", "filed", "last", "after"]
+    assert [row["id"] for row in desk.listed("list", "--living", "--owner", "LOW mill")] == living
+    assert "  in the book   filed by hand\n" in desk.good("show", "filed").out
+
+
 def test_list_of_what_is_not_whole(mrode_desk: Desk) -> None:
     """No animal is left out for a coefficient that lacks."""
     with contextlib.closing(sqlite3.connect(mrode_desk.room / "book/book.sqlite")) as connection, connection:

@@ -143,7 +143,12 @@ def test_refused_matings(desk: Desk) -> None:
 
 def test_export(society_desk: Desk) -> None:
     """In age order, and it is the same book where it is taken again."""
+    society_desk.good("exit", "GK-98/005c", "--day", "2020-02-01")
+    society_desk.good("birth", "late", "--sex", "f", "--day", "2021-01-01", "--dam", "GK-98/005c", "--embryo")
     rows = society_desk.listed("export")
+    assert list(rows[0])[:9] == ["id", "name", "sex", "birth", "sire", "dam", "owner", "exit", "embryo"]
+    told = {row["id"]: (row["exit"], row["embryo"]) for row in rows if row["exit"] or row["embryo"]}
+    assert told == {"GK-98/005c": ("2020-02-01", ""), "late": ("", "1")}
     assert [row["id"] for row in rows] == [row["id"] for row in society_desk.listed("list")]
     assert {row["id"]: (row["sire"], row["dam"]) for row in rows} == society_desk.parents()
     society_desk.good("export", "--out", "all.csv")
@@ -152,9 +157,8 @@ def test_export(society_desk: Desk) -> None:
         society_desk.good("take", *words, "--book", words[-1][4:])
         again = society_desk.listed("list", "--book", words[-1][4:])
         assert {(row["id"], row["coefficient"]) for row in again} == {(row["id"], row["coefficient"]) for row in rows}
-    told = society_desk.listed("export", "--book", "csv")
-    same = ("id", "name", "sex", "birth", "sire", "dam", "owner", "exit", "embryo")
-    assert [[row[title] for title in same] for row in told] == [[row[title] for title in same] for row in rows]
+    again = society_desk.listed("export", "--book", "csv")
+    assert [list(row.values())[:9] for row in again] == [list(row.values())[:9] for row in rows]
 
 
 def test_export_of_some(society_desk: Desk) -> None:
