@@ -90,7 +90,9 @@ def triples_text(rows: Sequence[tuple[str, str, str]]) -> str:
 
 def quoted(id: str) -> str:
     """An id that has blanks or signs stands between quotation marks, and its own have a backslash before them."""
-    if re.fullmatch(r"[\w./:+-]+", id) and id != UNKNOWN:
+    if id == UNKNOWN:
+        raise Mistake(f"'{id}' stands for an unknown parent in R, and for an animal here: leave out --triples")
+    if re.fullmatch(r"[\w./:+-]+", id):
         return id
     if id.endswith("\\"):
         raise Mistake(f"'{id}' ends with a backslash, which R can't read within quotation marks: leave out --triples")

@@ -77,6 +77,14 @@ def test_triples_are_read_again(desk: Desk) -> None:
         assert read_by_r(desk) == [f"{float(value):.6f}" for value in coefficients.values()]
 
 
+def test_ids_that_r_cannot_read(desk: Desk) -> None:
+    """No file is written in which a link would be lost."""
+    rows = "NA,m,2001-01-01,,\nb\\,f,2001-01-02,,\nc,f,2004-01-01,NA,b\\\n"
+    desk.take(f"id,sex,birth,sire,dam\n{rows}", "--known", "NA")
+    for id, told in ("NA", "'NA' stands for an unknown parent in R"), ("b\\", "'b\\' ends with a backslash"):
+        desk.wrong(told, "export", "--triples", "--keep", desk.write("kept.txt", f"{id}\n"))
+
+
 def test_exported_society(society_desk: Desk) -> None:
     """The triples of the example, in SciPy and, where it is installed, in R: the tabular matrix of what is read is the
     inverse's inverse."""
