@@ -7,6 +7,7 @@ from fractions import Fraction
 
 import pytest
 
+from society.answers.inverse import scaled
 from society.book.coefficients import of_calf
 from society.decimals import fixed, percent
 from society.decimals import decimal as shown
@@ -41,3 +42,8 @@ def test_beside_decimals_of_python(seed: int) -> None:
 def test_calf(relationship: str, coefficient: tuple[str, str]) -> None:
     """Half of the parents' relationship in lowest terms, with the percentage that the program writes."""
     assert of_calf(relationship) == coefficient
+
+
+def test_elements_of_the_inverse() -> None:
+    """Whole numbers of their unit, to the nearest."""
+    assert scaled("2/3") == 2 * scaled("1/3") + 1 and scaled("-1/2") == -(1 << 95)

@@ -71,6 +71,8 @@ def test_find(secretary_desk: Desk) -> None:
 
 
 def test_list_of_some(society_desk: Desk) -> None:
+    # it has two rows in the history, and is one offspring of each of its parents
+    society_desk.good("exit", "GK-17/472c", "--day", "2021-01-01")
     every = society_desk.listed("list", "--columns", "+sex,birth,sire,dam,owner,exit,offspring")
     by_id = {row["id"]: row for row in every}
     added = ("GK-90/011c", "IMP-7 (imported)")

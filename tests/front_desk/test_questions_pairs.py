@@ -5,6 +5,7 @@ import csv
 import io
 import itertools
 import pathlib
+import types
 from fractions import Fraction
 from typing import cast
 
@@ -13,7 +14,9 @@ import pytest
 import reference
 from breed.drawn import drawn
 from front_desk.desk import Desk
+from society.answers.kinships import related
 from society.book.book import Book
+from society.book.known import Known
 from society.breed.pedigree import UNKNOWN
 from society.breed.relationships import relationships
 from society.herdbook import Herdbook
@@ -128,6 +131,9 @@ def test_too_many_pairs() -> None:
     book, program = Book(pathlib.Path("none"), None), cast(Herdbook, None)
     with pytest.raises(Mistake, match="these are 2,000,001 pairs, and at most 2,000,000 are written"):
         relationships(book, program, ["one"] * 3, ["other"] * 666_667)
+    animals = cast(list[Known], [types.SimpleNamespace(number="one")] * 2_000)
+    with pytest.raises(Mistake, match="these are 2,001,000 pairs"):
+        related(book, program, animals, None)
 
 
 def test_refused_matings(desk: Desk) -> None:
