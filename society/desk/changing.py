@@ -36,8 +36,7 @@ def whole(desk: Desk, connection: sqlite3.Connection | None) -> Iterator[Book]:
     try:
         yield book
     except BaseException:
-        # the session may have filed what isn't stored
-        desk.program.close()
+        desk.program.keep_to(book.journal)
         raise
 
 

@@ -25,6 +25,7 @@ def glance_of(book: Book) -> Glance:
     animals = ask(f"SELECT count(*) FROM animal WHERE until IS NULL AND {IN_BOOK}").fetchone()[0]
     among = f"FROM animal WHERE until IS NULL AND {LIVING}"
     living, females = ask(f"SELECT count(*), ifnull(sum(substr(number, 7, 1) = 'F'), 0) {among}").fetchone()
-    kept = ask(f"SELECT fraction, percent FROM coefficient WHERE number IN (SELECT number {among})")
-    units = sum(Coefficient(*one).units for one in kept)
+    joined = among.replace("animal", "animal CROSS JOIN coefficient USING (number)")
+    kept = ask(f"SELECT fraction, percent, count(*) {joined} GROUP BY fraction")
+    units = sum(Coefficient(fraction, percent).units * count for fraction, percent, count in kept)
     return Glance(animals, living, females, Fraction(units, living << UNIT_BITS) if living else None)

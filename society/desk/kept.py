@@ -18,6 +18,8 @@ class Kept:
 
     def __init__(self) -> None:
         self.lock = threading.Lock()
+        # what is being computed: others who want it wait for it
+        self.under_way: dict[tuple[object, ...], threading.Lock] = {}
         self.values: OrderedDict[tuple[object, ...], object] = OrderedDict()
 
     def of(self, book: Book, what: tuple[object, ...], compute: Callable[[], Value]) -> Value:
@@ -26,11 +28,17 @@ class Kept:
         with self.lock:
             if key in self.values:
                 return cast(Value, self.values[key])
-        value = compute()
-        with self.lock:
-            self.values[key] = value
-            while len(self.values) > MOST:
-                self.values.popitem(last=False)
+            turn = self.under_way.setdefault(key, threading.Lock())
+        with turn:
+            with self.lock:
+                if key in self.values:
+                    return cast(Value, self.values[key])
+            value = compute()
+            with self.lock:
+                self.values[key] = value
+                self.under_way.pop(key, None)
+                while len(self.values) > MOST:
+                    self.values.popitem(last=False)
         return value
 
 

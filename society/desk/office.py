@@ -151,5 +151,11 @@ class Office(Herdbook):
                 self.session, self.journal = None, NO_JOURNAL
                 session.end()
 
+    def keep_to(self, stored: Journal) -> None:
+        """Ends a session that has filed what isn't stored."""
+        with self.lock:
+            if self.journal.edition != stored.edition or self.journal.length > stored.length:
+                self.forget(self.session)
+
     def close(self) -> None:
         self.forget(self.session)
