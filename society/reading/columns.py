@@ -11,6 +11,7 @@ from society.reading.column_findings import (
     ColumnLost, ColumnsLack, LikelierColumn, NamedColumnLacks, SheetFinding, TellsNoExits, TitleTwice,
 )  # fmt: skip
 from society.reading.days import is_span
+from society.reading.encodings import Letters, decoded_twice
 from society.reading.id_column import IdColumn
 from society.reading.likely_columns import LikelyColumns
 from society.reading.sheet import Sheet
@@ -151,9 +152,21 @@ def tell_missing(columns: Columns, named: Mapping[str, str], likely: LikelyColum
     missing = [name for name in NEEDED if name not in columns.found and (name == Field.ID or named.get(name) != "")]
     # a title that is named and isn't there is told already
     missing = [name for name in missing if not (named.get(name) and columns.faults)]
+    wrong_letters = letters_of_titles(columns.sheet)
+    (columns.faults if missing else columns.notes).extend(wrong_letters)
+    if wrong_letters:
+        meant = {plain(decoded_twice(title)) for title in columns.sheet.titles}
+        missing = [name for name in missing if not meant & {*KNOWN_TITLES[name]}]
     if missing:
         titles = tuple(columns.sheet.titles)
         columns.faults.append(ColumnsLack(columns.sheet.line, tuple(missing), titles, likely.of_needed(missing)))
+
+
+def letters_of_titles(sheet: Sheet) -> list[SheetFinding]:
+    letters = Letters()
+    for title in sheet.titles:
+        letters.look(sheet.line, title)
+    return letters.told()
 
 
 def tell_lost(columns: Columns, before: Mapping[str, str], likely: LikelyColumns) -> None:

@@ -143,7 +143,8 @@ class CellsUnread(SheetFinding):
 
     def suggestions(self) -> tuple[Suggestion, ...]:
         field, word = self.cells.field, self.cells.texts[0].text
-        if field is Field.SEX and not {",", "="} & {*word}:
+        is_word = not {",", "="} & {*word} and not any(map(str.isdigit, word))
+        if field is Field.SEX and is_word:
             sexes = ("m", "male"), ("f", "female")
             return tuple(Suggestion(f"if '{word}' is {sex}", (Option("--sexes", f"{word}={m}"),)) for m, sex in sexes)
         if field in OPTIONAL:

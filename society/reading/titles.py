@@ -14,39 +14,46 @@ TITLES = {
     Field.ID: "id, animal id, ear tag, eartag, ear tag number, ear tag no, tag, tag number, tag no, animal number, "
     "animal no, registration, registration number, registration no, reg no, reg, reg number, registered number, "
     "herd book number, herd book no, stud book number, stud book no, stud no, flock book no, passport no, microchip, "
-    "chip, chip no, chip number, UELN, "
+    "chip, chip no, chip number, UELN, tattoo, tattoo number, tattoo no, pedigree number, pedigree no, "
     "identification, ident, Ohrmarke, Ohrmarkennummer, Ohrmarken-Nr, Ohrm, Lebensnummer, Lebens-Nr, Lebensohrmarke, "
-    "Herdbuchnummer, Herdbuch-Nr, Zuchtbuchnummer, Zuchtbuch-Nr, ZB-Nr, Chipnummer, Chip-Nr, Tiernummer, Tier-Nr, "
-    "Tier-ID, LOM, HB-Nr, Kennzeichen, Stallnummer, numéro national, n° national, numéro d'identification, "
+    "Herdbuchnummer, Herdbuch-Nr, Stammbuchnummer, Stammbuch-Nr, Zuchtbuchnummer, Zuchtbuch-Nr, ZB-Nr, Chipnummer, "
+    "Chip-Nr, Tiernummer, Tier-Nr, "
+    "Tier-ID, LOM, HB-Nr, LNr, Kennzeichen, Kennung, Tätowierung, Halsbandnummer, Halsband, Stallnummer, "
+    "numéro national, n° national, numéro d'identification, "
     "identifiant, n° d'identification, n° SIRE, numéro SIRE, LOF, n° LOF, tatouage, puce, "
     "boucle, matricule, animal, Tier, number, no, nr, Nummer, numéro, n°",
     Field.NAME: "name, registered name, animal name, full name, Tiername, Zuchtname, "
     "Name des Tieres, nom, nom de l'animal, nom du chien, nom du cheval, dog name, name of dog, horse name, "
     "name of horse, Name des Hundes, Name des Pferdes, Pferdename, Hundename, dog, horse, Hund, Pferd, chien, cheval, "
     "Rufname, call name, nom usuel, nom d'usage",
-    Field.SEX: "sex, gender, Geschlecht, Geschl, sexe, m/w, m/f, w/m, f/m",
-    Field.BIRTH: "birth date, date of birth, birthday, birth day, dob, Geburtsdatum, Geburtstag, geboren am, geb. am, "
+    Field.SEX: "sex, gender, Geschlecht, Geschl, sexe, genre, sex m/f, Geschlecht m/w, sexe m/f, m/w, m/f, w/m, f/m",
+    Field.BIRTH: "birth date, date of birth, birthday, birth day, dob, date born, Geburtsdatum, Geburtstag, "
+    "geboren am, geb. am, "
     "geb-Datum, Geb.-Dat, Geburtsdat, date de naissance, date naissance, né le, née le, né(e) le, ddn, date naiss, "
+    "date de nais, "
     "whelping date, date whelped, foaling date, date foaled, lambing date, date lambed, Wurfdatum, Wurftag, Lammdatum, "
     "Kalbedatum, Abfohldatum, "
     "born, birth, whelped, foaled, lambed, calved, geboren, Geburt, geb, gew, geworfen, gewölft, naissance, né, née, "
     "birth year, year of birth, year, Geburtsjahr, Jahrgang, année de naissance, année",
-    Field.SIRE: "sire, of sire, father, Vater, des Vaters, Vatertier, père, du père, "
+    Field.SIRE: "sire, of sire, father, Vater, des Vaters, Vatertier, père, du père, père SIRE, "
     "sire name, name of sire, sire's name, father name, Name Vater, Vatername, Name des Vaters, nom du père, nom père, "
     "sire registered name",
-    Field.DAM: "dam, of dam, mother, Mutter, der Mutter, Muttertier, mère, de la mère, "
+    Field.DAM: "dam, of dam, mother, Mutter, der Mutter, Muttertier, mère, de la mère, mère SIRE, "
     "dam name, name of dam, dam's name, mother name, Name Mutter, Muttername, Name der Mutter, nom de la mère, "
     "nom mère, dam registered name",
-    Field.OWNER: "owner, owner name, name of owner, herd, flock, farm, holding, keeper, Besitzer, Besitzerin, "
+    Field.OWNER: "owner, current owner, present owner, owner name, name of owner, aktueller Besitzer, "
+    "propriétaire actuel, herd, flock, farm, holding, keeper, Besitzer, Besitzerin, "
     "Eigentümer, Eigentümerin, Halter, Tierhalter, Betrieb, propriétaire, détenteur, élevage, exploitation",
     Field.SINCE: "owner since, owned since, since, date of transfer, transfer date, transferred, date of purchase, "
     "purchase date, bought, acquired, Besitzer seit, im Besitz seit, seit, Besitzwechsel, Besitzerwechsel, "
     "Besitzwechsel am, Besitzerwechsel am, Wechseldatum, Halter seit, Eigentümer seit, gekauft am, Kaufdatum, "
     "Zugangsdatum, Zugang am, Zugang, propriétaire depuis, depuis, date d'achat, date de transfert, "
     "date d'acquisition, acheté le",
-    Field.EXIT: "exit date, date of exit, Abgangsdatum, Abgang am, abgegangen am, date de sortie, "
+    Field.EXIT: "exit date, date of exit, Abgangsdatum, Abgang am, abgegangen am, date de sortie, date left, "
+    "left on, sorti le, "
     "exit, left, departure, Abgang, abgegangen, sortie, "
-    "date of death, Todesdatum, gestorben am, date de décès, mort le, died, death, gestorben, mort, décès, "
+    "date of death, Todesdatum, gestorben am, verstorben am, date de décès, mort le, décédé le, died, death, "
+    "gestorben, verstorben, mort, décès, "
     "Verbleib, fate, whereabouts, disposal, devenir, status, Tierstatus, statut, état",
     Field.EMBRYO: "embryo, embryo calf, stored embryo, embryo transfer, et, et calf, Embryotransfer, ET-Kalb, "
     "Embryokalb, embryon, transfert d'embryon",

@@ -38,10 +38,11 @@ STAYS = (
 )
 EXITS = (
     "ja, yes, oui, x, verkauft, verk, Verkauf, geschlachtet, Schlachtung, geschl, gestorben, verstorben, verendet, "
-    "tot, Tod, abgegangen, Abgang, ausgeschieden, exportiert, gekeult, euthanasiert, notgetötet, gerissen, weg, "
-    "inaktiv, sold, sale, slaughtered, slaughter, dead, died, death, deceased, culled, exported, gone, left, lost, "
+    "tot, Tod, abgegangen, Abgang, ausgeschieden, exportiert, gekeult, euthanasiert, notgetötet, eingeschläfert, "
+    "getötet, verunglückt, abgegeben, verliehen, ausgeliehen, gestohlen, gerissen, weg, inaktiv, sold, sale, slaughtered, slaughter, dead, died, death, deceased, culled, exported, gone, left, lost, "
+    "stolen, killed, euthanised, euthanized, rehomed, "
     "vendu, vendue, vente, abattu, abattue, abattage, mort, morte, décédé, décédée, réformé, réformée, réforme, sorti, "
-    "sortie, exporté, exportée, inactif, inactive"
+    "sortie, exporté, exportée, volé, volée, euthanasié, euthanasiée, inactif, inactive"
 )
 # with one of these a word for a living animal tells of one that has left
 NEGATIONS = "nicht, kein, keine, nimmer, not, no, never, pas, plus, non"

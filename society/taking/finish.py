@@ -23,7 +23,7 @@ from society.taking.outcome import BookAfter, Outcome
 from society.taking.owner_days import OwnerDays
 from society.taking.parent_names import may_be_unknown
 from society.taking.report import CantBeTaken, What
-from society.taking.respelt_owners import tell_respelt_owners
+from society.taking.respelt_owners import tell_owners_alike, tell_respelt_owners
 from society.taking.saving import save
 from society.taking.screen import lines_of
 from society.taking.sentences import sentences_of
@@ -71,6 +71,7 @@ def file(next_book: NextBook, program: Herdbook, wishes: Wishes, about: About) -
     filing = Filing(next_book, OwnerDays(book, report, wishes.day))
     filed = filing.filed(program)
     tell_respelt_owners(next_book, owners_before)
+    tell_owners_alike(next_book)
     tell_withdrawn_exits(next_book)
     if wishes.strict and any(entry.what is What.LEFT_OUT for entry in report.entries):
         refuse_left_out(next_book, wishes)

@@ -187,22 +187,6 @@ class MostChanged(Look):
 
 
 @dataclass(frozen=True, slots=True)
-class OwnerRespelt(Look):
-    """All animals of an owner have one now whose name is much alike, and whom the book didn't have."""
-
-    before: str
-    now: str
-    animals: int
-
-    def words(self) -> str:
-        return f"the {counted(self.animals, 'animal')} of '{self.before}' are now of '{self.now}', whom the book didn't have"
-
-    def suggestions(self) -> tuple[Suggestion, ...]:
-        option = Option("--owner", f"{self.before}={self.now}")
-        return (Suggestion("if the name is only written otherwise", (option,), undoes=True),)
-
-
-@dataclass(frozen=True, slots=True)
 class MayBeUnknown(Look):
     """A parent without a row, of several animals, that may be a word for an unknown one."""
 

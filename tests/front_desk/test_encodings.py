@@ -39,10 +39,28 @@ def test_letters_decoded_twice(desk: Desk, encoding: str) -> None:
     assert ("letters are lost in 1 text: 'S\ufffd' (line 3)" in done.out) == (encoding == "utf-8")
 
 
+def test_titles_decoded_twice(desk: Desk) -> None:
+    """Titles are told too, and nobody is asked to take the sheet without the columns that they name."""
+    french = "N° SIRE;Né le;Père;Mère;Propriétaire\n1;2001;;;Lefèvre\n"
+    sheet = desk.write("sheet.csv", french.encode().decode("cp1252").encode())
+    done = desk.wrong("letters were decoded twice in 5 texts: 'NÂ° SIRE' for 'N° SIRE' (line 1)", "take", sheet)
+    assert "no column" not in done.err and not done.commands()
+    done = desk.wrong(
+        "decoded twice", "take", desk.write("sheet.csv", french.replace("Père", "X").encode().decode("cp1252"))
+    )
+    assert "no column for sire is found" in done.err
+    done = desk.take("id;birth;sire;dam;PropriÃ©taire\na;2001;;;Groß\n")
+    done.shows(
+        "to look at: letters were decoded twice in 1 text: 'PropriÃ©taire' for 'Propriétaire' (line 1): save the sheet anew "
+        "from the spreadsheet in which the letters are right, as CSV in UTF-8"
+    )
+
+
 def test_composed_letters_and_blanks(desk: Desk) -> None:
     """An id is the same with composed letters and with letters and accents apart, with one blank or several."""
     done = desk.take(
         "id;birth;sire;dam\n\u00c41 7;2001-03-01;;\nB;2004-03-01;A\u03081\u00a0 7;\nC;2004-03-02;\u200b\u00c41 7\u00ad;\n"
     )
     assert desk.parents() == {"\u00c41 7": ("", ""), "B": ("\u00c41 7", ""), "C": ("\u00c41 7", "")}
-    assert " 0 added" in done.last
+    # the sexes are inferred, and no parent
+    assert " 3 inferred, 0 left out, 0 added" in done.last

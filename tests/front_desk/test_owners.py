@@ -95,6 +95,22 @@ def test_owner_is_written_otherwise(desk: Desk) -> None:
     assert "Meyer" in "".join(desk.page("page.html").itertext())
 
 
+def test_owners_that_are_alike(desk: Desk) -> None:
+    """Names of one sheet that differ in case, accents, blanks or signs alone are told at each taking."""
+    rows = [
+        f"{name}:{at};F;2001-03-01;;;{name};"
+        for at, name in enumerate(["Groß, A.", "Groß A", "gross a", "Weiß", "Weiz", ""])
+    ]
+    for _ in range(2):
+        done = desk.take(TITLES + PARENTS + "\n".join(rows))
+        done.shows(
+            "to look at: the owners 'Groß A' (1 animal) and 'Groß, A.' (1 animal) and 'gross a' (1 animal) differ in case, "
+            "accents, blanks or signs alone: if they are one, write the name alike in all rows, and take the sheet again"
+        )
+        assert done.out.count("differ in case") == 1
+    assert "differ in case" not in desk.take(TITLES + PARENTS).out
+
+
 def test_exit_that_is_refused(desk: Desk) -> None:
     """It costs that cell, and the rest is taken; `--strict` takes nothing."""
     calves = "b;F;2004-01-01;s;d;Meier;\nc;F;2005-01-01;s;d;Meier;\n"

@@ -118,6 +118,12 @@ FINDINGS: dict[str, tuple[str, str]] = {
         "les {animals} animaux de « {before} » sont maintenant de « {now} », inconnu du livre : est-ce le même, écrit "
         "autrement ?",
     ),
+    "owners alike": (
+        "die Besitzer {spellings} unterscheiden sich nur in Großschreibung, Akzenten, Leerzeichen oder Zeichen: ist es einer, "
+        "schreiben Sie den Namen in allen Zeilen gleich",
+        "les propriétaires {spellings} ne diffèrent que par les majuscules, accents, espaces ou signes : si c'est le même, "
+        "écrivez le nom de la même façon dans toutes les lignes",
+    ),
     # animals
     "kept from book": (
         "{field} {value} wie im Herdbuch, denn die Zelle sagt nichts", "{field} {value} comme dans le livre, car la cellule ne dit rien",

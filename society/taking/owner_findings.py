@@ -1,0 +1,50 @@
+"""What is found of owners' names: each kind as data, and in words."""
+from __future__ import annotations
+
+from dataclasses import dataclass
+
+from society.book.changes import Option
+from society.mistake import counted
+from society.taking.look_findings import Look
+from society.taking.suggestions import Suggestion
+
+
+@dataclass(frozen=True, slots=True)
+class OwnerRespelt(Look):
+    """All animals of an owner have one now whose name is much alike, and whom the book didn't have."""
+
+    before: str
+    now: str
+    animals: int
+
+    def words(self) -> str:
+        return f"the {counted(self.animals, 'animal')} of '{self.before}' are now of '{self.now}', whom the book didn't have"
+
+    def suggestions(self) -> tuple[Suggestion, ...]:
+        option = Option("--owner", f"{self.before}={self.now}")
+        return (Suggestion("if the name is only written otherwise", (option,), undoes=True),)
+
+
+@dataclass(frozen=True, slots=True)
+class Spelling:
+    """How an owner is written, and for how many animals."""
+
+    text: str
+    animals: int
+
+    def words(self) -> str:
+        return f"'{self.text}' ({counted(self.animals, 'animal')})"
+
+
+@dataclass(frozen=True, slots=True)
+class OwnersAlike(Look):
+    """Owners of the sheet whose names differ in case, accents, blanks or signs alone."""
+
+    spellings: tuple[Spelling, ...]
+
+    def words(self) -> str:
+        names = " and ".join(one.words() for one in self.spellings)
+        return (
+            f"the owners {names} differ in case, accents, blanks or signs alone: if they are one, write the name alike in all "
+            "rows, and take the sheet again"
+        )
