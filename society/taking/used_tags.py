@@ -1,4 +1,4 @@
-"""Ids that are used again for other animals, born years later: the row is left out, and the first stays."""
+"""Ids that are used again for other animals, born years apart: the row is left out, and the animal of the book stays."""
 from __future__ import annotations
 
 from society.book.book import Book
@@ -18,7 +18,7 @@ def leave_out_used_tags(animals: dict[str, Animal], book: Book, report: Report) 
     calves = earliest_calves(book)
     for id, animal in list(animals.items()):
         known = book.known.get(id)
-        if not known or not is_years_later(animal, known, book):
+        if not known or not are_years_apart(animal, known, book):
             continue
         born, calf = book.records[known.number].born, calves.get(known.number)
         if is_another(animal, known):
@@ -59,11 +59,11 @@ def earliest_calves(book: Book) -> dict[str, Record]:
     return found
 
 
-def is_years_later(animal: Animal, known: Known, book: Book) -> bool:
-    """Was it born years after the animal of the book? A day that was inferred tells nothing."""
+def are_years_apart(animal: Animal, known: Known, book: Book) -> bool:
+    """Was it born years before or after the animal of the book? A day that was inferred tells nothing."""
     if not animal.has_day() or known.birth.is_inferred:
         return False
-    return (animal.birth.first - book.records[known.number].born).days >= YEARS_LATER
+    return abs((animal.birth.first - book.records[known.number].born).days) >= YEARS_LATER
 
 
 def is_another(animal: Animal, known: Known) -> bool:

@@ -51,9 +51,9 @@ def test_texts_without_a_day(desk: Desk) -> None:
 
 def test_month_first(desk: Desk) -> None:
     """The option is told where a day shows that it is needed; it stays with the book."""
-    sheet = TITLES + "a;F;03/25/2001;;;\nb;F;04/05/2004;;;\n"
+    sheet = TITLES + "a;F;12/25/2001;;;\nb;F;12/05/2004;;;\nc;F;05.04.2004;;;\n"
     done = desk.wrong(
-        "line 2: a: birth day: '03/25/2001' has the month first, so days with / can't be told from months",
+        "line 2: a: birth day: '12/25/2001' has the month first, so days with / can't be told from months",
         "take",
         desk.write("sheet.csv", sheet),
     )
@@ -61,9 +61,10 @@ def test_month_first(desk: Desk) -> None:
     # what is remembered can be taken back
     done = desk.wrong("'25/03/2001' has the day first", "take", desk.write("days.csv", TITLES + "a;F;25/03/2001;;;\n"))
     desk.copy_to(desk.room.parent / "taken back").typed(done.commands()[0])
-    assert desk.born() == {"a": "2001-03-25", "b": "2004-04-05"}
+    born = {"a": "2001-12-25", "b": "2004-12-05", "c": "2004-04-05"}
+    assert desk.born() == born
     assert "as at the last time: --month-first" in desk.take(sheet).out
-    assert desk.born() == {"a": "2001-03-25", "b": "2004-04-05"}
+    assert desk.born() == born
 
 
 def test_both_orders(desk: Desk) -> None:
@@ -75,7 +76,9 @@ def test_both_orders(desk: Desk) -> None:
 
 def test_no_day_shows_the_order(desk: Desk) -> None:
     done = desk.take(TITLES + "a;F;03/04/2001;;;\nb;F;05/05/2004;;;\n")
-    assert "1 day with / could have the month first, and no day of the sheet shows whether" in done.out
+    told = "1 day with / could have the month first, and no day of the sheet shows whether"
+    assert told in done.out
+    assert told not in desk.take(TITLES + "a;F;03/04/2001;;;\nb;F;25/05/2004;;;\n").out
 
 
 def test_days_after_today(desk: Desk) -> None:
@@ -102,6 +105,10 @@ EXITS = {
     "im Bestand seit 2019": "",
     "alive 2023": "",
     "en vie": "",
+    "lebt, ja": "",
+    "Zuchttier, verkauft 01.02.2012": "2012-02-01",
+    "†": "day unknown",
+    "2001": "2001-12-31",
     "lebt nicht mehr": "day unknown",
     "sold 01.01.2012": "2012-01-01",
     "01.01.2012": "2012-01-01",
@@ -115,21 +122,22 @@ EXITS = {
 
 def test_exits(desk: Desk) -> None:
     """What says that an animal lives is no exit, and a day is read alike with a word before it and without."""
-    rows = "".join(f"a{at};F;2001-01-01;;;{text}\n" for at, text in enumerate(EXITS))
+    rows = "".join(f"a{at};F;2001-02-03;;;{text}\n" for at, text in enumerate(EXITS))
     done = desk.take(TITLES + rows)
     left = {line.split(",")[1]: line.split(",")[2] for line in desk.commands() if line.startswith("exit")}
     exits = {row["id"]: left.get(row["number"], row["exit"].partition(":")[0]) for row in desk.table("book/ids.csv")}
     assert [exits[f"a{at}"] for at, _ in enumerate(EXITS)] == list(EXITS.values())
     done.tells(
-        "line 10: a8: its exit is left out: the day in 'sold 01.01.2000' would be before its birth; the animal counts as "
+        "line 14: a12: its exit is left out: the day in 'sold 01.01.2000' would be before its birth; the animal counts as "
         "gone",
-        "line 11: a9: its exit is left out: 01.01.2000 is before its birth; the animal counts as gone",
+        "line 15: a13: its exit is left out: 01.01.2000 is before its birth; the animal counts as gone",
     )
     done.shows(
-        "to look at: a day beside words that tell of no exit stands in 2 of 8 cells that tell of an exit in the column 'exit', "
-        "the first in line 12: 'gekört 2020', 'an Meier, 03.04.2020': each counts as an exit on this day; where the animal "
+        "to look at: a day beside words that tell of no exit stands in 2 of 11 cells that tell of an exit in the column 'exit', "
+        "the first in line 16: 'gekört 2020', 'an Meier, 03.04.2020': each counts as an exit on this day; where the animal "
         "hasn't left, write nothing or alive, lebt or vivant"
     )
+    assert "can't be read" not in done.out
 
 
 @pytest.mark.parametrize("cell", ["01.01.2012", "sold 01.01.2012"])

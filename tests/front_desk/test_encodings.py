@@ -27,7 +27,8 @@ def test_stray_byte_with_other_obstacles(desk: Desk) -> None:
 def test_windows_letters_stay(desk: Desk) -> None:
     """A sheet in Windows-1252 has letters that could be UTF-8 by chance."""
     text = SHEET.replace("Müller", "Strauß’ Müller").encode("cp1252")
-    assert "Windows-1252" in desk.take(text).out
+    done = desk.take(text)
+    assert "Windows-1252" in done.out and "decoded twice" not in done.out
     assert [row["name"] for row in desk.table("book/ids.csv")] == ["Strauß’ Müller", "Süße"]
 
 

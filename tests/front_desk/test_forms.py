@@ -158,6 +158,24 @@ def test_numbers_of_others(desk: Desk) -> None:
     assert list(desk.numbers().values()) == ["AYRNORM000000000001", "AYRNORF000000000002"]
 
 
+def test_lines_and_cells(desk: Desk) -> None:
+    """A cell may have a line's end, and `="007"` keeps its zeros; a cell without a title costs its row."""
+    done = desk.take('id;birth;sire;dam\n="007";2001;;;\na;"2003\n";007;;\nb;x;;;\nc;2002;;;x\nd;2002;;;\n')
+    done.tells(
+        "line 5: b: its birth day is left out: 'x' is no day: write it as 2001-03-01 or 01.03.2001, or 03.2001 or 2001 alone",
+        "line 6: c: the row is left out: it has 5 cells, and there are 4 titles: is there a separator too many?",
+    )
+    assert desk.parents() == {"007": ("", ""), "a": ("007", ""), "b": ("", ""), "d": ("", "")}
+
+
+def test_words_that_mean_two_sexes(desk: Desk) -> None:
+    done = desk.take("id;sex;birth;sire;dam\n1;Bock;2001;;\n2;brebis;2001;;\n3;B;2001;;\n4;Bock/Aue;2001;;\n")
+    assert (
+        "2 of 4 cells that say something in the column 'sex' can't be read, the first in line 4: 'B', 'Bock/Aue'"
+        in done.out
+    )
+
+
 MALES = "Bock,Hengst,Bulle,Stier,Widder,bélier,taureau,étalon,bouc,männl.,m,M.,Zuchtbock,ram,tup,bull"
 FEMALES = "Aue,Mutter,Stute,Kuh,Färse,Kalbin,brebis,vache,jument,chèvre,génisse,weibl.,w,W.,Mutterschaf,ewe,heifer,Geiß"
 
@@ -187,5 +205,7 @@ def test_named_words_for_sexes(desk: Desk) -> None:
     sexes = [row["number"][6] for row in desk.table("own/ids.csv")]
     assert sorted(sexes) == list("FFFMM")
     assert " 0 left out" in done.last
+    desk.take("id,sex,born,sire,dam\n1,M,2001,,\n", "--sexes", "M=f")
+    assert desk.numbers()["1"][6] == "F"
     desk.wrong("--sexes Bk: write WORD=m for males and WORD=f for females", "take", sheet, "--sexes", "Bk")
     desk.wrong("--sexes is for a sheet", "take", "--pedigree", sheet, "--sexes", "Bk=m")

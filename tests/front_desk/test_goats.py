@@ -184,7 +184,9 @@ def test_exits_in_words(desk: Desk) -> None:
         ("nein", ""), ("-", ""), ("im Bestand", ""), ("alive", ""), ("vivante", ""), ("", ""),
     ]  # fmt: skip
     done = desk.take(
-        "id;sex;born;sire;dam;exit\n" + "".join(f"a{at};M;2001-01-01;;;{cell}\n" for at, (cell, _) in enumerate(cells))
+        "id;sex;born;sire;dam;exit\n" + "".join(f"a{at};M;2001-01-01;;;{cell}\n" for at, (cell, _) in enumerate(cells)),
+        "--unknown",
+        "tot",
     )
     left = {line.split(",")[1]: line.split(",")[2] for line in desk.commands() if line.startswith("exit")}
     unknown = {row["id"] for row in desk.table("book/ids.csv") if row["exit"].startswith("day unknown")}
@@ -238,6 +240,11 @@ def test_exits_in_words_alone(desk: Desk) -> None:
         f"first in line 2: 'verkauft' (2 times), 'tot', 'sold', 'vendu': {without_day('verkauft')}"
     )
     assert "can't be read" not in done.out
+    # two cells are too few for a wrong column
+    assert (
+        "2 of 2 cells that tell of an exit in the column 'Abgang' can't be read"
+        in desk.take(sheet("Hof", "Hof"), "--book", "two").out
+    )
     assert [bool(row["exit"]) for row in desk.table("book/ids.csv")] == [True] * 5 + [False] * 4
     done = desk.take(sheet("verkauft 01.03.2001", "01.03.2001", "verkauft", "sold", "vendu", "", "", "", ""))
     assert [line[-16:] for line in desk.commands()[-2:]] == [",2001-03-01,,,,,"] * 2

@@ -58,7 +58,7 @@ def test_another_id(taken: Desk) -> None:
 
 
 def test_column_of_ids_lacks(taken: Desk) -> None:
-    others = [row.replace("A", "Z", 1) for row in flock("A")]
+    others = [flock("A")[0], *(row.replace("A", "Z", 1) for row in flock("A")[1:])]
     refused(
         taken, sheet(others, TITLES.replace("Ohrmarke", "Lebensnummer")),
         "the sheet lacks the column 'Ohrmarke', which had the book's ids, and no other column has them",

@@ -51,11 +51,11 @@ def test_sire_that_left(desk: Desk) -> None:
 def test_castrated_sire(desk: Desk) -> None:
     """It is told, and advice passes it over, also where a later sheet has no column for the sex."""
     rows = (
-        "w;Hammel;2001-03-01;;;\nr;ram;2001-03-01;;;\nd;ewe;2001-03-02;;;\nc1;ram;2003-03-01;w;d;\n"
+        "w;Hammel;2001-03-01;;;\nv;Bock (kastriert);2001-03-01;;;\nr;ram;2001-03-01;;;\nd;ewe;2001-03-02;;;\nc1;ram;2003-03-01;w;d;\n"
         "c2;ewe;2003-03-01;w;d;\n"
     )
     done = desk.take(TITLES + rows)
-    done.tells("line 2: w: to look at: it is the sire of c1 (line 5) and of 1 more, and its sex is 'Hammel'")
+    done.tells("line 2: w: to look at: it is the sire of c1 (line 6) and of 1 more, and its sex is 'Hammel'")
     for _ in range(2):
         assert [row["id"] for row in desk.listed("mating", "--dam", "d")] == ["r", "c1"]
         done = desk.take(

@@ -12,19 +12,23 @@ FLOCK = "DE 007;Max;M;2001-03-01;;\nDE 8;Eva;F;2001-03-02;;\n"
 def test_parent_written_otherwise(desk: Desk) -> None:
     """A parent's cell that differs from just one id in case, blanks or leading zeros is that animal, and is told."""
     calves = "c1;;F;2004-01-01;de007;DE  08\nc2;;F;2004-01-02;DE 7;de 8\nc3;;F;2004-01-03;DE 8;DE 007\n"
+    calves += "c4;;F;2004-01-04;DE 007;DE 8\nc5;;F;2004-01-05;DE 0070;DE 80\n"
     done = desk.take(TITLES + FLOCK + calves)
     done.tells(
         "line 4: c1: inferred: its sire 'de007' is DE 007, whose id differs in case, blanks or zeros alone: if another is "
         "meant, give that one a row"
     )
     assert desk.parents()["c1"] == desk.parents()["c2"] == ("DE 007", "DE 8")
-    assert " 0 added" in done.last
+    # four cells, and the days of two parents that are none of these
+    assert " 6 inferred, 2 left out (2 parents), 2 added" in done.last
 
 
 def test_more_than_one_is_meant(desk: Desk) -> None:
-    done = desk.take(TITLES + FLOCK + "de7;Leo;M;2001-04-01;;\nc;;F;2004-01-01;DE 7;\n")
-    assert desk.parents()["c"] == ("DE 7", "")
-    assert " 1 added" in done.last
+    done = desk.take(
+        TITLES + FLOCK + "de7;Leo;M;2001-04-01;;\nc;;F;2004-01-01;DE 7;\nd;;F;2004-01-01;;DE 08\ne;;F;2004;DE 107;\n"
+    )
+    assert desk.parents()["c"] == ("DE 7", "") and desk.parents()["e"] == ("DE 107", "")
+    assert " 2 added" in done.last
 
 
 def test_rows_that_are_alike(desk: Desk) -> None:

@@ -90,7 +90,13 @@ def test_further_column_of_ids(desk: Desk) -> None:
     """Which column has the ids is remembered, and seen in its cells where its title is another."""
     desk.take(sheet_of("Lebensnummer", 1))
     before = desk.numbers()
-    for titles, columns in [("Ohrmarke;Lebensnummer", (2, 1)), ("Tag;Ohrmarke", (1, 2)), ("Nr;LOM", (0, 1))]:
+    sheets = (
+        ("Ohrmarke;Lebensnummer", (2, 1)),
+        ("Lebensnummer;Ohrmarke", (2, 1)),
+        ("Tag;Ohrmarke", (1, 2)),
+        ("Nr;LOM", (0, 1)),
+    )
+    for titles, columns in sheets:
         done = desk.take(sheet_of(titles, *columns))
         assert desk.numbers() == before, titles
         assert " 0 new, 0 changed" in done.last
@@ -104,6 +110,8 @@ def test_likelier_column_comes_later(desk: Desk) -> None:
     done.shows("to look at: exit is read from 'Abgang', as at the last time, and 'Abgangsdatum' isn't")
     assert done.commands() == [f"{CALLED} take sheet.csv --columns exit=Abgangsdatum"]
     assert sum(line.startswith("exit") for line in desk.commands()) == 1
+    desk.typed(done.commands()[0])
+    assert "and 'Abgang' isn't" not in desk.take("id;birth;sire;dam;Abgangsdatum;Abgang\na;2001-01-01;;;;\n").out
 
 
 def test_column_that_is_lost(desk: Desk) -> None:
@@ -125,6 +133,16 @@ def test_column_that_is_lost(desk: Desk) -> None:
     assert "changed: owner 1" in done.out and "for owner is found" not in done.out
 
 
+def test_columns_of_parents(desk: Desk) -> None:
+    """Of two columns for a parent the one that has ids is read; ids in the usual column aren't given up for a few more
+    cells that are found in another."""
+    desk.take("Ohrmarke;birth;Vater Nr;Vater;Mutter\nA1;2001;;;\nA2;2002;;;\nA3;2004;7;A1;A2\n")
+    assert desk.parents()["A3"] == ("A1", "A2")
+    rows = "1;A;2001;;\n2;B;2002;;\n3;C;2004;1;2\n4;D;2004;A;B\n5;E;2004;A;\n"
+    desk.take("id;Code;birth;sire;dam\n" + rows, "--book", "few")
+    assert {"1", "2", "3", "4", "5"} <= {row["id"] for row in desk.table("few/ids.csv")}
+
+
 def test_ids_that_count_rows(desk: Desk) -> None:
     """Where no parent shows which column has the ids, and another one may have them."""
     done = desk.take("Nr;Kürzel;birth;sire;dam\n1;DE4;2001-01-01;;\n2;DE3;2002-01-01;;\n3;DE9;2003-01-01;;\n")
@@ -133,6 +151,9 @@ def test_ids_that_count_rows(desk: Desk) -> None:
     )
     desk.write("sheet.csv", "Nr;Kürzel;birth;sire;dam\n1;DE4;2001-01-01;;\n2;DE3;2002-01-01;;\n")
     assert "counts the rows" not in desk.typed(done.commands()[0].replace("take", "take --book other")).out
+    # ids that are sorted don't count rows
+    desk.take("Tag;Ohrmarke;birth;sire;dam\n101;x;2001;;\n105;y;2002;;\n109;z;2003;;\n", "--book", "sorted")
+    assert {row["id"] for row in desk.table("sorted/ids.csv")} == {"101", "105", "109"}
 
 
 def test_column_without_cells(desk: Desk) -> None:

@@ -16,6 +16,20 @@ def test_usual_words(desk: Desk) -> None:
     done = desk.take(TITLES + rows)
     assert set(desk.parents().values()) == {("", "")}
     assert " 0 left out, 0 added" in done.last
+    # one of them can be an animal's id, and so can what begins as an error
+    desk.take(
+        TITLES + "#NV12;M;2001-01-01;;\nNN;F;2001-01-01;;\nc;F;2004-01-01;#NV12;nn\n",
+        "--known",
+        "Nn",
+        "--book",
+        "known",
+    )
+    assert len(desk.table("known/ids.csv")) == 3
+    assert desk.listed("list", "--book", "known", "--columns", "id,sire,dam")[-1] == {
+        "id": "c",
+        "sire": "#NV12",
+        "dam": "NN",
+    }
 
 
 def test_error_values(desk: Desk) -> None:
@@ -38,4 +52,5 @@ def test_error_values(desk: Desk) -> None:
 
 def test_columns_of_errors(desk: Desk) -> None:
     rows = "".join(f"a{at};F;2001-01-01;#BEZUG!;{word}\n" for at, word in enumerate(["x", "#REF!", "#REF!"]))
+    rows += "".join(f"b{at};F;2001-01-01;;\n" for at in range(5))
     desk.wrong("3 of 3 cells of the column 'sire' (sire) show an error", "take", desk.write("sheet.csv", TITLES + rows))
