@@ -67,8 +67,13 @@ def test_column_of_ids_lacks(taken: Desk) -> None:
 
 
 def test_older_sheet(taken: Desk) -> None:
-    refused(taken, sheet(flock("A", 45)), "15 of the 60 animals that had a row in the last sheet have none in this one: it "
-            "looks like")  # fmt: skip
+    by_age = sorted(flock("A"), key=lambda row: row.split(";")[2])
+    told = "15 of the 60 animals that had a row in the last sheet have none in this one: it looks like "
+    without = taken.write("youngest.csv", sheet(by_age[15:]))
+    taken.wrong(f"{told}a part of the flock", "take", without)
+    refused(
+        taken, sheet(by_age[:45]), f"{told}an older sheet: each of its animals is in the book, and the youngest lack"
+    )
 
 
 def test_few_are_gone(taken: Desk) -> None:
@@ -197,10 +202,11 @@ def test_days_in_place_of_years(desk: Desk) -> None:
 
 def test_parents_by_name_without_names(desk: Desk) -> None:
     rows = [
-        f"T{at};2001-01-{1 + at % 28:02};Sire of {'abcdefgh'[at % 8]};Dam of {'abcdefgh'[at % 7]}" for at in range(40)
+        f"T{at};2001-01-{1 + at % 28:02};Sire of {'abcdefgh'[at % 8]};{'T0' if at > 35 else 'Dam of ' + 'abcdefgh'[at % 7]}"
+        for at in range(40)
     ]
     text = sheet(rows, "Ohrmarke;Geburtsdatum;Vater;Mutter")
-    refused(desk, text, "80 of 80 parents have no row, the first are 'Sire of a', 'Dam of a', 'Sire of b': it looks like "
+    refused(desk, text, "76 of 80 parents have no row, the first are 'Sire of a', 'Dam of a', 'Sire of b': it looks like "
             "parents that are written by their names")  # fmt: skip
     # once they are in the book they aren't asked for again
     assert " 0 new, 0 changed" in desk.take(text).last

@@ -18,6 +18,8 @@ FAULTY_PARENTS = """\
     x;M;2007-01-01;z;;;
     y;M;;x;;;
     z;M;;y;;;
+    q;M;2001-01-01;p;;;
+    p;M;2003-01-01;q;;;
     """
 
 
@@ -37,11 +39,12 @@ def test_faulty_parents(desk: Desk) -> None:
         "line 9: both: its sire b (line 3) is left out: it isn't male (refusal 5)",
         "line 9: both: its dam a (line 2) is left out: it isn't female (refusal 6)",
         "line 12: z: its sire y is left out: z would be its own ancestor (z > y > x > z)",
+        "line 13: q: its sire p is left out: q would be its own ancestor (q > p > q)",
     )
-    assert "11 animals, 11 new, 0 changed, 2 inferred, 6 left out (6 parents), 0 added, 0 gone" in done.last
+    assert "13 animals, 13 new, 0 changed, 2 inferred, 7 left out (7 parents), 0 added, 0 gone" in done.last
     wanted = {
         "young": ("a", ""), "after": ("a", ""), "frozen": ("a", "b"), "both": ("", ""), "x": ("z", ""), "y": ("x", ""),
-        "z": ("", ""), "self": ("", ""),
+        "z": ("", ""), "self": ("", ""), "p": ("q", ""),
     }  # fmt: skip
     assert wanted.items() <= desk.parents().items()
 
@@ -49,7 +52,7 @@ def test_faulty_parents(desk: Desk) -> None:
 def test_strict(desk: Desk) -> None:
     """With --strict nothing is taken where something is left out."""
     sheet = desk.write("sheet.csv", FAULTY_PARENTS)
-    done = desk.wrong("6 left out (6 parents): with --strict nothing is taken", "take", sheet, "--strict")
+    done = desk.wrong("7 left out (7 parents): with --strict nothing is taken", "take", sheet, "--strict")
     assert "society: line 4: self: its sire self is left out: self would be its own ancestor" in done.err
     desk.take("id,born,sire,dam\na,2001,,\nb,2003-01-01,a,c\n", "--strict")
 

@@ -12,15 +12,16 @@ FLOCK = "DE 007;Max;M;2001-03-01;;\nDE 8;Eva;F;2001-03-02;;\n"
 def test_parent_written_otherwise(desk: Desk) -> None:
     """A parent's cell that differs from just one id in case, blanks or leading zeros is that animal, and is told."""
     calves = "c1;;F;2004-01-01;de007;DE  08\nc2;;F;2004-01-02;DE 7;de 8\nc3;;F;2004-01-03;DE 8;DE 007\n"
-    calves += "c4;;F;2004-01-04;DE 007;DE 8\nc5;;F;2004-01-05;DE 0070;DE 80\n"
+    calves += "c4;;F;2004-01-04;DE 007;DE 8\nc5;;F;2004-01-05;DE 0070;DE 80\nc6;;F;2004-01-06;de 8;de 007\n"
     done = desk.take(TITLES + FLOCK + calves)
     done.tells(
         "line 4: c1: inferred: its sire 'de007' is DE 007, whose id differs in case, blanks or zeros alone: if another is "
         "meant, give that one a row"
     )
     assert desk.parents()["c1"] == desk.parents()["c2"] == ("DE 007", "DE 8")
-    # four cells, and the days of two parents that are none of these
-    assert " 6 inferred, 2 left out (2 parents), 2 added" in done.last
+    # no female is a sire; four cells are inferred, and the days of four parents that are none of these
+    assert desk.parents()["c6"] == ("de 8", "de 007")
+    assert " 8 inferred, 2 left out (2 parents), 4 added" in done.last
 
 
 def test_more_than_one_is_meant(desk: Desk) -> None:
@@ -39,6 +40,8 @@ def test_rows_that_are_alike(desk: Desk) -> None:
     )
     for _ in range(2):
         desk.take(TITLES + FLOCK + "de 08;Eva;F;2001-03-02;;\n").tells(told)
+    done = desk.take(TITLES + FLOCK.splitlines()[0] + "\nde 08;Eva;F;2001-03-02;;\n")
+    done.tells(told.replace("line 4", "line 3", 1).replace("(line 3)", "(in the book)"))
 
 
 def test_words_for_parents(desk: Desk) -> None:
@@ -131,6 +134,11 @@ def test_birth_that_moved_by_years(desk: Desk) -> None:
     done = desk.take(TITLES + FLOCK.replace("2001-03-02", "2003-03-02"))
     assert done.out.startswith(told)
     assert "to look at" not in desk.take(TITLES + FLOCK.replace("2001-03-02", "2003-01-30")).out
+    assert desk.take(TITLES + FLOCK.replace("2001-03-02", "2000-01-30")).out.startswith("line 3: DE 8: to look at")
+    done = desk.take(TITLES + FLOCK.replace("Eva;F;2001", "Eva;M;2011"))
+    assert done.out.startswith(
+        "line 3: DE 8: the row is left out: the book has this id for another animal ('Eva', born 2000"
+    )
 
 
 def test_sheet_that_is_sorted_again(desk: Desk) -> None:

@@ -66,6 +66,9 @@ def test_day_of_a_change_has_a_column(desk: Desk) -> None:
     assert "its first day with its owner is left out" in done.out
     assert len(transfers(desk)) == 2
     assert " 0 changed" in done.last
+    # of a month or a year that hasn't ended it is no day after today
+    desk.take(sheet(str(TODAY.year), "Löw"))
+    assert transfers(desk)[2:] == [str(TODAY)]
 
 
 def test_first_owner_since_a_day(desk: Desk) -> None:
@@ -83,6 +86,8 @@ def test_owner_is_written_otherwise(desk: Desk) -> None:
     told = "to look at: the 2 animals of 'Meier' are now of 'Meyer', whom the book didn't have"
     done.shows(told, "  if the name is only written otherwise:")
     assert done.commands() == [f"{CALLED} take sheet.csv --preview --owner Meier=Meyer"]
+    some = desk.write("some.csv", TITLES + PARENTS.replace("Meier", "Meyer", 1))
+    assert "are now of" not in desk.good("take", some, "--preview").out
     # what is taken is undone first
     done = desk.good("take", "sheet.csv")
     done.shows(told)
@@ -134,9 +139,16 @@ def test_exit_against_the_book(desk: Desk) -> None:
     done = desk.take(TITLES + rows.replace("d;F;2001-03-02;;;Meier;", "d;F;2001-03-02;;;Meier;2003-01-01"))
     assert "(c in line 4) (refusal 16)" in done.out
     assert desk.parents()["c"] == ("s", "d")
-    left = rows.replace("d;F;2001-03-02;;;Meier;", "d;F;2001-03-02;;;Meier;2004-02-01")
-    done = desk.take(TITLES + left + "e;F;2005-01-01;s;d;Meier;\n")
-    assert desk.parents()["e"] == ("s", "")
+    # on the day of a birth a dam may leave
+    for day in "2004-02-01", "2004-01-01":
+        left = rows.replace("d;F;2001-03-02;;;Meier;", f"d;F;2001-03-02;;;Meier;{day}")
+        done = desk.take(TITLES + left + "e;F;2005-01-01;s;d;Meier;\n")
+        assert desk.parents()["e"] == ("s", "")
+        assert desk.commands()[-1].split(",")[2] == day
+    # an exit that is moved before a birth costs no link either
+    done = desk.take(TITLES + left.replace("Meier;2004-01-01", "Meier;2003-01-01"))
+    assert "(c in line 4) (refusal 16)" in done.out
+    assert desk.parents()["c"] == ("s", "d")
 
 
 def test_many_refusals_of_one_cause(desk: Desk) -> None:
