@@ -1,6 +1,7 @@
 """The coefficients of inbreeding of a book's last state, which are computed once and kept with it."""
 from __future__ import annotations
 
+import json
 import sqlite3
 from fractions import Fraction
 from typing import Iterable, Mapping, NamedTuple
@@ -58,6 +59,15 @@ def coefficients_of(connection: sqlite3.Connection) -> Mapping[str, Coefficient]
         return Coefficient(*row) if row else None
 
     return Lazy(one, lambda: read_coefficients(connection))
+
+
+def coefficients_among(book: Book, numbers: list[str]) -> dict[str, Coefficient]:
+    """Those of some numbers, by one question."""
+    if book.connection is None:
+        return {}
+    chosen = "SELECT number, fraction, percent FROM coefficient WHERE number IN (SELECT value FROM json_each(?))"
+    rows = book.connection.execute(chosen, (json.dumps(numbers),))
+    return {number: Coefficient(fraction, percent) for number, fraction, percent in rows}
 
 
 def read_coefficients(connection: sqlite3.Connection) -> dict[str, Coefficient]:

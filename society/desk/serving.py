@@ -7,6 +7,7 @@ import secrets
 import shutil
 import signal
 import socket
+import sys
 import tempfile
 import threading
 import webbrowser
@@ -30,6 +31,8 @@ from society.reading.sheet import MOST_BYTES
 
 ADDRESS = "127.0.0.1"
 THREADS = 8
+# so long one answer keeps the others from going on, in seconds
+SECONDS_IN_TURN = 0.0005
 # so long answers that are under way at the end are waited for
 SECONDS_FOR_ANSWERS = 10
 
@@ -66,6 +69,7 @@ def answer(desk: Desk, app: Flask, listening: socket.socket, threads: int, begin
         app, sockets=[listening], threads=threads, ident=None, max_request_body_size=MOST_BYTES * 2,
         expose_tracebacks=False,
     )  # fmt: skip
+    sys.setswitchinterval(SECONDS_IN_TURN)
     threading.Thread(target=see_whole, args=(desk,), daemon=True).start()
     signal.signal(signal.SIGTERM, signal.default_int_handler)
     with contextlib.suppress(KeyboardInterrupt):

@@ -7,7 +7,7 @@ from flask import Blueprint, jsonify, render_template, request, url_for
 from werkzeug.wrappers import Response
 
 from society.book.book import Book
-from society.book.coefficients import kept_coefficients
+from society.book.coefficients import coefficients_among
 from society.desk.animal_rows import Asked, Found, Order, asked_by, fields_of, file_of, found_by, turned
 from society.desk.desk import Answer, the_desk, with_book
 from society.desk.shown_animals import line_of
@@ -30,7 +30,7 @@ def animals(book: Book) -> Answer:
         found = found_by(book, asked)
     except Mistake as mistake:
         faults = without_paths(mistake.sentences, the_desk())
-    coefficients = kept_coefficients(book)
+    coefficients = coefficients_among(book, [row.number for row in found.rows])
     sorts = {order.value: address("animals.page", fields_of(turned(asked, order))) for order in Order}
     pages = [address("animals.page", fields_of(asked) | {"page": str(found.page + step)}) for step in (-1, 1)]
     return render_template(
