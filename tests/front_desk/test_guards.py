@@ -190,6 +190,9 @@ def test_years_alone(taken: Desk) -> None:
     done = taken.take(sheet([";".join([*row[:2], row[2][:4], *row[3:]]) for row in rows]))
     assert " 0 changed" in done.last
     assert taken.born() == {row[0]: row[2] for row in rows}
+    # of another year it gives way
+    taken.take(sheet([";".join([*row[:2], "2005" if row[0] == "A20" else row[2], *row[3:]]) for row in rows]))
+    assert taken.born()["A20"] == "2005-07-02"
 
 
 def test_days_in_place_of_years(desk: Desk) -> None:

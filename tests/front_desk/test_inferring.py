@@ -170,6 +170,10 @@ def test_sire_and_dam_without_a_sex(desk: Desk) -> None:
         "line 4: c: its dam a (line 2) is left out: it isn't female (refusal 6); its sex is inferred: male,"
         " since it is a sire"
     )
+    # what the book has is preferred to what it is more often
+    desk.take("id,born,sire,dam\na,2001,,\nb,2003,,a\n", "--book", "dam")
+    again = desk.take("id,born,sire,dam\na,2001,,\nb,2003,,a\nc,2004,a,\nd,2005,a,\n", "--book", "dam")
+    assert "2 left out (2 parents)" in again.last and "number" not in again.out
 
 
 MEANT = "if another is meant, write the id of that one"

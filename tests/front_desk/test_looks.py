@@ -91,6 +91,7 @@ def test_old_animal_as_living(desk: Desk) -> None:
         "has it left?"
     )
     assert done.out.count("to look at") == 1
+    assert "25 years older" not in desk.take(TITLES + rows.partition("\n")[2]).out
 
 
 def test_what_may_be_wrong_comes_first(desk: Desk) -> None:

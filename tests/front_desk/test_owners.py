@@ -69,6 +69,16 @@ def test_day_of_a_change_has_a_column(desk: Desk) -> None:
     # of a month or a year that hasn't ended it is no day after today
     desk.take(sheet(str(TODAY.year), "Löw"))
     assert transfers(desk)[2:] == [str(TODAY)]
+    assert " 0 left out" in desk.take(sheet(str(TODAY), "Süß")).last
+    assert transfers(desk)[2:] == [str(TODAY)] * 2
+
+
+def test_day_before_an_inferred_one(desk: Desk) -> None:
+    """The inferred day of the owner before gives way."""
+    desk.take(TITLES + PARENTS)
+    desk.take(TITLES + PARENTS.replace("d;F;2001-03-02;;;Meier", "d;F;2001-03-02;;;Groß"))
+    desk.take("id;birth;sire;dam;owner;since\ns;2001-03-01;;;;\nd;2001-03-02;;;Weiß;2012-05-01\n")
+    assert transfers(desk) == ["2012-05-01", "2012-05-01"]
 
 
 def test_first_owner_since_a_day(desk: Desk) -> None:
