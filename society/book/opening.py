@@ -3,7 +3,6 @@ from __future__ import annotations
 
 import contextlib
 import pathlib
-import shlex
 from typing import Iterator
 
 from society.book.book import Book
@@ -14,7 +13,10 @@ from society.book.old_folder import take_over
 from society.book.verify import verify
 from society.herdbook import Herdbook
 from society.mistake import CALLED, Mistake
+from society.taking.suggestions import Call, Suggestion
 
+# how the names of sheets end
+SHEETS = (".csv", ".xlsx")
 # so long exports wait for somebody who changes the book, after a change of one's own
 SECONDS_FOR_EXPORTS = 600
 
@@ -36,9 +38,14 @@ def opened(folder: pathlib.Path, program: Herdbook) -> Iterator[Book]:
 
 
 def no_book(folder: pathlib.Path) -> Mistake:
-    how = f"{CALLED} take SHEET --book {shlex.quote(str(folder))}"
-    there = "" if folder.is_absolute() else ", or go to the folder where you took one, by cd FOLDER"
-    return Mistake(f"there is no book in the folder {folder}: take a sheet first, as {how}{there}")
+    """With the command that takes the only sheet that is here, if there is one."""
+    there = "" if folder.is_absolute() else ", or go to the folder in which you took one"
+    told = f"there is no book in the folder {folder}: take a sheet first{there}"
+    sheets = [path for path in pathlib.Path().iterdir() if path.suffix.lower() in SHEETS and path.is_file()]
+    if len(sheets) != 1:
+        return Mistake(f"{told}: `{CALLED} take --help` says how")
+    command = Call((str(sheets[0]),), folder).command(Suggestion(""))
+    return Mistake(told, f"  if {sheets[0]} is the sheet:\n    {command}")
 
 
 @contextlib.contextmanager

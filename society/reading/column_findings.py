@@ -139,6 +139,15 @@ class LikelyColumn:
         return f"'{self.title}' has {HAS.get(self.field, self.field)}"
 
 
+def likely_titles(likely: tuple[LikelyColumn, ...]) -> tuple[Suggestion, ...]:
+    """The command that names all of these columns."""
+    if not likely:
+        return ()
+    case = " and ".join(one.words() for one in likely)
+    titles = ",".join(f"{one.field}={one.title}" for one in likely)
+    return (Suggestion(f"if {case}", (Option("--columns", titles),)),)
+
+
 @dataclass(frozen=True, slots=True)
 class ColumnsLack(SheetFinding):
     """No column is found for fields that a sheet has to have; `likely` are those whose cells may be theirs."""
@@ -156,14 +165,31 @@ class ColumnsLack(SheetFinding):
         )
 
     def suggestions(self) -> tuple[Suggestion, ...]:
-        titles = ",".join(f"{one.field}={one.title}" for one in self.likely)
-        case = " and ".join(one.words() for one in self.likely)
-        found = (Suggestion(f"if {case}", (Option("--columns", titles),)),) if self.likely else ()
+        found = likely_titles(self.likely)
         if Field.ID in self.fields or len(self.fields) >= MANY:
             return found
         none = ",".join(f"{field}=" for field in self.fields)
         which = "there is none" if len(self.fields) == 1 else "there are none"
         return (*found, Suggestion(f"if {which}", (Option("--columns", none),)))
+
+
+@dataclass(frozen=True, slots=True)
+class PedigreeTitlesLack(SheetFinding):
+    """No title of a geneticist's pedigree is known for these fields; `likely` are the columns left, in their order."""
+
+    line: int
+    fields: tuple[Field, ...]
+    titles: tuple[str, ...]
+    likely: tuple[LikelyColumn, ...]
+
+    def words(self) -> str:
+        return (
+            f"line {self.line}: no title for the {' and the '.join(self.fields)} is found. The titles are "
+            f"{title_list(self.titles)}. Say which it is by --columns, with the field, = and its title"
+        )
+
+    def suggestions(self) -> tuple[Suggestion, ...]:
+        return likely_titles(self.likely)
 
 
 @dataclass(frozen=True, slots=True)

@@ -76,7 +76,7 @@ def find_columns(
     for name in TITLES:
         # which column has the ids of a book is seen in its cells
         if named.get(name) and (name != Field.ID or name in given):
-            name_column(columns, name, named[name])
+            name_column(columns, name, named)
     find_pair(columns, [name for name in PARENTS if name not in named])
     for name in TITLES:
         if name not in named and name not in (Field.ID, *PARENTS):
@@ -90,14 +90,15 @@ def find_columns(
     return columns
 
 
-def name_column(columns: Columns, name: str, title: str) -> None:
+def name_column(columns: Columns, name: str, named: Mapping[str, str]) -> None:
+    title = named[name]
     places = [at for at, one in enumerate(columns.sheet.titles) if one == title]
     places += [at for at, one in enumerate(columns.sheet.titles) if plain(one) == plain(title)]
     if places:
         columns.found[name] = places[0]
         return
     titles = columns.sheet.titles
-    meant = closest(title, [one for one in titles if one], 1)
+    meant = closest(title, [one for one in titles if one and one not in named.values()], 1)
     lacks = NamedColumnLacks(columns.sheet.line, Field(name), title, tuple(titles), meant[0] if meant else "")
     columns.faults.append(lacks)
 

@@ -3,10 +3,12 @@ from __future__ import annotations
 
 from typing import Mapping
 
+from society.alike import closest
 from society.book.kinds import Field
-from society.mistake import Mistake
+from society.reading.column_findings import LikelyColumn, NamedColumnLacks, PedigreeTitlesLack
 from society.reading.titles import KNOWN_TITLES
 from society.reading.words import listed, plain
+from society.taking.report import CantBeTaken
 
 # Beside the titles of sheets those of R's packages (optiSel, kinship2, pedigreemm, nadiv, purgeR, MCMCglmm), of PLINK,
 # and of the programs of evaluation centres.
@@ -41,14 +43,14 @@ def are_titles(cells: list[str], given: Mapping[Field, str]) -> bool:
     return any(plain(cell) in wanted for cell in cells)
 
 
-def find_pedigree_columns(where: str, cells: list[str], given: Mapping[Field, str]) -> Columns:
+def find_pedigree_columns(line: int, cells: list[str], given: Mapping[Field, str]) -> Columns:
     """The columns of a line of titles: those that are given, and else those of the likeliest titles."""
     titles = [plain(cell) for cell in cells]
     found: Columns = {}
     for field in READ:
         if field in given:
             if given[field]:
-                found[field] = given_place(where, cells, field, given[field])
+                found[field] = given_place(line, cells, field, given)
             continue
         usual = [*OF_FIELD[field], *SHORT_OF_FIELD.get(field, ())]
         at = next((titles.index(title) for title in usual if title in titles), None)
@@ -56,23 +58,21 @@ def find_pedigree_columns(where: str, cells: list[str], given: Mapping[Field, st
             found[field] = at
     missing = [field for field in NEEDED if field not in found]
     if missing:
-        shown = ", ".join(f"'{cell}'" for cell in cells)
-        names = ",".join(f"{field.value}=TITLE" for field in missing)
-        raise Mistake(
-            f"{where}: no title for the {' and the '.join(field.value for field in missing)} is found. The titles are "
-            f"{shown}. Say which it is, as --columns {names}"
+        free = [cell for at, cell in enumerate(cells) if at not in found.values() and cell and "," not in cell]
+        likely = (
+            [LikelyColumn(field, title) for field, title in zip(missing, free)] if len(free) >= len(missing) else []
         )
+        raise CantBeTaken(PedigreeTitlesLack(line, tuple(missing), tuple(cells), tuple(likely)))
     return found
 
 
-def given_place(where: str, cells: list[str], field: Field, title: str) -> int:
+def given_place(line: int, cells: list[str], field: Field, given: Mapping[Field, str]) -> int:
+    title = given[field]
     places = [at for at, cell in enumerate(cells) if cell == title]
     places += [at for at, cell in enumerate(cells) if plain(cell) == plain(title)]
     if not places:
-        shown = ", ".join(f"'{cell}'" for cell in cells)
-        raise Mistake(
-            f"{where}: there is no column '{title}', which --columns names for {field.value}. The titles are {shown}"
-        )
+        meant = closest(title, [cell for cell in cells if cell and cell not in given.values()], 1)
+        raise CantBeTaken(NamedColumnLacks(line, field, title, tuple(cells), meant[0] if meant else ""))
     return places[0]
 
 

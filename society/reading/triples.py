@@ -42,7 +42,7 @@ def read_triples(path: pathlib.Path, given: Mapping[Field, str], unknown: Contai
     if titles is None:
         columns, told = WITHOUT_TITLES, [f"{lines[0]} has none of the known titles, and is taken for an animal"]
     else:
-        columns = find_pedigree_columns(f"line {titles.number}", titles.cells, given)
+        columns = find_pedigree_columns(titles.number, titles.cells, given)
         told = [columns_read(titles.cells, columns)]
     reader = Reader(columns, unknown, Sexes([], {}), report)
     for line in lines:

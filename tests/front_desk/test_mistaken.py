@@ -73,11 +73,11 @@ WORDS: list[tuple[list[str], str]] = [
     (["take", "good.csv", "--book", "file"], "the folder file can't be written"),
     (["take", "good.csv", "--day", "1/2/2003"], "--day: '1/2/2003' isn't a day written as 2001-03-01 or 01.03.2001"),
     (["list"],
-     f"there is no book in the folder book: take a sheet first, as {CALLED} take SHEET --book book, or go to "
-     "the folder where you took one, by cd FOLDER\n"),
+     "there is no book in the folder book: take a sheet first, or go to the folder in which you took one\n"
+     f"society:   if good.csv is the sheet:\n    {CALLED} take good.csv\n"),
     (["list", "--book", "/no where"],
-     "there is no book in the folder /no where: take a sheet first, as "
-     f"{CALLED} take SHEET --book '/no where'\n"),
+     "there is no book in the folder /no where: take a sheet first\n"
+     f"society:   if good.csv is the sheet:\n    {CALLED} take good.csv --book '/no where'\n"),
     (["sell"], f"there is no word 'sell': `{CALLED} --help` shows"),
     (["Lst"], "there is no word 'Lst': is list meant? `"),
     ([], "a word is lacking that says what to do, as take, list or show"),

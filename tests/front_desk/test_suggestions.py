@@ -84,3 +84,22 @@ def test_suggestions_of_a_pedigree(desk: Desk) -> None:
     assert " 1 left out (1 parent)" in desk.typed(leave_out).last
     desk.write("linie 1.txt", "a x x\nb x 0\nc 0 b\nd b a\n".replace("d b a", "d 0 a"))
     assert desk.typed(unknown).last.startswith("das Buch: 4 animals")
+
+
+def test_suggestions_for_titles_of_a_pedigree(desk: Desk) -> None:
+    """The columns that are left, in their order, and a title that is nearly the one that is named."""
+    desk.write("linie 1.txt", "ANIMAL PARENT1 PARENT2\na 0 0\nb 0 0\nc a b\n")
+    done = desk.run("take", "--pedigree", "linie 1.txt", *BOOK)
+    assert "society:   if 'PARENT1' has the sires and 'PARENT2' has the dams:" in done.err
+    assert desk.typed(done.commands()[0]).last.startswith("das Buch: 3 animals")
+    done = desk.run("take", "--pedigree", "linie 1.txt", "--columns", "sire=PARENT,dam=PARENT2", "--book", "other")
+    assert desk.typed(done.commands()[0]).last.startswith("other: 3 animals")
+
+
+def test_suggested_sheet(desk: Desk) -> None:
+    """Where there is no book, the only sheet of the folder is suggested."""
+    desk.write(NAME, TITLES + PAIR)
+    done = desk.run("list", *BOOK)
+    assert desk.typed(done.commands()[0]).last.startswith("das Buch: 2 animals")
+    desk.write("zweite.csv", TITLES + PAIR)
+    assert not desk.run("list").commands()

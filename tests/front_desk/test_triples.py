@@ -122,7 +122,7 @@ def test_relationships(desk: Desk, x: str, y: str, relationship: float) -> None:
      "write a first line with the titles"),
     ("ANIMAL PARENT1 PARENT2\na 0 0\n",
      "line 1: no title for the sire and the dam is found. The titles are 'ANIMAL', 'PARENT1', 'PARENT2'. Say which it "
-     "is, as --columns sire=TITLE,dam=TITLE"),
+     "is by --columns, with the field, = and its title"),
     ("a;0;0;x\n", "line 1: 'a 0 0 x' has 4 cells, and without titles"),
     ('"id" "sire" "dam"\n"1" "a" 0 0\n',
      "line 2: '1 a 0 0' has 4 cells, and line 1 has 3 titles: write one for each column "
