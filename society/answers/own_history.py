@@ -32,7 +32,8 @@ def history_of(connection: sqlite3.Connection, id: str) -> Iterator[str]:
         for one in told.get(number, []):
             entry = entry_of(one)
             if entry.what not in SAID_BY_ROWS:
-                yield f"  {f'line {one.line}: ' if one.line else ''}{entry.what}: {entry.why}"
+                said = entry.why if entry.part else f"{entry.what}: {entry.why}"
+                yield f"  {f'line {one.line}: ' if one.line else ''}{said}"
 
 
 def rows_by_change(connection: sqlite3.Connection, id: str, column: str) -> dict[int, Row]:

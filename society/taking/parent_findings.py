@@ -7,6 +7,7 @@ from typing import Hashable
 
 from society.book.inferred import SexSource
 from society.book.role import Role
+from society.mistake import MOST_NAMED
 from society.refusals import Refusal
 from society.taking.animal_findings import SEXES
 from society.taking.harm import Harm
@@ -90,7 +91,7 @@ class OwnAncestor(ParentLeftOut):
         return f"its {self.role} {self.parent}"
 
     def why(self) -> str:
-        return f"{self.path[0]} would be its own ancestor ({' > '.join(self.path)})"
+        return f"{self.path[0]} would be its own ancestor ({path_of(self.path)})"
 
 
 @dataclass(frozen=True, slots=True)
@@ -212,6 +213,12 @@ class ParentsSwapped(Finding):
         joined = f", which couples join to {self.joined_to}," if self.joined_to else ""
         places = f"a sire {place(self.sire_line)} and a dam {place(self.dam_line)}"
         return f"taken with {couple}, since {self.both}{joined} is {places}"
+
+
+def path_of(ids: tuple[str, ...]) -> str:
+    """The steps of a path; of a long one the first and the last."""
+    more = len(ids) - MOST_NAMED
+    return " > ".join(ids if more <= 0 else [*ids[: MOST_NAMED - 1], f"{more} more", ids[-1]])
 
 
 def place(line: int) -> str:

@@ -43,6 +43,9 @@ def test_many_ids_in_a_message(desk: Desk) -> None:
     done = desk.wrong("animals are both sire and dam", "take", "--pedigree", desk.write("trees.txt", selfed(20)))
     assert "20 animals are both sire and dam: t0 (both parents of t1 in line 2), t1 " in done.err
     assert "t11 (both parents of t12 in line 13) and 8 more" in done.err and "t12 (" not in done.err
+    round_again = desk.write("round.txt", "".join(f"a{at} a{(at + 1) % 40} 0\n" for at in range(40)))
+    path = " > ".join(["a39", *(f"a{at}" for at in range(10)), "29 more", "a39"])
+    desk.wrong(f"a39 would be its own ancestor ({path})", "take", "--pedigree", round_again)
 
 
 def selfed(generations: int) -> str:

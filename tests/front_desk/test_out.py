@@ -55,7 +55,8 @@ def test_spreadsheets_and_terminals(desk: Desk) -> None:
     done = desk.take(ODD)
     shown = done.out + done.err + desk.good("list").out + desk.good("history", "1").out
     assert "\x1b" not in shown
-    for text in desk.good("list").out, desk.text("book/ids.csv"), desk.text("book/report.csv"):
+    asked = desk.good("list").out, desk.good("kinship", "@SUM(A1)", "A 1", "--matrix", "kinship").out
+    for text in *asked, desk.text("book/ids.csv"), desk.text("book/report.csv"):
         cells = [cell for line in text.splitlines() for cell in line.split(",")]
         assert not [cell for cell in cells if cell[:1] in ("=", "+", "-", "@")]
     assert [row["id"] for row in desk.listed("list")][:1] == ["'@SUM(A1)"]

@@ -1,4 +1,4 @@
-"""What is asked about animals: one shown with its relatives and history, those that a text finds, and lists of some."""
+"""What is asked about animals: those that a text finds, and lists of some."""
 from __future__ import annotations
 
 import contextlib
@@ -10,48 +10,6 @@ from fractions import Fraction
 
 from front_desk.desk import Desk
 from front_desk.sheet import Secretary
-
-
-def test_show(secretary_desk: Desk, secretary: Secretary) -> None:
-    """The sibs and offspring are those that the sheet's parents make, each once."""
-    parents = secretary.parents()
-    chosen = max(parents, key=lambda id: sum(id in its for its in parents.values()) * bool(all(parents[id])))
-    shown = secretary_desk.good("show", chosen).out
-    sire, dam = parents[chosen]
-    offspring = [id for id, its in parents.items() if chosen in its]
-    full = [id for id, its in parents.items() if its == (sire, dam) and id != chosen]
-    by_sire = [id for id, its in parents.items() if its[0] == sire and its[1] != dam]
-    by_dam = [id for id, its in parents.items() if its[1] == dam and its[0] != sire]
-    partners = {next(iter(set(parents[id]) - {chosen})) for id in offspring}
-    assert f"\noffspring: {len(offspring)} with {len(partners)} partner" in shown
-    for what, ids in ("full sibs", full), ("half sibs by the sire", by_sire), ("half sibs by the dam", by_dam):
-        part = shown.partition(f"\n{what}: {len(ids)}\n")[2]
-        assert {line.split("  ")[1] for line in part.splitlines()[: len(ids)]} == set(ids), what
-    exact = secretary.coefficients()[chosen]
-    assert f"  coefficient   {exact} = " in shown
-    assert f"  sire          {sire}  " in shown
-
-
-def test_show_history(society_desk: Desk) -> None:
-    """Each change of the animal and what was told of it, also a refused one; of others nothing."""
-    society_desk.good("transfer", "GK-17/472c", "--to", "New Farm", "--day", "2020-01-01")
-    assert society_desk.run("exit", "GK-17/472c", "--day", "2001-01-01").status == 1
-    society_desk.good("exit", "GK-18/486b", "--day", "2021-01-01")
-    told = society_desk.good("show", "GK-17/472c").out.partition("\nhistory\n")[2].splitlines()
-    assert [line.split()[0] for line in told if line[2] != " "] == ["1", "2", "3"]
-    assert "    owner New Farm, before St. Anne's Abbey; owner since 2020-01-01, before 2017-11-21" in told[3]
-    assert "refusal 14" in told[-1]
-    left_out = society_desk.good("show", "GK-12/351b").out
-    assert "sire          unknown (in the sheet: GK-12/341c)" in left_out
-    assert "isn't male (refusal 5)" in left_out
-
-
-def test_show_many(desk: Desk) -> None:
-    rows = "".join(f"C{at},2004-01-{at % 28 + 1:02},S,D{at % 40}\n" for at in range(60))
-    desk.take(f"id,birth,sire,dam\nS,2000-01-01,,\n{rows}")
-    few, every = desk.good("show", "S").out, desk.good("show", "S", "--all").out
-    assert "offspring: 60 with 40 partners" in few and "  and 35 more: --all shows them" in few
-    assert few.count("    C") == 25 and every.count("    C") == 60 and "more" not in every
 
 
 def test_find(secretary_desk: Desk) -> None:
@@ -119,6 +77,7 @@ def test_edges_of_choices(desk: Desk) -> None:
     )
     living = ["before", "first", "in its year", "filed", "last", "after"]
     assert [row["id"] for row in desk.listed("list", "--living", "--owner", "LOW mill")] == living
+    assert desk.listed("find", "added")[0]["sex"] == "M (inferred)"
     assert "  in the book   filed by hand\n" in desk.good("show", "filed").out
 
 

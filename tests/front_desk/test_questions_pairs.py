@@ -1,4 +1,4 @@
-"""Kinships, tables of matings and exports, compared with the tabular matrix by its definition."""
+"""Kinships and tables of matings, compared with the tabular matrix by its definition."""
 from __future__ import annotations
 
 import csv
@@ -139,50 +139,16 @@ def test_too_many_pairs() -> None:
 def test_refused_matings(desk: Desk) -> None:
     """A calf with 61 steps behind it is refused by the program, and isn't in the table."""
     lines = ["id,birth,sex,sire,dam", "A0,1930-01-01,m,,", "B,1930-01-01,f,,", "C,2001-01-01,m,,"]
-    lines += [f"A{at},{1930 + at}-01-01,{'f' if at == 60 else 'm'},A{at - 1}," for at in range(1, 61)]
+    for at in range(1, 61):
+        # sires and dams in turn
+        sex, parents = "f" if at % 2 or at == 60 else "m", f"A{at - 1}," if at % 2 else f",A{at - 1}"
+        lines.append(f"A{at},{1930 + at}-01-01,{sex},{parents}")
     desk.take("\n".join(lines) + "\n")
     desk.write("dams.txt", "A60\nB\n")
     done = desk.good("mating", "--dams", "dams.txt", "C")
     assert done.out == "dam,sire,coefficient,decimal,percent\nB,C,0,0,0.00\n"
     assert "longer than 60 steps (fault 5): A60 with C" in done.err
-
-
-def test_export(society_desk: Desk) -> None:
-    """In age order, and it is the same book where it is taken again."""
-    society_desk.good("exit", "GK-98/005c", "--day", "2020-02-01")
-    society_desk.good("birth", "late", "--sex", "f", "--day", "2021-01-01", "--dam", "GK-98/005c", "--embryo")
-    rows = society_desk.listed("export")
-    assert list(rows[0])[:9] == ["id", "name", "sex", "birth", "sire", "dam", "owner", "exit", "embryo"]
-    told = {row["id"]: (row["exit"], row["embryo"]) for row in rows if row["exit"] or row["embryo"]}
-    assert told == {"GK-98/005c": ("2020-02-01", ""), "late": ("", "1")}
-    assert [row["id"] for row in rows] == [row["id"] for row in society_desk.listed("list")]
-    assert {row["id"]: (row["sire"], row["dam"]) for row in rows} == society_desk.parents()
-    society_desk.good("export", "--out", "all.csv")
-    society_desk.good("export", "--triples", "--out", "all.txt")
-    for words in ["all.csv"], ["--pedigree", "all.txt"]:
-        society_desk.good("take", *words, "--book", words[-1][4:])
-        again = society_desk.listed("list", "--book", words[-1][4:])
-        assert {(row["id"], row["coefficient"]) for row in again} == {(row["id"], row["coefficient"]) for row in rows}
-    again = society_desk.listed("export", "--book", "csv")
-    assert [list(row.values())[:9] for row in again] == [list(row.values())[:9] for row in rows]
-
-
-def test_export_of_some(society_desk: Desk) -> None:
-    """The ancestors of those that are named, and no others; relationships stay as they are."""
-    society_desk.write("keep.txt", "GK-17/472c\nGK-18/487c\n")
-    parents = society_desk.parents()
-    wanted, new = set[str](), ["GK-17/472c", "GK-18/487c"]
-    while new:
-        wanted.update(new)
-        new = [parent for id in new for parent in parents[id] if parent]
-    lines = society_desk.good("export", "--triples", "--keep", "keep.txt").out.splitlines()
-    assert lines[0] == "id sire dam"
-    assert {line.split()[0] for line in lines[1:]} == wanted
-    seen = {"NA"}
-    for id, sire, dam in (line.split() for line in lines[1:]):
-        assert {sire, dam} <= seen and parents[id] == (sire.replace("NA", ""), dam.replace("NA", ""))
-        seen.add(id)
-    assert {row["id"] for row in society_desk.listed("export", "--keep", "keep.txt")} == wanted
+    assert desk.good("mating", "--dams", "dams.txt", "C", "--matrix").out == "percent,C\nA60,\nB,0.00\n"
 
 
 def test_who_may_be_mated(desk: Desk) -> None:

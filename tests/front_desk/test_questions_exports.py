@@ -1,0 +1,42 @@
+"""The whole pedigree as a file, or some animals of it with their ancestors."""
+from __future__ import annotations
+
+from front_desk.desk import Desk
+
+
+def test_export(society_desk: Desk) -> None:
+    """In age order, and it is the same book where it is taken again."""
+    society_desk.good("exit", "GK-98/005c", "--day", "2020-02-01")
+    society_desk.good("birth", "late", "--sex", "f", "--day", "2021-01-01", "--dam", "GK-98/005c", "--embryo")
+    rows = society_desk.listed("export")
+    assert list(rows[0])[:9] == ["id", "name", "sex", "birth", "sire", "dam", "owner", "exit", "embryo"]
+    told = {row["id"]: (row["exit"], row["embryo"]) for row in rows if row["exit"] or row["embryo"]}
+    assert told == {"GK-98/005c": ("2020-02-01", ""), "late": ("", "1")}
+    assert [row["id"] for row in rows] == [row["id"] for row in society_desk.listed("list")]
+    assert {row["id"]: (row["sire"], row["dam"]) for row in rows} == society_desk.parents()
+    society_desk.good("export", "--out", "all.csv")
+    society_desk.good("export", "--triples", "--out", "all.txt")
+    for words in ["all.csv"], ["--pedigree", "all.txt"]:
+        society_desk.good("take", *words, "--book", words[-1][4:])
+        again = society_desk.listed("list", "--book", words[-1][4:])
+        assert {(row["id"], row["coefficient"]) for row in again} == {(row["id"], row["coefficient"]) for row in rows}
+    again = society_desk.listed("export", "--book", "csv")
+    assert [list(row.values())[:9] for row in again] == [list(row.values())[:9] for row in rows]
+
+
+def test_export_of_some(society_desk: Desk) -> None:
+    """The ancestors of those that are named, and no others; relationships stay as they are."""
+    society_desk.write("keep.txt", "GK-17/472c\nGK-18/487c\n")
+    parents = society_desk.parents()
+    wanted, new = set[str](), ["GK-17/472c", "GK-18/487c"]
+    while new:
+        wanted.update(new)
+        new = [parent for id in new for parent in parents[id] if parent]
+    lines = society_desk.good("export", "--triples", "--keep", "keep.txt").out.splitlines()
+    assert lines[0] == "id sire dam"
+    assert {line.split()[0] for line in lines[1:]} == wanted
+    seen = {"NA"}
+    for id, sire, dam in (line.split() for line in lines[1:]):
+        assert {sire, dam} <= seen and parents[id] == (sire.replace("NA", ""), dam.replace("NA", ""))
+        seen.add(id)
+    assert {row["id"] for row in society_desk.listed("export", "--keep", "keep.txt")} == wanted
