@@ -86,7 +86,7 @@ def test_days_after_today(desk: Desk) -> None:
     done = desk.take(
         TITLES
         + f"a;F;2062-03-01;;;\nb;F;2001-03-01;;;{NEXT_MONTH}\nc;F;{TODAY};;b;{TODAY}\nd;F;{TODAY.year};;;{TODAY.year}\n"
-        "e;F;;;c;\nf;F;;;b;\n"
+        f"e;F;;;c;\nf;F;;;b;\nh;M;{TODAY - datetime.timedelta(40)};;;\ni;F;;h;;\n"
     )
     done.tells(
         "line 2: a: its birth day is left out: 2062-03-01 is after today",

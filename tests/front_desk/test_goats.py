@@ -97,7 +97,7 @@ def test_goats_again(goats: Desk) -> None:
     why = "as in the book, where it was inferred: from its offspring"
     again.tells(f"CH 120.1150.8: inferred: birth day 2016-05-09, {why} (line 6 names it)")
     assert desk.commands() == before
-    assert " 0 new, 0 changed" in again.last
+    assert " 0 new, 0 changed" in again.last and "anew" not in again.out
 
 
 @pytest.mark.parametrize(("language", "left", "since"), [

@@ -47,6 +47,9 @@ def test_faulty_parents(desk: Desk) -> None:
         "z": ("", ""), "self": ("", ""), "p": ("q", ""),
     }  # fmt: skip
     assert wanted.items() <= desk.parents().items()
+    done = desk.take(FAULTY_PARENTS.replace("young;F;2004-01-01;a;late;;", "young;F;2004-01-01;a;late;;1"))
+    done.tells("line 5: young: changed: stored embryo: yes, before none")
+    assert [line[-2:] for line in desk.commands() if desk.numbers()["young"] in line] == [",1"]
 
 
 def test_strict(desk: Desk) -> None:

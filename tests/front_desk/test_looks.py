@@ -27,6 +27,8 @@ def test_young_parents(desk: Desk) -> None:
     )
     # the one command is for both parents, and takes back what was said
     assert done.commands() == [f"{CALLED} take sheet.csv --youngest 149"]
+    # a day that is inferred tells nothing
+    assert "days old" not in desk.take(TITLES + "p;M;2001;;;\nq;F;2001-08-01;p;;\n", "--book", "inferred").out
 
 
 def test_births_of_one_dam(desk: Desk) -> None:
@@ -52,14 +54,14 @@ def test_castrated_sire(desk: Desk) -> None:
     """It is told, and advice passes it over, also where a later sheet has no column for the sex."""
     rows = (
         "w;Hammel;2001-03-01;;;\nv;Bock (kastriert);2001-03-01;;;\nr;ram;2001-03-01;;;\nd;ewe;2001-03-02;;;\nc1;ram;2003-03-01;w;d;\n"
-        "c2;ewe;2003-03-01;w;d;\n"
+        "c2;ewe;2003-03-01;w;;\n"
     )
     done = desk.take(TITLES + rows)
     done.tells("line 2: w: to look at: it is the sire of c1 (line 6) and of 1 more, and its sex is 'Hammel'")
     for _ in range(2):
         assert [row["id"] for row in desk.listed("mating", "--dam", "d")] == ["r", "c1"]
         done = desk.take(
-            "id;birth;sire;dam\nw;2001-03-01;;\nr;2001-03-01;;\nd;2001-03-02;;\nc1;2003-03-01;w;d\nc2;2003-03-01;w;d\n"
+            "id;birth;sire;dam\nw;2001-03-01;;\nr;2001-03-01;;\nd;2001-03-02;;\nc1;2003-03-01;w;d\nc2;2003-03-01;w;\n"
         )
         done.shows(
             "line 2: w: to look at: it is the sire of c1 (line 5) and of 1 more, and the book has it as castrated"
@@ -98,13 +100,14 @@ def test_what_may_be_wrong_comes_first(desk: Desk) -> None:
     """A screen is printed, 24 rows of 80 letters: what does most harm stands first, then a sentence of each kind, and
     how many more there are. The rest is in the report."""
     rows = "".join(f"a{at};F;20{at % 20:02};;;sold\n" for at in range(60)) + PARENTS + "c;M;2001-07-29;s;d;\n"
-    rows += "".join(f"n{at};F;2001-08-01;s;d;\n" for at in range(30)) + "s;M;2001-03-01;;;\n;M;2001;;;\n"
+    rows += "".join(f"n{at};F;2001-08-01;s;d;\n" for at in range(30)) + "s;M;2001-03-01;;;\n;M;2001;;;\nf;F;2062;;;\n"
     done = desk.take(TITLES + rows)
     lines = done.out.splitlines()
     kinds = [
         "line 95: s: the row is left out",
         "line 96: the row is left out",
         "line 64: c: to look at: its sire s (line 62)",
+        "line 97: f: its birth day is left out",
     ]
     places = [next(at for at, line in enumerate(lines) if line.startswith(kind)) for kind in kinds]
     assert places == sorted(places) and places[0] == 0
@@ -112,4 +115,4 @@ def test_what_may_be_wrong_comes_first(desk: Desk) -> None:
     assert "its exit is left out" not in done.out
     exits = next(at for at, line in enumerate(lines) if "an exit without a day stands in" in line)
     assert exits > places[-1]
-    assert sum(row["what"] == "left out" for row in desk.table("book/report.csv")) == 62
+    assert sum(row["what"] == "left out" for row in desk.table("book/report.csv")) == 63

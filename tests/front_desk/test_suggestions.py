@@ -26,6 +26,7 @@ ASKED: dict[str, tuple[str, str, tuple[str, ...], int]] = {
     "near births": ("", TITLES + PAIR + "a;;F;2004-01-01;s;d;;\nb;;F;2004-02-01;s;d;;\n", ("--apart", "90"), 1),
     "unknown word": ("", TITLES + "a;;F;2004;o' Hara;;;\nb;;F;2004;o' Hara;;;\n", ("--known", "o' Hara"), 1),
     "unknown number": ("", TITLES + "a;;F;2004;-7;-7;;\nb;;F;2004;-7;;;\n", (), 1),
+    "unknown sign": ("", TITLES + "a;;F;2004;-frei-;;;\nb;;F;2004;-frei-;;;\n", (), 1),
     "sexes": ("", TITLES + "a;;Q;2004;;;;\nb;;F;2004;a;;;\n", ("--sexes", "X=m"), 2),
     "most sexes": ("", TITLES + "a;;Q Q;2004;;;;\nb;;Q Q;2004;;;;\nc;;Q Q;2004;;;;\n", (), 2),
     "exits": ("", TITLES + PAIR + "a;;F;2004;;;;Hof\nb;;F;2004;;;;Hof\n", (), 1),
