@@ -2,6 +2,7 @@
 from __future__ import annotations
 
 import functools
+import re
 
 from society.book.book import Book
 from society.book.kinds import Standing
@@ -23,6 +24,8 @@ TENTH, LEAST_GONE = 10, 10
 MOST_OTHERS, PER_HUNDRED = 5, 2
 # so many parents without a row are few
 FEW_PARENTS = 10
+# what stands between an id and a name in one cell
+PARTS = re.compile(r"[\s,;/()\[\]]+")
 
 
 class Guards:
@@ -156,6 +159,8 @@ class Guards:
         title = self.column_of({*lost})
         is_name = bool(title) or (2 * words > len(lost) and 2 * ids > len(self.rows))
         like = LooksLike.PARENTS_BY_NAME if is_name else LooksLike.PARENTS_BY_ANOTHER_ID
+        if 2 * sum(not self.rows.keys().isdisjoint(PARTS.split(parent)) for parent in lost) > len(lost):
+            like = LooksLike.IDS_AND_MORE
         return ParentsLack(len(lost), len(links), tuple(dict.fromkeys(lost))[:3], like, title)
 
     def column_of(self, parents: set[str]) -> str:

@@ -27,6 +27,7 @@ class LooksLike(enum.Enum):
     PART = "part"
     PARENTS_BY_NAME = "parents by name"
     PARENTS_BY_ANOTHER_ID = "parents by another id"
+    IDS_AND_MORE = "ids and more"
     SORTED_APART = "sorted apart"
     IDS_OTHERWISE = "ids written otherwise"
 
@@ -50,6 +51,7 @@ LIKE_WORDS = {
         "it looks like another id than that of the column that is read: name the one in which the parents' cells are "
         "found by --columns, with id= and its title, or the parents' columns"
     ),
+    LooksLike.IDS_AND_MORE: "it looks like cells that have an id and a name: write the ids alone into the parents' columns",
     LooksLike.IDS_OTHERWISE: (
         "it looks like the same animals, whose ids are written otherwise in case, blanks or zeros: write them as in the "
         "book"

@@ -73,9 +73,10 @@ def about(outcome: Outcome) -> list[str]:
     if outcome.after.is_anew:
         lines.append(f"{outcome.folder / COMMANDS} is written anew, since something in it was corrected or dropped")
     if outcome.after.numbers_begin:
+        begin = outcome.after.numbers_begin
         lines.append(
-            f"the numbers begin with {outcome.after.numbers_begin}, since --breed and --country aren't both given: give "
-            "them now or later, which begins a new edition of the journal"
+            f"the animals' numbers begin with {begin} (breed {begin[:3]}, country {begin[3:]}), since --breed and --country "
+            "aren't both given: given later they change each number, which begins a new edition of the journal"
         )
     return lines
 

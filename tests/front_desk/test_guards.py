@@ -213,3 +213,12 @@ def test_parents_by_name_without_names(desk: Desk) -> None:
             "parents that are written by their names")  # fmt: skip
     # once they are in the book they aren't asked for again
     assert " 0 new, 0 changed" in desk.take(text).last
+
+
+def test_parents_with_id_and_name(desk: Desk) -> None:
+    rows = [f"A{at};2004-01-{1 + at % 28:02};Max (A{at % 9});A{at % 7} Eva" for at in range(30)]
+    desk.wrong(
+        "60 of 60 parents have no row, the first are 'Max (A0)', 'A0 Eva', 'Max (A1)': it looks like cells that have an id and "
+        "a name: write the ids alone into the parents' columns", "take",
+        desk.write("sheet.csv", sheet(rows, "Ohrmarke;Geburtsdatum;Vater;Mutter")),
+    )  # fmt: skip

@@ -179,7 +179,10 @@ def test_many_refusals_of_one_cause(desk: Desk) -> None:
 def test_numbers_of_a_first_taking(desk: Desk) -> None:
     """The first taking says which breed and country the numbers get; giving them later begins an edition."""
     done = desk.take(TITLES + PARENTS)
-    assert "the numbers begin with HOLGBR, since --breed and --country aren't both given" in done.out
+    assert (
+        "the animals' numbers begin with HOLGBR (breed HOL, country GBR), since --breed and --country aren't both"
+        in done.out
+    )
     assert "the numbers begin" not in desk.take(TITLES + PARENTS).out
     done = desk.take(TITLES + PARENTS, "--breed", "SKU", "--country", "DEU")
     assert list(desk.numbers().values()) == ["SKUDEUM000000000001", "SKUDEUF000000000002"]

@@ -50,6 +50,21 @@ def test_error_values(desk: Desk) -> None:
     assert " 15 left out (15 cells)" in done.last
 
 
+def test_errors_in_any_cell(desk: Desk) -> None:
+    """Of each column one is left out, also of one that isn't read, and a row without an id."""
+    titles = "id;name;sex;birth;sire;dam;owner;since;exit;embryo;note\n"
+    rows = [f"a{at};Max;M;2001-01-01;;;Groß;2004-01-01;2010-01-01;;x".split(";") for at in range(11)]
+    desk.take(titles + "".join(";".join(row) + "\n" for row in rows))
+    before = desk.commands()
+    for at, row in enumerate(rows):
+        row[at] = "#WERT!"
+    done = desk.take(titles + "".join(";".join(row) + "\n" for row in rows))
+    assert desk.commands() == before
+    assert " 12 left out (1 row, 11 cells), 0 added, 1 gone" in done.last
+    done.tells("line 2: the row is left out: it has no id", "line 12: a10: its cell 'note' is left out: '#WERT!' is an error "
+               "of the spreadsheet, and no value")  # fmt: skip
+
+
 def test_columns_of_errors(desk: Desk) -> None:
     rows = "".join(f"a{at};F;2001-01-01;#BEZUG!;{word}\n" for at, word in enumerate(["x", "#REF!", "#REF!"]))
     rows += "".join(f"b{at};F;2001-01-01;;\n" for at in range(5))
