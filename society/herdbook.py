@@ -12,8 +12,10 @@ import sys
 from typing import TYPE_CHECKING
 
 from society.book.commands import Command, lines_of, text_of
-from society.mistake import Mistake, counted
+from society.book.sentences import ProgramFault
+from society.mistake import Mistake
 from society.refusals import Refusal
+from society.sentence import Count
 
 if TYPE_CHECKING:
     from society.book.book import Book
@@ -45,9 +47,9 @@ class Herdbook:
         named = os.environ.get("HERDBOOK")
         self.path = pathlib.Path(named).absolute() if named else TOP / "herdbook"
         if not self.path.exists():
-            raise Mistake(f"{self.path}, the program of the herd book, isn't there: {SAY}")
+            raise Mistake(ProgramFault.NOT_THERE.said(path=self.path, hint=SAY))
         if self.path.is_dir():
-            raise Mistake(f"{self.path} is a folder, not the program of the herd book: {SAY}")
+            raise Mistake(ProgramFault.IS_FOLDER.said(path=self.path, hint=SAY))
         if not named and (TOP / "crates").exists() and not (TOP / "crates/herdbook/out/herdbook").exists():
             print(
                 "society: the program herdbook is built first, which takes 15 to 30 minutes",
@@ -60,12 +62,9 @@ class Herdbook:
         done = self.start(["--version"], subprocess.DEVNULL, None if tell else subprocess.PIPE)
         text = done.communicate()[0]
         if done.returncode and tell:
-            raise Mistake(
-                "the program herdbook isn't built, for the reason told above: mend that, or if you have it built, "
-                f"{SAY}"
-            )
+            raise Mistake(ProgramFault.NOT_BUILT.said(hint=SAY))
         if done.returncode:
-            raise Mistake(f"{self.path} --version ended with status {done.returncode}: is it the program herdbook?")
+            raise Mistake(ProgramFault.NO_VERSION.said(path=self.path, status=done.returncode))
         return text.decode(errors="replace").strip()
 
     def start(
@@ -80,7 +79,7 @@ class Herdbook:
         except OSError as error:
             allow = f"allow it, as chmod u+x {shlex.quote(str(self.path))}"
             hint = allow if isinstance(error, PermissionError) else SAY
-            raise Mistake(f"{self.path} can't be run ({error.strerror or error}): {hint}") from None
+            raise Mistake(ProgramFault.CANT_RUN.said(path=self.path, error=error, hint=hint)) from None
 
     def run(self, words: list[str], book: bytes) -> str:
         """What it writes of a command file."""
@@ -97,10 +96,7 @@ class Herdbook:
         return out.decode()
 
     def took_too_long(self, words: list[str]) -> Mistake:
-        return Mistake(
-            f"the program `herdbook {words[0]}` was ended, since it wasn't done after {MOST_SECONDS // 60} minutes: is "
-            f"{self.path} the right one, and has the machine nothing else to do? Nothing is changed"
-        )
+        return Mistake(ProgramFault.TOO_LONG.said(word=words[0], minutes=MOST_SECONDS // 60, path=self.path))
 
     def lines(self, words: list[str], book: bytes) -> list[str]:
         """The lines that it writes of a command file."""
@@ -112,7 +108,7 @@ class Herdbook:
             hint = ". Somebody has changed the command file: restore it" if told.startswith("record ") else ""
             if told == "no memory" or status < 0:
                 hint = f" (it may use {MOST_BYTES >> 30} GB of memory). Nothing is changed"
-            raise Mistake(f"the program `herdbook {words[0]}` can't do it: {told}{hint}")
+            raise Mistake(ProgramFault.CANT_DO.said(word=words[0], told=told, hint=hint))
 
     def file(self, commands: list[Command]) -> dict[int, Refusal]:
         """The refusals of commands: for each refused one its place, from 0 on, and the refusal."""
@@ -122,9 +118,8 @@ class Herdbook:
         """The same of a command file with so many commands."""
         replies = self.lines(["file"], book)
         if len(replies) != count:
-            raise Mistake(
-                f"the program answered {len(replies)} of {counted(count, 'command')}: is {self.path} the right one?"
-            )
+            commands = Count(count, "command")
+            raise Mistake(ProgramFault.REPLIES_LACK.said(replies=len(replies), commands=commands, path=self.path))
         refused = (line.split(",") for line in replies if not line.endswith(",accepted"))
         return {int(serial) - 1: Refusal(int(refusal)) for serial, _, refusal in refused}
 

@@ -7,6 +7,7 @@ from typing import NamedTuple
 from society.answers.candidates import Candidate, Candidates, all_candidates, named_candidates
 from society.answers.list_columns import LIST_COLUMNS, USUAL
 from society.answers.table import Table
+from society.book.asking_sentences import Mating
 from society.book.book import Book
 from society.book.coefficients import Coefficient
 from society.book.known import Known
@@ -15,6 +16,7 @@ from society.breed.relationships import pairs_of
 from society.herdbook import MOST_NUMBERS, Herdbook
 from society.mistake import Mistake
 from society.refusals import MatingFault
+from society.sentence import Said, why
 
 # the coefficient that offspring would have, or why the mating is refused
 Answer = Coefficient | MatingFault
@@ -25,14 +27,14 @@ class Advice(NamedTuple):
     over."""
 
     table: Table
-    refused: list[str]
+    refused: list[Said]
     sires: Candidates
 
 
 def advise(book: Book, program: Herdbook, dam: Known, named: Sequence[Known], also_left: bool) -> Advice:
     """Advice on sires that are named, or else on all living males, or on those that left too."""
     sires = named_candidates(book, Role.SIRE, named) if named else all_candidates(book, Role.SIRE, also_left)
-    sires.needed("name one" if also_left else "name one, or ask for those that left too by --left")
+    sires.needed((Mating.NAME_ONE if also_left else Mating.NAME_ONE_OR_LEFT).said())
     answers = (
         by_mating(book, program, dam, sires) if named or dam.is_male else by_relationship(book, program, dam, sires)
     )
@@ -43,14 +45,12 @@ def advice_of(dam: Known, sires: Candidates, answers: Sequence[Answer]) -> Advic
     """What is told of the program's answers on sires, in their order."""
     of_dam = [answer for answer in answers if isinstance(answer, MatingFault) and answer.is_of_dam()]
     if of_dam:
-        raise Mistake(f"{dam.id}: {of_dam[0].words()} (fault {of_dam[0]}): name a female as the dam")
+        raise Mistake(Mating.NOT_A_DAM.said(dam=dam.id, **why(of_dam[0])))
     both = list(zip(sires.animals, answers))
     found = [(sire, answer) for sire, answer in both if isinstance(answer, Coefficient)]
     found.sort(key=lambda pair: (pair[1].units, pair[0].id))
     told = [
-        f"{sire.id}: refused: {answer.words()} (fault {answer})"
-        for sire, answer in both
-        if isinstance(answer, MatingFault)
+        Mating.REFUSED.said(sire=sire.id, **why(answer)) for sire, answer in both if isinstance(answer, MatingFault)
     ]
     return Advice(advice_table(found), told, sires)
 

@@ -8,11 +8,13 @@ from typing import NamedTuple
 
 from society.answers.choice import HAS_LEFT, LISTED
 from society.answers.list_columns import BIRTH_OF, birth_of
+from society.book.asking_sentences import Mating
 from society.book.book import Book
 from society.book.known import Known
 from society.book.role import Role
 from society.book.selecting import selected
-from society.mistake import Mistake, counted, number_and_some, some_of
+from society.mistake import Mistake, number_and_some
+from society.sentence import Count, Said, Some
 
 SEXES = {Role.SIRE: "male", Role.DAM: "female"}
 OF_CANDIDATE = ("number", "id", "name", *BIRTH_OF)
@@ -55,24 +57,24 @@ class Candidates:
                 sentences.append(f"{what}: {number_and_some(ids)} aren't listed: {hint}")
         return sentences
 
-    def needed(self, hint: str) -> Candidates:
+    def needed(self, hint: Said) -> Candidates:
         """These; a mistake where there is none."""
         if self.animals:
             return self
-        passed = [f"{self.left} left"] * bool(self.left)
-        passed += [f"{counted(len(self.castrated), 'castrated one')}"] * bool(self.castrated)
-        passed += [f"{len(self.without_row)} without a row"] * bool(self.without_row)
-        among = f" (passed over: {', '.join(passed)})" if passed else ""
-        raise Mistake(f"the book has no living {SEXES[self.role]} that may be a {self.role}{among}: {hint}")
+        passed = [Mating.LEFT.said(count=self.left)] * bool(self.left)
+        passed += [Mating.CASTRATED.said(castrated=Count(len(self.castrated), "castrated one"))] * bool(self.castrated)
+        passed += [Mating.WITHOUT_ROW.said(count=len(self.without_row))] * bool(self.without_row)
+        among = Mating.AMONG.said(passed=Some(passed)) if passed else ""
+        raise Mistake(Mating.NO_CANDIDATE.said(sex=SEXES[self.role], role=self.role, among=among, hint=hint))
 
 
 def candidates_of(book: Book, role: Role, named: Sequence[Known] | None) -> Candidates:
     """Those that are named, each of which has to have the sex; where none is, all that there are."""
     wrong = [known.id for known in named or () if known.number[6] != role.sex]
     if wrong:
-        raise Mistake(f"{some_of(wrong)}: no {role} can be {OTHERS[role]}: take these out of --{role}s")
+        raise Mistake(Mating.WRONG_SEX.said(animals=Some(wrong), role=role, sex=OTHERS[role]))
     found = all_candidates(book, role) if named is None else named_candidates(book, role, named)
-    return found.needed(f"name some in a file, as --{role}s FILE")
+    return found.needed(Mating.NAME_IN_FILE.said(role=role))
 
 
 def named_candidates(book: Book, role: Role, named: Sequence[Known]) -> Candidates:

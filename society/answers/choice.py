@@ -5,11 +5,13 @@ import datetime
 from dataclasses import dataclass
 
 from society.alike import closest
+from society.book.asking_sentences import Naming
 from society.book.book import Book
 from society.book.inferred import BirthSource, ExitSource
 from society.book.kinds import Standing
 from society.book.rows import Row
 from society.mistake import Mistake
+from society.sentence import AnyOf
 
 # so many owners are named where one isn't known
 MOST_NAMED = 5
@@ -70,5 +72,5 @@ def herd_of(book: Book, owner: str) -> int:
         return book.owners[alike[0]]
     parts = [one for one in book.owners if name.casefold() in one.casefold()]
     near = alike or parts[:MOST_NAMED] or closest(name, list(book.owners))
-    hint = f"is {' or '.join(near)} meant?" if near else "`find` finds owners by a part of the name"
-    raise Mistake(f"the book has no owner '{name}': {hint}")
+    hint = Naming.MEANT.said(names=AnyOf(near)) if near else Naming.FIND_OWNERS.said()
+    raise Mistake(Naming.NO_OWNER.said(name=name, hint=hint))

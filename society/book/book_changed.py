@@ -10,6 +10,7 @@ from typing import Callable, Iterator, TypeVar
 from society.book.database import TRIES, connect, is_empty, migrate, path_of, primary, told, version_of
 from society.book.book_read import reading
 from society.book.schema import VERSION
+from society.book.sentences import BookFault
 from society.mistake import CALLED, Mistake
 
 Value = TypeVar("Value")
@@ -88,11 +89,11 @@ def make_folder(folder: pathlib.Path) -> bool:
     except FileExistsError:
         if folder.is_dir():
             return False
-        raise Mistake(f"the folder {folder} can't be written ({folder} is a file): nothing is changed") from None
+        raise Mistake(BookFault.FOLDER_IS_FILE.said(folder=folder)) from None
     except FileNotFoundError:
-        raise Mistake(f"the folder {folder.parent} isn't there: make it, or name another folder by --book") from None
+        raise Mistake(BookFault.NO_FOLDER.said(folder=folder.parent)) from None
     except OSError as error:
-        raise Mistake(f"the folder {folder} can't be written ({error.strerror or error}): nothing is changed") from None
+        raise Mistake(BookFault.FOLDER_CLOSED.said(folder=folder, error=error)) from None
     return True
 
 
@@ -154,7 +155,4 @@ def is_made(path: pathlib.Path, change: int, time_of_change: int) -> bool:
             found = connection.execute("SELECT 1 FROM change WHERE (change, time) = (?, ?)", (change, time_of_change))
             return found.fetchone() is not None
     except sqlite3.Error as error:
-        raise Mistake(
-            f"{path} can't be written or read any more ({error}). Whether change {change} is in it can't be seen now: "
-            f"mend the disk, and ask by {CALLED} history"
-        ) from None
+        raise Mistake(BookFault.UNSURE.said(path=path, error=error, change=change, called=CALLED)) from None

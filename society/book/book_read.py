@@ -10,6 +10,7 @@ import time
 from typing import Iterator
 
 from society.book.database import CLOSED, TRIES, companions, connect, path_of, primary, told, version_of
+from society.book.sentences import BookFault
 from society.mistake import Mistake
 
 # so much of a book is kept in memory
@@ -67,13 +68,11 @@ def copy_of(path: pathlib.Path, room: pathlib.Path) -> pathlib.Path:
                 if one.exists():
                     shutil.copyfile(one, target)
         except OSError as error:
-            raise Mistake(
-                f"{path} can't be read ({error.strerror or error}): who may read it has to allow it"
-            ) from None
+            raise Mistake(BookFault.CANT_BE_READ.said(path=path, error=error)) from None
         if marks(path) == before:
             return copy
         time.sleep(0.05)
-    raise Mistake(f"{path} is changed all the time by somebody else: try again later")
+    raise Mistake(BookFault.ALWAYS_CHANGED.said(path=path))
 
 
 def marks(path: pathlib.Path) -> list[tuple[int, int, int] | None]:

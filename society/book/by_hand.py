@@ -4,6 +4,7 @@ from __future__ import annotations
 import datetime
 from dataclasses import dataclass, field, replace
 
+from society.book.asking_sentences import Naming, NotSuch
 from society.book.book import NO_OWNER, Book
 from society.book.changes import Change, Made, Option, Told
 from society.book.commands import Command, Record, birth, leave, parents, record_after, transfer
@@ -24,7 +25,8 @@ from society.taking.stored_findings import told_of
 
 @dataclass(frozen=True)
 class ByHand:
-    """A command, the animal as the society knows it afterwards, and what is told where it is accepted."""
+    """A command, the animal as the society knows it afterwards, what is told where it is accepted, and the token of the
+    form in which it was written, if it was one."""
 
     kind: ChangeKind
     command: Command
@@ -32,6 +34,7 @@ class ByHand:
     findings: tuple[Finding, ...]
     new_owners: dict[str, int] = field(default_factory=dict)
     options: tuple[Option, ...] = ()
+    form: str = ""
 
 
 @dataclass(frozen=True)
@@ -53,7 +56,7 @@ class Calf:
 def born(book: Book, calf: Calf) -> ByHand:
     """A birth; one of an animal that is in the book is filed with its number, and the program refuses it."""
     if not calf.id:
-        raise Mistake("an animal needs an id: write one")
+        raise Mistake(NotSuch.NO_ID.said())
     before = book.known.get(calf.id)
     number = before.number if before else number_for(book, calf)
     herd, new_owners = herd_of(book, calf.owner)
@@ -114,7 +117,7 @@ def transferred(book: Book, known: Known, day: datetime.date, taker: str, giver:
     record = book.records[known.number]
     herd, new_owners = herd_of(book, taker)
     if giver is not None and giver not in book.owners:
-        raise Mistake(f"the book has no owner '{giver}': write one as the book has it, or leave out --from")
+        raise Mistake(Naming.NO_OWNER.said(name=giver, hint=Naming.AS_IN_BOOK.said()))
     herd_before = record.herd if giver is None else book.owners[giver]
     found = ValueChanged("owner", taker, book.owner_of(record.herd))
     after = known._replace(by_hand=known.by_hand | {Field.OWNER})
@@ -141,7 +144,7 @@ def file(book: Book, program: Herdbook, one: ByHand) -> tuple[Change, Refusal | 
     findings = (CommandRefused(one.kind, one.command.day, refusal),) if refusal else one.findings
     keeps = bool(refusal) or one.kind in (ChangeKind.TRANSFER, ChangeKind.EXIT)
     state = State(rows, new_owners={} if refusal else one.new_owners, keeps_coefficients=keeps)
-    made = Made(one.kind, options=one.options, told=told_by(one, findings))
+    made = Made(one.kind, options=one.options, told=told_by(one, findings), form=one.form)
     made = replace(made, counts=(("refused", 1),) if refusal else (("filed", 1),))
     return write(book, program, Filed([Step(one.command, refusal or 0)]), state, made), refusal
 

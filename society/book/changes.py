@@ -49,6 +49,8 @@ class Made:
     undone_to: int | None = None
     # who makes it, empty for whom the system names
     login: str = ""
+    # the token of the form by which it is made, empty for none
+    form: str = ""
 
 
 @dataclass(frozen=True, slots=True)

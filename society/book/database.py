@@ -9,6 +9,7 @@ import urllib.parse
 from typing import Iterator
 
 from society.book.schema import APPLICATION, MIGRATIONS, VERSION
+from society.book.sentences import BookFault
 from society.mistake import CALLED, Mistake
 
 NAME = "book.sqlite"
@@ -66,12 +67,9 @@ def version_of(connection: sqlite3.Connection, path: pathlib.Path) -> int:
     if is_empty(connection) and application in (0, APPLICATION):
         return 0
     if application != APPLICATION or version < 1:
-        raise Mistake(f"{path} is a database of another program, not a herd book: move it away, nothing is touched")
+        raise Mistake(BookFault.OTHER_PROGRAM.said(path=path))
     if version > VERSION:
-        raise Mistake(
-            f"{path} was written by a newer front desk (its tables have version {version}, and this one knows "
-            f"{VERSION}): use the newer one, nothing is touched"
-        )
+        raise Mistake(BookFault.NEWER.said(path=path, version=version, known=VERSION))
     return version
 
 
@@ -98,14 +96,9 @@ def told(error: sqlite3.Error, path: pathlib.Path) -> Mistake:
     """The sentence for what SQLite reports of a file that isn't changed then."""
     kind = primary(error)
     if kind in DAMAGED:
-        return Mistake(
-            f"{path} is damaged, or isn't a database ({error}): nothing is touched. Restore a backup, as "
-            f"{CALLED} restore FILE --anyway"
-        )
+        return Mistake(BookFault.DAMAGED.said(path=path, error=error, called=CALLED))
     if kind in FULL:
-        return Mistake(f"there is no room for {path} on its disk: nothing is changed")
+        return Mistake(BookFault.NO_ROOM.said(path=path))
     if kind == sqlite3.SQLITE_BUSY:
-        return Mistake(f"{path} is being changed by somebody else for {SECONDS_TO_WAIT // 60} minutes: try again later")
-    if kind in CLOSED:
-        return Mistake(f"{path} can't be written ({error}): nothing is changed. Allow it, or use another folder")
-    return Mistake(f"{path} can't be used ({error}): nothing is changed")
+        return Mistake(BookFault.BUSY.said(path=path, minutes=SECONDS_TO_WAIT // 60))
+    return Mistake((BookFault.CLOSED if kind in CLOSED else BookFault.OTHER).said(path=path, error=error))

@@ -12,6 +12,7 @@ from typing import Iterable, Sequence
 
 from society.book.cells import row_for_spreadsheets
 from society.book.changes import Source
+from society.book.sentences import BookFault
 from society.mistake import Mistake
 
 
@@ -67,4 +68,4 @@ def source_of(path: pathlib.Path, text: bytes) -> Source:
 
 
 def cant_be_written(path: pathlib.Path, error: OSError) -> Mistake:
-    return Mistake(f"{path} can't be written ({error.strerror or error}): nothing is changed")
+    return Mistake(BookFault.FILE_CLOSED.said(path=path, error=error))

@@ -46,8 +46,17 @@ def write_change(connection: sqlite3.Connection, number: int, moment: int, journ
     """Writes a change with all that is kept of it beside the state."""
     source = made.source
     of_file = (source.name, source.path, source.digest) if source else (None, None, None)
-    row = (number, made.kind.value, moment, made.login or login(), *journal, *of_file, made.undone_to)
-    connection.execute(f"INSERT INTO change ({COLUMNS}) VALUES (?, ?, ?, ?, ?, ?, ?, ?, ?, ?)", row)
+    row = (
+        number,
+        made.kind.value,
+        moment,
+        made.login or login(),
+        *journal,
+        *of_file,
+        made.undone_to,
+        made.form or None,
+    )
+    connection.execute(f"INSERT INTO change ({COLUMNS}, form) VALUES (?, ?, ?, ?, ?, ?, ?, ?, ?, ?, ?)", row)
     options = [(number, place, one.option, one.word) for place, one in enumerate(made.options)]
     connection.executemany("INSERT INTO given_option VALUES (?, ?, ?, ?)", options)
     connection.executemany("INSERT INTO counted VALUES (?, ?, ?)", [(number, *one) for one in made.counts])
@@ -85,6 +94,12 @@ def last_change(connection: sqlite3.Connection) -> Change | None:
 
 def change_numbered(connection: sqlite3.Connection, number: int) -> Change | None:
     row = connection.execute(f"SELECT {COLUMNS} FROM change WHERE change = ?", (number,)).fetchone()
+    return change_of(connection, row) if row else None
+
+
+def change_by_form(connection: sqlite3.Connection, form: str) -> Change | None:
+    """The change that a form made; none where it made none yet."""
+    row = connection.execute(f"SELECT {COLUMNS} FROM change WHERE form = ?", (form,)).fetchone()
     return change_of(connection, row) if row else None
 
 

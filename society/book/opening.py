@@ -10,6 +10,7 @@ from society.book.book_changed import changing, up_to_date
 from society.book.book_read import reading
 from society.book.exports import are_fresh, refresh
 from society.book.old_folder import take_over
+from society.book.sentences import BookFault
 from society.book.verify import verify
 from society.herdbook import Herdbook
 from society.mistake import CALLED, Mistake
@@ -40,12 +41,13 @@ def opened(folder: pathlib.Path, program: Herdbook) -> Iterator[Book]:
 def no_book(folder: pathlib.Path) -> Mistake:
     """With the command that takes the only sheet that is here, if there is one."""
     there = "" if folder.is_absolute() else ", or go to the folder in which you took one"
-    told = f"there is no book in the folder {folder}: take a sheet first{there}"
     sheets = [path for path in pathlib.Path().iterdir() if path.suffix.lower() in SHEETS and path.is_file()]
     if len(sheets) != 1:
-        return Mistake(f"{told}: `{CALLED} take --help` says how")
+        hint = f": `{CALLED} take --help` says how"
+        return Mistake(BookFault.NO_BOOK.said(folder=folder, there=there, hint=hint))
     command = Call((str(sheets[0]),), folder).command(Suggestion(""))
-    return Mistake(told, f"  if {sheets[0]} is the sheet:\n    {command}")
+    told = BookFault.NO_BOOK.said(folder=folder, there=there, hint="")
+    return Mistake(told, BookFault.ONLY_SHEET.said(sheet=sheets[0], command=command))
 
 
 @contextlib.contextmanager

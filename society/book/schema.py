@@ -189,5 +189,11 @@ CREATE TABLE coefficient (
 ) STRICT;
 """
 
-MIGRATIONS = (FIRST,)
+# a form that is sent twice makes one change
+SECOND = """
+ALTER TABLE change ADD COLUMN form TEXT CHECK (form <> '');
+CREATE UNIQUE INDEX change_form ON change (form) WHERE form IS NOT NULL;
+"""
+
+MIGRATIONS = (FIRST, SECOND)
 VERSION = len(MIGRATIONS)

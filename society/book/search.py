@@ -4,10 +4,12 @@ from __future__ import annotations
 import pathlib
 
 from society.alike import closest
+from society.book.asking_sentences import Naming
 from society.book.book import Book
 from society.book.known import Known
 from society.book.rows import known_of
 from society.mistake import MOST_IN_PASSING, Mistake, some_of
+from society.sentence import AnyOf, Said, Some
 
 # so many are named that may be meant
 MOST_MEANT = 3
@@ -31,23 +33,23 @@ def find(book: Book, word: str) -> Known:
     if len(named) == 1:
         return known_of(named[0])
     if named:
-        ids = some_of(sorted(row.id for row in named), MOST_IN_PASSING)
-        raise Mistake(
-            f"{len(named)} animals have the name '{word}': name one by its id, as `find` shows them with their birth "
-            f"days: {ids}"
-        )
+        ids = Some(sorted(row.id for row in named), MOST_IN_PASSING)
+        raise Mistake(Naming.SEVERAL.said(count=len(named), word=word, ids=ids))
     raise not_found(book, word)
 
 
 def not_found(book: Book, word: str) -> Mistake:
     names = [name for row in book.all_rows for name in (row.id, row.name) if name]
     if any(name.startswith(f"{word} ") for name in names):
-        return Mistake(f"the book has no animal '{word}': put an id or a name with blanks between quotation marks")
+        return no_animal(word, Naming.WITH_BLANKS.said())
     if pathlib.Path(word).is_file():
-        return Mistake(f"the book has no animal '{word}', which is a file: an option that names files is for that")
+        return Mistake(Naming.IS_FILE.said(word=word))
     parts = list(dict.fromkeys(name for name in names if word.casefold() in name.casefold()))
     if len(parts) > MOST_MEANT:
-        return Mistake(f"the book has no animal '{word}': `find` shows those that have it in their ids or names")
+        return no_animal(word, Naming.MANY_PARTS.said())
     close = parts or closest(word, names)
-    hint = f"is {' or '.join(close)} meant?" if close else "`find` looks for a part of an id, a name or an owner"
-    return Mistake(f"the book has no animal '{word}': {hint}")
+    return no_animal(word, Naming.MEANT.said(names=AnyOf(close)) if close else Naming.FIND.said())
+
+
+def no_animal(word: str, hint: Said) -> Mistake:
+    return Mistake(Naming.NO_ANIMAL.said(word=word, hint=hint))

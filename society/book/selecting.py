@@ -6,8 +6,10 @@ from collections.abc import Sequence
 from typing import Any
 
 from society.book.book import IN_BOOK, Book
+from society.book.sentences import BookFault
 from society.book.state import ALL_ROWS, NOW
-from society.mistake import CALLED, Mistake, counted
+from society.mistake import CALLED, Mistake
+from society.sentence import Count
 
 # where an animal stands in age order, and its coefficient
 PLACE, FRACTION, PERCENT = "place", "fraction", "percent"
@@ -37,10 +39,8 @@ def check_coefficients(book: Book, connection: sqlite3.Connection) -> None:
     animals = f"SELECT count(*) FROM {ALL_ROWS} WHERE {NOW} AND {IN_BOOK}"
     there, kept = connection.execute(f"SELECT ({animals}), (SELECT count(*) FROM coefficient)").fetchone()
     if there != kept:
-        raise Mistake(
-            f"{book.path} keeps {counted(kept, 'coefficient')} of {counted(there, 'animal')}, so it isn't whole: restore "
-            f"a backup, as {CALLED} restore FILE --anyway"
-        )
+        counts = {"kept": Count(kept, "coefficient"), "there": Count(there, "animal")}
+        raise Mistake(BookFault.COEFFICIENTS_LACK.said(path=book.path, **counts, called=CALLED))
 
 
 def known_parents(book: Book) -> dict[str, list[str]]:

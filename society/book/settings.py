@@ -8,11 +8,11 @@ import pathlib
 import sqlite3
 from collections.abc import Mapping
 
+from society.book.asking_sentences import NotSuch
 from society.book.book import Book
 from society.book.book_changed import changing, checkpoint
 from society.book.opening import no_book
 from society.mistake import Mistake
-
 
 LANGUAGES = ("en", "de", "fr")
 
@@ -60,8 +60,8 @@ def checked(setting: Setting, text: str) -> str:
     """The value as it is kept; a mistake where it can't be such a one."""
     if setting in (Setting.BREED, Setting.COUNTRY) and text:
         if not (len(text) == 3 and text.isascii() and text.isalpha()):
-            raise Mistake(f"'{text}' isn't three letters A to Z, as the {setting} in numbers has to be")
+            raise Mistake(NotSuch.LETTERS_OF.said(text=text, setting=setting))
         return text.upper()
     if setting is Setting.LANGUAGE and text not in ("", *LANGUAGES):
-        raise Mistake(f"'{text}' isn't one of the languages {', '.join(LANGUAGES)}")
+        raise Mistake(NotSuch.LANGUAGE.said(text=text, languages=", ".join(LANGUAGES)))
     return text

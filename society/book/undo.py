@@ -12,9 +12,9 @@ from society.herdbook import Herdbook
 from society.mistake import CALLED, Mistake, counted
 
 
-def undo(book: Book, program: Herdbook, to: int | None) -> Change:
+def undo(book: Book, program: Herdbook, to: int | None, form: str = "") -> Change:
     """The state after a change, or where none is named that before the last one; 0 is the empty book. The journal is a
-    new edition that keeps as much of the one of then as there was."""
+    new edition that keeps as much of the one of then as there was. `form` is the token of a form that asks for it."""
     assert book.connection is not None and book.change is not None
     last = book.change.number
     target = last - 1 if to is None else to
@@ -28,6 +28,6 @@ def undo(book: Book, program: Herdbook, to: int | None) -> Change:
     journal = Journal(then.edition, then.length) if then else NO_JOURNAL
     number, moment = next_number(book.connection), now()
     edition = begin_edition(book.connection, journal)
-    write_change(book.connection, number, moment, edition, Made(ChangeKind.UNDO, undone_to=target))
+    write_change(book.connection, number, moment, edition, Made(ChangeKind.UNDO, undone_to=target, form=form))
     bring_back(book.connection, number, target)
     return compute_and_end(book, book.connection, program, number, moment)

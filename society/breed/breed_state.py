@@ -19,6 +19,7 @@ from society.breed.intervals import Interval, Path, generation_interval, interva
 from society.breed.kinship import Kinship
 from society.breed.measures import Measure, Name
 from society.breed.pedigree import Pedigree
+from society.breed.step import Step
 from society.breed.years import Year, years_of
 
 # populations of so many animals have an exact number of ancestors; of others so many ancestors are gone through
@@ -49,17 +50,17 @@ Progress = Callable[[str], None]
 
 def state_of(pedigree: Pedigree, population: Sequence[int], tell: Progress) -> State:
     """The state of a population that has an animal, by ranks in age order."""
-    tell("mean kinships")
+    tell(Step.MEAN_KINSHIPS)
     kinship = Kinship.of(pedigree)
     of_each = kinship.mean_of_each(population)
     mean_kinships = sorted(((rank, of_each[rank]) for rank in population), key=lambda pair: pair[1])
     mean_kinship = sum((of_each[rank] for rank in population), Fraction(0)) / len(population)
-    tell("birth years")
+    tell(Step.BIRTH_YEARS)
     years = years_of(pedigree, kinship)
-    tell("generations")
+    tell(Step.GENERATIONS)
     generations = generations_of(pedigree)
     intervals = intervals_of(pedigree, population)
-    tell("founders and ancestors")
+    tell(Step.FOUNDERS)
     founded = FoundedPedigree(pedigree)
     founders = founder_contributions(founded, population)
     most = None if len(population) <= MOST_EXACT else MOST_ANCESTORS

@@ -5,6 +5,7 @@ import datetime
 from collections.abc import Collection
 from dataclasses import dataclass
 
+from society.book.asking_sentences import Naming
 from society.book.book import Book
 from society.book.coefficients import kept_coefficients
 from society.book.inferred import BirthSource, ExitSource
@@ -86,7 +87,7 @@ def owned_by(breed: Breed, owner: str) -> list[int]:
     """The owner's living animals."""
     herd = breed.book.owners.get(owner)
     if herd is None:
-        raise Mistake(f"the book has no owner '{owner}': write the name as the sheet has it")
+        raise Mistake(Naming.NO_OWNER.said(name=owner, hint=Naming.AS_IN_SHEET.said()))
     return [rank for rank in living(breed) if breed.rows[rank].herd == herd]
 
 

@@ -9,6 +9,7 @@ from fractions import Fraction
 from society.answers.candidates import Candidates
 from society.answers.mates import COLUMNS
 from society.answers.table import Cell, Kind, Table
+from society.book.asking_sentences import Mating
 from society.book.book import Book
 from society.breed.plan import Plan, Rules, Unmated, plan_of
 from society.breed.relationships import Pairs, pairs_of
@@ -28,7 +29,7 @@ class Planned:
 def old_enough(candidates: Candidates, youngest: datetime.date) -> Candidates:
     """Those that weren't born after a day."""
     old = [one for one in candidates.animals if one.born <= youngest.isoformat()]
-    return replace(candidates, animals=old).needed("none is so old: leave out --minimum-age, or ask for fewer days")
+    return replace(candidates, animals=old).needed(Mating.NONE_SO_OLD.said())
 
 
 def best_plan(book: Book, program: Herdbook, dams: Candidates, sires: Candidates, rules: Rules) -> Planned:

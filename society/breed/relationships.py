@@ -5,6 +5,7 @@ import itertools
 from collections.abc import Iterator, Sequence
 from dataclasses import dataclass
 
+from society.book.asking_sentences import Mating
 from society.book.book import Book
 from society.book.coefficients import Coefficient, of_calf
 from society.book.selecting import selected
@@ -47,7 +48,7 @@ def relationships(book: Book, program: Herdbook, some: Sequence[str], others: Se
     """Those of each of some animals with each of the others, by their numbers, as the program writes the fractions."""
     count = len(some) * len(others)
     if count > MOST_PAIRS:
-        raise Mistake(f"these are {count:,} pairs, and at most {MOST_PAIRS:,} are written: name fewer animals in files")
+        raise Mistake(Mating.TOO_MANY_PAIRS.said(pairs=count, most=MOST_PAIRS))
     # the program goes through the pedigree once for each of those that it is given first
     few, many = (some, others) if len(some) < len(others) else (others, some)
     found: dict[Pair, str] = {}

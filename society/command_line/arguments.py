@@ -7,10 +7,12 @@ import pathlib
 import re
 from fractions import Fraction
 
+from society.book.asking_sentences import NotSuch
+
 
 def three_letters(text: str) -> str:
     if not re.fullmatch("[A-Z]{3}", text):
-        raise argparse.ArgumentTypeError(f"'{text}' isn't three letters A to Z")
+        raise argparse.ArgumentTypeError(NotSuch.LETTERS.said(text=text))
     return text
 
 
@@ -19,12 +21,12 @@ def day(text: str) -> datetime.date:
     try:
         return datetime.date(*map(int, found.groups()[::-1])) if found else datetime.date.fromisoformat(text)
     except ValueError:
-        raise argparse.ArgumentTypeError(f"'{text}' isn't a day written as 2001-03-01 or 01.03.2001") from None
+        raise argparse.ArgumentTypeError(NotSuch.DAY.said(text=text)) from None
 
 
 def days(text: str) -> int:
     if not text.isdecimal() or int(text) > 10_000:
-        raise argparse.ArgumentTypeError(f"'{text}' isn't a number of days")
+        raise argparse.ArgumentTypeError(NotSuch.DAYS.said(text=text))
     return int(text)
 
 
@@ -59,15 +61,13 @@ def coefficient(text: str) -> Fraction:
     except (ValueError, ZeroDivisionError):
         found = Fraction(-1)
     if not 0 <= found <= 1:
-        raise argparse.ArgumentTypeError(
-            f"'{text}' isn't a fraction or a decimal from 0 to 1, as 1/16, 0.0625 or 6.25%"
-        )
+        raise argparse.ArgumentTypeError(NotSuch.COEFFICIENT.said(text=text))
     return found
 
 
 def positive(text: str) -> int:
     if not text.isdecimal() or not 1 <= int(text) <= 1_000_000:
-        raise argparse.ArgumentTypeError(f"'{text}' isn't a whole number from 1 on")
+        raise argparse.ArgumentTypeError(NotSuch.POSITIVE.said(text=text))
     return int(text)
 
 

@@ -12,6 +12,7 @@ from society.answers.choice import conditions_of as conditions_of_choice
 from society.answers.finding import conditions_of as conditions_of_words
 from society.answers.list_columns import Column, animals_table
 from society.answers.table import Table
+from society.book.asking_sentences import NotSuch
 from society.book.book import IN_BOOK, Book
 from society.book.rows import COLUMNS, Row
 from society.mistake import Mistake
@@ -95,7 +96,7 @@ def year(text: str, otherwise: int) -> int:
     if not text:
         return otherwise
     if not (text.isascii() and text.isdecimal() and FIRST_DAY.year <= int(text[:9]) <= LAST_DAY.year):
-        raise Mistake(f"'{text}' isn't a year from {FIRST_DAY.year} to {LAST_DAY.year}")
+        raise Mistake(NotSuch.YEAR.said(text=text, first=FIRST_DAY.year, last=LAST_DAY.year))
     return int(text)
 
 

@@ -11,11 +11,13 @@ from werkzeug.exceptions import HTTPException, RequestEntityTooLarge
 
 from society.book.cells import for_terminals
 from society.desk.desk import EXTENSION, Desk, the_desk
+from society.desk.finding_words import Sentence
+from society.desk.forms import new_form
 from society.desk.routes import PAGES
 from society.desk.people import the_person
 from society.desk.rules import may
 from society.desk.security import Gate, guard
-from society.desk.shown_mistakes import without_paths
+from society.desk.shown_mistakes import on_page
 from society.desk.texts import TEXTS
 from society.desk.words import NAMES, the_words
 from society.mistake import Mistake
@@ -43,6 +45,7 @@ def desk_app(desk: Desk, gate: Gate) -> Flask:
     for page in PAGES:
         app.register_blueprint(page)
     app.context_processor(said)
+    app.add_template_global(new_form)
     app.register_error_handler(Mistake, show_mistake)
     app.register_error_handler(HTTPException, show_refused)
     app.register_error_handler(Exception, show_fault)
@@ -66,7 +69,7 @@ def said() -> dict[str, object]:
 
 
 def show_mistake(mistake: Mistake) -> ResponseReturnValue:
-    sentences = without_paths(mistake.sentences, the_desk())
+    sentences = on_page(mistake.sentences)
     return render_template("mistake.html", title="mistake", sentences=sentences), 400
 
 
@@ -82,14 +85,14 @@ def show_refused(error: HTTPException) -> ResponseReturnValue:
     g.refused = what
     words = the_words()
     sentence = words(what if what in TEXTS else "refused other")
-    return render_template("mistake.html", title="not done", sentences=[sentence]), error.code or 500
+    return render_template("mistake.html", title="not done", sentences=[Sentence(sentence)]), error.code or 500
 
 
 def show_fault(error: Exception) -> ResponseReturnValue:
     """A fault of the desk itself: the terminal has where it is, the page doesn't. What it says may be of somebody's
     form, and is told nowhere."""
     current_app.logger.error("%s at %s", type(error).__name__, for_terminals(places_of(error)))
-    return render_template("mistake.html", title="mistake", sentences=[the_words()("fault")]), 500
+    return render_template("mistake.html", title="mistake", sentences=[Sentence(the_words()("fault"))]), 500
 
 
 def places_of(error: Exception) -> str:

@@ -3,6 +3,7 @@ of how far it is and of what comes of it."""
 from __future__ import annotations
 
 import contextlib
+import enum
 import os
 import pathlib
 import pickle
@@ -13,9 +14,21 @@ from dataclasses import dataclass
 from typing import BinaryIO
 
 from society.book.history import WORKER
+from society.desk.sentences import DeskFault
 from society.mistake import Mistake
 
 TOP = pathlib.Path(__file__).resolve().parent.parent.parent
+
+
+class Doing(enum.StrEnum):
+    """The parts of work that aren't those of the breed's measures."""
+
+    COLUMNS = "columns"
+    CHANGES = "changes"
+    TAKING = "taking"
+    COEFFICIENTS = "coefficients"
+    RESTORING = "restoring"
+
 
 # told as a part of the work begins
 Tell = Callable[[str], None]
@@ -69,7 +82,7 @@ def messages_of(process: subprocess.Popen[bytes]) -> Iterator[Message]:
             is_done = not isinstance(message, Told)
             yield message
     if process.wait() or not is_done:
-        yield Failed(("the work was ended before it was done: try it again",), True)
+        yield Failed((DeskFault.WORK_ENDED.said(),), True)
 
 
 def work_beside(given: BinaryIO, out: BinaryIO) -> None:
@@ -84,6 +97,6 @@ def work_beside(given: BinaryIO, out: BinaryIO) -> None:
     except Mistake as mistake:
         tell(Failed(mistake.sentences))
     except MemoryError:
-        tell(Failed(("there isn't enough memory for it",)))
+        tell(Failed((DeskFault.NO_MEMORY.said(),)))
     except OSError as error:
-        tell(Failed((f"a file can't be read or written: {error.strerror or type(error).__name__}",)))
+        tell(Failed((DeskFault.NO_FILE.said(error=error),)))

@@ -18,6 +18,7 @@ from society.desk.beside import Tell
 from society.desk.desk import Desk
 from society.desk.jobs import Job, Stage
 from society.desk.kept import mark_of
+from society.desk.sentences import DeskFault
 from society.herdbook import Herdbook
 from society.mistake import Mistake
 from society.pages.languages import LANGUAGES
@@ -53,7 +54,7 @@ def measured(folder: pathlib.Path, whom: Whom, tell: Tell) -> Measured:
         breed = breed_of(book)
         population = population_of(breed, whom)
         if not population:
-            raise Mistake("the book has none of these animals: ask for others")
+            raise Mistake(DeskFault.NONE_OF_THESE.said())
         state = state_of(breed.pedigree, population, tell)
         parts = {name: breed_part(state, breed, name, said_of(whom, Words(name))) for name in LANGUAGES}
         of_each = Kinship.of(breed.pedigree).mean_of_each(population)

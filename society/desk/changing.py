@@ -11,6 +11,7 @@ from society.book.opening import no_book
 from society.book.verify import verify
 from society.desk.desk import Desk
 from society.desk.kept import mark_of
+from society.desk.sentences import DeskFault
 from society.mistake import Mistake
 
 
@@ -27,7 +28,7 @@ def to_change(desk: Desk) -> Iterator[Book]:
 
 def whole(desk: Desk, connection: sqlite3.Connection | None) -> Iterator[Book]:
     if desk.is_closing:
-        raise Mistake("the desk is being closed: nothing is filed. Try again when it is open")
+        raise Mistake(DeskFault.CLOSING.said())
     if connection is None:
         raise no_book(desk.folder)
     book = Book(desk.folder, connection)

@@ -5,17 +5,17 @@ import datetime
 from collections.abc import Callable, Mapping
 from dataclasses import dataclass, replace
 
+from society.book.asking_sentences import NotSuch
 from society.book.book import Book
 from society.book.by_hand import ByHand, Calf, born, departed, file, transferred, with_parents
 from society.book.changes import Change, Option
 from society.book.kinds import ChangeKind
 from society.book.known import Known
-
 from society.book.search import find
-from society.desk.changing import to_change
 from society.desk.desk import Desk
+from society.desk.forms import change_once
+from society.desk.sentences import DeskFault
 from society.mistake import Mistake
-from society.refusals import Refusal
 from society.reading.unknown import unknown_words
 
 # the kinds of commands with the fields of their forms, which the history has as options but for the animal
@@ -30,10 +30,11 @@ KINDS = {kind.value: kind for kind in FIELDS}
 
 @dataclass(frozen=True)
 class Form:
-    """A form with what somebody wrote."""
+    """A form with what somebody wrote, and its token."""
 
     kind: ChangeKind
     given: Mapping[str, str]
+    token: str
 
     def text(self, name: str) -> str:
         return " ".join(self.given.get(name, "").split())
@@ -42,11 +43,11 @@ class Form:
         try:
             return datetime.date.fromisoformat(self.text("day"))
         except ValueError:
-            raise Mistake("the day is missing, or isn't written as 2001-03-01") from None
+            raise Mistake(DeskFault.NO_DAY.said()) from None
 
     def animal(self, book: Book) -> Known:
         if not self.text("id"):
-            raise Mistake("the animal is missing: write its id, name or number")
+            raise Mistake(DeskFault.NO_ANIMAL.said())
         return find(book, self.text("id"))
 
     def parent(self, book: Book, role: str) -> Known | None:
@@ -64,12 +65,12 @@ class Form:
             ChangeKind.BIRTH: self.birth, ChangeKind.PARENTS: self.parents, ChangeKind.TRANSFER: self.transfer,
             ChangeKind.EXIT: lambda book: departed(book, self.animal(book), self.day()),
         }  # fmt: skip
-        return replace(makers[self.kind](book), options=self.options())
+        return replace(makers[self.kind](book), options=self.options(), form=self.token)
 
     def birth(self, book: Book) -> ByHand:
         sex = self.text("sex")
         if sex not in ("M", "F"):
-            raise Mistake("the sex is missing: choose male or female")
+            raise Mistake(DeskFault.NO_SEX.said())
         calf = Calf(
             self.text("id"), sex, self.day(), self.text("name"), self.parent(book, "sire"), self.parent(book, "dam"),
             self.text("owner"), self.text("embryo") == "1", self.letters("breed"), self.letters("country"),
@@ -80,7 +81,7 @@ class Form:
         """Three letters of a number, or none."""
         text = self.text(name).upper()
         if text and not (len(text) == 3 and text.isascii() and text.isalpha()):
-            raise Mistake(f"'{text}' isn't three letters A to Z")
+            raise Mistake(NotSuch.LETTERS.said(text=text))
         return text
 
     def parents(self, book: Book) -> ByHand:
@@ -89,13 +90,12 @@ class Form:
 
     def transfer(self, book: Book) -> ByHand:
         if not self.text("to"):
-            raise Mistake("the new owner is missing: write a name")
+            raise Mistake(DeskFault.NO_OWNER.said())
         return transferred(book, self.animal(book), self.day(), self.text("to"), None)
 
 
-def file_form(desk: Desk, form: Form) -> tuple[Change, Refusal | None]:
-    """The change with which the command and its reply are stored, and why it is refused."""
-    with to_change(desk) as book:
-        change, refusal = file(book, desk.program, form.command(book))
-    desk.exports.wish()
-    return change, refusal
+def file_form(desk: Desk, form: Form) -> Change:
+    """The change with which the command and its reply are stored."""
+    change = change_once(desk, form.token, lambda book: file(book, desk.program, form.command(book))[0])
+    assert change is not None
+    return change

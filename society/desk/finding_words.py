@@ -1,28 +1,27 @@
-"""A finding in the language of a page."""
+"""Findings, and the sentences of mistakes, in the language of a page."""
 from __future__ import annotations
 
 import dataclasses
-import datetime
-import enum
 import re
-from collections.abc import Iterator
+from collections.abc import Iterator, Sequence
 from typing import NamedTuple
 
-from society.book.inferred import BirthSource, SexSource
-from society.book.kinds import ChangeKind, CommandKind, Field
-from society.book.role import Role
-from society.desk.texts import TEXTS, findings, sheet_findings
-from society.desk.texts.findings import FAULTS, SOURCES
-from society.desk.texts.sheet_findings import ENGLISH
+from society.desk.texts import SENTENCES, findings, sheet_findings
+from society.desk.texts.members import MEMBERS
+from society.desk.texts.sheet_findings import ENGLISH, WITHIN
+from society.desk.value_words import most_of, some_of, text_of
 from society.desk.words import Words
 from society.reading.days import DayFault
-from society.refusals import Refusal
-from society.taking.report import Finding
+from society.reading.sentences import Where
+from society.sentence import Said, Some
+from society.taking.report import Entry, Finding, kind_of
 
 FINDINGS = findings.FINDINGS | sheet_findings.FINDINGS
 # what is left out where one of its values is empty
 PART = re.compile(r"\[([^\]]*)\]")
 VALUE = re.compile(r"\{(\w+)\}")
+# what is only asked, as whether it is gone, says nothing itself
+YES = "\0"
 
 
 class Sentence(NamedTuple):
@@ -37,10 +36,25 @@ def sentence_of(finding: Finding, words: Words) -> Sentence:
     text = text_for(finding.kind(), words)
     if text is None:
         return Sentence(finding.words(), "" if words.at == 0 else "en")
-    values = dict(values_of("", finding, words))
-    kept = PART.sub(lambda part: part[1] if all(values[name] for name in VALUE.findall(part[1])) else "", text)
-    # what is only asked, as whether it is gone, says nothing itself
-    return Sentence(VALUE.sub(lambda name: values[name[1]].removeprefix(YES), kept))
+    return Sentence(filled(text, dict(values_of("", finding, words))))
+
+
+def sentence_in(said: str, words: Words) -> Sentence:
+    """A sentence of a mistake. One that is no more than its text is English."""
+    if not isinstance(said, Said):
+        return Sentence(said, "" if words.at == 0 else "en")
+    text = SENTENCES[said.sentence][words.at] or re.sub(r"\{(\w+):,\}", r"{\1}", said.sentence.value)
+    values = said.values
+    return Sentence(VALUE.sub(lambda name: shown(name[1], values[name[1]], words), text))
+
+
+def sentence_of_entry(entry: Entry, words: Words) -> Sentence:
+    """What is found of an animal, behind its line and id."""
+    found = sentence_of(entry.finding, words)
+    if not entry.id and not entry.line:
+        return found
+    where = Where.LINE.said(line=entry.line, id=entry.id) if entry.line else Where.ANIMAL.said(id=entry.id)
+    return found._replace(text=sentence_in(where, words).text + found.text)
 
 
 def text_for(kind: str, words: Words) -> str | None:
@@ -51,7 +65,9 @@ def text_for(kind: str, words: Words) -> str | None:
     return texts[words.at - 1] if texts else None
 
 
-YES = "\0"
+def filled(text: str, values: dict[str, str]) -> str:
+    kept = PART.sub(lambda part: part[1] if all(values[name] for name in VALUE.findall(part[1])) else "", text)
+    return VALUE.sub(lambda name: values[name[1]].removeprefix(YES), kept)
 
 
 def values_of(prefix: str, value: object, words: Words) -> Iterator[tuple[str, str]]:
@@ -59,59 +75,33 @@ def values_of(prefix: str, value: object, words: Words) -> Iterator[tuple[str, s
     assert dataclasses.is_dataclass(value)
     for field in dataclasses.fields(value):
         one, name = getattr(value, field.name), f"{prefix}{field.name}"
-        yield name, text_of(name, one, value, words)
+        if isinstance(one, DayFault):
+            yield name, MEMBERS[one][words.at].format(getattr(value, "text"))
+        else:
+            yield name, shown(name, one, words)
         if dataclasses.is_dataclass(one):
             yield from values_of(f"{name}_", one, words)
         elif one is None:
             yield f"{name}_text", ""
 
 
-def text_of(name: str, value: object, whole: object, words: Words) -> str:
+def shown(name: str, value: object, words: Words) -> str:
+    """A value, which may be a sentence itself, have parts, or be several."""
+    if isinstance(value, Said):
+        return sentence_in(value, words).text
+    if isinstance(value, tuple | Some):
+        several: Sequence[object] = value.texts if isinstance(value, Some) else value
+        return some_of([part_of(one, words) for one in several], most_of(value), words)
     if isinstance(value, bool):
         return YES * value
-    if isinstance(value, int) and not isinstance(value, enum.Enum):
-        return "" if name == "line" and not value else words.count(value)
-    if isinstance(value, datetime.date):
-        return words.day(value)
-    if isinstance(value, tuple):
-        return ", ".join(part_of(one, words) for one in value)
-    if isinstance(value, DayFault):
-        return FAULTS[value.value][words.at - 1].format(getattr(whole, "text"))
-    if isinstance(value, enum.Enum):
-        return word_for(value, words)
-    return word_of(name, str(value or ""), words)
+    return text_of(name, value, words)
 
 
 def part_of(value: object, words: Words) -> str:
     """One of several values."""
-    if isinstance(value, enum.Enum):
-        return word_for(value, words)
     if isinstance(value, tuple):
         return " ".join(map(str, value))
-    return str(getattr(value, "text", value))
-
-
-def word_for(value: enum.Enum, words: Words) -> str:
-    if isinstance(value, Refusal):
-        return words(f"refusal {value.value}")
-    if isinstance(value, Role):
-        return words(value.value)
-    if isinstance(value, Field):
-        return words(f"field {value.value}")
-    if isinstance(value, CommandKind | ChangeKind):
-        return words(f"command {value.value}")
-    if isinstance(value, BirthSource | SexSource):
-        kind = "birth" if isinstance(value, BirthSource) else "sex"
-        return SOURCES.get(f"{kind} {value.value}", ("", ""))[words.at - 1]
-    return str(value.value)
-
-
-def word_of(name: str, text: str, words: Words) -> str:
-    """A text that stands for something: a sex, the name of a value that changed, or none."""
-    if name == "sex" and text in ("M", "F"):
-        return words("male" if text == "M" else "female")
-    if name == "name" and f"fact {text}" in TEXTS:
-        return words(f"fact {text}")
-    if name in ("after", "before", "value") and re.fullmatch(r"\d{4}-\d\d-\d\d", text):
-        return words.day(text)
-    return text or ("–" if name in ("after", "before", "value") else "")
+    form = WITHIN.get(kind_of(type(value)))
+    if form:
+        return filled(form[words.at], dict(values_of("", value, words)))
+    return shown("", value, words)

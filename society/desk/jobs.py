@@ -12,6 +12,7 @@ from collections import OrderedDict
 from collections.abc import Callable
 
 from society.desk.beside import Failed, Made, Told, messages_of, started
+from society.desk.sentences import DeskFault
 
 # so many results are kept, and so long a page waits for one that is there soon
 MOST = 12
@@ -50,7 +51,7 @@ class Job:
             for message in messages_of(self.process):
                 self.take(message)
         except OSError as error:
-            self.take(Failed((f"no process can be started ({error.strerror or error}): try again later",)))
+            self.take(Failed((DeskFault.NO_PROCESS.said(error=error),)))
         finally:
             self.is_over.set()
 

@@ -7,6 +7,7 @@ from society.book.book import Book
 from society.book.commands import Command
 from society.book.history import login
 from society.book.journal import NO_JOURNAL, Journal, Part, lines_with_refusals, parts_of
+from society.book.sentences import ProgramFault
 from society.desk.session import Places, Session, SessionEnded, SessionFault
 from society.herdbook import Herdbook
 from society.mistake import Mistake
@@ -53,7 +54,7 @@ class Office(Herdbook):
                 self.forget(session)
                 continue
             if answer.fault:
-                raise Mistake(f"the program can't do it: {answer.fault}")
+                raise Mistake(ProgramFault.SESSION_CANT_DO.said(fault=answer.fault))
             if answer.steps == book.journal.length:
                 return answer.lines
             # somebody filed meanwhile
@@ -74,7 +75,7 @@ class Office(Herdbook):
                     self.forget(session)
                     continue
                 except SessionFault as fault:
-                    raise Mistake(f"the program can't file it: {fault}. Nothing is changed") from None
+                    raise Mistake(ProgramFault.SESSION_CANT_FILE.said(fault=str(fault))) from None
                 self.journal = Journal(self.journal.edition, self.journal.length + 1)
                 return refusal
         return super().reply(command, book)
@@ -112,7 +113,7 @@ class Office(Herdbook):
             return None
         except SessionFault as fault:
             self.forget(self.session)
-            raise Mistake(f"the program can't file the stored journal: {fault}") from None
+            raise Mistake(ProgramFault.JOURNAL_CANT_BE_FILED.said(fault=str(fault))) from None
         self.moment = max(self.moment, moment)
         return self.session
 
@@ -139,10 +140,7 @@ class Office(Herdbook):
             return
         at = next(place for place, pair in enumerate(zip(replies, stored)) if pair[0] != pair[1])
         self.forget(session)
-        raise Mistake(
-            f"the program's reply to command {first + at} isn't the stored one: nothing goes on. Ask `verify`, and restore "
-            "a backup"
-        )
+        raise Mistake(ProgramFault.REPLY_DIFFERS.said(place=first + at))
 
     def forget(self, session: Session | None) -> None:
         """Ends a session, so that the next question begins a new one."""

@@ -13,7 +13,7 @@ from society.book.role import Role
 from society.breed.mated import Planned, best_plan, old_enough, plan_table
 from society.breed.plan import Rules as PlanRules
 from society.breed.plan import Unmated
-from society.desk.beside import Tell
+from society.desk.beside import Doing, Tell
 from society.desk.desk import Desk
 from society.desk.jobs import Job
 from society.desk.kept import mark_of
@@ -69,7 +69,7 @@ def plan_for(desk: Desk, book: Book, rules: Rules) -> Job:
 def planned(folder: pathlib.Path, rules: Rules, tell: Tell) -> PlanMade:
     program = Herdbook()
     with opened(folder, program) as book:
-        tell("coefficients")
+        tell(Doing.COEFFICIENTS)
         dams, sires = (candidates_of(book, role, None) for role in (Role.DAM, Role.SIRE))
         if rules.minimum_age is not None:
             youngest = datetime.date.today() - datetime.timedelta(days=rules.minimum_age)

@@ -12,7 +12,7 @@ from society.book.backup import prepare, restore
 from society.book.book import Book
 from society.book.book_read import opened_to_read, reading
 from society.book.history import change_numbered
-from society.desk.beside import Tell
+from society.desk.beside import Doing, Tell
 from society.desk.taking_beside import Taken
 from society.herdbook import Herdbook
 from society.mistake import Mistake
@@ -29,7 +29,7 @@ class Backup:
 
 def looked_into(path: pathlib.Path, tell: Tell) -> Backup:
     """What a backup has, once it is seen that it is whole."""
-    tell("restoring")
+    tell(Doing.RESTORING)
     with tempfile.TemporaryDirectory(prefix="society-") as room:
         copy = pathlib.Path(room) / "book.sqlite"
         # its last change would tell of the restoring
@@ -42,7 +42,7 @@ def looked_into(path: pathlib.Path, tell: Tell) -> Backup:
 
 def restored(folder: pathlib.Path, path: pathlib.Path, looked: int, tell: Tell) -> Taken:
     """Restores it, if the book is still the one after the change that was looked at; that goes to the folder `old`."""
-    tell("restoring")
+    tell(Doing.RESTORING)
     with contextlib.suppress(sqlite3.Error, Mistake):
         if change_now(folder) != looked:
             return Taken(0, True)

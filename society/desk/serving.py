@@ -25,6 +25,7 @@ from society.desk.exporting import Exports
 from society.desk.jobs import Jobs
 from society.desk.link import LinkGate
 from society.desk.office import Office
+from society.desk.sentences import DeskFault
 from society.desk.uploads import Uploads
 from society.mistake import Mistake
 from society.reading.sheet import MOST_BYTES
@@ -59,7 +60,7 @@ def desk_of(folder: pathlib.Path, program: Office, read_only: bool) -> Iterator[
         desk = Desk(folder, program, read_only, Uploads(path), Jobs(), Exports(folder))
         if not read_only:
             take_over(folder, program)
-        up_to_date(folder)
+            up_to_date(folder)
         yield desk
 
 
@@ -92,7 +93,7 @@ def bound(address: str, port: int, otherwise: str) -> socket.socket:
         return socket.create_server((address, port), family=family)
     except (OSError, OverflowError) as error:
         told = getattr(error, "strerror", None) or error
-        raise Mistake(f"port {port} can't be used ({told}): {otherwise}") from None
+        raise Mistake(DeskFault.NO_PORT.said(port=str(port), told=told, otherwise=otherwise)) from None
 
 
 @contextlib.contextmanager

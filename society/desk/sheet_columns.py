@@ -9,6 +9,7 @@ from society.book.kinds import Field, Remembered
 from society.mistake import Mistake
 from society.reading.columns import find_columns
 from society.reading.options import read_given
+from society.reading.sentences import SheetFault
 from society.reading.sheet import read_sheet
 from society.reading.titles import known_titles
 from society.reading.unknown import UnknownParents
@@ -46,7 +47,7 @@ def columns_shown(book: Book, path: pathlib.Path, wishes: Wishes) -> ColumnsShow
     columns = find_columns(sheet, now, before, unknown, with_row)
     fields = {at: name for name, at in columns.found.items()}
     if not any(sheet.titles):
-        raise Mistake(f"{path} has no titles: its first row has to have the titles of the columns")
+        raise Mistake(SheetFault.NO_TITLES.said(path=path))
     return ColumnsShown(
         tuple(sheet.titles),
         tuple(fields.get(at, "") for at in range(len(sheet.titles))),

@@ -1,18 +1,27 @@
-"""Mistakes as a page shows them: without the machine's paths."""
+"""Mistakes as a page shows them: in its language, and without the machine's paths."""
 from __future__ import annotations
 
 from collections.abc import Iterable
 
-from society.desk.desk import Desk
+from society.desk.desk import the_desk
+from society.desk.finding_words import Sentence, sentence_in
+from society.desk.words import the_words
 
 
-def without_paths(sentences: Iterable[str], desk: Desk) -> list[str]:
+def on_page(sentences: Iterable[str]) -> list[Sentence]:
+    return without_paths(sentence_in(sentence, the_words()) for sentence in sentences)
+
+
+def without_paths(sentences: Iterable[Sentence]) -> list[Sentence]:
     """The sentences with files by their names alone."""
+    desk = the_desk()
     folders = [one.path.parent for one in desk.uploads.found.values()]
     folders += [desk.uploads.room, desk.folder, desk.folder.absolute(), desk.folder.absolute().parent]
     folders.append(desk.program.path.parent)
     found = list(sentences)
     for folder in folders:
         if str(folder) not in (".", "/"):
-            found = [sentence.replace(f"{folder}/", "").replace(str(folder), folder.name) for sentence in found]
+            found = [
+                one._replace(text=one.text.replace(f"{folder}/", "").replace(str(folder), folder.name)) for one in found
+            ]
     return found

@@ -13,7 +13,8 @@ from society.book.book import Book
 from society.book.book_changed import BookCame
 from society.book.opening import to_change, to_look_at
 from society.command_line.arguments import day, days, three_letters
-from society.desk.beside import Tell
+from society.desk.beside import Doing, Tell
+from society.desk.forms import made_by
 from society.desk.sheet_columns import ColumnsShown, columns_shown
 from society.desk.shown_findings import first_of_each
 from society.desk.suggested import suggestions_of
@@ -44,13 +45,13 @@ class Chosen:
 
 @dataclass(frozen=True)
 class Look:
-    """What a sheet would change of the book after a change, 0 for none. `told` are sentences on why it can't be read;
-    obstacles keep it from being taken; `entries` are the first of each kind, of which there are `totals`, and
+    """What a sheet would change of the book after a change, 0 for none. `told` are sentences and entries on why it can't
+    be read; obstacles keep it from being taken; `entries` are the first of each kind, of which there are `totals`, and
     `suggestions` what all of them suggest; `after` is the book then, none where it can't be read."""
 
     change: int
     columns: ColumnsShown | None
-    told: tuple[str, ...] = ()
+    told: tuple[str | Entry, ...] = ()
     obstacles: tuple[Finding, ...] = ()
     entries: tuple[Entry, ...] = ()
     totals: Mapping[What, int] = field(default_factory=dict)
@@ -68,13 +69,13 @@ class Taken:
 
 def looked_at(folder: pathlib.Path, path: pathlib.Path, chosen: Chosen, tell: Tell) -> Look:
     program = Herdbook()
-    tell("columns")
+    tell(Doing.COLUMNS)
     with to_look_at(folder, program) as book:
         columns, failed = columns_of(book, path, chosen, folder)
         number = book.change.number if book.change else 0
     if failed:
         return look_of(number, columns, failed)
-    tell("changes")
+    tell(Doing.CHANGES)
     with to_look_at(folder, program) as book:
         number = book.change.number if book.change else 0
         try:
@@ -91,7 +92,7 @@ def looked_at(folder: pathlib.Path, path: pathlib.Path, chosen: Chosen, tell: Te
 def look_of(number: int, columns: ColumnsShown | None, mistake: Mistake) -> Look:
     """That of a sheet that can't be read."""
     if isinstance(mistake, CantBeTaken):
-        return Look(number, columns, mistake.told, mistake.obstacles)
+        return Look(number, columns, mistake.entries or mistake.told, mistake.obstacles)
     return Look(number, columns, mistake.sentences)
 
 
@@ -105,16 +106,19 @@ def columns_of(
         return None, mistake
 
 
-def taken(folder: pathlib.Path, path: pathlib.Path, chosen: Chosen, looked: int, tell: Tell) -> Taken:
-    """Takes a sheet, if the book is still the one after the change that was looked at."""
+def taken(folder: pathlib.Path, path: pathlib.Path, chosen: Chosen, looked: int, form: str, tell: Tell) -> Taken:
+    """Takes a sheet, if the book is still the one after the change that was looked at, and its form didn't take it."""
     program = Herdbook()
-    tell("taking")
+    tell(Doing.TAKING)
     try:
         with to_change(folder, program) as book:
+            before = made_by(book, form)
+            if before:
+                return Taken(before.number)
             number = book.change.number if book.change else 0
             if number != looked:
                 return Taken(number, True)
-            take_into(book, path, wishes_of(folder, chosen), program)
+            take_into(book, path, replace(wishes_of(folder, chosen), form=form), program)
     except BookCame:
         return Taken(0, True)
     return Taken(looked + 1)
@@ -159,4 +163,4 @@ def read(reader: Callable[[str], Value], text: str) -> Value | None:
     try:
         return reader(text) if text else None
     except argparse.ArgumentTypeError as error:
-        raise Mistake(str(error)) from None
+        raise Mistake(*error.args) from None

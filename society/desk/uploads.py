@@ -11,6 +11,7 @@ from dataclasses import dataclass, field
 
 from werkzeug.datastructures import FileStorage
 
+from society.desk.sentences import DeskFault
 from society.mistake import Mistake
 
 SECONDS = 3600
@@ -49,7 +50,7 @@ class Uploads:
             file.save(upload.path)
         except OSError as error:
             shutil.rmtree(folder, ignore_errors=True)
-            raise Mistake(f"the file can't be kept here ({error.strerror or error}): make room on the disk") from None
+            raise Mistake(DeskFault.NOT_KEPT.said(error=error)) from None
         with self.lock:
             self.found[token] = upload
         return upload

@@ -7,6 +7,8 @@ from dataclasses import dataclass, field
 from society.book.inferred import GIVEN_BIRTH, GIVEN_EXIT, BirthBasis, ExitBasis, OwnerDay, SexSource
 from society.book.role import Role
 from society.reading.days import ANY_DAY, Precision, Span
+from society.reading.sentences import Where
+from society.sentence import Said
 
 SIRE, DAM, DAY = Role.SIRE, Role.DAM, Precision.DAY
 ROLES = {role: role.sex for role in Role}
@@ -68,9 +70,9 @@ class Animal:
     def has_day(self) -> bool:
         return self.birth.precision is DAY
 
-    def where(self) -> str:
+    def where(self) -> Said:
         """How a sentence about it begins."""
-        return f"line {self.line}: {self.id}: " if self.line else f"{self.id}: "
+        return Where.LINE.said(line=self.line, id=self.id) if self.line else Where.ANIMAL.said(id=self.id)
 
 
 def parents_of_all(animals: dict[str, Animal]) -> dict[str, list[str]]:

@@ -8,12 +8,13 @@ from typing import NamedTuple
 from society.mistake import Mistake
 from society.reading.column_findings import SheetFinding
 from society.reading.file_findings import DecodedTwice, LettersLost, StrayBytes, TextInLine
+from society.reading.sentences import OtherKind, SheetFault
 
 # how files begin that are no text
 NOT_TEXT = {
-    b"\xd0\xcf\x11\xe0": "an old Excel file (.xls)",
-    b"%PDF": "a PDF file",
-    b"{\\rtf": "a text with formats (.rtf)",
+    b"\xd0\xcf\x11\xe0": OtherKind.XLS,
+    b"%PDF": OtherKind.PDF,
+    b"{\\rtf": OtherKind.RTF,
 }
 # a letter of UTF-8 in several bytes
 SEVERAL_BYTES = re.compile(rb"[\xc2-\xdf][\x80-\xbf]|[\xe0-\xef][\x80-\xbf]{2}|[\xf0-\xf4][\x80-\xbf]{3}")
@@ -33,7 +34,7 @@ class Decoded(NamedTuple):
 def decoding(path: pathlib.Path, data: bytes) -> Decoded:
     for beginning, what in NOT_TEXT.items():
         if data.startswith(beginning):
-            raise Mistake(f"{path} is {what}: save the sheet as CSV or .xlsx, and take that")
+            raise Mistake(SheetFault.OTHER_KIND.said(path=path, what=what.said()))
     if data.startswith((b"\xff\xfe", b"\xfe\xff")):
         try:
             return Decoded(data.decode("utf-16"), "UTF-16")
@@ -65,7 +66,7 @@ def windows(path: pathlib.Path, data: bytes) -> Decoded:
 
 
 def no_text(path: pathlib.Path) -> Mistake:
-    return Mistake(f"{path} is no text in UTF-8 or Windows-1252: save the sheet as CSV in UTF-8, and take that")
+    return Mistake(SheetFault.NO_TEXT.said(path=path))
 
 
 def is_mostly_utf8(data: bytes) -> bool:

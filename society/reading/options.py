@@ -4,6 +4,7 @@ from __future__ import annotations
 import csv
 
 from society.mistake import Mistake
+from society.reading.sentences import SheetFault
 from society.reading.titles import TITLES
 from society.reading.words import KNOWN_SEXES, plain, sex_word
 
@@ -19,7 +20,7 @@ def read_given(words: list[str]) -> dict[str, str]:
     for part in parts_of(words):
         field, equals, title = (piece.strip() for piece in part.partition("="))
         if not equals or field not in TITLES:
-            raise Mistake(f"--columns {part}: write FIELD=TITLE, where FIELD is one of {', '.join(TITLES)}")
+            raise Mistake(SheetFault.COLUMN_OPTION.said(part=part, fields=", ".join(TITLES)))
         given[field] = title
     return given
 
@@ -30,6 +31,6 @@ def read_sexes(words: list[str]) -> dict[str, str]:
     for part in parts_of(words):
         word, equals, sex = (piece.strip() for piece in part.partition("="))
         if not equals or not word or plain(sex) not in KNOWN_SEXES:
-            raise Mistake(f"--sexes {part}: write WORD=m for males and WORD=f for females, as --sexes Aue=f,Bk=m")
+            raise Mistake(SheetFault.SEX_OPTION.said(part=part))
         given[sex_word(word)] = KNOWN_SEXES[plain(sex)]
     return given

@@ -9,6 +9,7 @@ from typing import Callable, NamedTuple
 from society.mistake import Mistake
 from society.reading.column_findings import SheetFinding
 from society.reading.encodings import decoding
+from society.reading.sentences import SheetFault
 from society.reading.words import clean
 from society.reading.workbook import read_workbook
 
@@ -44,19 +45,19 @@ def read_sheet(path: pathlib.Path, score: Score, worksheet: str = "") -> Sheet:
     data = read_bytes(path)
     faults: list[SheetFinding]
     if data.startswith(b"PK") and path.suffix.lower() == ".ods":
-        raise Mistake(f"{path} is an .ods file: save the sheet as CSV or .xlsx, and take that")
+        raise Mistake(SheetFault.ODS.said(path=path))
     if data.startswith(b"PK"):
         found = read_workbook(path, data, score, BEGINNING, worksheet)
         rows, how, faults = numbered(found.rows), found.how, found.faults
     else:
         if worksheet:
-            raise Mistake(f"{path} is no .xlsx file, and has no worksheets: leave out --worksheet")
+            raise Mistake(SheetFault.NO_WORKSHEETS.said(path=path))
         text, encoding, fault = decoding(path, data)
         rows, separator = read_text(text, score)
         how = f"{encoding}, cells separated by " + {";": "semicolons", "\t": "tabs", ",": "commas"}[separator]
         faults = [fault] if fault else []
     if not rows:
-        raise Mistake(f"{path} is empty: its first row has to have the titles of the columns")
+        raise Mistake(SheetFault.EMPTY.said(path=path))
     at = title_row([row.cells for row in rows[:BEGINNING]], score)
     line, titles = rows[at]
     check_bounds(path, rows)
@@ -66,26 +67,22 @@ def read_sheet(path: pathlib.Path, score: Score, worksheet: str = "") -> Sheet:
 def check_bounds(path: pathlib.Path, rows: list[Row]) -> None:
     """A mistake where there is more than a sheet of a society has."""
     if len(rows) > MOST_ROWS:
-        raise Mistake(f"{path} has {len(rows):,} rows, and {MOST_ROWS:,} are taken at most: leave out the oldest")
+        raise Mistake(SheetFault.TOO_MANY_ROWS.said(path=path, rows=len(rows), most=MOST_ROWS))
     for line, cells in rows:
         if max(map(len, cells)) > MOST_LETTERS:
-            raise Mistake(
-                f"line {line}: a cell has more than {MOST_LETTERS:,} letters: shorten it. Is a quotation mark missing?"
-            )
+            raise Mistake(SheetFault.LONG_CELL.said(line=line, most=MOST_LETTERS))
 
 
 def read_bytes(path: pathlib.Path) -> bytes:
     try:
         if path.is_file() and path.stat().st_size > MOST_BYTES:
-            raise Mistake(
-                f"{path} has {path.stat().st_size / 1e6:,.0f} MB, and {MOST_BYTES / 1e6:,.0f} MB are read at most: is "
-                "it the right file?"
-            )
+            size, most = round(path.stat().st_size / 1e6), round(MOST_BYTES / 1e6)
+            raise Mistake(SheetFault.TOO_LARGE.said(path=path, size=size, most=most))
         return path.read_bytes()
     except IsADirectoryError:
-        raise Mistake(f"{path} is a folder: name the sheet's file") from None
+        raise Mistake(SheetFault.IS_FOLDER.said(path=path)) from None
     except OSError as error:
-        raise Mistake(f"{path} can't be read: {error.strerror or error}. Is the name right?") from None
+        raise Mistake(SheetFault.CANT_BE_READ.said(path=path, error=error)) from None
 
 
 def title_row(rows: list[list[str]], score: Score) -> int:
@@ -130,10 +127,7 @@ def read_records(text: str, separator: str) -> list[Row]:
                 rows.append(Row(begins, texts))
             begins = reader.line_num + 1
     except csv.Error:
-        raise Mistake(
-            f"line {begins}: a cell begins with a quotation mark (\") and doesn't end with one, or has one within. "
-            "Close it, or write two of them for one within"
-        ) from None
+        raise Mistake(SheetFault.OPEN_QUOTE.said(line=begins)) from None
     return rows
 
 

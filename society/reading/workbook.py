@@ -11,6 +11,7 @@ from typing import Any, Callable, NamedTuple
 from society.mistake import Mistake
 from society.reading.column_findings import SheetFinding
 from society.reading.file_findings import DigitsLost, FormulasWithoutValue, WorksheetLacks, WorksheetUnclear
+from society.reading.sentences import SheetFault
 from society.reading.words import clean
 from society.taking.report import CantBeTaken
 
@@ -48,17 +49,12 @@ def opened(path: pathlib.Path, data: bytes, values: bool) -> Any:
     try:
         import openpyxl
     except ImportError:
-        raise Mistake(
-            f"{path} is an .xlsx file, and openpyxl, which reads these, isn't installed: save the sheet as CSV, and "
-            "take that"
-        ) from None
+        raise Mistake(SheetFault.NO_OPENPYXL.said(path=path)) from None
     check_size(path, data)
     try:
         return openpyxl.load_workbook(io.BytesIO(data), data_only=values)
     except Exception as error:  # openpyxl raises whatever its parts raise
-        raise Mistake(
-            f"{path} can't be read as an .xlsx file ({error}): save the sheet as CSV, and take that"
-        ) from None
+        raise Mistake(SheetFault.NO_WORKBOOK.said(path=path, error=str(error))) from None
 
 
 def check_size(path: pathlib.Path, data: bytes) -> None:
@@ -69,10 +65,8 @@ def check_size(path: pathlib.Path, data: bytes) -> None:
     except zipfile.BadZipFile:
         return
     if size > MOST_UNPACKED:
-        raise Mistake(
-            f"{path} would become {size / 1e6:,.0f} MB, and no more than {MOST_UNPACKED / 1e6:,.0f} MB are read: save the "
-            "sheet alone as CSV, and take that"
-        )
+        most = round(MOST_UNPACKED / 1e6)
+        raise Mistake(SheetFault.UNPACKED.said(path=path, size=round(size / 1e6), most=most))
 
 
 def chosen(path: pathlib.Path, workbook: Any, score: Score, most: int, named: str) -> str:

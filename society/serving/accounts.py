@@ -14,6 +14,7 @@ from society.desk.people import AccountRole, Person
 from society.mistake import Mistake
 from society.serving import accounts_file
 from society.serving.passwords import Kept, checked, fits, kept_of
+from society.serving.sentences import AccountFault
 
 # so long a login holds, in seconds
 A_DAY = 24 * 3600
@@ -63,7 +64,7 @@ class Accounts:
             try:
                 connection.execute("INSERT INTO account VALUES (?, ?, ?, ?, ?, ?, ?, ?)", row)
             except sqlite3.IntegrityError:
-                raise Mistake(f"there is an account {name} already: change that one") from None
+                raise Mistake(AccountFault.NAME_IS_TAKEN.said(name=name)) from None
             connection.execute("COMMIT")
 
     def change_role(self, name: str, role: AccountRole) -> None:
@@ -82,13 +83,13 @@ class Accounts:
     def change(self, name: str, statement: str, *values: object) -> None:
         """Changes an account that is there; one keeper stays."""
         if self.found(name) is None:
-            raise Mistake(f"there is no account '{name}': name one of those that --list shows")
+            raise Mistake(AccountFault.NO_ACCOUNT.said(name=name))
         with accounts_file.opened(self.path) as connection:
             connection.execute("BEGIN IMMEDIATE")
             connection.execute("DELETE FROM login WHERE folded = ?", (folded(name),))
             connection.execute(statement, (*values, folded(name)))
             if not keepers(connection):
-                raise Mistake("somebody has to be a keeper: make another account one before")
+                raise Mistake(AccountFault.NO_KEEPER.said())
             connection.execute("COMMIT")
 
     def fits(self, name: str, password: str) -> Account | None:
@@ -131,7 +132,7 @@ def name_of(text: str) -> str:
     """A name as it is kept; a mistake where it is none."""
     name = " ".join(unicodedata.normalize("NFC", text).split())
     if not name or len(name) > MOST_LETTERS or not name.isprintable() or not name[0].isalnum():
-        raise Mistake(f"'{name}' can't be an account's name: begin with a letter, and take at most {MOST_LETTERS}")
+        raise Mistake(AccountFault.NO_NAME.said(name=name, most=MOST_LETTERS))
     return name
 
 
@@ -141,4 +142,4 @@ def keepers(connection: sqlite3.Connection) -> int:
 
 
 def first_is_keeper() -> Mistake:
-    return Mistake("the first account is a keeper's: say --role keeper")
+    return Mistake(AccountFault.FIRST_IS_KEEPER.said())

@@ -13,6 +13,7 @@ from collections.abc import Iterator
 from society.book.database import connect, statements
 from society.desk.people import AccountRole
 from society.mistake import Mistake
+from society.serving.sentences import AccountFault
 
 NAME = "accounts.sqlite"
 # what tells it from other databases: ACCT
@@ -52,7 +53,7 @@ def opened(path: pathlib.Path) -> Iterator[sqlite3.Connection]:
         with contextlib.closing(connect(path, "rw")) as connection:
             yield connection
     except sqlite3.Error as error:
-        raise Mistake(f"the accounts can't be read or written ({error})") from None
+        raise Mistake(AccountFault.CANT_BE_USED.said(error=str(error))) from None
 
 
 def make(path: pathlib.Path) -> None:
@@ -73,7 +74,7 @@ def make(path: pathlib.Path) -> None:
         with contextlib.suppress(FileExistsError):
             os.link(beside, path)
     except (OSError, sqlite3.Error) as error:
-        raise Mistake(f"{path} can't be written ({error}): nothing is changed") from None
+        raise Mistake(AccountFault.CLOSED.said(path=path, error=str(error))) from None
     finally:
         beside.unlink(missing_ok=True)
 
@@ -82,7 +83,7 @@ def look_at(path: pathlib.Path) -> None:
     """A mistake where this is no file of accounts, or one that others may read."""
     mode = stat.S_IMODE(path.stat().st_mode)
     if mode & 0o077:
-        raise Mistake(f"{path} may be read by others: as its owner say chmod 600 {path}, and give new passwords")
+        raise Mistake(AccountFault.READ_BY_OTHERS.said(path=path))
     with opened(path) as connection:
         if connection.execute("PRAGMA application_id").fetchone()[0] != APPLICATION:
-            raise Mistake(f"{path} isn't a file of accounts: move it away, nothing is touched")
+            raise Mistake(AccountFault.NO_ACCOUNTS.said(path=path))

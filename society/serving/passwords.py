@@ -9,6 +9,7 @@ import unicodedata
 from dataclasses import dataclass
 
 from society.mistake import Mistake
+from society.serving.sentences import AccountFault
 
 LEAST_LETTERS, MOST_LETTERS = 10, 200
 # what a guess costs, as scrypt's n, r and p: 32 MB, three times
@@ -51,9 +52,9 @@ def digest_of(password: str, kept: Kept) -> bytes:
 def checked(password: str, again: str, name: str) -> str:
     """A password that was written twice; a mistake where it is none that may be chosen."""
     if password != again:
-        raise Mistake("the two passwords aren't the same: write them again")
+        raise Mistake(AccountFault.NOT_THE_SAME.said())
     if not LEAST_LETTERS <= len(password) <= MOST_LETTERS:
-        raise Mistake(f"a password has {LEAST_LETTERS} to {MOST_LETTERS} letters: take some words that you remember")
+        raise Mistake(AccountFault.LENGTH.said(least=LEAST_LETTERS, most=MOST_LETTERS))
     if len(set(password)) < 5 or name.casefold() in password.casefold() and len(password) < LEAST_LETTERS + len(name):
-        raise Mistake("the password is guessed too easily: take some words that you remember")
+        raise Mistake(AccountFault.GUESSED.said())
     return password

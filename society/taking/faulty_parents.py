@@ -7,6 +7,8 @@ from society.herdbook import Herdbook
 from society.mistake import Mistake
 from society.reading.animal import Animal
 from society.refusals import Refusal
+from society.sentence import why
+from society.taking.fault_sentences import TakingFault
 from society.taking.long_paths import too_deep
 from society.taking.next_book import NextBook
 from society.taking.parent_findings import DayFact, ParentRefused
@@ -45,7 +47,7 @@ def leave_out_faulty_parents(next_book: NextBook, program: Herdbook) -> None:
 
 def leave_out_parent(next_book: NextBook, animal: Animal, refusal: Refusal) -> None:
     if refusal not in ROLES:
-        raise Mistake(f"{animal.where()}{refusal.words()} (refusal {refusal})")
+        raise Mistake(TakingFault.PARENT_REFUSED.said(where=animal.where(), **why(refusal)))
     role = ROLES[refusal]
     parent = next_book.animals[animal.parent(role)]
     found = ParentRefused(

@@ -111,7 +111,7 @@ def read_animals(path: pathlib.Path, wishes: Wishes, book: Book, words: Words) -
     for finding in [*columns.notes, *rows.notes]:
         report.add(0, "", finding)
     if not animals:
-        raise CantBeTaken(NoRowTaken(str(path)), told=[entry.sentence() for entry in report.entries[:MOST_NAMED]])
+        raise CantBeTaken(NoRowTaken(str(path)), entries=report.entries[:MOST_NAMED])
     return ReadSheet(sheet, columns, rows, animals, report)
 
 

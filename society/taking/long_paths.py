@@ -1,15 +1,14 @@
 """Paths of parents that are longer than a book takes: how long, and which parents to set to unknown."""
 from __future__ import annotations
 
-from society.mistake import Mistake, some_of
+from society.mistake import Mistake
 from society.pedigree_order import in_order, longest_paths, offspring
 from society.reading.animal import Animal, parents_of_all
+from society.reading.sentences import Where
+from society.sentence import Said, Some
+from society.taking.fault_sentences import TakingFault
 
 MOST_STEPS = 60
-KEEP_FEWER = (
-    "where not all animals are needed, --keep FILE takes those that the file names, one id a line, with their "
-    "ancestors: their coefficients stay as they are, and their paths may be short enough"
-)
 
 
 class Paths:
@@ -51,23 +50,22 @@ def too_deep(animals: dict[str, Animal], refused: list[Animal], is_pedigree: boo
     youngest, oldest = (named(animals, [id]) for id in (path[0], path[-1]))
     more = steps - MOST_STEPS
     top = path[-more:][::-1]
+    longest = TakingFault.LONGEST_PATHS if more > 1 else TakingFault.LONGEST_PATH
+    to_cut = TakingFault.TO_CUT_MANY if len(cut) > 1 else TakingFault.TO_CUT
     return Mistake(
-        (
-            f"{refused[0].where()}a path of parents would be longer than {MOST_STEPS} steps, which is the limit "
-            "(refusal 10)"
+        TakingFault.TOO_DEEP.said(where=refused[0].where(), most=MOST_STEPS),
+        longest.said(
+            steps=steps, more=more, most=MOST_STEPS, youngest=youngest, oldest=oldest, top=named(animals, top)
         ),
-        (
-            f"the longest path has {steps} steps, {more} more than {MOST_STEPS}, from {youngest} up to {oldest}; "
-            f"its oldest {f'{more} animals are' if more > 1 else 'animal is'} {named(animals, top)}"
-        ),
-        (
-            f"set the parents of {'these animals' if len(cut) > 1 else 'this animal'} to unknown, and no path is too "
-            f"long: {named(animals, cut)}. That changes coefficients: an unknown parent counts as unrelated. To leave "
-            "out rows of founders doesn't help: they are added again as parents"
-        ),
-        *[KEEP_FEWER] * is_pedigree,
+        to_cut.said(cut=named(animals, cut)),
+        *[TakingFault.KEEP_FEWER.said()] * is_pedigree,
     )
 
 
-def named(animals: dict[str, Animal], ids: list[str]) -> str:
-    return some_of([f"{id} (line {animals[id].line})" if animals[id].line else id for id in ids])
+def named(animals: dict[str, Animal], ids: list[str]) -> Some:
+    return Some([with_line(animals[id]) for id in ids])
+
+
+def with_line(animal: Animal) -> Said:
+    named = Where.AT_LINE if animal.line else Where.WITHOUT_LINE
+    return named.said(id=animal.id, line=animal.line)

@@ -3,6 +3,7 @@ from __future__ import annotations
 
 from society.book.role import Role
 from society.mistake import Mistake
+from society.taking.fault_sentences import TakingFault
 from society.taking.found_sexes import leave_out_unread_sexes
 from society.taking.kept_values import keep_values
 from society.taking.near_ids import NearIds
@@ -36,15 +37,5 @@ def add_others(next_book: NextBook, drop_gone: bool) -> None:
 
 
 def too_many(next_book: NextBook) -> Mistake:
-    what = "pedigree" if next_book.is_pedigree else "sheet"
-    many = f"the {what} and the book have {len(next_book.animals):,} animals together"
-    how = (
-        "name those that you need in a file, one id a line, and take them with their ancestors by --keep FILE: "
-        "their coefficients stay as they are"
-    )
-    if not next_book.is_pedigree:
-        how = (
-            "leave out animals that aren't ancestors of any other, and take the rest with --drop-gone. To leave "
-            "out ancestors, such as the oldest animals, changes coefficients"
-        )
-    return Mistake(f"{many}, and a book holds at most {MOST_ANIMALS:,}: {how}")
+    which = TakingFault.PEDIGREE_TOO_LARGE if next_book.is_pedigree else TakingFault.SHEET_TOO_LARGE
+    return Mistake(which.said(animals=len(next_book.animals), most=MOST_ANIMALS))

@@ -10,6 +10,7 @@ from society.book.settings import Setting, settings_of
 from society.book.state import Meaning
 from society.mistake import Mistake
 from society.reading.words import clean, listed
+from society.taking.fault_sentences import TakingFault
 from society.taking.looks import APART, YOUNGEST, Limits
 from society.taking.wishes import Wishes
 
@@ -85,9 +86,9 @@ def rename_owners(book: Book, wishes: Wishes) -> None:
     for word in wishes.owners:
         before, equals, now = (clean(piece) for piece in word.partition("="))
         if not equals or not before or not now:
-            raise Mistake(f"--owner {word}: write OLD=NEW, as --owner 'Meier=Meyer'")
+            raise Mistake(TakingFault.OWNER_OPTION.said(word=word))
         if before not in book.owners:
-            raise Mistake(f"--owner {word}: the book has no owner '{before}': its owners are {names(book)}")
+            raise Mistake(TakingFault.OWNER_LACKS.said(word=word, before=before, owners=names(book)))
         if now in book.owners:
             free_name(book, word, now)
         rename(book, before, now)
@@ -97,10 +98,7 @@ def free_name(book: Book, word: str, name: str) -> None:
     """An owner of this name, whom no command of the book names, as after an undo, gives it away."""
     herd = book.owners[name]
     if any(str(herd) in (step.command.giver, step.command.taker) for step in book.steps):
-        raise Mistake(
-            f"--owner {word}: the book has '{name}' too, as another owner: undo the taking that brought it, and then say "
-            "this again"
-        )
+        raise Mistake(TakingFault.OWNER_IS_THERE.said(word=word, name=name))
     rename(book, name, f"{name} (herd {herd})")
 
 

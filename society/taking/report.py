@@ -38,6 +38,11 @@ INFERRED = What.INFERRED
 ROW, LINE, CELL = Part.ROW, Part.LINE, Part.CELL
 
 
+def kind_of(kind: type) -> str:
+    """The name of a kind, as `own ancestor` for `OwnAncestor`."""
+    return re.sub("(?<!^)(?=[A-Z])", " ", kind.__name__).lower()
+
+
 class Finding:
     """What an entry tells: each kind is a frozen dataclass of its own, whose fields are the data."""
 
@@ -50,8 +55,7 @@ class Finding:
 
     @classmethod
     def kind(cls) -> str:
-        """The name of the kind, as `own ancestor` for `OwnAncestor`."""
-        return re.sub("(?<!^)(?=[A-Z])", " ", cls.__name__).lower()
+        return kind_of(cls)
 
     def words(self) -> str:
         raise NotImplementedError
@@ -127,11 +131,13 @@ class Entry:
 
 
 class CantBeTaken(Mistake):
-    """What keeps a sheet or a pedigree from being taken, as data; `told` are sentences of what it is about."""
+    """What keeps a sheet or a pedigree from being taken, as data; `told` are sentences of what it is about, and those of
+    `entries`."""
 
-    def __init__(self, *obstacles: Finding, told: Sequence[str] = ()) -> None:
-        super().__init__(*told, *(one.words() for one in obstacles))
-        self.obstacles, self.told = obstacles, tuple(told)
+    def __init__(self, *obstacles: Finding, told: Sequence[str] = (), entries: Sequence[Entry] = ()) -> None:
+        self.obstacles, self.entries = obstacles, tuple(entries)
+        self.told = (*told, *(one.sentence() for one in entries))
+        super().__init__(*self.told, *(one.words() for one in obstacles))
 
 
 class Report:

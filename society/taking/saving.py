@@ -34,6 +34,7 @@ def save(next_book: NextBook, filed: Filed, program: Herdbook, wishes: Wishes, s
             *((what.value, counts[what]) for what in What if what is not What.NEW),
         ),
         tuple(told_of(entry) for entry in report.in_order()),
+        form=wishes.form,
     )
     state = State(
         changed_animals(book, known_after(next_book), records_after(book, filed)),

@@ -13,8 +13,10 @@ from society.herdbook import Herdbook
 from society.mistake import Mistake
 from society.reading.animal import Animal
 from society.refusals import Refusal
+from society.sentence import why
 from society.taking.early_exits import leave_out_exit
 from society.taking.animal_findings import NewAnimal, ValueChanged
+from society.taking.fault_sentences import TakingFault
 from society.taking.next_book import NextBook
 from society.taking.owner_days import OwnerDays
 from society.taking.row_findings import CommandLeftOut
@@ -55,12 +57,11 @@ class Filing:
             elif kind == "transfer":
                 self.owners.leave_out(animal, CommandLeftOut(CommandKind.TRANSFER, day, refusal, "", 0))
             else:
-                on = f" on {day}" if day else ""
-                sentences.append(f"{animal.where()}{kind}{on} is refused: {refusal.words()} (refusal {refusal})")
+                which = TakingFault.REFUSED_ON if day else TakingFault.REFUSED
+                command = CommandKind(kind).value
+                sentences.append(which.said(where=animal.where(), command=command, day=day, **why(refusal)))
         if sentences:
-            raise Mistake(
-                *sentences, f"nothing is taken (refused: {len(sentences)}): mend these rows, and take the sheet again"
-            )
+            raise Mistake(*sentences, TakingFault.NOTHING_TAKEN.said(count=len(sentences)))
 
     def refused_behind(self, program: Herdbook, more: list[Command]) -> bool:
         """Is any command refused behind the journal?"""

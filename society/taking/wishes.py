@@ -40,6 +40,8 @@ class Wishes:
     owners: list[str] = field(default_factory=list)
     # days with / have the day first, whatever the book remembers
     day_first: bool = False
+    # the token of the form by which a sheet is taken, empty for none
+    form: str = ""
 
     def options(self) -> tuple[Option, ...]:
         """The options as they were given, but for the book."""

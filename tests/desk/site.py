@@ -6,6 +6,7 @@ import io
 import os
 import pathlib
 import re
+import signal
 import time
 from collections.abc import Iterator
 from contextlib import contextmanager
@@ -16,6 +17,7 @@ from werkzeug.test import TestResponse
 from society.desk.app import desk_app
 from society.desk.desk import Desk
 from society.desk.exporting import Exports
+from society.desk.forms import new_form
 from society.desk.jobs import Jobs
 from society.desk.office import Office
 from society.desk.link import LinkGate
@@ -60,7 +62,8 @@ class Site:
         return found[1]
 
     def post(self, path: str, **fields: str) -> TestResponse:
-        data = {"csrf_token": self.token(), **fields}
+        """Sends a form with the tokens that its page has, another `form` each time but where one is named."""
+        data = {"csrf_token": self.token(), "form": new_form(), **fields}
         return self.client.post(path, data=data, headers={"Host": HOST})
 
     def drop(self, name: str, text: bytes) -> str:
@@ -78,6 +81,13 @@ class Site:
         return self.page(self.post(f"{address}/take", change=change[1]).headers["Location"])
 
 
+def form_in(page: str) -> str:
+    """The token of a page's form that changes the book."""
+    found = re.search(r'name="form" value="([^"]+)"', page)
+    assert found
+    return found[1]
+
+
 def shown(text: str) -> str:
     """What a page says, without its menu."""
     content = text.partition('<main id="content"')[2].partition("</main>")[0] or text
@@ -92,6 +102,8 @@ def site_of(folder: pathlib.Path, program: str, room: pathlib.Path, read_only: b
     try:
         yield Site(desk, desk_app(desk, LinkGate(SECRET, PORT, read_only)))
     finally:
+        # a change of this process may have it ignored, and whoever is started later would ignore it too
+        signal.signal(signal.SIGINT, signal.default_int_handler)
         desk.jobs.end()
         desk.exports.end()
         desk.program.close()

@@ -2,13 +2,14 @@
 words."""
 from __future__ import annotations
 
+import concurrent.futures
 import pathlib
 import re
 import shlex
 
 import pytest
 
-from desk.site import Site, shown, site_of
+from desk.site import Site, form_in, shown, site_of
 from front_desk.desk import Desk
 from society.desk.texts import TEXTS
 from society.refusals import Refusal
@@ -87,6 +88,27 @@ def test_mistakes(site: Site, kind: str, fields: dict[str, str], told: str) -> N
     assert 'value="2024-05-01"' in text or kind == "birth"
     with site.desk.opened() as book:
         assert book and book.change and book.change.number == 1
+
+
+def test_sent_twice(session_site: Site) -> None:
+    """A form that is sent again, also at once, is filed once, and shows what was answered; a form that the page shows
+    anew is filed anew. One without a token isn't done."""
+    site = session_site
+    fields = {"id": "NEW-1", "day": "2024-06-01", "form": form_in(site.page("/file/exit"))}
+    site.post("/file/birth", **BIRTH)
+    with concurrent.futures.ThreadPoolExecutor(4) as pool:
+        browsers = [Site(site.desk, site.app) for _ in range(4)]
+        answers = [pool.submit(one.post, "/file/exit", **fields) for one in browsers]
+    assert [one.result().headers["Location"] for one in answers] == ["/answer/3"] * 4
+    undo = {"last": "3", "form": form_in(site.page("/history/2/undo"))}
+    assert [site.post("/history/2/undo", **undo).headers["Location"] for _ in range(2)] == ["/history/4"] * 2
+    # what was undone isn't filed by the old form
+    assert site.post("/file/exit", **fields).headers["Location"] == "/answer/3"
+    assert site.post("/file/exit", id="NEW-1", day="2024-06-01").headers["Location"] == "/answer/5"
+    for none in "", "x", "<script>" * 9:
+        assert site.post("/file/exit", id=DAM, day="2024-06-01", form=none).status_code == 400
+    with site.desk.opened() as book:
+        assert book and book.change and book.change.number == 5
 
 
 def test_by_the_session(session_site: Site, monkeypatch: pytest.MonkeyPatch) -> None:

@@ -17,7 +17,7 @@ VALUES = {
     "token": "none",
     "kind": "exit",
     "language": "de",
-    "change": "1",
+    "form": "1",
     "secret": "x",
     "filename": "desk.css",
 }

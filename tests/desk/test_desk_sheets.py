@@ -9,9 +9,10 @@ import zipfile
 
 import pytest
 
-from desk.site import HOST, Site, shown, site_of
+from desk.site import HOST, Site, form_in, shown
 from front_desk.desk import TOP, Desk
 from society.desk import uploads
+from society.desk.jobs import TAKING
 from society.desk.texts import TEXTS
 
 EXAMPLE = (TOP / "examples/society.csv").read_bytes()
@@ -115,15 +116,18 @@ def test_book_changed_between(site: Site, society_desk: Desk) -> None:
 
 
 def test_sent_twice(site: Site, society_desk: Desk) -> None:
-    """A sheet that is taken by two forms at once is taken once."""
+    """A form that is sent again takes its sheet once: meanwhile, afterwards, and by a desk that was opened anew, whoever
+    sends it sees what the first one changed."""
     address = site.drop("sheet.csv", EXAMPLE + b"Lower Mill,NEW-1,f,2019-01-01,,,\n")
-    site.page(address)
-    first = site.post(f"{address}/take", change="1").headers["Location"]
-    second = site.post(f"{address}/take", change="1").headers["Location"]
+    form = form_in(site.page(address))
+    first, second = (site.post(f"{address}/take", change="1", form=form).headers["Location"] for _ in range(2))
     assert first == second
     assert TEXTS["sheet taken"][0].format("sheet.csv") in shown(site.page(first))
-    assert site.get(second).status_code == 404
+    site.desk.jobs.forget((TAKING, form))
+    for again in second, site.post(f"{address}/take", change="1", form=form).headers["Location"]:
+        assert site.get(again).headers["Location"] == "/history/2"
     assert len(society_desk.good("history").out.splitlines()) == 2
+    assert site.post(f"{address}/take", change="2").status_code == 404
 
 
 def test_another_sheet(site: Site) -> None:
@@ -222,5 +226,5 @@ def test_disk_full(site: Site, monkeypatch: pytest.MonkeyPatch) -> None:
     monkeypatch.setattr("werkzeug.datastructures.FileStorage.save", full)
     data = {"csrf_token": site.token(), "sheet": (io.BytesIO(FLOCK), "flock.csv")}
     answer = site.client.post("/sheet", data=data, headers={"Host": HOST})
-    assert answer.status_code == 400 and "No space left on device" in shown(answer.get_data(as_text=True))
+    assert answer.status_code == 400 and "no room on the disk" in shown(answer.get_data(as_text=True))
     assert not any(site.desk.uploads.room.iterdir())

@@ -187,7 +187,7 @@ def test_settings(site: Site, society_desk: Desk) -> None:
     page = site.page("/settings")
     assert 'value="Others"' in page and '<html lang="de">' in page and ">Church Lane 1\nUV1</textarea>" in page
     answer = site.post("/settings", breed="sk")
-    assert answer.status_code == 400 and "three letters" in answer.get_data(as_text=True)
+    assert answer.status_code == 400 and "drei Buchstaben" in answer.get_data(as_text=True)
     sheet = pathlib.Path(__file__).parent.parent.parent / "examples/society.csv"
     society_desk.good("take", str(sheet))
     assert society_desk.numbers()[INBRED] == "SKUDEUM000000000402"

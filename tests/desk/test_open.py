@@ -12,6 +12,7 @@ import pytest
 
 from desk.test_browser import SECONDS, Server
 from front_desk.desk import Desk
+from society.desk.forms import new_form
 
 
 def browser() -> urllib.request.OpenerDirector:
@@ -55,7 +56,8 @@ def begin_taking(server: Server) -> None:
     assert token
     form = f"csrf_token={found[1]}&anyway=1".encode()
     posted(f"/sheet/{token[1]}/columns", form, "application/x-www-form-urlencoded")
-    posted(f"/sheet/{token[1]}/take", form + b"&change=1", "application/x-www-form-urlencoded")
+    take = form + f"&change=1&form={new_form()}".encode()
+    posted(f"/sheet/{token[1]}/take", take, "application/x-www-form-urlencoded")
 
 
 @pytest.mark.parametrize("how", [signal.SIGINT, signal.SIGTERM])

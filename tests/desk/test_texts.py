@@ -1,29 +1,43 @@
 """The texts of the pages: each is there in three languages and used, and findings are told in each."""
 from __future__ import annotations
 
+import ast
 import dataclasses
 import datetime
+import enum
+import importlib
 import pathlib
+import pickle
 import re
 import typing
+from collections.abc import Iterator
 from typing import Any
 
 import pytest
 
-from society.book.inferred import BirthBasis, BirthSource, Period
+from society import sentence
+from society.book.asking_sentences import Naming
+from society.book.inferred import BirthBasis, BirthSource, Period, SexSource
+from society.book.kinds import ChangeKind
+from society.book.sentences import BookFault
 from society.desk import texts
-from society.desk.finding_words import FINDINGS, VALUE, Sentence, sentence_of
+from society.desk.finding_words import FINDINGS, VALUE, Sentence, sentence_in, sentence_of
+from society.desk.member_words import NAMES, word_for
+from society.desk.texts import SENTENCES
+from society.desk.texts.members import MEMBERS
 from society.desk.words import Words
+from society.pages.languages import LANGUAGES
+from society.reading.sentences import Where
 from society.refusals import Refusal
 from society.taking.animal_findings import BirthDayInferred, CommandRefused, SexInferred, ValueChanged
-from society.taking.stored_findings import kind_named, kinds_of, value_of
-from society.book.inferred import SexSource
-from society.book.kinds import ChangeKind
+from society.taking.fault_sentences import TakingFault
+from society.taking.report import KINDS
+from society.taking.stored_findings import kind_named, kinds_of, modules_of_findings
 
 HERE = pathlib.Path(texts.__file__).resolve().parent.parent
 # texts whose names are made of what they are about
 MADE = re.compile(
-    r"(what|role|field|change|counted|fact|command|standing|refusal|mating refused|refused|unmated|level|wait|option|day of|half sibs by)\b"
+    r"(what|role|field|change|counted|fact|command|standing|refusal|mating refused|refused|reason|doing|unmated|level|wait|option|day of|half sibs by)\b"
 )
 
 
@@ -69,15 +83,113 @@ def made(kind: Any) -> Any:
     return kind(**{name: some_value(one) for name, one in kinds_of(kind).items()})
 
 
-@pytest.mark.parametrize("name", FINDINGS)
+def concrete_kinds() -> list[str]:
+    """The kinds of findings that there are, but for those that others are kinds of."""
+    for module in modules_of_findings():
+        importlib.import_module(module)
+    importlib.import_module("society.taking.obstacles")
+    return [name for name, kind in KINDS.items() if dataclasses.is_dataclass(kind)]
+
+
+@pytest.mark.parametrize("name", concrete_kinds())
 def test_findings(name: str) -> None:
-    """A finding is told with all of its values in German and French."""
+    """Each finding is told with all of its values in German and French."""
     finding = made(kind_named(name))
-    for language in ("de", "fr"):
+    for language in LANGUAGES[1:]:
         told = sentence_of(finding, Words(language))
         assert told.language == "" and not re.search(r"[\[\]{}\0]", told.text), told
         asked = set(VALUE.findall(FINDINGS[name][Words(language).at - 1]))
         assert ("GK-1" in told.text) or not {"id", "parent", "dam", "sire", "text", "title", "worksheet"} & asked
+
+
+def members() -> list[enum.Enum]:
+    """The members of each enum that a finding has a value of, or a sentence of a page names."""
+    kinds = [*NAMES, *{type(member) for member in MEMBERS}]
+    seen = {kind for name in concrete_kinds() for kind in enums_of(KINDS[name])}
+    assert seen <= {*kinds}, seen - {*kinds}
+    return [member for kind in kinds for member in kind]
+
+
+def enums_of(kind: Any) -> Iterator[type[enum.Enum]]:
+    for argument in typing.get_args(kind):
+        yield from enums_of(argument)
+    if isinstance(kind, type) and issubclass(kind, enum.Enum):
+        yield kind
+    elif dataclasses.is_dataclass(kind):
+        parts: dict[str, Any] = typing.get_type_hints(kind)
+        yield from (one for field in dataclasses.fields(kind) for one in enums_of(parts[field.name]))
+
+
+@pytest.mark.parametrize("language", LANGUAGES)
+def test_members(language: str) -> None:
+    """Each member of an enum has its words in each language."""
+    for member in members():
+        if member in (ChangeKind.TAKE, ChangeKind.PEDIGREE, ChangeKind.UNDO, ChangeKind.RESTORE, ChangeKind.FOLDER):
+            # no command
+            assert f"change {member.value}" in texts.TEXTS
+        else:
+            assert word_for(member, Words(language))
+
+
+@pytest.mark.parametrize("said", [one for kind in sentence.Sentence.__subclasses__() for one in kind], ids=str)
+def test_mistakes(said: sentence.Sentence) -> None:
+    """Each sentence of a mistake is told in each language, with no other values than it has, and without options of the
+    command line."""
+    names = set(re.findall(r"\{(\w+)", said.value))
+    one = said.said(**{name: 7 if f"{{{name}:," in said.value else f"<{name}>" for name in names})
+    for words in map(Words, LANGUAGES):
+        assert set(VALUE.findall(SENTENCES[said][words.at])) <= names
+        told = sentence_in(one, words)
+        assert told.text and not told.language and "{" not in told.text and "--" not in told.text
+    assert all(SENTENCES[said][1:])
+
+
+def test_values() -> None:
+    """Values of sentences are told in the page's language, also sentences within others; files by their names alone."""
+    hint = Naming.MEANT.said(names=sentence.AnyOf(["a", "b"]))
+    assert (
+        sentence_in(Naming.NO_ANIMAL.said(word="c", hint=hint), Words("de")).text
+        == "Das Herdbuch hat kein Tier „c“: ist a oder b gemeint?"
+    )
+    many = sentence.Some([str(at) for at in range(20)], 3)
+    assert sentence_in(Naming.SEVERAL.said(count=1234, word="x", ids=many), Words("fr")).text.endswith(
+        ": 0, 1, 2 et 17 autres."
+    )
+    full = BookFault.FILE_CLOSED.said(
+        path=pathlib.Path("/secret/book.sqlite"), error=OSError(28, "No space left on device")
+    )
+    assert str(full) == "/secret/book.sqlite can't be written (No space left on device): nothing is changed"
+    assert [sentence_in(full, Words(language)).text for language in LANGUAGES] == [
+        "book.sqlite can't be written (no room on the disk): nothing is changed",
+        "book.sqlite kann nicht geschrieben werden (kein Platz auf dem Datenträger): nichts ist geändert.",
+        "book.sqlite ne peut pas être écrit (plus de place sur le disque) : rien n'est modifié.",
+    ]
+    assert pickle.loads(pickle.dumps(full)).sentence is BookFault.FILE_CLOSED
+    refused = TakingFault.REFUSED_ON.said(
+        where=Where.LINE.said(line=3, id="x"), command="birth", day="2001-02-03", **sentence.why(Refusal.LEFT_ALREADY)
+    )
+    assert refused == "line 3: x: birth on 2001-02-03 is refused: it has left already (refusal 12)"
+    told = sentence_in(refused, Words("de")).text
+    assert told == "Zeile 3: x: Geburt am 03.02.2001 ist abgelehnt: es ist schon abgegangen (Ablehnung 12)."
+
+
+# modules whose mistakes only words of the command line can make
+OF_WORDS = {
+    "answers/export", "answers/finding", "answers/kinships", "book/backup", "book/commands", "book/old_folder", "book/out",
+    "book/undo", "packages", "pages/trend_picture", "reading/id_lists", "reading/pedigree_lines",
+    "reading/triples", "serving/serve", "serving/way", "taking/from_pedigree", "taking/kept_animals",
+}  # fmt: skip
+
+
+def test_no_text_alone() -> None:
+    """No mistake that a page may show is a text alone, which it couldn't say in its language."""
+    top, found = HERE.parent, set()
+    for path in top.rglob("*.py"):
+        for call in ast.walk(ast.parse(path.read_text(encoding="utf-8"))):
+            if isinstance(call, ast.Call) and isinstance(call.func, ast.Name) and call.func.id == "Mistake":
+                if any(isinstance(given, ast.Constant | ast.JoinedStr) for given in call.args):
+                    found.add(path.relative_to(top).with_suffix("").as_posix())
+    assert {one for one in found if not one.startswith("command_line/")} <= OF_WORDS
 
 
 DAY = datetime.date(2001, 2, 3)
@@ -88,8 +200,8 @@ DAY = datetime.date(2001, 2, 3)
     [
         (ValueChanged("birth day", "2001-02-03", ""), "Geburtstag: 03.02.2001, vorher –", "date de naissance : 03/02/2001, avant –"),
         (SexInferred("F", SexSource.DAM, False), "Geschlecht weiblich, da es Mutter ist", "sexe femelle, car elle est mère"),
-        (CommandRefused(ChangeKind.EXIT, "2001-02-03", Refusal.LEFT_ALREADY), "Abgang am 2001-02-03 ist abgelehnt: es ist schon abgegangen",
-         "Sortie le 2001-02-03 : refusé, il est déjà sorti"),
+        (CommandRefused(ChangeKind.EXIT, "2001-02-03", Refusal.LEFT_ALREADY), "Abgang am 03.02.2001 ist abgelehnt: es ist schon abgegangen",
+         "Sortie le 03/02/2001 : refusé, il est déjà sorti"),
         (BirthDayInferred(DAY, BirthBasis(BirthSource.PERIOD, Period("2001")), False, 0),
          "Geburtstag 03.02.2001, aus Monat oder Jahr: 2001", "date de naissance 03/02/2001, d'après le mois ou l'année : 2001"),
         (BirthDayInferred(DAY, BirthBasis(BirthSource.OFFSPRING), False, 0),

@@ -12,6 +12,7 @@ import urllib.parse
 
 from front_desk.desk import TOP
 from serving.visitor import WORD
+from society.desk.forms import new_form
 
 SECONDS = 60
 TOKEN = re.compile(r'name="csrf_token" value="([^"]+)"')
@@ -78,7 +79,7 @@ class Browser:
         return page
 
     def post(self, path: str, **fields: str) -> tuple[int, str, str]:
-        body = urllib.parse.urlencode({"csrf_token": self.token} | fields).encode()
+        body = urllib.parse.urlencode({"csrf_token": self.token, "form": new_form()} | fields).encode()
         kind = {"Content-Type": "application/x-www-form-urlencoded"}
         return self.ask("POST", path, body, **kind)
 

@@ -11,6 +11,7 @@ import pytest
 from desk.site import HOST, shown
 from front_desk.desk import Desk
 from serving.visitor import Served, Visitor
+from society.desk.forms import new_form
 from society.desk.texts import TEXTS
 from society.serving.accounts import A_DAY
 
@@ -69,7 +70,7 @@ def test_one_animal(served: Served) -> None:
     ready, found = threading.Barrier(len(people)), [""] * len(people)
 
     def file(at: int) -> None:
-        fields = {"csrf_token": tokens[at], "id": DAM, "day": f"2024-05-0{at + 1}"}
+        fields = {"csrf_token": tokens[at], "form": new_form(), "id": DAM, "day": f"2024-05-0{at + 1}"}
         ready.wait()
         found[at] = people[at].client.post("/file/exit", data=fields, headers={"Host": HOST}).headers["Location"]
 

@@ -14,6 +14,7 @@ import pytest
 
 from front_desk.desk import TOP, Desk
 from serving.visitor import WORD
+from society.desk.forms import new_form
 from society.desk.people import AccountRole
 from society.serving.accounts import Accounts
 
@@ -132,7 +133,7 @@ def test_proxy(society_desk: Desk, cheap: None, tmp_path: pathlib.Path) -> None:
         assert "302" in curl(tmp_path, port, "/login", *words).splitlines()[0]
         page = curl(tmp_path, port, "/settings")
         token = page.partition('name="csrf_token" value="')[2].partition('"')[0]
-        form = ["-d", f"csrf_token={token}", "-d", "id=GK-17/472c", "-d", "day=2024-05-01"]
+        form = ["-d", f"csrf_token={token}", "-d", f"form={new_form()}", "-d", "id=GK-17/472c", "-d", "day=2024-05-01"]
         assert "location: /answer/2" in curl(tmp_path, port, "/file/exit", "-H", origin, *form).lower()
         assert (
             " 403 " in curl(tmp_path, port, "/file/exit", "-H", "Origin: https://evil.example", *form).splitlines()[0]

@@ -15,6 +15,7 @@ from desk.site import HOST, Site
 from society.desk.app import desk_app
 from society.desk.desk import Desk
 from society.desk.exporting import Exports
+from society.desk.forms import new_form
 from society.desk.jobs import Jobs
 from society.desk.office import Office
 from society.desk.people import AccountRole
@@ -78,7 +79,7 @@ class Visitor(Site):
 
     def sends(self, path: str, headers: dict[str, str] | None = None, **fields: str) -> TestResponse:
         """A form with some headers."""
-        data = {"csrf_token": self.token(), **fields}
+        data = {"csrf_token": self.token(), "form": new_form(), **fields}
         return self.client.post(path, data=data, headers={"Host": HOST} | (headers or {}))
 
 

@@ -92,8 +92,8 @@ def do_mating(asked: argparse.Namespace, book: Book, program: Herdbook) -> None:
     dam, sires = find(book, asked.dam), [find(book, sire) for sire in asked.sires]
     advice = advise(book, program, dam, sires, asked.left)
     give_table(asked, book, advice.table)
-    for sentence in advice.refused:
-        tell(sentence)
+    for refused in advice.refused:
+        tell(refused)
     if advice.sires.left:
         tell(f"males that left: {advice.sires.left} aren't listed: --left lists them too")
     for sentence in advice.sires.told():

@@ -6,11 +6,14 @@ from collections.abc import Callable
 from flask import Blueprint, flash, redirect, render_template, request, url_for
 
 from society.desk.desk import Answer
+from society.desk.finding_words import Sentence
 from society.desk.people import AccountRole
+from society.desk.shown_mistakes import on_page
 from society.desk.words import the_words
 from society.mistake import Mistake
 from society.serving.accounts import Accounts
 from society.serving.gate import the_account_gate
+from society.serving.sentences import AccountFault
 
 page = Blueprint("accounts", __name__)
 
@@ -20,7 +23,7 @@ def accounts() -> Answer:
     return shown([])
 
 
-def shown(faults: tuple[str, ...] | list[str]) -> Answer:
+def shown(faults: list[Sentence]) -> Answer:
     given = {"name": request.form.get("name", ""), "role": request.form.get("role", "")} if faults else {}
     text = render_template(
         "accounts.html", accounts=the_account_gate().accounts.all(), roles=list(AccountRole), faults=faults, given=given
@@ -33,7 +36,7 @@ def done(change: Callable[[Accounts], None], what: str) -> Answer:
     try:
         change(the_account_gate().accounts)
     except Mistake as mistake:
-        return shown(mistake.sentences)
+        return shown(on_page(mistake.sentences))
     flash(the_words()(what, request.form.get("name", "")), "done")
     return redirect(url_for("accounts.page"))
 
@@ -42,7 +45,7 @@ def role_given() -> AccountRole:
     try:
         return AccountRole(request.form.get("role", ""))
     except ValueError:
-        raise Mistake("the role is missing: choose one") from None
+        raise Mistake(AccountFault.NO_ROLE.said()) from None
 
 
 @page.post("/accounts")

@@ -9,9 +9,10 @@ from werkzeug.wrappers import Response
 from society.book.book import Book
 from society.book.coefficients import coefficients_among
 from society.desk.animal_rows import Asked, Found, Order, asked_by, fields_of, file_of, found_by, turned
-from society.desk.desk import Answer, the_desk, with_book
+from society.desk.desk import Answer, with_book
+from society.desk.finding_words import Sentence
 from society.desk.shown_animals import line_of
-from society.desk.shown_mistakes import without_paths
+from society.desk.shown_mistakes import on_page
 from society.desk.words import the_words
 from society.mistake import Mistake
 
@@ -23,13 +24,13 @@ OFFERED = 12
 @page.get("/animals", endpoint="page")
 @with_book
 def animals(book: Book) -> Answer:
-    faults: list[str] = []
+    faults: list[Sentence] = []
     asked, found = Asked(), Found([], 0, 1, 1)
     try:
         asked = asked_by(request.args)
         found = found_by(book, asked)
     except Mistake as mistake:
-        faults = without_paths(mistake.sentences, the_desk())
+        faults = on_page(mistake.sentences)
     coefficients = coefficients_among(book, [row.number for row in found.rows])
     sorts = {order.value: address("animals.page", fields_of(turned(asked, order))) for order in Order}
     pages = [address("animals.page", fields_of(asked) | {"page": str(found.page + step)}) for step in (-1, 1)]

@@ -8,8 +8,9 @@ from society.book.book import Book
 from society.desk.animal_rows import born_between
 from society.desk.breed_beside import BREED, Measured, Whom, measures_of
 from society.desk.desk import Answer, the_desk, with_book
+from society.desk.finding_words import Sentence
 from society.desk.jobs import Stage
-from society.desk.shown_mistakes import without_paths
+from society.desk.shown_mistakes import on_page
 from society.desk.words import the_words
 from society.mistake import Mistake
 
@@ -26,11 +27,10 @@ def breed(book: Book) -> Answer:
         whom = Whom(" ".join(given.get("owner", "").split()), born)
         job = measures_of(desk, book, whom)
     except Mistake as mistake:
-        return page_with(book, None, without_paths(mistake.sentences, desk)), 400
+        return page_with(book, None, on_page(mistake.sentences)), 400
     if job.stage is Stage.FAILED:
         desk.jobs.forget(job.key)
-        faults = [the_words()("work ended")] if job.failed.is_fault else list(job.failed.sentences)
-        return page_with(book, None, without_paths(faults, desk)), 400
+        return page_with(book, None, on_page(job.failed.sentences)), 400
     if job.stage is Stage.DONE:
         assert isinstance(job.value, Measured)
         return page_with(book, job.value, [])
@@ -41,7 +41,7 @@ def breed(book: Book) -> Answer:
 
 
 def page_with(
-    book: Book, measured: Measured | None, faults: list[str], under_way: tuple[str, int] | None = None
+    book: Book, measured: Measured | None, faults: list[Sentence], under_way: tuple[str, int] | None = None
 ) -> str:
     assert book.change is not None
     part = Markup(measured.parts[the_words().language.name]) if measured else ""

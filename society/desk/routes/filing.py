@@ -8,8 +8,10 @@ from society.book.history import change_numbered, told_by
 from society.book.kinds import ChangeKind
 from society.desk.desk import Answer, the_desk, with_book
 from society.desk.filing import KINDS, Form, file_form
+from society.desk.finding_words import Sentence
+from society.desk.forms import sent_form
 from society.desk.shown_changes import line_of
-from society.desk.shown_mistakes import without_paths
+from society.desk.shown_mistakes import on_page
 from society.desk.words import the_words
 from society.mistake import Mistake
 from society.taking.animal_findings import CommandRefused
@@ -43,7 +45,7 @@ def parents_now(book: Book, word: str) -> dict[str, str]:
     return {role: book.by_number()[number].id for role, number in named.items() if number}
 
 
-def shown(book: Book, kind: str, given: dict[str, str], faults: list[str]) -> Answer:
+def shown(book: Book, kind: str, given: dict[str, str], faults: list[Sentence]) -> Answer:
     if kind not in KINDS:
         abort(404)
     page = render_template(
@@ -57,16 +59,16 @@ def file(kind: str) -> Answer:
     """Files it; where a field can't be read the form comes back with what was written."""
     if kind not in KINDS:
         abort(404)
-    desk = the_desk()
+    desk, form = the_desk(), Form(KINDS[kind], request.form, sent_form())
     try:
-        change, _ = file_form(desk, Form(KINDS[kind], request.form))
+        change = file_form(desk, form)
     except Mistake as mistake:
-        return form_again(kind, without_paths(mistake.sentences, desk))
+        return form_again(kind, on_page(mistake.sentences))
     return redirect(url_for("filing.answer", number=change.number))
 
 
 @with_book
-def form_again(book: Book, kind: str, faults: list[str]) -> Answer:
+def form_again(book: Book, kind: str, faults: list[Sentence]) -> Answer:
     return shown(book, kind, dict(request.form), faults)
 
 

@@ -8,12 +8,13 @@ from werkzeug.wrappers import Response
 
 from society.book.backup import bytes_of
 from society.book.book import Book
+from society.book.changes import Change
 from society.book.exports import report_text
 from society.book.history import all_changes, change_numbered
 from society.book.last_backup import last_backup, remember
 from society.book.undo import undo
-from society.desk.changing import to_change
 from society.desk.desk import Answer, the_desk, with_book
+from society.desk.forms import change_once, sent_form
 from society.desk.rules import may
 from society.desk.shown_changes import differences_of, line_of, told_of_change
 from society.desk.words import the_words
@@ -73,14 +74,17 @@ def ask_undo(book: Book, number: int) -> Answer:
 @page.post("/history/<int(max=999999999):number>/undo")
 def bring_back(number: int) -> Answer:
     """Brings it back, if the book is the one of which it was asked."""
-    desk, last = the_desk(), request.form.get("last", "")
-    with to_change(desk) as book:
+    desk, last, form = the_desk(), request.form.get("last", ""), sent_form()
+
+    def make(book: Book) -> Change | None:
         assert book.change is not None
-        if str(book.change.number) != last or number >= book.change.number:
-            flash(the_words()("book changed"), "look")
-            return redirect(url_for("history.page"))
-        made = undo(book, desk.program, number)
-    desk.exports.wish()
+        is_as_asked = str(book.change.number) == last and number < book.change.number
+        return undo(book, desk.program, number, form) if is_as_asked else None
+
+    made = change_once(desk, form, make)
+    if made is None:
+        flash(the_words()("book changed"), "look")
+        return redirect(url_for("history.page"))
     flash(the_words()("brought back", number), "done")
     return redirect(url_for("history.change", number=made.number))
 

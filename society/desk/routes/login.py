@@ -7,9 +7,11 @@ from werkzeug.exceptions import HTTPException
 from werkzeug.wrappers import Response
 
 from society.desk.desk import Answer
+from society.desk.finding_words import Sentence
 from society.desk.here import is_here
 from society.desk.people import the_person
 from society.desk.rules import LEAST
+from society.desk.shown_mistakes import on_page
 from society.desk.words import the_words
 from society.mistake import Mistake
 from society.serving.gate import the_account_gate
@@ -89,11 +91,11 @@ def change_password() -> Answer:
     found = gate.try_to_log_in(person.name, given.get("password", ""))
     if isinstance(found, int):
         told = words("login wait", found) if found else words("password wrong")
-        return render_template("password.html", faults=[told]), 400
+        return render_template("password.html", faults=[Sentence(told)]), 400
     try:
         gate.accounts.change_password(person.name, given.get("new", ""), given.get("again", ""))
     except Mistake as mistake:
-        return render_template("password.html", faults=mistake.sentences), 400
+        return render_template("password.html", faults=on_page(mistake.sentences)), 400
     gate.begin(found)
     flash(words("password changed"), "done")
     return redirect(url_for("start.page"))

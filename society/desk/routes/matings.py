@@ -10,15 +10,17 @@ from werkzeug.wrappers import Response
 from society.answers.candidates import all_candidates
 from society.answers.advice import Advice, advice_of, by_mating, by_relationship
 from society.answers.table import Cell
+from society.book.asking_sentences import Mating
 from society.book.book import Book
 from society.book.known import Known
 from society.book.role import Role
 from society.book.search import find
 from society.command_line.arguments import coefficient, days, positive
 from society.desk.desk import Answer, the_desk, with_book
+from society.desk.finding_words import Sentence
 from society.desk.jobs import Stage
 from society.desk.plan_beside import PlanMade, Rules, plan_for
-from society.desk.shown_mistakes import without_paths
+from society.desk.shown_mistakes import on_page
 from society.desk.taking_beside import read
 from society.desk.words import the_words
 from society.mistake import Mistake
@@ -50,7 +52,7 @@ def level_of(value: Fraction) -> int:
 @page.get("/matings", endpoint="page")
 @with_book
 def matings(book: Book) -> Answer:
-    word, faults = " ".join(request.args.get("dam", "").split()), list[str]()
+    word, faults = " ".join(request.args.get("dam", "").split()), list[Sentence]()
     advice: Advice | None = None
     dam = None
     if word:
@@ -58,7 +60,7 @@ def matings(book: Book) -> Answer:
             dam = find(book, word)
             advice = advice_for(book, dam, request.args.get("left") == "1")
         except Mistake as mistake:
-            faults = without_paths(mistake.sentences, the_desk())
+            faults = on_page(mistake.sentences)
     return render_template(
         "matings.html",
         given=request.args,
@@ -66,6 +68,7 @@ def matings(book: Book) -> Answer:
         advice=advice,
         faults=faults,
         rows=rows_of(advice) if advice else [],
+        refused=on_page(advice.refused) if advice else [],
     )
 
 
@@ -74,9 +77,9 @@ def advice_for(book: Book, dam: Known, also_left: bool) -> Advice:
     many the program is run once, which goes through the pedigree once for all of them."""
     sires = all_candidates(book, Role.SIRE, also_left)
     if not also_left:
-        sires.needed("ask for those that left too")
+        sires.needed(Mating.ASK_FOR_LEFT.said())
     ask = by_relationship if len(sires.animals) > MOST_ONE_BY_ONE and not dam.is_male else by_mating
-    return advice_of(dam, sires.needed("name others"), ask(book, the_desk().program, dam, sires))
+    return advice_of(dam, sires.needed(Mating.NAME_OTHERS.said()), ask(book, the_desk().program, dam, sires))
 
 
 def rows_of(advice: Advice) -> list[Sire]:
@@ -122,12 +125,12 @@ def plan(book: Book) -> Answer:
     try:
         job = plan_for(the_desk(), book, rules_of(dict(request.args)))
     except Mistake as mistake:
-        faults = without_paths(mistake.sentences, the_desk())
+        faults = on_page(mistake.sentences)
         return render_template("plan.html", given=request.args, plan=None, faults=faults, level=level_of), 400
     if job.stage is Stage.UNDER_WAY:
         return render_template("waiting.html", what="planning", told=job.told, seconds=job.seconds)
     if job.stage is Stage.FAILED:
-        faults = without_paths(job.failed.sentences, the_desk())
+        faults = on_page(job.failed.sentences)
         the_desk().jobs.forget(job.key)
         return render_template("plan.html", given=request.args, plan=None, faults=faults, level=level_of), 400
     return render_template("plan.html", given=request.args, plan=job.value, faults=[], level=level_of)

@@ -6,10 +6,11 @@ from flask import Blueprint, abort, flash, redirect, render_template, request, u
 from werkzeug.wrappers import Response
 
 from society.desk.desk import Answer, the_desk
+from society.desk.finding_words import Sentence
 from society.desk.jobs import TAKING, Job, Stage
 from society.desk.people import the_name
 from society.desk.restoring_beside import Backup, change_now, looked_into, restored
-from society.desk.shown_mistakes import without_paths
+from society.desk.shown_mistakes import on_page
 from society.desk.taking_beside import LOOKING, Taken
 from society.desk.uploads import Upload
 from society.desk.words import the_words
@@ -26,7 +27,7 @@ def restoring() -> Answer:
 def drop() -> Answer:
     file = request.files.get("backup")
     if file is None or not file.filename:
-        return render_template("restore.html", faults=[the_words()("no file")]), 400
+        return render_template("restore.html", faults=[Sentence(the_words()("no file"))]), 400
     return to_look(the_desk().uploads.add(file, the_name()))
 
 
@@ -58,8 +59,7 @@ def not_done(job: Job) -> Answer:
         return render_template("waiting.html", what="restoring", told=job.told, seconds=job.seconds)
     desk = the_desk()
     desk.jobs.forget(job.key)
-    faults = [the_words()("work ended")] if job.failed.is_fault else list(job.failed.sentences)
-    return render_template("restore.html", faults=without_paths(faults, desk)), 400
+    return render_template("restore.html", faults=on_page(job.failed.sentences)), 400
 
 
 @page.post("/restore/<token>")

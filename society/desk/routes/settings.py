@@ -6,6 +6,7 @@ from flask import Blueprint, flash, redirect, render_template, request, url_for
 from society.book.book import Book
 from society.book.settings import Setting, change_settings, settings_of
 from society.desk.desk import Answer, the_desk, with_book
+from society.desk.shown_mistakes import on_page
 from society.desk.words import the_words
 from society.mistake import Mistake
 
@@ -25,6 +26,6 @@ def change() -> Answer:
     try:
         change_settings(the_desk().folder, given)
     except Mistake as mistake:
-        return render_template("settings.html", given=given, faults=mistake.sentences), 400
+        return render_template("settings.html", given=given, faults=on_page(mistake.sentences)), 400
     flash(the_words()("settings kept"), "done")
     return redirect(url_for("settings.page"))

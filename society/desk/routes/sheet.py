@@ -11,15 +11,17 @@ from society.book.kinds import Field
 from society.desk.desk import Answer, the_desk
 from society.desk.jobs import TAKING, Job, Stage
 from society.desk.example import EXAMPLE
-from society.desk.finding_words import sentence_of
+from society.desk.finding_words import Sentence, sentence_in, sentence_of, sentence_of_entry
+from society.desk.forms import made_by, sent_form
 from society.desk.people import the_name
 from society.desk.shown_findings import groups_of
-from society.desk.shown_mistakes import without_paths
+from society.desk.shown_mistakes import on_page, without_paths
 from society.desk.suggested import COLUMNS, field_of, proposed, suggestions_of
 from society.desk.suggested import choose as choose_suggested
-from society.desk.taking_beside import LOOKING, Chosen, Look, Taken, looked_at, taken
+from society.desk.taking_beside import LOOKING, Chosen, Look, looked_at, taken
 from society.desk.uploads import Upload
 from society.desk.words import the_words
+from society.taking.report import Entry
 
 page = Blueprint("sheet", __name__)
 # the fields of the form beside the columns
@@ -81,11 +83,11 @@ def look(token: str) -> Answer:
         return waiting("looking", job)
     if job.stage is Stage.FAILED:
         the_desk().jobs.forget(job.key)
-        return render_template("look.html", upload=upload, look=None, faults=told(job)), 400
+        return render_template("look.html", upload=upload, look=None, faults=on_page(job.failed.sentences)), 400
     assert isinstance(job.value, Look)
     found = job.value
     words = the_words()
-    sentences = without_paths((*found.told, *(sentence_of(one, words).text for one in found.obstacles)), the_desk())
+    sentences = [*told_of(found), *without_paths(sentence_of(one, words) for one in found.obstacles)]
     is_read = found.after is not None
     return render_template(
         "look.html", upload=upload, look=found, fields=list(Field), groups=groups_of(found.entries, words, found.totals),
@@ -94,10 +96,12 @@ def look(token: str) -> Answer:
     )  # fmt: skip
 
 
-def told(job: Job) -> list[str]:
-    if job.failed.is_fault:
-        return [the_words()("work ended")]
-    return without_paths(job.failed.sentences, the_desk())
+def told_of(look: Look) -> list[Sentence]:
+    """Why a sheet can't be read."""
+    words = the_words()
+    return without_paths(
+        sentence_of_entry(one, words) if isinstance(one, Entry) else sentence_in(one, words) for one in look.told
+    )
 
 
 def waiting(what: str, job: Job) -> Answer:
@@ -128,36 +132,52 @@ def take_suggestion(token: str) -> Answer:
 
 @page.post("/sheet/<token>/take")
 def take(token: str) -> Answer:
-    """Takes it, if the book is the one that was looked at."""
-    upload, desk = upload_of(token), the_desk()
-    looked = request.form.get("change", "")
+    """Takes it, if the book is the one that was looked at. Of a form that took it before that is shown."""
+    desk, form, looked = the_desk(), sent_form(), request.form.get("change", "")
     if not looked.isdecimal() or len(looked) > 9:
         abort(400)
-    chosen = Chosen.of(upload.columns, upload.options)
-    key = (TAKING, token, chosen, int(looked))
-    desk.jobs.of(key, taken, (desk.folder, upload.path, chosen, int(looked)))
-    return redirect(url_for("sheet.taking", token=token, change=looked))
+    if not taken_by(form):
+        upload = upload_of(token)
+        chosen = Chosen.of(upload.columns, upload.options)
+        desk.jobs.of((TAKING, form), taken, (desk.folder, upload.path, chosen, int(looked), form))
+    return redirect(url_for("sheet.taking", token=token, form=form))
 
 
-@page.get("/sheet/<token>/taking/<int(max=999999999):change>")
-def taking(token: str, change: int) -> Answer:
+def taken_by(form: str) -> int:
+    """The change by which a form took its sheet, 0 where it didn't."""
+    with the_desk().opened() as book:
+        change = made_by(book, form)
+    return change.number if change else 0
+
+
+@page.get("/sheet/<token>/taking/<form>")
+def taking(token: str, form: str) -> Answer:
     """Waits for the end of a taking, and goes to what it changed."""
-    upload, desk = upload_of(token), the_desk()
-    job = desk.jobs.found((TAKING, token, Chosen.of(upload.columns, upload.options), change))
+    desk = the_desk()
+    job = desk.jobs.found((TAKING, form))
+    if job and job.stage is Stage.UNDER_WAY:
+        return waiting("taking", job)
+    number = taken_by(form)
+    if number:
+        return to_taken(token, number)
+    upload = upload_of(token)
     if job is None:
         return to_look(upload)
-    if job.stage is Stage.UNDER_WAY:
-        return waiting("taking", job)
     desk.jobs.forget(job.key)
     if job.stage is Stage.FAILED:
-        return render_template("look.html", upload=upload, look=None, faults=told(job)), 400
-    assert isinstance(job.value, Taken)
-    if job.value.book_changed:
-        flash(the_words()("book changed"), "look")
-        return to_look(upload)
-    desk.uploads.drop(token)
-    flash(the_words()("sheet taken", upload.path.name), "done")
-    return redirect(url_for("history.change", number=job.value.change))
+        return render_template("look.html", upload=upload, look=None, faults=on_page(job.failed.sentences)), 400
+    flash(the_words()("book changed"), "look")
+    return to_look(upload)
+
+
+def to_taken(token: str, number: int) -> Response:
+    """To what was changed; the file isn't needed any more."""
+    uploads = the_desk().uploads
+    upload = uploads.of(token, the_name())
+    if upload:
+        uploads.drop(token)
+        flash(the_words()("sheet taken", upload.path.name), "done")
+    return redirect(url_for("history.change", number=number))
 
 
 @page.post("/sheet/<token>/leave")

@@ -16,6 +16,10 @@ FINDINGS: dict[str, tuple[str, str]] = {
         "die Zeile ist weggelassen: Zeile {line} hat diese Ohrmarke auch[, mit {differing}]",
         "la ligne est omise : la ligne {line} a aussi cette boucle[, avec {differing}]",
     ),
+    "line again": (
+        "die Zeile ist weggelassen: Zeile {line} hat diese Kennung auch[, mit {differing}]",
+        "la ligne est omise : la ligne {line} a aussi ce numéro[, avec {differing}]",
+    ),
     "sex unread": (
         "das Geschlecht ist weggelassen: „{text}“ ist nicht bekannt: schreiben Sie M oder W",
         "le sexe est omis : « {text} » n'est pas connu : écrivez M ou F",
@@ -168,41 +172,15 @@ FINDINGS: dict[str, tuple[str, str]] = {
     "parent refused": (
         "{role} {parent}[ (Zeile {line})] ist weggelassen: {refusal}", "{role} {parent}[ (ligne {line})] : omis, {refusal}",
     ),
-}  # fmt: skip
-FAULTS: dict[str, tuple[str, str]] = {
-    "no day": ("„{}“ ist kein Tag: schreiben Sie ihn als 01.03.2001", "« {} » n'est pas une date : écrivez-la 01/03/2001"),
-    "two digits": ("„{}“ hat nur zwei Ziffern für das Jahr", "« {} » n'a que deux chiffres pour l'année"),
-    "number": (
-        "„{}“ ist eine Zahl: geben Sie der Spalte das Format Datum", "« {} » est un nombre : donnez à la colonne le format date",
+    # pedigrees
+    "no sexes fit": (
+        "die Mutter {dam} ist weggelassen: keine Wahl der Geschlechter passt zu allen Paaren {couples}[ und {more} weiteren]",
+        "la mère {dam} est omise : aucun choix des sexes ne convient à tous les couples {couples}[ et {more} autres]",
     ),
-    "year": ("das Jahr {} liegt nicht in 1900 bis 2199", "l'année {} n'est pas de 1900 à 2199"),
-    "wrong order": (
-        "„{}“ hat Tag und Monat in der anderen Reihenfolge", "« {} » a le jour et le mois dans l'autre ordre",
+    "parents swapped": (
+        "mit vertauschten Eltern übernommen[ (Vater {sire})][ (Mutter {dam})], denn {both}[, das Paare mit {joined_to} verbinden,] "
+        "ist[ in Zeile {sire_line}] Vater und[ in Zeile {dam_line}] Mutter",
+        "repris avec les parents échangés[ (père {sire})][ (mère {dam})], car {both}[, que des couples joignent à {joined_to},] est "
+        "père[ à la ligne {sire_line}] et mère[ à la ligne {dam_line}]",
     ),
-    "after today": ("{} liegt nach dem heutigen Tag", "{} est après aujourd'hui"),
-    "before birth": ("{} liegt vor der Geburt", "{} est avant la naissance"),
-    "within before birth": ("der Tag in „{}“ läge vor der Geburt", "le jour dans « {} » serait avant la naissance"),
-    "word alone": ("„{}“ hat keinen Tag", "« {} » n'a pas de jour"),
-    "word with numbers": (
-        "„{}“ hat keinen einzelnen Tag mit vierstelligem Jahr", "« {} » n'a pas un seul jour avec une année à quatre chiffres",
-    ),
-}  # fmt: skip
-SOURCES: dict[str, tuple[str, str]] = {
-    "birth period": ("aus Monat oder Jahr", "d'après le mois ou l'année"),
-    "birth offspring": ("aus den Nachkommen", "d'après les descendants"),
-    "birth parents": ("aus den Eltern", "d'après les parents"),
-    "birth earliest": (
-        "der früheste, den ein Herdbuch haben kann, da weder Eltern noch Nachkommen einen haben",
-        "la plus ancienne qu'un livre puisse avoir, car ni parent ni descendant n'en a",
-    ),
-    "birth nearest": (
-        "der nächste zu dem des Herdbuchs, den ein Abgang offen lässt",
-        "la plus proche de celle du livre que permet une sortie",
-    ),
-    "birth invented": ("erfunden", "inventée"),
-    "sex sire": ("da es Vater ist", "car il est père"),
-    "sex dam": ("da es Mutter ist", "car elle est mère"),
-    "sex book": ("wie im Herdbuch", "comme dans le livre"),
-    "sex nothing": ("da sonst nichts bekannt ist", "car rien d'autre n'est connu"),
-    "sex invented": ("erfunden", "inventé"),
 }  # fmt: skip

@@ -39,6 +39,10 @@ FINDINGS: dict[str, tuple[str, str]] = {
         "keine Spalte gefunden für: {fields}. Wählen Sie unten, welche es ist",
         "aucune colonne trouvée pour : {fields}. Choisissez plus bas laquelle c'est",
     ),
+    "pedigree titles lack": (
+        "Zeile {line}: kein Titel ist bekannt für {fields}; die Titel sind {titles}",
+        "ligne {line} : aucun titre n'est connu pour {fields} ; les titres sont {titles}",
+    ),
     # cells of a column
     "no order shown": (
         "{count} Tage mit / könnten mit dem Monat beginnen, und keiner zeigt es: der Tag wird zuerst gelesen",
@@ -84,7 +88,32 @@ FINDINGS: dict[str, tuple[str, str]] = {
         "{count} weitere Eltern ohne Zeile sind keine Nummern und stehen bei mehreren Tieren",
         "{count} autres parents sans ligne ne sont pas des numéros et reviennent pour plusieurs animaux",
     ),
+    "wrong order": (
+        "Zeile {wrong_line}, {wrong_id}: „{wrong_text}“ hat Tag und Monat in der anderen Reihenfolge[ als „{right_text}“ in Zeile "
+        "{right_line}]: schreiben Sie alle Tage wie 2001-03-01 oder 01.03.2001",
+        "ligne {wrong_line}, {wrong_id} : « {wrong_text} » a le jour et le mois dans l'autre ordre[ que « {right_text} », ligne "
+        "{right_line}] : écrivez toutes les dates comme 2001-03-01 ou 01.03.2001",
+    ),
+    "sex words short": (
+        "Wörter für Geschlechter gelten für längere derselben Spalte: {taken}",
+        "des mots pour les sexes valent pour de plus longs de la même colonne : {taken}",
+    ),
     # files
+    "stray bytes": (
+        "Zeile {line}: hinter „{behind}“ steht ein Zeichen, das nicht wie der Rest der Datei in UTF-8 ist[, und {more} weitere]: "
+        "schreiben Sie es neu, und speichern Sie die Tabelle als CSV in UTF-8",
+        "ligne {line} : derrière « {behind} » un signe n'est pas en UTF-8 comme le reste du fichier[, et {more} autres] : "
+        "réécrivez-le, et enregistrez le tableau en CSV en UTF-8",
+    ),
+    "decoded twice": (
+        "Buchstaben wurden zweimal umgewandelt: {texts}. Speichern Sie die Tabelle neu als CSV in UTF-8, aus dem Programm, in dem "
+        "die Buchstaben stimmen",
+        "des lettres ont été décodées deux fois : {texts}. Enregistrez de nouveau le tableau en CSV en UTF-8, depuis le tableur "
+        "où les lettres sont justes",
+    ),
+    "letters lost": (
+        "Buchstaben sind verloren: {texts}. Schreiben Sie sie neu", "des lettres sont perdues : {texts}. Réécrivez-les",
+    ),
     "formulas without value": (
         "das Blatt „{worksheet}“ hat {count} Formeln ohne Wert, die erste in {cell}: öffnen und speichern Sie die Datei im "
         "Tabellenprogramm",
@@ -105,19 +134,37 @@ FINDINGS: dict[str, tuple[str, str]] = {
     ),
     # obstacles
     "ids lack": (
-        "die Spalte „{title}“ mit den Ohrmarken des Herdbuchs fehlt, und keine andere hat sie",
-        "la colonne « {title} » des boucles du livre manque, et aucune autre ne les a",
+        "die Spalte „{title}“ mit den Ohrmarken des Herdbuchs fehlt, und keine andere hat sie: {like}",
+        "la colonne « {title} » des boucles du livre manque, et aucune autre ne les a : {like}",
     ),
     "many gone": (
-        "{gone} von {had_row} Tieren der letzten Tabelle haben in dieser keine Zeile",
-        "{gone} des {had_row} animaux du dernier tableau n'ont pas de ligne dans celui-ci",
+        "{gone} von {had_row} Tieren der letzten Tabelle haben in dieser keine Zeile: {like}",
+        "{gone} des {had_row} animaux du dernier tableau n'ont pas de ligne dans celui-ci : {like}",
     ),
     "many dropped": (
-        "{dropped} von {had_row} Tieren würden aus dem Herdbuch gestrichen",
-        "{dropped} des {had_row} animaux seraient retirés du livre",
+        "{dropped} von {had_row} Tieren würden aus dem Herdbuch gestrichen: {like}",
+        "{dropped} des {had_row} animaux seraient retirés du livre : {like}",
     ),
     "parents lack": (
-        "{lost} von {links} Eltern haben keine Zeile, etwa {texts}", "{lost} des {links} parents n'ont pas de ligne, comme {texts}",
+        "{lost} von {links} Eltern haben keine Zeile, etwa {texts}: {like}",
+        "{lost} des {links} parents n'ont pas de ligne, comme {texts} : {like}",
+    ),
+    "many others": (
+        "{changed} von {both} Tieren haben andere {what_changed} als im Herdbuch, die ersten sind {first}: {like}",
+        "{changed} des {both} animaux ont d'autres {what_changed} que dans le livre, les premiers sont {first} : {like}",
+    ),
+    "strictly nothing": (
+        "mit --strict wird nichts übernommen, denn etwas würde weggelassen",
+        "avec --strict rien n'est repris, car quelque chose serait omis",
+    ),
+    "links lost": (
+        "nichts ist übernommen, denn das ändert Koeffizienten (Eltern, die wegfallen: {links})",
+        "rien n'est repris, car cela change des coefficients (parents perdus : {links})",
+    ),
+    "sires and dams": (
+        "{animals} Tiere sind Vater und Mutter: {told}. Nichts ist übernommen, denn im Herdbuch ist jedes Tier männlich oder "
+        "weiblich",
+        "{animals} animaux sont père et mère : {told}. Rien n'est repris, car dans le livre chaque animal est mâle ou femelle",
     ),
     "no row taken": ("keine Zeile kann übernommen werden", "aucune ligne ne peut être reprise"),
 }  # fmt: skip
@@ -125,6 +172,24 @@ FINDINGS: dict[str, tuple[str, str]] = {
 ENGLISH: dict[str, str] = {
     "columns lack": "no column is found for: {fields}. Choose below which it is",
     "named column lacks": "there is no column '{title}' for {field}[: is '{meant}' meant?]",
+    "ids lack": "the sheet lacks the column '{title}', which had the book's ids, and no other column has them: {like}",
+    "many gone": "{gone} of the {had_row} animals that had a row in the last sheet have none in this one: {like}",
+    "many dropped": "{dropped} of the {had_row} animals that had a row would be dropped from the book: {like}",
+    "many others": (
+        "{changed} of {both} animals have other {what_changed} than in the book, the first are {first}: {like}"
+    ),
+    "parents lack": "{lost} of {links} parents have no row, the first are {texts}: {like}",
     "worksheet unclear": "which worksheet is meant: {worksheets}?",
     "worksheet lacks": "there is no worksheet '{named}', but {worksheets}",
 }
+# a part of a finding, of which there may be several
+WITHIN: dict[str, tuple[str, str, str]] = {
+    "row of": ("{id}[ (line {line})]", "{id}[ (Zeile {line})]", "{id}[ (ligne {line})]"),
+    "couple": ("{one} and {mate}[ (line {line})]", "{one} und {mate}[ (Zeile {line})]", "{one} et {mate}[ (ligne {line})]"),
+    "sex word": ("{word_text} for '{whole}'", "„{word_text}“ für „{whole}“", "« {word_text} » pour « {whole} »"),
+    "text in line": (
+        "'{text}'[ for '{mended}'][ (line {line})]", "„{text}“[ für „{mended}“][ (Zeile {line})]",
+        "« {text} »[ pour « {mended} »][ (ligne {line})]",
+    ),
+    "text count": ("'{text}'", "„{text}“", "« {text} »"),
+}  # fmt: skip
