@@ -90,6 +90,11 @@ MEMBERS: dict[enum.Enum, tuple[str, str, str]] = {
         "die Eltern scheinen eine andere Kennung zu haben als die gelesene Spalte: wählen Sie die, in der sie stehen",
         "les parents semblent avoir un autre numéro que la colonne lue : choisissez celle où ils se trouvent",
     ),
+    LooksLike.IDS_AND_MORE: (
+        "it looks like cells that have an id and a name: write the ids alone into the parents' columns",
+        "die Zellen scheinen Ohrmarke und Name zu haben: schreiben Sie in die Spalten der Eltern nur die Ohrmarken",
+        "les cellules semblent avoir une boucle et un nom : n'écrivez que les boucles dans les colonnes des parents",
+    ),
     LooksLike.SORTED_APART: (
         "it looks like a sheet in which some columns were sorted without the others, or like that of another flock: compare "
         "these rows with the book",
