@@ -25,6 +25,8 @@ TITLES = {
 }  # fmt: skip
 # titles that are read beside others alone: an animal may have such an id
 SHORT = {Field.SIRE: "s, f, p", Field.DAM: "d, m"}
+# of a column of families, each with ids of its own, as PLINK and kinship2 have them
+FAMILIES = ("fid", "famid", "family", "familyid", "pedid")
 NEEDED = (Field.ID, Field.SIRE, Field.DAM)
 READ = (*NEEDED, Field.SEX, Field.BIRTH)
 OF_FIELD = {
@@ -64,6 +66,10 @@ def find_pedigree_columns(line: int, cells: list[str], given: Mapping[Field, str
         )
         raise CantBeTaken(PedigreeTitlesLack(line, tuple(missing), tuple(cells), tuple(likely)))
     return found
+
+
+def family_column(cells: list[str]) -> int | None:
+    return next((at for at, cell in enumerate(cells) if plain(cell) in FAMILIES), None)
 
 
 def given_place(line: int, cells: list[str], field: Field, given: Mapping[Field, str]) -> int:

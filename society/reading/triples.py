@@ -12,8 +12,9 @@ from society.reading.animal import Animal
 from society.reading.days import ANY_DAY, Unreadable, read_span
 from society.reading.cell_findings import DayLeftOut, LineAgain, SexUnread
 from society.reading.pedigree_lines import STANDARD_INPUT, Line, read_lines
-from society.reading.pedigree_titles import Columns, are_titles, columns_read, find_pedigree_columns
+from society.reading.pedigree_titles import Columns, are_titles, columns_read, family_column, find_pedigree_columns
 from society.reading.sexes import Sexes
+from society.taking.parents_elsewhere import refuse_other_column
 from society.taking.report import Report
 
 WITHOUT_TITLES: Columns = {Field.ID: 0, Field.SIRE: 1, Field.DAM: 2}
@@ -44,20 +45,26 @@ def read_triples(path: pathlib.Path, given: Mapping[Field, str], unknown: Contai
     else:
         columns = find_pedigree_columns(titles.number, titles.cells, given)
         told = [columns_read(titles.cells, columns)]
-    reader = Reader(columns, unknown, Sexes([], {}), report)
+    reader = Reader(columns, unknown, Sexes([], {}), report, family_column(titles.cells) if titles else None)
     for line in lines:
         check_cells(line, titles, max(columns.values()))
         reader.read(line)
     check_comments(reader.animals)
+    if titles and Field.ID not in given:
+        refuse_other_column(titles, lines, columns, reader.animals)
     return Triples(reader.animals, columns, told)
 
 
 class Reader:
-    """Reads the animals line by line."""
+    """Reads the animals line by line. In the column `family`, if there is one, are the families whose ids may be those of
+    others too."""
 
-    def __init__(self, columns: Columns, unknown: Container[str], sexes: Sexes, report: Report) -> None:
-        self.columns, self.unknown, self.sexes, self.report = columns, unknown, sexes, report
+    def __init__(
+        self, columns: Columns, unknown: Container[str], sexes: Sexes, report: Report, family: int | None
+    ) -> None:
+        self.columns, self.unknown, self.sexes, self.report, self.family = columns, unknown, sexes, report, family
         self.animals: dict[str, Animal] = {}
+        self.families: dict[str, str] = {}
 
     def read(self, line: Line) -> None:
         id, sire, dam = (line.cells[self.columns[field]] for field in (Field.ID, Field.SIRE, Field.DAM))
@@ -65,7 +72,12 @@ class Reader:
             where = f"line {line.number}: '{id}'"
             raise Mistake(f"{where} is a word for an unknown parent, and stands for an animal: give it another id")
         sire, dam = ("" if parent in self.unknown else parent for parent in (sire, dam))
-        first = self.animals.get(id)
+        first, family = self.animals.get(id), self.family_of(line)
+        if first and family != self.families[id]:
+            raise Mistake(
+                f"line {line.number}: the id '{id}' is that of line {first.line} too, which has another family: give each "
+                f"animal an id of its own, also where it is a parent, as {family}-{id}"
+            )
         if first:
             self.report.add(line.number, id, LineAgain(first.line, (first.sire, first.dam), (sire, dam), ()))
             return
@@ -74,7 +86,11 @@ class Reader:
             self.read_sex(animal, line.cells[self.columns[Field.SEX]])
         if Field.BIRTH in self.columns:
             self.read_birth(animal, line.cells[self.columns[Field.BIRTH]])
-        self.animals[id] = animal
+        self.animals[id], self.families[id] = animal, family
+
+    def family_of(self, line: Line) -> str:
+        """The family that a line names, empty for none."""
+        return "" if self.family is None else "".join(line.cells[self.family : self.family + 1])
 
     def read_sex(self, animal: Animal, text: str) -> None:
         animal.cells["sex"] = text

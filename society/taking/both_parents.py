@@ -4,9 +4,9 @@ from __future__ import annotations
 from society.book.role import Role
 from society.mistake import some_of
 from society.reading.animal import Animal
-from society.taking.obstacles import SiresAndDams
 from society.taking.parent_findings import SameParentTwice
 from society.taking.parent_names import may_be_unknown
+from society.taking.pedigree_obstacles import SiresAndDams
 from society.taking.report import CantBeTaken, Report
 
 

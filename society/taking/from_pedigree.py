@@ -26,6 +26,7 @@ from society.taking.lost_links import refuse_lost_links
 from society.taking.next_book import NextBook
 from society.taking.other_animals import add_others
 from society.taking.outcome import Outcome
+from society.taking.parents_elsewhere import refuse_alike
 from society.taking.report import Report
 from society.taking.screen import told_with
 from society.taking.suggestions import Call
@@ -47,9 +48,12 @@ def take_into(book: Book, path: pathlib.Path, wishes: Wishes, program: Herdbook,
     source = source_of(path, read_bytes(path))
     triples = read_triples(path, given_columns(wishes.columns), UnknownParents(wishes.unknown), report)
     animals, about = triples.animals, [*triples.told]
+    ids = animals.keys() | book.known.keys()
     if wishes.keep:
         about.append(keep_with_ancestors(animals, wishes.keep))
         report.entries = [entry for entry in report.entries if entry.id in animals]
+    if not wishes.leave_out:
+        refuse_alike(animals, ids)
     given = {field.value for field in triples.columns if field is not Field.ID}
     next_book = NextBook(book, animals, given, report, is_pedigree=True)
     add_others(next_book, wishes.drop_gone)

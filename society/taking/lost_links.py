@@ -3,7 +3,7 @@ from __future__ import annotations
 
 from society.mistake import MOST_NAMED
 from society.reading.cell_findings import IdAgain
-from society.taking.obstacles import LinksLost
+from society.taking.pedigree_obstacles import LinksLost
 from society.taking.report import CantBeTaken, Entry, Part, Report, What
 
 

@@ -9,7 +9,7 @@ from society.book.kinds import Field
 from society.mistake import counted
 from society.taking.look_findings import RowOf
 from society.taking.report import Finding, What
-from society.taking.suggestions import ANYWAY, LEAVE_OUT, Suggestion
+from society.taking.suggestions import ANYWAY, Suggestion
 
 STRICT = "--strict"
 
@@ -184,38 +184,3 @@ class StrictlyNothing(Obstacle):
 
     def suggestions(self) -> tuple[Suggestion, ...]:
         return (Suggestion("to take the rest", without=(STRICT,)),)
-
-
-@dataclass(frozen=True, slots=True)
-class LinksLost(Obstacle):
-    """Links of a pedigree that can't stand in a book."""
-
-    links: int
-
-    def words(self) -> str:
-        return (
-            f"{counted(self.links, 'link')} can't stand in a book, and to leave a link out changes coefficients: mend the "
-            "lines, or take the pedigree without"
-        )
-
-    def suggestions(self) -> tuple[Suggestion, ...]:
-        return (Suggestion("to take it without them", (LEAVE_OUT,)),)
-
-
-@dataclass(frozen=True, slots=True)
-class SiresAndDams(Obstacle):
-    """Animals of a pedigree that are both; the first of them are told."""
-
-    animals: int
-    told: str
-
-    def words(self) -> str:
-        are = "is" if self.animals == 1 else "are"
-        return (
-            f"{counted(self.animals, 'animal')} {are} both sire and dam: {self.told}. A book has each animal as a male or "
-            "as a female, and to leave a link out changes coefficients"
-        )
-
-    def suggestions(self) -> tuple[Suggestion, ...]:
-        case = "to exchange parents where that changes no coefficient, and to leave out the links that no choice of sexes fits"
-        return (Suggestion(case, (LEAVE_OUT,)),)

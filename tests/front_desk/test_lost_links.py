@@ -12,6 +12,11 @@ REFUSED = [
     ("a 0 0\nb 0 0\nc a b\nc 0 b\n", "line 4: c: the line is left out: line 3 has this id too, with other parents"),
     ("id sire dam sex\na 0 0 F\nb a 0 M\n", "line 3: b: its sire a (line 2) is left out: it isn't male (refusal 5)"),
     ("id sire dam born\na 0 0 2005\nb a 0 2001\n", "it isn't at least a day older (refusal 7)"),
+    (
+        "a1 0 0\nb A1 0\n",
+        "1 parent has no line, and an animal that has one differs in capitals, blanks or zeros alone: A1",
+    ),
+    ("7 0 0\n9 0 0\n8 007 9\n", "007 (of 8 in line 3; is 7 meant?)"),
 ]
 
 
@@ -30,6 +35,30 @@ def test_sire_of_the_book_that_is_a_dam(desk: Desk) -> None:
     desk.good("take", "--pedigree", desk.write("first.txt", "a 0 0\nb 0 0\nc a b\n"))
     told = "1 animal is both sire and dam: a (a sire of c in the book, a dam in line 3)"
     desk.wrong(told, "take", "--pedigree", desk.write("second.txt", "id sire dam\ny 0 0\nx y a\n"))
+
+
+def test_parents_alike_of_animals_that_are_not_kept(desk: Desk) -> None:
+    pedigree = desk.write("alike.txt", "a1 0 0\nb A1 0\nc a1 0\n")
+    assert " 2 animals, " in desk.good("take", "--pedigree", pedigree, "--keep", desk.write("kept.txt", "c\n")).last
+
+
+def test_parents_in_another_column(desk: Desk) -> None:
+    """The column that has the parents is suggested for the ids, and that which was read can be said to be theirs."""
+    lines = ["id name sire dam", "1 Rex 0 0", "2 Fee 0 0", "3 Bo Rex Fee", "4 Li Rex Fee", "5 Zo Bo Li"]
+    told = "of 4 parents 4 stand in the column 'name', and 0 in 'id', which is read for the ids"
+    done = desk.wrong(told, "take", "--pedigree", desk.write("names.txt", "\n".join(lines)))
+    by_name, by_id = done.commands()
+    assert "4 added" in desk.typed(by_id).last
+    assert "0 added" in desk.typed(f"{by_name} --drop-gone").last
+    assert [(row["id"], row["coefficient"]) for row in desk.listed("list")][-1] == ("Zo", "1/4")
+
+
+def test_ids_of_families(desk: Desk) -> None:
+    """An id that two families have is that of two animals; without a refusal they would be one."""
+    pedigree = desk.write("families.txt", "FID IID PAT MAT\nA 1 0 0\nA 2 1 0\nB 1 0 0\n")
+    told = "line 4: the id '1' is that of line 2 too, which has another family: give each animal an id of its own"
+    desk.wrong(told, "take", "--pedigree", pedigree)
+    desk.wrong(told, "take", "--pedigree", pedigree, "--leave-out")
 
 
 def test_line_that_says_the_same_again(desk: Desk) -> None:
