@@ -3,6 +3,7 @@ from __future__ import annotations
 
 import contextlib
 import datetime
+import re
 import threading
 import time
 from typing import TextIO
@@ -12,6 +13,9 @@ from flask.wrappers import Response
 
 from society.book.cells import for_terminals
 from society.desk.people import the_person
+
+# what stands before the name of a part of an address, as `int:`
+CONVERTER = re.compile("<[^<>]*:")
 
 
 class AccessLog:
@@ -26,7 +30,9 @@ class AccessLog:
         """Who asked for which kind of page, and how that ended. A page's own address may have a token in it."""
         person = the_person()
         who = f"{person.name} ({person.role})" if person else "-"
-        rule = request.url_rule.rule if request.url_rule else "-"
+        if request.endpoint == "static":
+            return response
+        rule = CONVERTER.sub("<", request.url_rule.rule) if request.url_rule else "-"
         took = round((time.monotonic() - g.get("began", time.monotonic())) * 1000)
         why = f" {g.refused}" if "refused" in g else ""
         self.tell(f"{g.get('client', '-')} {who} {request.method} {rule} {response.status_code} {took}ms{why}")

@@ -156,8 +156,6 @@ def test_backup(served: Served, society_desk: Desk) -> None:
     """Backups are made while others work, and the page says when the last one was made; the accounts aren't in it."""
     carl, ines = Visitor(served, "Carl"), Visitor(served, "Ines")
     assert TEXTS["no backup yet"][0] in shown(ines.page("/history"))
-    ines.get("/book.sqlite")
-    assert TEXTS["no backup yet"][0] in shown(ines.page("/history"))
     with served.desk.opened():
         society_desk.good("backup", "copy.sqlite")
     first = shown(ines.page("/history"))

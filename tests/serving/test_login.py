@@ -203,7 +203,7 @@ def test_log(served: Served) -> None:
     assert any("10.0.0.9 Carl (clerk) POST /login 302" in line for line in lines)
     assert any("Carl (clerk) GET /sheet/<token> 200" in line for line in lines)
     assert any(
-        "Carl (clerk) GET /history/<int(max=999999999):number>/undo 403" in line and "refused role" in line
+        "Carl (clerk) GET /history/<number>/undo 403" in line and "refused role" in line
         for line in lines
     )
     for secret in ("my secret", WORD, "looked-for", "forged", "no such animal", address.rpartition("/")[2], *tokens):

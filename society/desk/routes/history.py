@@ -15,7 +15,6 @@ from society.book.last_backup import last_backup, remember
 from society.book.undo import undo
 from society.desk.desk import Answer, the_desk, with_book
 from society.desk.forms import change_once, sent_form
-from society.desk.rules import may
 from society.desk.shown_changes import differences_of, line_of, told_of_change
 from society.desk.words import the_words
 
@@ -95,9 +94,7 @@ def backup(book: Book) -> Answer:
     """The whole book with its history, as the word `backup` writes it."""
     assert book.connection is not None
     response = Response(bytes_of(book.connection), mimetype="application/vnd.sqlite3")
-    # a copy of somebody who only reads isn't the society's
-    if may("sheet.page"):
-        remember(book)
+    remember(book)
     name = f"book-{datetime.date.today()}.sqlite"
     response.headers["Content-Disposition"] = f"attachment; filename={name}"
     return response
