@@ -37,9 +37,11 @@ def test_sire_of_the_book_that_is_a_dam(desk: Desk) -> None:
     desk.wrong(told, "take", "--pedigree", desk.write("second.txt", "id sire dam\ny 0 0\nx y a\n"))
 
 
-def test_parents_alike_of_animals_that_are_not_kept(desk: Desk) -> None:
-    pedigree = desk.write("alike.txt", "a1 0 0\nb A1 0\nc a1 0\n")
-    assert " 2 animals, " in desk.good("take", "--pedigree", pedigree, "--keep", desk.write("kept.txt", "c\n")).last
+def test_links_of_animals_that_are_not_kept(desk: Desk) -> None:
+    """What is wrong with animals that aren't taken keeps no others from being taken."""
+    pedigree = desk.write("alike.txt", "a1 0 0\nb A1 0\nc a1 0\nd c 0\nd a1 0\n")
+    done = desk.good("take", "--pedigree", pedigree, "--keep", desk.write("kept.txt", "c\n"))
+    assert " 2 animals, " in done.last and " 0 left out, " in done.last
 
 
 def test_parents_in_another_column(desk: Desk) -> None:

@@ -44,6 +44,13 @@ def test_titles_of_programs(desk: Desk, titles: str) -> None:
     assert ("the sexes" in done.out) != ("sex" in titles.lower())
 
 
+def test_unknown_sexes_and_births(desk: Desk) -> None:
+    """The codes and words that stand for them are nothing that can't be read."""
+    rows = "a 0 0 1 1990\nb 0 0 2 NA\nc a b 3 .\nd a b 4 -9\ne a b 0 1995\nf a b 9 1995\ng a b unk 1995\n"
+    done = desk.good("take", "--pedigree", desk.write("codes.txt", f"id dadid momid sex born\n{rows}"))
+    assert ": 7 animals, 7 new, " in done.last and " 0 left out, 0 added" in done.last
+
+
 def test_titles_by_option(desk: Desk) -> None:
     text = "x1 x2 x3 x4\na 0 0 f\nb a 0 m\n"
     pedigree = desk.write("odd.txt", text)
@@ -67,7 +74,7 @@ def test_ids_that_begin_as_comments(desk: Desk) -> None:
     told = "line 3: the parent '#1' of b has no line, since a line that begins with # is a comment"
     desk.wrong(told, "take", "--pedigree", desk.write("lost.txt", "#1 a 0\na 0 0\nb #1 0\n"))
     pedigree = desk.write("quoted.txt", '"#1" a 0\na 0 0\nb #1 0\n')
-    done = desk.good("take", "--pedigree", pedigree, "--keep", desk.write("ids.txt", "# comment\n#1\n"))
+    done = desk.good("take", "--pedigree", pedigree, "--keep", desk.write("ids.txt", "# comment\n#1\n#1\n"))
     assert "kept: 1 animal of " in done.out
     assert desk.parents() == {"#1": ("a", ""), "a": ("", "")}
 

@@ -1,9 +1,11 @@
 """Certificates of many animals in one file, with the society's name, the day of issue and common ancestors."""
 from __future__ import annotations
 
+import itertools
 import xml.etree.ElementTree as xml
 
 from front_desk.desk import Desk
+from society.pages.common import letters, letters_named
 
 XHTML = "{http://www.w3.org/1999/xhtml}"
 
@@ -77,20 +79,26 @@ def test_common_ancestors(desk: Desk) -> None:
         y,m,2004-01-01,s,e2
     """
     desk.take(rows)
-    letters = {}
+    lettered = {}
     for id in "x", "calf", "y", "d":
         desk.good("certificate", id, "--force", "--out", "page.html")
         boxes = [
             (classed(box, "letter"), words(next(box.iter(f"{XHTML}b")))) for box in classed(pages(desk)[0], "common")
         ]
-        letters[id] = [(words(letter), name) for (letter,), name in boxes]
+        lettered[id] = [(words(letter), name) for (letter,), name in boxes]
     # in the order of the lines: the dam's sire and dam, with their own parents
-    assert letters["x"] == [("A", "a"), ("B", "far"), ("C", "b"), ("A", "a"), ("C", "b")]
-    assert letters["calf"][0] == ("A", "x") and letters["calf"].count(("A", "x")) == 2
-    assert letters["y"] == [("A", "far")]
-    assert letters["d"] == []
+    assert lettered["x"] == [("A", "a"), ("B", "far"), ("C", "b"), ("A", "a"), ("C", "b")]
+    assert lettered["calf"][0] == ("A", "x") and lettered["calf"].count(("A", "x")) == 2
+    assert lettered["y"] == [("A", "far")]
+    assert lettered["d"] == []
     desk.good("certificate", "calf", "--force", "--out", "page.html")
     assert "is further back on the other side" in words(pages(desk)[0])
+
+
+def test_letters() -> None:
+    """After Z there are two, and many are told by the first and the last."""
+    assert list(itertools.islice(letters(), 25, 29)) == ["Z", "AA", "AB", "AC"]
+    assert letters_named(dict(zip("123", "ABC"))) == "A, B, C" and letters_named(dict(zip("1234", "ABCD"))) == "A–D"
 
 
 def test_large_percentage(mrode_desk: Desk) -> None:

@@ -81,6 +81,30 @@ def test_short_ids(desk: Desk) -> None:
     texts = [[text.text or "" for text in box.iter(f"{SVG}text")] for box in boxes]
     assert all(any("%" in text for text in one) for one in texts)
     assert {one[0] for one in texts if one[0].endswith("f")} == {f"GK-00{at}f" for at in range(4, 10)}
+    # one line has room for the number alone
+    for box, (percent,) in zip(boxes, ([text for text in one if "%" in text] for one in texts)):
+        assert percent.startswith("F") == (float(box.attrib["height"]) >= 28)
+
+
+def test_where_it_goes_on(desk: Desk) -> None:
+    """The lowest boxes of the first page name the pages that begin with their animals, and the letters begin there."""
+    desk.take(full_sibs(10, "GK-00"))
+    desk.good("pedigree", "GK-0010f", "--generations", "10", "--language", "de", "--out", "tree.html")
+    pages = [one for one in desk.page("tree.html").iter(f"{SVG}svg") if one.get("viewBox")]
+    heads = [next(page.iter(f"{SVG}text")).text for page in pages]
+    first, *others = [[texts_of(box) for box in page.iter(f"{SVG}svg") if box.get("x")] for page in pages]
+    lowest = {(one[0], heads[int(text[2:]) - 1]) for one in first for text in one if text[:2] == "→ "}
+    assert lowest == {
+        (id, f"Abstammung von {id}, Wilhelmine von der Wiese WWWWWWWWWW") for id in ("GK-005m", "GK-005f")
+    }
+    assert all(("%" in "".join(one)) != ("→" in "".join(one)) for one in first)
+    assert not [text for page in others for one in page for text in one if "→" in text]
+    assert all("," in text and "." not in text for one in first for text in one if "%" in text)
+    assert {text for one in first for text in one if len(text) == 1} == set("ABCDEFGH")
+
+
+def texts_of(box: xml.Element) -> list[str]:
+    return [text.text or "" for text in box.iter(f"{SVG}text")]
 
 
 def test_common_ancestors(mrode_desk: Desk) -> None:
@@ -88,6 +112,7 @@ def test_common_ancestors(mrode_desk: Desk) -> None:
     mrode_desk.good("pedigree", "6", "--out", "tree.svg")
     page = mrode_desk.page("tree.svg")
     texts = [[text.text for text in box.iter(f"{SVG}text")] for box in page.iter(f"{SVG}svg") if box.get("x")]
+    assert [box[1] for box in texts if box[0] == "2"] == ["1900 (invented), drawn 2 ti…"] * 2
     letters = [(box[0], box[-1]) for box in texts if box[-1] in ("A", "B", "C")]
     # 5 of 4 and 3, and 2; 4 of 1; 3 of 1 and 2: 1 and 2 are on both sides of 5, 2 is the other parent
     assert letters == [("2", "A"), ("2", "A")]
@@ -95,3 +120,5 @@ def test_common_ancestors(mrode_desk: Desk) -> None:
     page = mrode_desk.page("tree.svg")
     texts = [[text.text for text in box.iter(f"{SVG}text")] for box in page.iter(f"{SVG}svg") if box.get("x")]
     assert [box[0] for box in texts if box[-1] == "A"] == ["1", "1"]
+    frames = ((next(one.iter(f"{SVG}title")).text or "", next(one.iter(f"{SVG}rect"))) for one in page.iter(f"{SVG}g"))
+    assert {(title.split(", ")[1][6], frame.get("rx")) for title, frame in frames} == {("M", "3.0"), ("F", "14.0")}
