@@ -6,7 +6,7 @@ import pytest
 from front_desk.desk import Desk
 
 REFUSED = [
-    ("a 0 0\nb 0 0\nc a b\nd b c\n", "1 animal is both sire and dam: b (a sire in line 4, a dam in line 3)"),
+    ("a 0 0\nb 0 0\nc a b\nd b c\ne b 0\nf 0 b\n", "1 animal is both sire and dam: b (a sire in line 4, a dam in line 3)"),
     ("a 0 0\nb a a\n", "1 animal is both sire and dam: a (both parents of b in line 2)"),
     ("a b 0\nb c 0\nc a 0\n", "would be its own ancestor"),
     ("a 0 0\nb 0 0\nc a b\nc 0 b\n", "line 4: c: the line is left out: line 3 has this id too, with other parents"),
