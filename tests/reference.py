@@ -169,14 +169,20 @@ def percentage(value: Fraction) -> str:
 
 
 def inbreeding(text: str) -> str:
-    book = filed(text)[0]
+    return inbreeding_of(filed(text)[0])
+
+
+def inbreeding_of(book: Book) -> str:
     entry = book.relationships()
     values = [(it, entry(book.animals[it].sire, book.animals[it].dam) / 2) for it in book.by_age()]
     return "".join(f"{number},{value},{percentage(value)}\n" for number, value in values)
 
 
 def certificate(text: str, number: str) -> str:
-    book = filed(text)[0]
+    return certificate_of(filed(text)[0], number)
+
+
+def certificate_of(book: Book, number: str) -> str:
     animal = book.animals[number]
     value = book.relationships()(animal.sire, animal.dam) / 2
     lines = [
@@ -197,7 +203,10 @@ def certificate(text: str, number: str) -> str:
 
 
 def mating(text: str, dam: str, sires: list[str]) -> str:
-    book = filed(text)[0]
+    return mating_of(filed(text)[0], dam, sires)
+
+
+def mating_of(book: Book, dam: str, sires: list[str]) -> str:
     entry = book.relationships()
     lines = []
     for sire in sires:
@@ -217,8 +226,11 @@ def mating(text: str, dam: str, sires: list[str]) -> str:
 
 
 def relationships(text: str, numbers: list[str], others: list[str] | None = None) -> str:
+    return relationships_of(filed(text)[0], numbers, others)
+
+
+def relationships_of(book: Book, numbers: list[str], others: list[str] | None = None) -> str:
     """Of the numbers with the others, or with themselves and those after them."""
-    book = filed(text)[0]
     entry = book.relationships()
     lines = [f"{it},refused,1\n" for it in [*numbers, *(others or [])] if it not in book.animals]
     firsts = [it for it in numbers if it in book.animals]
@@ -229,7 +241,10 @@ def relationships(text: str, numbers: list[str], others: list[str] | None = None
 
 
 def inverse(text: str) -> str:
-    book = filed(text)[0]
+    return inverse_of(filed(text)[0])
+
+
+def inverse_of(book: Book) -> str:
     entry, ranks = book.relationships(), book.ranks()
     lines = []
     for number in book.by_age():

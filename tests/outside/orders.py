@@ -31,4 +31,4 @@ def long_orders(dam: str, sires: list[str]) -> list[list[str]]:
 
 def order_names() -> list[str]:
     """The orders, as help lists them."""
-    return list(dict.fromkeys(words[0] for words in each_order()))
+    return [*dict.fromkeys(words[0] for words in each_order()), "session"]

@@ -3,6 +3,7 @@ from __future__ import annotations
 
 import concurrent.futures
 import itertools
+import operator
 import os
 import re
 from collections.abc import Callable, Mapping
@@ -28,7 +29,13 @@ class Refusals(Checks):
         return is_met, done
 
     def until_none(
-        self, what: str, words: Words, text: str, refuse: Mapping[str, object], is_right: IsRight
+        self,
+        what: str,
+        words: Words,
+        text: str,
+        refuse: Mapping[str, object],
+        is_right: IsRight,
+        is_unrefused: IsRight = operator.eq,
     ) -> int | None:
         """Refuses the first call, the second and so on, until a run meets no refusal: how many calls there are."""
         wanted = self.run(words, text)
@@ -39,7 +46,7 @@ class Refusals(Checks):
         with concurrent.futures.ThreadPoolExecutor(os.cpu_count()) as pool:
             parts = (pool.map(one, range(first, first + AT_ONCE)) for first in range(1, MOST_CALLS, AT_ONCE))
             for nth, (is_met, done) in enumerate(itertools.chain.from_iterable(parts), 1):
-                right = is_right(wanted, done) if is_met else done == wanted
+                right = is_right(wanted, done) if is_met else is_unrefused(wanted, done)
                 self.count(right, f"{what} {nth} refused: {words}: {done}")
                 if not is_met:
                     return nth - 1

@@ -34,8 +34,8 @@ class TestHelp(Checks):
         self.expect("help", asked, ["help", *order])
         statuses = re.findall(r"(?m)^  (\d)  ", text.partition("Status:")[2])
         self.count(statuses == ["0", "1", "2"], f"help: {order}: the statuses {statuses}")
-        example = re.search(r"(?m)^Example:\n  herdbook (.*) < book.csv$", text)
+        example = re.search(r"(?m)^Example:\n  herdbook (.*) < (?:book|requests).csv$", text)
         words = shlex.split(example[1]) if example else [""]
         self.count(words[0] == shown, f"help: {order}: the example of another: {words}")
-        done = self.run(words, full_sibs(3))
+        done = self.run(words, "a1,inspector,1,seen\n" if shown == "session" else full_sibs(3))
         self.count(done.status == 0 and done.out, f"help: {order}: its example: {done}")

@@ -75,7 +75,7 @@ class TestPages(Rooms):
         shown = ran = 0
         for at, (block, between) in enumerate(blocks):
             line = block.strip()
-            if not re.match(r"(\./herdbook|society/society)", line):
+            if not re.match(r"(\./herdbook|society/society|python3 examples/)", line):
                 continue
             done = self.shell(line, self.example_room(path.stem))
             ran += 1

@@ -27,6 +27,10 @@ NO_COMMAND_LINES: list[tuple[list[str], str]] = [
     (["clerks", "--desks", "17"], "'17'"),
     (["clerks", "--base", "1000001"], "'1000001'"),
     (["clerks", "--base", "-1"], "'-1'"),
+    (["session", "--desks", "17"], "'17'"),
+    (["session", "--inspectors", "0"], "'0'"),
+    (["session", "--limit-animals", "60001"], "'60001'"),
+    (["session", "--limit-steps", "0"], "'0'"),
 ]
 
 NO_TEXTS: list[Words] = [[b"\xff"], [b"certificate", b"HOLGBRM00000000000\xff"], [b"mating", b"--dam", b"\xc3", b"M"]]

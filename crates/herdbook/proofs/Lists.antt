@@ -1,25 +1,10 @@
--- Lists: none, fronts, elements at a place, elements that have a number, and sums over ranges.
+-- Lists: elements at a place, elements that have a number, and sums over ranges.
 use Rattle.std.proofs.Common.{◌≡◌, ◌∙◌, ℕ, zero, suc, ◌+◌, ◌≤◌, List, [], ◌∷◌, ◌++◌, All, ap, ap₂, arith, get_or, length, map, set, sym, slice_get, Some, refl, subst}
 use Rattle.std.specs.List.{range_with_len, sum_by}
 use Rattle.std.proofs.lemmas.List.{map-set, set-get_or}
 use Rattle.std.proofs.lemmas.List.Sums.{sum_by-cons}
 use Rattle.std.proofs.lemmas.Option.{get_or_from_slice_get, slice_get_within}
 use mathlib.Core.List.{IsPrefix}
-
--- a list of no elements
-pub none_of : {A : Type 0} (xs : List A) → length xs ≡ 0 → xs ≡ []
-none_of [] is = refl
-none_of (x ∷ xs) is = absurd (omega (arith, is))
-
--- a front of a list with one element more is one of the list, where it is no longer than that
-pub shorter_front : {A : Type 0} (front list : List A) (last : A) → IsPrefix front (list ++ last ∷ []) → length front ≤ length list → IsPrefix front list
-shorter_front [] list last begins le = (list, refl)
-shorter_front (x ∷ front) [] last begins le = absurd (omega (arith, le))
-shorter_front {A} (x ∷ front) (y ∷ list) last begins le =
-    let same : x ≡ y = cc (begins.1) in
-    let rest : front ++ begins.0 ≡ list ++ last ∷ [] = cc (begins.1) in
-    let more = shorter_front front list last (begins.0, rest) (omega (arith, le)) in
-    (more.0, ap (λ l. x ∷ l) more.1 ∙ ap (λ (z : A). z ∷ list) same)
 
 -- what holds of all holds of the one at a place
 pub holds_at : {A : Type 0} (P : A → Type 0) (xs : List A) → All P xs → (place : ℕ) (x : A) → slice_get xs place ≡ Some x → P x

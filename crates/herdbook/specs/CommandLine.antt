@@ -8,7 +8,7 @@ use Rattle.clap.specs.declared.builder.command.Command.{Command}
 use Rattle.clap.specs.declared.builder.command.Command.TheViews.{out-Command}
 use Rattle.clap.specs.declared.builder.value_parser.ValueParser.TheVariants.{Signed}
 use Rattle.herd_pool.specs.declared.limits.TheConstants.{MOST_WORKERS}
-use Rattle.herd_office.specs.declared.limits.TheConstants.{MOST_DESKS}
+use Rattle.herd_office.specs.declared.limits.TheConstants.{MOST_DESKS, MOST_INSPECTORS}
 use Rattle.herdbook.specs.Limits.{program_limits}
 
 -- a command that reads words by this line, and has no global argument
@@ -116,5 +116,23 @@ runs_line =
     inverse_line)
     relationships_line
 
+abbrev pub session_desks_rule : Rule
+session_desks_rule = number_option (codes "desks") 1 MOST_DESKS (codes "4")
+
+abbrev pub inspectors_rule : Rule
+inspectors_rule = number_option (codes "inspectors") 1 MOST_INSPECTORS (codes "4")
+
+abbrev pub animals_rule : Rule
+animals_rule = number_option (codes "limit-animals") 1 program_limits.animals (codes "60000")
+
+abbrev pub steps_rule : Rule
+steps_rule = number_option (codes "limit-steps") 1 program_limits.steps (codes "1000000")
+
+unfoldable pub session_line : App
+session_line =
+    with_rule
+    (with_rule (with_rule (with_rule (new_app (codes "session")) session_desks_rule) inspectors_rule) animals_rule)
+    steps_rule
+
 unfoldable pub command_line : App
-command_line = line_with runs_line clerks_line
+command_line = line_with (line_with runs_line clerks_line) session_line

@@ -1,10 +1,9 @@
--- Which commands fall to which desk, and what a history has of a desk.
+-- Which commands fall to which desk.
 use Rattle.std.specs.Prelude.{◌≡◌, ℕ, zero, suc, ◌==◌, ◌-◌, if◌then◌else◌, List, [], ◌∷◌, ◌++◌, length, map, filter}
 use Rattle.herd_register.specs.declared.command.Command.{Command}
-use Rattle.herd_register.specs.declared.step.Step.{Step}
-use Rattle.herd_office.specs.Histories.{of_desk}
 use Rattle.herd_office.specs.declared.desk.Desk.{Desk}
 use Rattle.herd_office.specs.declared.name.OfficeName as office_name
+pub use Rattle.herd_session.specs.Filed.{HasFiled, commands_at}
 use Rattle.herdbook.specs.declared.deal.Deal.{Deal}
 
 -- the command that comes once so many are left out, and from it on every so many-th; a step of 0 counts as 1
@@ -21,16 +20,6 @@ dealt_first first number = if number == 1 then first else []
 -- the desk's turn on
 abbrev pub dealt : ℕ → List Command → List Command → ℕ → List Command
 dealt desks first rest number = dealt_first first number ++ every desks (number - 1) rest
-
--- the commands of a desk's steps, in the order of the journal
-abbrev pub commands_at : ℕ → List Step → List Command
-commands_at number journal = map (λ s. s.command) (filter (λ s. s.desk == number) journal)
-
--- what is known of a desk that has filed these commands: it answered as many calls, and where its history has no more
--- steps of the desk, they are of just these commands, in their order
-pub record HasFiled {N : Type 0} {O : office_name.Ghosts N} (desk : Desk N O) (commands : List Command) : Type 0 where
-  pub counted : desk.answered ≡ length commands
-  pub known : of_desk desk.number desk.history ≡ desk.answered → commands_at desk.number desk.history ≡ commands
 
 -- the numbers of desks
 abbrev pub numbers_of : {N : Type 0} {O : office_name.Ghosts N} → List (Desk N O) → List ℕ

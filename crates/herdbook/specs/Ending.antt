@@ -4,7 +4,9 @@ use Rattle.clap.specs.Words.{kind_of}
 use Rattle.clap.specs.declared.error.kind.ErrorKind.TheVariants.{DisplayHelp, DisplayVersion, OutOfMemory}
 use Rattle.herd_report.specs.declared.run_fault.RunFault.{RunFault}
 use Rattle.herd_report.specs.declared.run_fault.RunFault.TheVariants.{Memory, Write}
+use Rattle.herd_session.specs.declared.session_fault.SessionFault.{SessionFault}
 use Rattle.herdbook.specs.FaultText.{number_fault_text, request_fault_text}
+use Rattle.herdbook.specs.Sessions.{told_of}
 use Rattle.herdbook.specs.declared.arguments.WordsFault.{WordsFault}
 use Rattle.herdbook.specs.declared.arguments.WordsFault.TheVariants.{Words, Number as NotNumber}
 use Rattle.herdbook.specs.declared.ending.Ending.{Ending}
@@ -43,6 +45,11 @@ end_of_run (Err fault) = Early (Run fault)
 abbrev pub end_of_clerks : {T : Type 0} → Result T RequestFault → Ending
 end_of_clerks (Ok done) = Done
 end_of_clerks (Err fault) = Early fault
+
+-- the end of a session
+abbrev pub end_of_session : {T : Type 0} → Result T SessionFault → Ending
+end_of_session (Ok done) = Done
+end_of_session (Err fault) = Early (told_of fault)
 
 -- the end after what the words ask to be shown was printed, or couldn't be
 abbrev pub end_of_shown : Bool → Ending

@@ -2,29 +2,11 @@
 use Rattle.std.specs.Prelude.{ℕ, List, ◌++◌, codes, decimal}
 use Rattle.herd_animal.specs.declared.number.NumberFault.{NumberFault}
 use Rattle.herd_animal.specs.declared.number.NumberFault.TheVariants.{Length, Letter, SexLetter, NumberCharacter}
-use Rattle.herd_report.specs.reading.LineCause.{cause_number}
-use Rattle.herd_report.specs.declared.reading.line_fault.LineCause.{LineCause}
-use Rattle.herd_report.specs.declared.reading.line_fault.LineCause.TheVariants.{Header, Fields, Kind, Animal, Day, Sire, Dam, FromHerd, ToHerd, FieldNotUsed, Read, TooMany, Memory as NoMemory, Embryo}
+use Rattle.herd_report.specs.reading.LineCause.{cause_name, cause_number}
 use Rattle.herd_report.specs.declared.run_fault.RunFault.{RunFault}
 use Rattle.herd_report.specs.declared.run_fault.RunFault.TheVariants.{Line, NotRegistered, NoThread, Memory, Write}
 use Rattle.herdbook.specs.declared.request_fault.RequestFault.{RequestFault}
 use Rattle.herdbook.specs.declared.request_fault.RequestFault.TheVariants.{Run, NoPlace}
-
-abbrev pub cause_name : LineCause → List ℕ
-cause_name Header = codes "Header"
-cause_name Fields = codes "Fields"
-cause_name Kind = codes "Kind"
-cause_name Animal = codes "Animal"
-cause_name Day = codes "Day"
-cause_name Sire = codes "Sire"
-cause_name Dam = codes "Dam"
-cause_name FromHerd = codes "FromHerd"
-cause_name ToHerd = codes "ToHerd"
-cause_name FieldNotUsed = codes "FieldNotUsed"
-cause_name Read = codes "Read"
-cause_name TooMany = codes "TooMany"
-cause_name NoMemory = codes "Memory"
-cause_name Embryo = codes "Embryo"
 
 abbrev pub run_fault_text : RunFault → List ℕ
 run_fault_text (Line fault) =

@@ -5,5 +5,6 @@ pub mod Ending
 pub mod FaultText
 pub mod Limits
 pub mod Program
+pub mod Sessions
 pub mod Summary
 pub mod Words

@@ -6,14 +6,15 @@ use Rattle.clap.specs.declared.error.kind.ErrorKind.TheVariants.{OutOfMemory}
 use Rattle.herd_animal.specs.AnimalNumber.{IsAnimalNumber}
 use Rattle.herd_animal.specs.NumberFault.{IsNumberFault}
 use Rattle.herd_animal.specs.declared.number.NumberFault.{NumberFault}
-use Rattle.herd_office.specs.declared.limits.TheConstants.{MOST_DESKS}
+use Rattle.herd_office.specs.declared.limits.TheConstants.{MOST_DESKS, MOST_INSPECTORS}
 use Rattle.herd_pool.specs.declared.limits.TheConstants.{DEFAULT_BLOCK, MOST_WORKERS}
 use Rattle.herd_report.specs.declared.orders.Order.{Order}
 use Rattle.herd_report.specs.declared.orders.Order.TheVariants.{Inbreeding, Certificate, Mating, Inverse, Relationships}
 use Rattle.herd_report.specs.declared.work_plan.WorkPlan.{WorkPlan}
+use Rattle.herd_session.specs.declared.plan.SessionPlan.{SessionPlan}
 use Rattle.herdbook.specs.CommandLine.{command_line}
 use Rattle.herdbook.specs.declared.arguments.Request.{Request}
-use Rattle.herdbook.specs.declared.arguments.Request.TheVariants.{File, Report, Clerks}
+use Rattle.herdbook.specs.declared.arguments.Request.TheVariants.{File, Report, Clerks, Session}
 use Rattle.herdbook.specs.declared.arguments.WordsFault.{WordsFault}
 use Rattle.herdbook.specs.declared.arguments.WordsFault.TheVariants.{Words, Number}
 use Rattle.herdbook.specs.declared.deal.DeskPlan.{DeskPlan}
@@ -61,6 +62,14 @@ IsDeskPlanOf rows plan =
     IsNumberOr 1 MOST_DESKS 2 (one_of (codes "desks") rows) plan.desks
     × IsNumberOr 0 program_limits.steps 0 (one_of (codes "base") rows) plan.base
 
+-- how large a session's office is
+abbrev pub IsSessionPlanOf : List Row → SessionPlan → Type 0
+IsSessionPlanOf rows plan =
+    IsNumberOr 1 MOST_DESKS 4 (one_of (codes "desks") rows) plan.desks
+    × IsNumberOr 1 MOST_INSPECTORS 4 (one_of (codes "inspectors") rows) plan.inspectors
+    × IsNumberOr 1 program_limits.animals program_limits.animals (one_of (codes "limit-animals") rows) plan.limits.animals
+    × IsNumberOr 1 program_limits.steps program_limits.steps (one_of (codes "limit-steps") rows) plan.limits.steps
+
 -- what is asked of the book
 abbrev pub IsOrdered : Found → Order → Type 0
 IsOrdered found (Inbreeding plan) =
@@ -82,8 +91,10 @@ IsAsked found File =
     (name_in found ≢ Some (codes "inbreeding")) × (name_in found ≢ Some (codes "certificate"))
     × (name_in found ≢ Some (codes "mating")) × (name_in found ≢ Some (codes "inverse"))
     × (name_in found ≢ Some (codes "relationships")) × (name_in found ≢ Some (codes "clerks"))
+    × (name_in found ≢ Some (codes "session"))
 IsAsked found (Report order) = IsOrdered found order
 IsAsked found (Clerks plan) = (name_in found ≡ Some (codes "clerks")) × IsDeskPlanOf (rows_in found) plan
+IsAsked found (Session plan) = (name_in found ≡ Some (codes "session")) × IsSessionPlanOf (rows_in found) plan
 
 -- the fault is that of the first text that is no animal number
 pub record IsFirstFault (texts : List Text) (fault : NumberFault) : Type 0 where

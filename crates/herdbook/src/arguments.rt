@@ -4,17 +4,19 @@ ghost use Rattle.std.specs.Prelude.{◌≡◌, ◌≤◌, ◌++◌, [], All, IfE
 ghost use Rattle.clap.specs.Words.{App, Rule, app_of, fault_of, found_of, new_app, one_of, rows_of, subcommand_of, subcommand_rows_of, with_rule};
 ghost use Rattle.herd_animal.specs.AnimalNumber.{IsAnimalNumber};
 ghost use Rattle.herd_animal.specs.NumberFault.{IsNumberFault};
-ghost use Rattle.herdbook.specs.CommandLine.{IsArgumentOf, IsCommandOf, certificate_line, clerks_line, command_line, dam_rule, file_line, inbreeding_line, inverse_line, line_with, mating_line, number_option, partners_rule, program, relationships_line, runs_line, several_rule};
-ghost use Rattle.herdbook.specs.Words.{IsAsked, IsDeskPlanOf, IsFirstFault, IsNumberOr, IsRefused, IsUnread, IsWorkPlanOf, IsWrongNumber, text_of, texts_of};
+ghost use Rattle.herdbook.specs.CommandLine.{IsArgumentOf, IsCommandOf, animals_rule, certificate_line, clerks_line, command_line, dam_rule, file_line, inbreeding_line, inverse_line, line_with, mating_line, number_option, partners_rule, program, relationships_line, runs_line, session_line, several_rule, steps_rule};
+ghost use Rattle.herdbook.specs.Words.{IsAsked, IsDeskPlanOf, IsFirstFault, IsNumberOr, IsRefused, IsSessionPlanOf, IsUnread, IsWorkPlanOf, IsWrongNumber, text_of, texts_of};
 
 use crate::deal::DeskPlan;
 use crate::help;
 use crate::program::LIMITS;
 use clap::{Arg, ArgAction, ArgMatches, Command};
 use herd_animal::{AnimalNumber, NumberFault};
-use herd_office::MOST_DESKS;
+use herd_office::{MOST_DESKS, MOST_INSPECTORS};
 use herd_pool::{DEFAULT_BLOCK, MOST_WORKERS};
+use herd_register::Limits;
 use herd_report::{Order, WorkPlan};
+use herd_session::SessionPlan;
 use std::alloc::{AllocError, Global};
 
 /// What the words ask for.
@@ -26,6 +28,8 @@ pub enum Request<'a> {
     Report(Order<'a>),
     /// The commands are filed at several desks, each with a clerk in a thread of its own.
     Clerks(DeskPlan),
+    /// Requests are answered until the input ends.
+    Session(SessionPlan),
 }
 
 /// Why the words ask for nothing.
@@ -115,6 +119,7 @@ fn request_of<'a>(
             Ok(Request::Report(Order::Relationships { numbers, others }))
         }
         Some(("clerks", given)) => Ok(Request::Clerks(desk_plan_of(given))),
+        Some(("session", given)) => Ok(Request::Session(session_plan_of(given))),
         _ => Ok(Request::File),
     }
 }
@@ -134,6 +139,19 @@ fn desk_plan_of(given: &ArgMatches<'_>) -> DeskPlan
     DeskPlan {
         desks: option_or(given, "desks", 1, MOST_DESKS as u32, 2) as u16,
         base: option_or(given, "base", 0, LIMITS.steps, 0),
+    }
+}
+
+fn session_plan_of(given: &ArgMatches<'_>) -> SessionPlan
+    ensures { IsSessionPlanOf (rows_of (found_of given.now)) result }
+{
+    SessionPlan {
+        desks: option_or(given, "desks", 1, MOST_DESKS as u32, 4) as u16,
+        inspectors: option_or(given, "inspectors", 1, MOST_INSPECTORS as u32, 4) as u16,
+        limits: Limits {
+            animals: option_or(given, "limit-animals", 1, LIMITS.animals, LIMITS.animals),
+            steps: option_or(given, "limit-steps", 1, LIMITS.steps, LIMITS.steps),
+        },
     }
 }
 
@@ -186,7 +204,7 @@ fn number_argument(given: &ArgMatches<'_>, id: &str) -> Result<AnimalNumber, Num
 fn command<'a>(alloc: Global) -> Result<Command<'a>, AllocError>
     ensures { IfOk result (λ command. app_of command ≡ command_line) }
 {
-    with_subcommand(runs(alloc), clerks(alloc))
+    with_subcommand(with_subcommand(runs(alloc), clerks(alloc)), session(alloc))
 }
 
 // The program with the subcommands of one thread that files.
@@ -399,4 +417,40 @@ fn clerks<'a>(alloc: Global) -> Result<Command<'a>, AllocError>
         help::CLERKS,
     );
     with_argument(with_argument(Ok(bare), desks), base)
+}
+
+fn session<'a>(alloc: Global) -> Result<Command<'a>, AllocError>
+    ensures { IfOk result (IsCommandOf session_line) }
+{
+    let desks = number_option(alloc, "desks", "K", 1, MOST_DESKS as u32, "4").help(
+        "How many desks, from 1 to 16",
+    );
+    let inspectors = number_option(alloc, "inspectors", "I", 1, MOST_INSPECTORS as u32, "4").help(
+        "How many inspectors, from 1 to 16",
+    );
+    let bare = named(
+        alloc,
+        "session",
+        "Answers requests at desks and inspectors until the input ends",
+        help::SESSION,
+    );
+    let staff = with_argument(with_argument(Ok(bare), desks), inspectors);
+    with_limits(alloc, staff)
+}
+
+// A command with the options that limit the book and its journal.
+fn with_limits<'a>(
+    alloc: Global,
+    command: Result<Command<'a>, AllocError>,
+) -> Result<Command<'a>, AllocError>
+    ensures { (line : App) → IfOk command.entry (IsCommandOf line)
+        → IfOk result (IsCommandOf (with_rule (with_rule line animals_rule) steps_rule)) }
+{
+    let animals = number_option(alloc, "limit-animals", "N", 1, LIMITS.animals, "60000").help(
+        "The most animals, 1 to 60,000",
+    );
+    let steps = number_option(alloc, "limit-steps", "N", 1, LIMITS.steps, "1000000").help(
+        "The most steps, 1 to 1,000,000",
+    );
+    with_argument(with_argument(command, animals), steps)
 }

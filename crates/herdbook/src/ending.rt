@@ -1,7 +1,7 @@
 //! How the program ends: with which status, and what it tells on standard error.
 
 ghost use Rattle.std.specs.Prelude.{◌≡◌};
-ghost use Rattle.herdbook.specs.Ending.{Explains, end_of_clerks, end_of_run, end_of_shown, end_of_unread, status_of};
+ghost use Rattle.herdbook.specs.Ending.{Explains, end_of_clerks, end_of_run, end_of_session, end_of_shown, end_of_unread, status_of};
 
 use crate::arguments::WordsFault;
 use crate::fault_text::{NumberFaultText, RequestFaultText};
@@ -9,6 +9,7 @@ use crate::request_fault::RequestFault;
 use clap::error::ErrorKind;
 use herd_animal::NumberFault;
 use herd_report::RunFault;
+use herd_session::SessionFault;
 use std::fmt;
 
 /// How the program ends, once it has written what it writes to standard output.
@@ -71,6 +72,16 @@ impl Ending {
         match ended {
             Ok(()) => Ending::Done,
             Err(fault) => Ending::Early(fault),
+        }
+    }
+
+    /// The end of a session.
+    pub fn of_session(ended: Result<(), SessionFault>) -> Ending
+        ensures { result ≡ end_of_session ended }
+    {
+        match ended {
+            Ok(()) => Ending::Done,
+            Err(fault) => Ending::Early(RequestFault::from(fault)),
         }
     }
 

@@ -1,11 +1,11 @@
 //! What is told on standard error.
 
 ghost use Rattle.std.specs.Prelude.{◌≡◌};
-ghost use Rattle.herdbook.specs.FaultText.{cause_name, number_fault_code, number_fault_name};
+ghost use Rattle.herdbook.specs.FaultText.{number_fault_code, number_fault_name};
 
 use crate::request_fault::RequestFault;
 use herd_animal::NumberFault;
-use herd_report::{LineCause, LineFault, RunFault};
+use herd_report::{LineFault, RunFault};
 use std::fmt;
 
 /// Why a request ended early.
@@ -28,7 +28,7 @@ impl fmt::Display for RequestFaultText {
                     },
                 ),
             ) => {
-                let (code, name) = (cause.number(), name_of(cause));
+                let (code, name) = (cause.number(), cause.name());
                 write!(f, "record {record_number}: fault {code} {name}")
             }
             RequestFault::Run(RunFault::NotRegistered) => f.write_str("not registered"),
@@ -53,27 +53,6 @@ impl fmt::Display for NumberFaultText {
     fn fmt<W: fmt::Write>(&self, f: &mut fmt::Formatter<W>) -> fmt::Result {
         let (code, name) = code_and_name(self.0);
         write!(f, "animal number fault {code} {name}")
-    }
-}
-
-fn name_of(cause: LineCause) -> &'static str
-    ensures { result.now ≡ cause_name cause }
-{
-    match cause {
-        LineCause::Header => "Header",
-        LineCause::Fields => "Fields",
-        LineCause::Kind => "Kind",
-        LineCause::Animal => "Animal",
-        LineCause::Day => "Day",
-        LineCause::Sire => "Sire",
-        LineCause::Dam => "Dam",
-        LineCause::FromHerd => "FromHerd",
-        LineCause::ToHerd => "ToHerd",
-        LineCause::FieldNotUsed => "FieldNotUsed",
-        LineCause::Read => "Read",
-        LineCause::TooMany => "TooMany",
-        LineCause::Memory => "Memory",
-        LineCause::Embryo => "Embryo",
     }
 }
 

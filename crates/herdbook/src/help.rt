@@ -123,3 +123,22 @@ Status:
   1  a record is faulty, a reader found no place, or memory or a thread was
      refused (nothing is written), or a write was refused
   2  the words aren't a command line";
+
+/// The end of the help of `session`. Its K and I stand for the numbers of `--desks` and `--inspectors`, its N for those
+/// of the limits.
+pub const SESSION: &str = "\
+Reads requests from standard input, one a line, and answers each at once:
+  TAG,desk,K,birth,ANIMAL,DAY,SIRE,DAM,,HERD,EMBRYO (and the other commands)
+  TAG,inspector,J,inbreeding (or inverse, certificate, mating, relationships,
+  coefficient, each with its numbers behind commas, or seen)
+The answers are TAG,SERIAL,accepted or TAG,SERIAL,refused,NUMBER, a report's
+lines behind TAG and then TAG,end,STEPS, or TAG,fault,NAME. A question sees each
+command that was answered before it. The last line is closed,STEPS,ANIMALS.
+
+Example:
+  herdbook session --desks 2 --inspectors 1 < requests.csv
+
+Status:
+  0  all requests are answered and the office is closed
+  1  the input, or memory or a thread at the start, or a write was refused
+  2  the words aren't a command line";

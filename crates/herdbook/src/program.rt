@@ -10,6 +10,7 @@ use crate::ending::Ending;
 use herd_frozen::MOST_ANIMALS;
 use herd_register::{Limits, MOST_STEPS};
 use herd_report::{answer_file, run};
+use herd_session::session;
 use std::alloc::Global;
 use std::io::{Read, Write};
 use std::sync::Wait;
@@ -23,7 +24,7 @@ pub const LIMITS: Limits = Limits {
 
 /// Reads the words of the command line, the program's own name first, and does what they ask for. Where they ask for
 /// nothing, nothing is read or written.
-pub fn carry_out<H: Threads + Wait + Sync, R: Read + Drop, W: Write>(
+pub fn carry_out<H: Threads + Wait + Sync, R: Read + Drop, W: Write + Send + Drop>(
     rt: &H,
     alloc: Global,
     words: &[String],
@@ -44,6 +45,9 @@ pub fn carry_out<H: Threads + Wait + Sync, R: Read + Drop, W: Write>(
         }
         Ok(Request::Clerks(plan)) => {
             Ending::of_clerks(clerks(rt, alloc, LIMITS, plan, reader, writer))
+        }
+        Ok(Request::Session(plan)) => {
+            Ending::of_session(session(rt, alloc, plan, reader, writer))
         }
         Err(fault) => Ending::of_words(fault),
     }

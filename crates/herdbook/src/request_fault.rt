@@ -3,14 +3,15 @@ ghost use Rattle.std.specs.Prelude.{◌≡◌};
 ghost use Rattle.herdbook.specs.declared.request_fault.RequestFault.TheVariants.{Run};
 
 use herd_report::{LineFault, ReportFault, RunFault};
+use herd_session::SessionFault;
 
 /// Why a request ended early.
 #[derive(Clone, Copy, Debug, PartialEq, Eq, Drop)]
 pub enum RequestFault {
     /// As a run may end.
     Run(RunFault),
-    /// The clerks' office lacked a seat for a reader or room for a step, gave no reading, or wasn't closed. Nothing was
-    /// written.
+    /// The office of clerks or of a session lacked a seat for a reader or room for a step, gave no reading, or wasn't
+    /// closed. Clerks wrote nothing.
     NoPlace,
 }
 
@@ -31,5 +32,21 @@ impl From<ReportFault> for RequestFault {
 
     fn from(fault: ReportFault) -> RequestFault {
         RequestFault::Run(RunFault::from(fault))
+    }
+}
+
+impl From<SessionFault> for RequestFault {
+    ghost use Rattle.herdbook.specs.Sessions.{told_of};
+
+    ghost from_gives = { λ fault told. told ≡ told_of fault };
+
+    fn from(fault: SessionFault) -> RequestFault {
+        match fault {
+            SessionFault::Line(fault) => RequestFault::from(fault),
+            SessionFault::NoThread => RequestFault::Run(RunFault::NoThread),
+            SessionFault::Memory => RequestFault::Run(RunFault::Memory),
+            SessionFault::Write => RequestFault::Run(RunFault::Write),
+            SessionFault::NoPlace => RequestFault::NoPlace,
+        }
     }
 }

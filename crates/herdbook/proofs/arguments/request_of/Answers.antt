@@ -35,6 +35,6 @@ returns-in_ok-add_numbers-in-Some-relationships-default-2-clause-asked c =
 pub returns-in_default-clause-asked : goal.returns-in_default-clause-asked
 returns-in_default-clause-asked c =
     elim c.in_default.branch [
-      | in_default-via-in-Some+in_default w ↦ (search rules, search rules, search rules, search rules, search rules, search rules)
-      | in_default-via-in_default w ↦ (search rules, search rules, search rules, search rules, search rules, search rules)
+      | in_default-via-in-Some+in_default w ↦ (search rules, search rules, search rules, search rules, search rules, search rules, search rules)
+      | in_default-via-in_default w ↦ (search rules, search rules, search rules, search rules, search rules, search rules, search rules)
     ]
