@@ -43,6 +43,14 @@ class NoId(RowLeftOut):
 
 
 @dataclass(frozen=True, slots=True)
+class TitlesAgain(RowLeftOut):
+    """The row has the titles, as a page's first one."""
+
+    def why(self) -> str:
+        return "it repeats the titles"
+
+
+@dataclass(frozen=True, slots=True)
 class IdAgain(RowLeftOut):
     """An earlier row has the id: its line, the parents there and here, and what else differs: the field, the cell here
     and the one there."""

@@ -9,7 +9,7 @@ from typing import Iterator, Mapping
 from society.book.kinds import Field
 from society.reading.animal import ROLES, Animal
 from society.reading.animal_cells import AnimalCells
-from society.reading.cell_findings import DAYS, NoId, TooManyCells
+from society.reading.cell_findings import DAYS, NoId, TitlesAgain, TooManyCells
 from society.reading.column_findings import SheetFinding
 from society.reading.errors import ErrorValues
 from society.reading.odd_rows import tell_odd_rows
@@ -80,6 +80,7 @@ class Rows:
         # animals of other years that have the id of another one
         others: list[Animal] = []
         titles, usual = len(self.sheet.titles), self.usual_length()
+        id_title = self.sheet.titles[self.columns[Field.ID]]
         for line, cells in self.sheet.rows:
             said = self.said(cells)
             id = said.pop(Field.ID)
@@ -87,6 +88,8 @@ class Rows:
                 self.report.add(line, id, TooManyCells(len(cells), titles))
             elif self.unknown.is_one(id):
                 self.report.add(line, id, NoId(id))
+            elif id == id_title and cells[:titles] == self.sheet.titles:
+                self.report.add(line, "", TitlesAgain())
             elif id not in found:
                 found[id] = self.cells.animal(line, id, said)
             elif self.same_ids.are_years_apart(found[id], said):

@@ -28,6 +28,7 @@ from society.taking.saving import save
 from society.taking.screen import lines_of
 from society.taking.sentences import sentences_of
 from society.taking.suggestions import Call
+from society.taking.swapped_columns import tell_swapped_columns
 from society.taking.understood import Understood
 from society.taking.wishes import Wishes
 
@@ -62,6 +63,8 @@ def file(next_book: NextBook, program: Herdbook, wishes: Wishes, about: About) -
     leave_out_faulty_parents(next_book, program)
     if next_book.is_pedigree and not wishes.leave_out:
         refuse_lost_links(report)
+    if about.understood:
+        tell_swapped_columns(next_book, about.understood)
     if not next_book.is_pedigree:
         looks = Looks(next_book.animals, about.limits, report)
         looks.tell_births(book)

@@ -187,6 +187,30 @@ class MostChanged(Look):
 
 
 @dataclass(frozen=True, slots=True)
+class ColumnsSwapped(Look):
+    """Most parents of a sheet are refused for their sex; the titles are those of the sires' and the dams' columns."""
+
+    refused: int
+    links: int
+    sires: str
+    dams: str
+
+    harm = Harm.ANIMALS
+
+    def words(self) -> str:
+        return (
+            f"{self.refused} of {self.links} parents are left out for their sex: are the sires in '{self.dams}', and the dams "
+            f"in '{self.sires}'?"
+        )
+
+    def suggestions(self) -> tuple[Suggestion, ...]:
+        if "," in self.sires + self.dams:
+            return ()
+        option = Option("--columns", f"{Field.SIRE}={self.dams},{Field.DAM}={self.sires}")
+        return (Suggestion("if they are", (option,)),)
+
+
+@dataclass(frozen=True, slots=True)
 class MayBeUnknown(Look):
     """A parent without a row, of several animals, that may be a word for an unknown one."""
 

@@ -26,7 +26,9 @@ def test_parent_written_otherwise(desk: Desk) -> None:
 
 def test_more_than_one_is_meant(desk: Desk) -> None:
     done = desk.take(
-        TITLES + FLOCK + "de7;Leo;M;2001-04-01;;\nc;;F;2004-01-01;DE 7;\nd;;F;2004-01-01;;DE 08\ne;;F;2004;DE 107;\n"
+        TITLES
+        + FLOCK
+        + "de7;Leo;M;2001-04-01;;\nDE 17;Tom;M;2001-04-01;;\nc;;F;2004-01-01;DE 7;\nd;;F;2004-01-01;;DE 08\ne;;F;2004;DE 107;\n"
     )
     assert desk.parents()["c"] == ("DE 7", "") and desk.parents()["e"] == ("DE 107", "")
     assert " 2 added" in done.last

@@ -179,3 +179,22 @@ def test_sums(desk: Desk) -> None:
     assert len(told) == 4 and all(line.startswith(beginning) for line, beginning in zip(told, beginnings)), told
     # a list of ids has no odd rows
     assert "is this row" not in desk.take("id;birth;sire;dam\na;;;\nb;;;\n", "--book", "ids").out
+
+
+def test_titles_again(desk: Desk) -> None:
+    """A row of titles within the sheet, as at the head of a page."""
+    titles = "Ohrmarke;geb.;Vater;Mutter"
+    done = desk.take(f"{titles}\na;2001;;\n{titles}\nb;2003;a;\nOhrmarke;2004;a;\n")
+    done.shows("line 3: the row is left out: it repeats the titles")
+    assert desk.numbers().keys() == {"a", "b", "Ohrmarke"}
+
+
+@pytest.mark.parametrize("count", [5, 6])
+def test_sires_in_the_column_of_dams(desk: Desk, count: int) -> None:
+    rows = "s;m;2001-01-01;;\nd;f;2001-01-01;;\n" + "".join(f"c{at};f;2004-01-01;d;\n" for at in range(count))
+    rows += "".join(f"e{at};f;2004-01-01;s;\n" for at in range(4))
+    done = desk.take("id;sex;birth;Vater;Mutter\n" + rows)
+    told = f"to look at: {count} of {count + 4} parents are left out for their sex: are the sires in 'Mutter', and the dams in 'Vater'?"
+    assert (told in done.out.splitlines()) == (count == 6)
+    if count == 6:
+        assert " 10 changed, 0 inferred, 4 left out (4 parents)" in desk.typed(done.commands()[0]).last

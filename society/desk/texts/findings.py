@@ -12,6 +12,7 @@ FINDINGS: dict[str, tuple[str, str]] = {
         "die Zeile ist weggelassen: sie hat keine Ohrmarke[, denn „{word}“ steht für ein unbekanntes Tier]",
         "la ligne est omise : elle n'a pas de boucle[, car « {word} » désigne un animal inconnu]",
     ),
+    "titles again": ("die Zeile ist weggelassen: sie wiederholt die Titel", "la ligne est omise : elle répète les titres"),
     "id again": (
         "die Zeile ist weggelassen: Zeile {line} hat diese Ohrmarke auch[, mit {differing}]",
         "la ligne est omise : la ligne {line} a aussi cette boucle[, avec {differing}]",
@@ -168,6 +169,12 @@ FINDINGS: dict[str, tuple[str, str]] = {
     ),
     "same parent twice": (
         "die Mutter {parent} ist weggelassen: {parent} ist auch der Vater", "la mère {parent} est omise : {parent} est aussi le père",
+    ),
+    "columns swapped": (
+        "{refused} von {links} Eltern sind wegen ihres Geschlechts weggelassen: stehen die Väter in „{dams}“, und die Mütter in "
+        "„{sires}“?",
+        "{refused} des {links} parents sont omis à cause de leur sexe : les pères sont-ils dans « {dams} », et les mères dans "
+        "« {sires} » ?",
     ),
     "parent refused": (
         "{role} {parent}[ (Zeile {line})] ist weggelassen: {refusal}", "{role} {parent}[ (ligne {line})] : omis, {refusal}",
