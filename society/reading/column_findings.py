@@ -8,7 +8,7 @@ from society.book.kinds import Field
 from society.reading.titles import title_list
 from society.taking.harm import Harm
 from society.taking.report import Finding, What
-from society.taking.suggestions import Suggestion
+from society.taking.suggestions import Suggestion, columns
 
 
 # a sheet that lacks so many of its columns may have its titles elsewhere
@@ -23,7 +23,7 @@ class SheetFinding(Finding):
 
 
 def column(field: str, title: str) -> Option:
-    return Option("--columns", f"{field}={title}")
+    return columns({field: title})
 
 
 @dataclass(frozen=True, slots=True)
@@ -144,8 +144,7 @@ def likely_titles(likely: tuple[LikelyColumn, ...]) -> tuple[Suggestion, ...]:
     if not likely:
         return ()
     case = " and ".join(one.words() for one in likely)
-    titles = ",".join(f"{one.field}={one.title}" for one in likely)
-    return (Suggestion(f"if {case}", (Option("--columns", titles),)),)
+    return (Suggestion(f"if {case}", (columns({one.field: one.title for one in likely}),)),)
 
 
 @dataclass(frozen=True, slots=True)
@@ -168,9 +167,8 @@ class ColumnsLack(SheetFinding):
         found = likely_titles(self.likely)
         if Field.ID in self.fields or len(self.fields) >= MANY:
             return found
-        none = ",".join(f"{field}=" for field in self.fields)
         which = "there is none" if len(self.fields) == 1 else "there are none"
-        return (*found, Suggestion(f"if {which}", (Option("--columns", none),)))
+        return (*found, Suggestion(f"if {which}", (columns(dict.fromkeys(self.fields, "")),)))
 
 
 @dataclass(frozen=True, slots=True)

@@ -23,8 +23,7 @@ class LikelyColumns:
     def __init__(self, columns: Columns, unknown: Container[str]) -> None:
         self.columns, self.unknown = columns, unknown
         titles = columns.sheet.titles
-        # options name titles between commas
-        self.free = [at for at in range(len(titles)) if titles[at] and columns.is_free(at) and "," not in titles[at]]
+        self.free = [at for at in range(len(titles)) if titles[at] and columns.is_free(at)]
 
     def said(self, at: int) -> list[str]:
         return [cell for cell in self.columns.cells(at) if cell and cell not in self.unknown]
@@ -51,12 +50,18 @@ class LikelyColumns:
 
     def of_parents(self, id: int, columns: list[int]) -> list[int]:
         """The columns most of whose cells are ids of other rows, in their order; none where the ids aren't different."""
-        cells = [nearly(cell) for cell in self.columns.cells(id)]
-        ids = {*cells}
-        if "" in ids or len(ids) < len(cells):
+        ids = [nearly(cell) for cell in self.columns.cells(id)]
+        known = {*ids}
+        if "" in known or len(known) < len(ids):
             return []
-        said = {at: [nearly(cell) for cell in self.said(at)] for at in columns}
-        return [at for at in columns if 2 * sum(cell in ids for cell in said[at]) > len(said[at])]
+        return [at for at in columns if self.are_parents(at, ids, known)]
+
+    def are_parents(self, at: int, ids: list[str], known: set[str]) -> bool:
+        """Are most cells of a column ids, and none that of its own row?"""
+        cells = [
+            (id, nearly(cell)) for id, cell in zip(ids, self.columns.cells(at)) if cell and cell not in self.unknown
+        ]
+        return 2 * sum(cell in known for _, cell in cells) > len(cells) and all(id != cell for id, cell in cells)
 
     def of_lost(self, field: Field) -> str:
         """The title of the column that may have a field which the last sheet had, or nothing."""

@@ -60,7 +60,7 @@ def find_pedigree_columns(line: int, cells: list[str], given: Mapping[Field, str
             found[field] = at
     missing = [field for field in NEEDED if field not in found]
     if missing:
-        free = [cell for at, cell in enumerate(cells) if at not in found.values() and cell and "," not in cell]
+        free = [cell for at, cell in enumerate(cells) if at not in found.values() and cell]
         likely = (
             [LikelyColumn(field, title) for field, title in zip(missing, free)] if len(free) >= len(missing) else []
         )

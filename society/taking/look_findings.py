@@ -10,7 +10,7 @@ from society.book.role import Role
 from society.mistake import counted
 from society.taking.harm import Harm
 from society.taking.report import Finding, What
-from society.taking.suggestions import DROP_GONE, Suggestion
+from society.taking.suggestions import DROP_GONE, Suggestion, columns
 
 
 class Look(Finding):
@@ -168,7 +168,7 @@ class ExitsWithdrawn(Look):
         )
 
     def suggestions(self) -> tuple[Suggestion, ...]:
-        option = Option("--columns", f"{Field.EXIT}=")
+        option = columns({Field.EXIT: ""})
         return (Suggestion("if the sheet doesn't tell of exits", (option,), undoes=True),)
 
 
@@ -204,9 +204,7 @@ class ColumnsSwapped(Look):
         )
 
     def suggestions(self) -> tuple[Suggestion, ...]:
-        if "," in self.sires + self.dams:
-            return ()
-        option = Option("--columns", f"{Field.SIRE}={self.dams},{Field.DAM}={self.sires}")
+        option = columns({Field.SIRE: self.dams, Field.DAM: self.sires})
         return (Suggestion("if they are", (option,)),)
 
 

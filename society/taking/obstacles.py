@@ -4,12 +4,11 @@ from __future__ import annotations
 import enum
 from dataclasses import dataclass
 
-from society.book.changes import Option
 from society.book.kinds import Field
 from society.mistake import counted
 from society.taking.look_findings import RowOf
 from society.taking.report import Finding, What
-from society.taking.suggestions import ANYWAY, Suggestion
+from society.taking.suggestions import ANYWAY, Suggestion, columns
 
 STRICT = "--strict"
 
@@ -159,7 +158,7 @@ class ParentsLack(Guard):
         anyway = Guard.suggestions(self)
         if not self.title:
             return anyway
-        option = Option("--columns", f"{Field.NAME}={self.title}")
+        option = columns({Field.NAME: self.title})
         return (Suggestion(f"if '{self.title}' has the names", (option,)), *anyway)
 
 

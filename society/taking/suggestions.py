@@ -3,6 +3,7 @@ from __future__ import annotations
 
 import pathlib
 import shlex
+from collections.abc import Mapping
 from dataclasses import dataclass, replace
 
 from society.book.changes import Option
@@ -14,7 +15,15 @@ OPPOSITE = {"--known": "--unknown", "--unknown": "--known"}
 # the folder of a book where none is named
 USUAL_BOOK = pathlib.Path("book")
 
+COLUMNS = "--columns"
 ANYWAY, LEAVE_OUT, DROP_GONE, PREVIEW = map(Option, ("--anyway", "--leave-out", "--drop-gone", "--preview"))
+
+
+def columns(titles: Mapping[str, str]) -> Option:
+    """The option that names the columns of fields; a title with a comma stands in quotation marks."""
+    parts = [f"{field}={title}" for field, title in titles.items()]
+    quoted = ['"' + part.replace('"', '""') + '"' if "," in part else part for part in parts]
+    return Option(COLUMNS, ",".join(quoted))
 
 
 @dataclass(frozen=True, slots=True)

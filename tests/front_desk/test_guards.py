@@ -134,7 +134,7 @@ def test_other_sexes(desk: Desk) -> None:
     titles = TITLES + ";Geschlecht"
     rows = [f"{row};{'m' if at % 10 < 5 else 'w' if at % 3 else ''}" for at, row in enumerate(flock("A"))]
     desk.take(sheet(rows, titles))
-    said = [f"{row}w" if row.endswith(";") else row for row in rows]
+    said = [f"{row}{'m' if at > 10 else 'w'}" if row.endswith(";") else row for at, row in enumerate(rows)]
     assert "other sexes" not in desk.take(sheet(said, titles)).out
     others = [*said[:10], *(row[:-1] + ("w" if row.endswith("m") else "m") for row in said[10:16]), *said[16:]]
     refused(

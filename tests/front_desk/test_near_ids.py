@@ -34,6 +34,14 @@ def test_more_than_one_is_meant(desk: Desk) -> None:
     assert " 2 added" in done.last
 
 
+def test_row_that_comes_later(desk: Desk) -> None:
+    """A parent that was added is the row whose id is nearly written so."""
+    calf = "c1;;F;2004-01-01;;de 8\n"
+    assert " 1 added" in desk.take(TITLES + FLOCK.splitlines()[0] + "\n" + calf).last
+    desk.take(TITLES + FLOCK + calf)
+    assert desk.parents()["c1"] == ("", "DE 8")
+
+
 def test_rows_that_are_alike(desk: Desk) -> None:
     """They are told at each taking."""
     told = (
@@ -137,10 +145,9 @@ def test_birth_that_moved_by_years(desk: Desk) -> None:
     assert done.out.startswith(told)
     assert "to look at" not in desk.take(TITLES + FLOCK.replace("2001-03-02", "2003-01-30")).out
     assert desk.take(TITLES + FLOCK.replace("2001-03-02", "2000-01-30")).out.startswith("line 3: DE 8: to look at")
-    done = desk.take(TITLES + FLOCK.replace("Eva;F;2001", "Eva;M;2011"))
-    assert done.out.startswith(
-        "line 3: DE 8: the row is left out: the book has this id for another animal ('Eva', born 2000"
-    )
+    for other in "Eva;M;2011", "Ida;F;1991":
+        done = desk.take(TITLES + FLOCK.replace("Eva;F;2001", other))
+        assert done.out.startswith("line 3: DE 8: the row is left out: the book has this id for another animal ('Eva'")
 
 
 def test_sheet_that_is_sorted_again(desk: Desk) -> None:

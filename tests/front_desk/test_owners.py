@@ -114,7 +114,7 @@ def test_owners_that_are_alike(desk: Desk) -> None:
     """Names of one sheet that differ in case, accents, blanks or signs alone are told at each taking."""
     rows = [
         f"{name}:{at};F;2001-03-01;;;{name};"
-        for at, name in enumerate(["Groß, A.", "Groß A", "gross a", "Weiß", "Weiz", ""])
+        for at, name in enumerate(["Groß, A.", "Groß A", "gross a", "Weiß", "weiß", "Weiz", ""])
     ]
     for _ in range(2):
         done = desk.take(TITLES + PARENTS + "\n".join(rows))
@@ -122,7 +122,7 @@ def test_owners_that_are_alike(desk: Desk) -> None:
             "to look at: the owners 'Groß A' (1 animal) and 'Groß, A.' (1 animal) and 'gross a' (1 animal) differ in case, "
             "accents, blanks or signs alone: if they are one, write the name alike in all rows, and take the sheet again"
         )
-        assert done.out.count("differ in case") == 1
+        assert done.out.count("differ in case") == 2
     assert "differ in case" not in desk.take(TITLES + PARENTS).out
 
 

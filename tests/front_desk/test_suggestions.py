@@ -95,6 +95,9 @@ def test_suggestions_for_titles_of_a_pedigree(desk: Desk) -> None:
     assert desk.typed(done.commands()[0]).last.startswith("das Buch: 3 animals")
     done = desk.run("take", "--pedigree", "linie 1.txt", "--columns", "sire=PARENT,dam=PARENT2", "--book", "other")
     assert desk.typed(done.commands()[0]).last.startswith("other: 3 animals")
+    desk.write(NAME, "id;birth;PARENT1;PARENT2\na;2001;;\nb;2001;;\nc;2004;a;b\n")
+    done = desk.run("take", NAME, "--columns", "sire=PARENT,dam=PARENT2")
+    assert " 0 left out, 0 added" in desk.typed(done.commands()[0]).last
 
 
 def test_suggested_sheet(desk: Desk) -> None:

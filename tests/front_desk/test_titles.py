@@ -128,7 +128,8 @@ def test_column_that_is_lost(desk: Desk) -> None:
         assert [one.partition("--columns ")[2] for one in done.commands()] == [
             "sex=Nature", "sex=", "'owner=Owner or breeder'", "owner=",
         ]  # fmt: skip
-    assert "for owner is found" not in desk.take(now, "--columns", "owner=").out
+    for words in ("--columns", "owner="), ():
+        assert "for owner is found" not in desk.take(now, *words).out
     done = desk.typed(done.commands()[2])
     assert "changed: owner 1" in done.out and "for owner is found" not in done.out
 
@@ -143,6 +144,19 @@ def test_columns_of_parents(desk: Desk) -> None:
     assert {"1", "2", "3", "4", "5"} <= {row["id"] for row in desk.table("few/ids.csv")}
 
 
+def test_columns_that_may_be_meant(desk: Desk) -> None:
+    """Of an unknown sheet the ids are all different, parents are ids, and most cells of birth days are days."""
+    rows = "a;a;x;2001;;\na;b;2004;2002;;\nb;c;y;2004-05-06;a;b\n"
+    sheet = desk.write("sheet.csv", f"Gruppe;Marke;Note;gz, neu;V1;M1\n{rows}")
+    done = desk.wrong("no column for id or birth or sire or dam is found", "take", sheet)
+    assert len(done.commands()) == 1
+    read = "columns: id from 'Marke', birth from 'gz, neu', sire from 'V1', dam from 'M1'; not read: 'Gruppe', 'Note'"
+    assert read in desk.typed(done.commands()[0]).out
+    other = desk.write("other.csv", "Gruppe;id;Note;g;sire;dam\n" + rows.replace("0", "x"))
+    done = desk.wrong("no column for birth", "take", other, "--book", "other")
+    assert [one.partition("--columns ")[2] for one in done.commands()] == ["birth="]
+
+
 def test_ids_that_count_rows(desk: Desk) -> None:
     """Where no parent shows which column has the ids, and another one may have them."""
     done = desk.take("Nr;Kürzel;birth;sire;dam\n1;DE4;2001-01-01;;\n2;DE3;2002-01-01;;\n3;DE9;2003-01-01;;\n")
@@ -151,6 +165,8 @@ def test_ids_that_count_rows(desk: Desk) -> None:
     )
     desk.write("sheet.csv", "Nr;Kürzel;birth;sire;dam\n1;DE4;2001-01-01;;\n2;DE3;2002-01-01;;\n")
     assert "counts the rows" not in desk.typed(done.commands()[0].replace("take", "take --book other")).out
+    rows = "1;x;2001;;\n2;y;2002;;\n3;z;2004;1;2\n"
+    assert "counts the rows" not in desk.take("Nr;Kürzel;birth;sire;dam\n" + rows, "--book", "numbers").out
     # ids that are sorted don't count rows
     desk.take("Tag;Ohrmarke;birth;sire;dam\n101;x;2001;;\n105;y;2002;;\n109;z;2003;;\n", "--book", "sorted")
     assert {row["id"] for row in desk.table("sorted/ids.csv")} == {"101", "105", "109"}
@@ -167,7 +183,7 @@ LOOK = "to look at: is this row an animal? It "
 
 def test_sums(desk: Desk) -> None:
     """A row that counts or sums up is told, in whatever column its word is; so is one that has an id alone."""
-    rows = "Hof;Rex;a;2001-01-01;;\nHof;Count;b;2002-01-01;;\nHof;;c;2003-01-01;;\nHof;;d;2003-01-02;;d 0\n;;d0;;;\n"
+    rows = "Hof;Rex;a;2001-01-01;;\nHof;Count;b;2002-01-01;;\nHof;;c;2003-01-01;;\nHof;;d;2003-01-02;;d 0\n;;D0;;;\n"
     odd = ";;Summe: 4;;;\nGesamt;;4;;;\n;;04;;Anzahl:;\nBöcke;;2;;;\n"
     done = desk.take("Besitzer;Name;id;birth;sire;dam\n" + rows + odd)
     alone = "has an id alone, and no animal has it as a parent. It is taken as one"
