@@ -5,6 +5,7 @@ passed over.
 """
 from __future__ import annotations
 
+import collections
 from collections.abc import Callable, Collection, Iterable, Mapping
 
 # the known parents of each animal
@@ -13,10 +14,10 @@ Parents = Mapping[str, Collection[str]]
 
 def offspring(parents: Parents) -> dict[str, list[str]]:
     """The offspring of each parent, twice where it is both parents."""
-    found: dict[str, list[str]] = {}
+    found = collections.defaultdict[str, list[str]](list)
     for id, its in parents.items():
         for parent in its:
-            found.setdefault(parent, []).append(id)
+            found[parent].append(id)
     return found
 
 
@@ -25,7 +26,7 @@ class Waiting:
 
     def __init__(self, parents: Parents) -> None:
         self.offspring = offspring(parents)
-        self.missing = {id: sum(parent in parents for parent in its) for id, its in parents.items()}
+        self.missing = {id: sum(map(parents.__contains__, its)) for id, its in parents.items()}
         self.free = [id for id, missing in self.missing.items() if not missing]
 
     def place(self, id: str) -> list[str]:

@@ -18,9 +18,11 @@ def for_spreadsheets(cell: str) -> str:
     return TEXT + cell if cell[:1] in FORMULA else cell
 
 
-def row_for_spreadsheets(row: Sequence[object]) -> list[object]:
-    """The same of a row, whose cells may be numbers too."""
-    return [TEXT + cell if isinstance(cell, str) and cell[:1] in FORMULA else cell for cell in row]
+def column_for_spreadsheets(cells: Sequence[object]) -> Sequence[object]:
+    """The same of a column, whose cells may be numbers too. Few columns have a cell that would be one."""
+    if FORMULA.isdisjoint({cell[:1] for cell in cells if isinstance(cell, str)}):
+        return cells
+    return [for_spreadsheets(cell) if isinstance(cell, str) else cell for cell in cells]
 
 
 def for_terminals(text: str) -> str:

@@ -10,7 +10,7 @@ import pathlib
 import secrets
 from typing import Iterable, Sequence
 
-from society.book.cells import row_for_spreadsheets
+from society.book.cells import column_for_spreadsheets
 from society.book.changes import Source
 from society.book.sentences import BookFault
 from society.mistake import Mistake
@@ -21,7 +21,7 @@ def table(titles: list[str], rows: Iterable[Sequence[object]], semicolons: bool 
     text = io.StringIO()
     writer = csv.writer(text, delimiter=";" if semicolons else ",", lineterminator="\n")
     writer.writerow(titles)
-    writer.writerows(map(row_for_spreadsheets, rows))
+    writer.writerows(zip(*map(column_for_spreadsheets, zip(*rows))))
     return text.getvalue().encode("utf-8-sig" if semicolons else "utf-8")
 
 

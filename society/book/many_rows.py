@@ -12,11 +12,14 @@ TOGETHER = 50
 MANY = 5_000
 
 
-def insert_many(connection: sqlite3.Connection, into: str, rows: Iterable[Sequence[object]]) -> None:
-    """Inserts rows into a table, or into some columns of one, as `into` names them."""
+def insert_many(
+    connection: sqlite3.Connection, into: str, rows: Iterable[Sequence[object]], first: Sequence[int] = ()
+) -> None:
+    """Inserts rows into a table, or into some columns of one, as `into` names them. What all rows begin with may be
+    given as `first`: it stands in the statement then, and not in each of the rows."""
     left = iter(rows)
     while some := list(itertools.islice(left, TOGETHER)):
-        marks = f"({', '.join('?' * len(some[0]))})"
+        marks = f"({', '.join([*map(str, first), *'?' * len(some[0])])})"
         values = list(itertools.chain.from_iterable(some))
         connection.execute(f"INSERT INTO {into} VALUES {', '.join([marks] * len(some))}", values)
 

@@ -6,7 +6,10 @@ import functools
 from typing import NamedTuple
 
 from society.book.commands import Record
-from society.book.inferred import BirthBasis, BirthSource, ExitBasis, ExitSource, OwnerDay, Period, SexSource
+
+from society.book.inferred import (
+    GIVEN_BIRTH, GIVEN_EXIT, BirthBasis, BirthSource, ExitBasis, ExitSource, OwnerDay, Period, SexSource,
+)  # fmt: skip
 from society.book.kinds import Field, Standing
 from society.book.known import NO_FIELDS, Known
 
@@ -54,14 +57,17 @@ OWNER_DAYS = {day.value: day for day in OwnerDay}
 SEX_SOURCES = {source.value: source for source in SexSource}
 
 
+# that of most animals is one object for all of them: what is the same object is the same without a closer look
 @functools.lru_cache(maxsize=4096)
 def birth_basis(source: str, period: str | None, no_such_day: str | None) -> BirthBasis:
-    return BirthBasis(BirthSource(source), Period(period, no_such_day or "") if period else None)
+    basis = BirthBasis(BirthSource(source), Period(period, no_such_day or "") if period else None)
+    return GIVEN_BIRTH if basis == GIVEN_BIRTH else basis
 
 
 @functools.lru_cache(maxsize=4096)
 def exit_basis(source: str, period: str | None, no_such_day: str | None, text: str | None) -> ExitBasis:
-    return ExitBasis(ExitSource(source), Period(period, no_such_day or "") if period else None, text or "")
+    basis = ExitBasis(ExitSource(source), Period(period, no_such_day or "") if period else None, text or "")
+    return GIVEN_EXIT if basis == GIVEN_EXIT else basis
 
 
 @functools.lru_cache(maxsize=1024)
@@ -105,42 +111,63 @@ def record_of(row: Row) -> Record:
 
 def row_of(known: Known, record: Record | None) -> Row:
     """The row for both; an animal that was dropped has no record."""
-    birth, exit = known.birth.period, known.exit.period
-    register = (None,) * 8 if record is None else register_of(record)
+    number, id, name, standing, birth, exit, sex, castrated, written_sire, written_dam, by_hand, owner_day = known
+    birth_source, birth_period, no_such_birth = GIVEN_BIRTH_TEXTS if birth is GIVEN_BIRTH else birth_texts(birth)
+    exit_source, exit_period, no_such_exit, text = GIVEN_EXIT_TEXTS if exit is GIVEN_EXIT else exit_texts(exit)
+    register = NOT_IN_REGISTER if record is None else register_of(record)
     return Row(
-        known.id,
-        known.number,
-        known.name,
-        known.id.casefold(),
-        known.name.casefold(),
-        known.standing.value,
-        known.birth.source.value,
-        birth.text if birth else None,
-        (birth.no_such_day or None) if birth else None,
-        known.exit.source.value,
-        exit.text if exit else None,
-        (exit.no_such_day or None) if exit else None,
-        known.exit.text if known.exit.day_is_unknown else None,
-        known.sex.value,
-        int(known.castrated),
-        known.written_sire,
-        known.written_dam,
-        " ".join(sorted(one.value for one in known.by_hand)),
-        known.owner_day.value,
+        id,
+        number,
+        name,
+        id.casefold(),
+        name.casefold(),
+        standing.value,
+        birth_source,
+        birth_period,
+        no_such_birth,
+        exit_source,
+        exit_period,
+        no_such_exit,
+        text,
+        sex.value,
+        int(castrated),
+        written_sire,
+        written_dam,
+        " ".join(sorted(one.value for one in by_hand)) if by_hand else "",
+        owner_day.value,
         *register,
     )
 
 
-def register_of(
-    record: Record,
-) -> tuple[str, str | None, str | None, int, int, str, int | None, str | None]:
+def birth_texts(basis: BirthBasis) -> tuple[str, str | None, str | None]:
+    return basis.source.value, *period_texts(basis.period)
+
+
+def exit_texts(basis: ExitBasis) -> tuple[str, str | None, str | None, str | None]:
+    return basis.source.value, *period_texts(basis.period), basis.text if basis.day_is_unknown else None
+
+
+def period_texts(period: Period | None) -> tuple[str | None, str | None]:
+    return (period.text, period.no_such_day or None) if period else (None, None)
+
+
+# those of most animals
+GIVEN_BIRTH_TEXTS, GIVEN_EXIT_TEXTS = birth_texts(GIVEN_BIRTH), exit_texts(GIVEN_EXIT)
+Register = tuple[str | None, str | None, str | None, int | None, int | None, str | None, int | None, str | None]
+NOT_IN_REGISTER: Register = (None, None, None, None, None, None, None, None)
+
+
+def register_of(record: Record) -> Register:
+    _, born, sire, dam, embryo, herd, since, left, giver = record
+    day = born.isoformat()
     return (
-        record.born.isoformat(),
-        record.sire or None,
-        record.dam or None,
-        int(record.embryo),
-        record.herd,
-        record.since.isoformat(),
-        record.giver or None,
-        record.left.isoformat() if record.left else None,
+        day,
+        sire or None,
+        dam or None,
+        int(embryo),
+        herd,
+        # most have their owner from their birth on
+        day if since is born else since.isoformat(),
+        giver or None,
+        left.isoformat() if left else None,
     )

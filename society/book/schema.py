@@ -10,9 +10,11 @@ from society.book.kinds import ChangeKind, CommandKind, Remembered, Standing
 APPLICATION = 0x48455244
 
 
-def words(kinds: type[enum.Enum]) -> str:
-    """The words of an enum, as a check lists them."""
-    return ", ".join(f"'{kind.value}'" for kind in kinds)
+def one_of(column: str, kinds: type[enum.Enum]) -> str:
+    """The check that a column has one of the words of an enum, the first of which is the usual one. For `IN` SQLite
+    would make a table of the words for each statement, and look for each row's word in it."""
+    words = " OR ".join(f"{column} = '{kind.value}'" for kind in kinds)
+    return f"CHECK ({words})"
 
 
 DAY = "GLOB '[12][0-9][0-9][0-9]-[01][0-9]-[0-3][0-9]'"
@@ -30,7 +32,7 @@ CREATE TABLE edition (
 
 CREATE TABLE change (
     change INTEGER PRIMARY KEY CHECK (change >= 1),
-    kind TEXT NOT NULL CHECK (kind IN ({words(ChangeKind)})),
+    kind TEXT NOT NULL {one_of('kind', ChangeKind)},
     -- microseconds since 1970 began, in universal time
     time INTEGER NOT NULL,
     login TEXT NOT NULL,
@@ -76,7 +78,7 @@ CREATE TABLE told (
 CREATE TABLE command (
     edition INTEGER NOT NULL REFERENCES edition,
     place INTEGER NOT NULL CHECK (place >= 1),
-    kind TEXT NOT NULL CHECK (kind IN ({words(CommandKind)})),
+    kind TEXT NOT NULL {one_of('kind', CommandKind)},
     animal TEXT NOT NULL CHECK (length(animal) = 19 AND animal {NUMBER}),
     day TEXT CHECK (day {DAY}),
     sire TEXT CHECK (length(sire) = 19 AND sire {NUMBER}),
@@ -109,20 +111,20 @@ CREATE TABLE animal (
     -- the id and the name in small letters, by which it is found
     folded_id TEXT NOT NULL,
     folded_name TEXT NOT NULL,
-    standing TEXT NOT NULL CHECK (standing IN ({words(Standing)})),
-    birth_source TEXT NOT NULL CHECK (birth_source IN ({words(BirthSource)})),
+    standing TEXT NOT NULL {one_of('standing', Standing)},
+    birth_source TEXT NOT NULL {one_of('birth_source', BirthSource)},
     birth_period TEXT,
     birth_no_such_day TEXT,
-    exit_source TEXT NOT NULL CHECK (exit_source IN ({words(ExitSource)})),
+    exit_source TEXT NOT NULL {one_of('exit_source', ExitSource)},
     exit_period TEXT,
     exit_no_such_day TEXT,
     exit_text TEXT,
-    sex_source TEXT NOT NULL CHECK (sex_source IN ({words(SexSource)})),
+    sex_source TEXT NOT NULL {one_of('sex_source', SexSource)},
     castrated INTEGER NOT NULL CHECK (castrated IN (0, 1)),
     written_sire TEXT NOT NULL,
     written_dam TEXT NOT NULL,
     by_hand TEXT NOT NULL,
-    owner_day TEXT NOT NULL CHECK (owner_day IN ({words(OwnerDay)})),
+    owner_day TEXT NOT NULL {one_of('owner_day', OwnerDay)},
     -- what the register has, none of it for one that was dropped
     born TEXT CHECK (born {DAY}),
     sire TEXT CHECK (length(sire) = 19 AND sire {NUMBER}),
@@ -165,7 +167,7 @@ CREATE TABLE cell (
 ) STRICT, WITHOUT ROWID;
 
 CREATE TABLE remembered (
-    what TEXT NOT NULL CHECK (what IN ({words(Remembered)})),
+    what TEXT NOT NULL {one_of('what', Remembered)},
     word TEXT NOT NULL,
     since INTEGER NOT NULL REFERENCES change,
     until INTEGER REFERENCES change CHECK (until > since),

@@ -1,6 +1,7 @@
 """The state of a book after a change: its animals, the last cells of each, and what it remembers of its sheets."""
 from __future__ import annotations
 
+import operator
 import sqlite3
 from typing import Callable, Iterable, NamedTuple
 
@@ -14,7 +15,6 @@ ALL_ROWS = "animal NOT INDEXED"
 # the state after a change
 THEN = "since <= :change AND (until IS NULL OR until > :change)"
 CELL_FIELDS = tuple(field for field in Field if field is not Field.ID)
-CELL_NAMES = tuple(str(field.value) for field in CELL_FIELDS)
 CELL_COLUMNS = "id, " + ", ".join(f"cell_{field.value}" for field in CELL_FIELDS)
 
 # a row of a table without the changes between which it holds; its first values are its key
@@ -67,12 +67,14 @@ def write_rows(
 ) -> None:
     """Makes of rows that held before a change those that hold after it. What stays as it is isn't touched."""
     ended = ((change, *key) for key, row in before.items() if after.get(key) != row)
-    begun = [(change, *row) for key, row in after.items() if before.get(key) != row]
+    begun = [row for key, row in after.items() if before.get(key) != row]
+    # in the order of its keys a table is written quickest
+    begun.sort(key=operator.itemgetter(*range(table.keys)))
     names = [name.strip() for name in table.columns.split(",")]
     where = " AND ".join(f"{name} = ?" for name in names[: table.keys])
     connection.executemany(f"UPDATE {table.name} SET until = ? WHERE {where} AND {NOW}", ended)
     with indexes_behind(connection, table.name, len(begun)):
-        insert_many(connection, f"{table.name} (since, {table.columns})", begun)
+        insert_many(connection, f"{table.name} (since, {table.columns})", begun, [change])
 
 
 def bring_back(connection: sqlite3.Connection, change: int, earlier: int) -> None:

@@ -1,8 +1,11 @@
 """Reads the cells of an animal's row: its parents, its sex, its days, and whether it is a stored embryo."""
 from __future__ import annotations
 
+from collections.abc import Callable
+
 from society.book.inferred import ExitBasis, ExitSource
 from society.book.kinds import Field
+from society.book.state import CELL_FIELDS
 from society.reading.animal import Animal
 from society.reading.cell_findings import DayLeftOut, EmbryoUnread, ExitInferred, SexUnread
 from society.reading.day_cells import DayCell, DayCells
@@ -14,6 +17,9 @@ from society.reading.unknown import UnknownParents
 from society.reading.unread import Unread
 from society.reading.words import KNOWN_NO, KNOWN_YES
 from society.taking.report import Finding, Report
+
+# where a row has no cell
+NO_TEXTS = ("",) * len(CELL_FIELDS)
 
 
 class AnimalCells:
@@ -27,26 +33,24 @@ class AnimalCells:
 
     def animal(self, line: int, id: str, cells: dict[str, str]) -> Animal:
         """The animal of a row, by the cells of its other columns."""
-        said = cells.get
-        sire, dam = self.known_parent(said(Field.SIRE, "")), self.known_parent(said(Field.DAM, ""))
-        name, owner = said(Field.NAME, ""), said(Field.OWNER, "")
+        said: Callable[[str, str], str] = cells.get
+        name, sex, birth, sire, dam, owner, since, exit, embryo = map(said, CELL_FIELDS, NO_TEXTS)
+        sire = "" if self.unknown.is_one(sire) else sire
+        dam = "" if self.unknown.is_one(dam) else dam
         animal = Animal(id, line, name, sire=sire, dam=dam, owner=owner, cells=cells)
         for text in id, name, owner, sire, dam:
             if not text.isascii():
                 self.letters.look(line, text)
-        self.read_sex(animal, said(Field.SEX, ""))
-        if text := said(Field.BIRTH, ""):
-            animal.birth = self.span(animal, Field.BIRTH, text, self.days.day(Field.BIRTH, text)) or ANY_DAY
-        if text := said(Field.EXIT, ""):
-            self.read_exit(animal, text)
-        if text := said(Field.SINCE, ""):
-            animal.since = self.span(animal, Field.SINCE, text, self.days.day(Field.SINCE, text))
-        if text := said(Field.EMBRYO, ""):
-            animal.embryo = self.is_embryo(animal, text)
+        self.read_sex(animal, sex)
+        if birth:
+            animal.birth = self.span(animal, Field.BIRTH, birth, self.days.day(Field.BIRTH, birth)) or ANY_DAY
+        if exit:
+            self.read_exit(animal, exit)
+        if since:
+            animal.since = self.span(animal, Field.SINCE, since, self.days.day(Field.SINCE, since))
+        if embryo:
+            animal.embryo = self.is_embryo(animal, embryo)
         return animal
-
-    def known_parent(self, text: str) -> str:
-        return "" if self.unknown.is_one(text) else text
 
     def leave_out(self, animal: Animal, name: str, text: str, found: Finding) -> None:
         """A cell that can't be read."""

@@ -1,6 +1,7 @@
 """From a file's bytes to its text: UTF-8, UTF-16 or Windows-1252, and what is wrong with the letters."""
 from __future__ import annotations
 
+import functools
 import pathlib
 import re
 from typing import NamedTuple
@@ -97,6 +98,8 @@ def decoded_twice(text: str) -> str:
     return mended if mended != text else ""
 
 
+# the same letters stand in many cells
+@functools.lru_cache(maxsize=4096)
 def mended_letters(letters: str) -> str:
     for encoding in "cp1252", "latin-1":
         try:

@@ -122,7 +122,7 @@ def read_records(text: str, separator: str) -> list[Row]:
     rows, begins, cleaned = [], 1, Cleaned()
     try:
         for cells in reader:
-            texts = [cleaned[cell] for cell in cells]
+            texts = list(map(cleaned.__getitem__, cells))
             if any(texts):
                 rows.append(Row(begins, texts))
             begins = reader.line_num + 1

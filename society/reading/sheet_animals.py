@@ -70,9 +70,8 @@ class Rows:
         """The cells of a row by their fields; error values are empty."""
         if len(cells) < self.width:
             cells = cells + [""] * (self.width - len(cells))
-        if self.errors.found:
-            return {name: self.value(cells[at]) for name, at in self.columns.items()}
-        return {name: cells[at] for name, at in self.columns.items()}
+        texts = map(cells.__getitem__, self.columns.values())
+        return dict(zip(self.columns, map(self.value, texts) if self.errors.found else texts))
 
     def animals(self) -> dict[str, Animal]:
         """The animals by id, in the order of the rows."""
@@ -84,7 +83,7 @@ class Rows:
         for line, cells in self.sheet.rows:
             said = self.said(cells)
             id = said.pop(Field.ID)
-            if len(cells) > usual or any(cells[titles:]):
+            if len(cells) > titles and (len(cells) > usual or any(cells[titles:])):
                 self.report.add(line, id, TooManyCells(len(cells), titles))
             elif self.unknown.is_one(id):
                 self.report.add(line, id, NoId(id))

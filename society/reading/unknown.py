@@ -9,6 +9,7 @@ from society.reading.words import UNKNOWN, is_error_value, listed
 
 # signs alone, as `?`, `*` and `---`, and zeros alone, as `00` and `0.0`
 SIGNS = re.compile(r"[-–—?.*/_~+]+|[-+]?0[0.,]*")
+BEGIN_OF_SIGNS = frozenset("-–—?.*/_~+0")
 POINTS = re.compile(r"\.\s*")
 # the words of a geneticist's pedigree
 PEDIGREE = (
@@ -50,4 +51,4 @@ class UnknownParents:
             return not folded
         if folded in self.more or compared(text) in KNOWN_UNKNOWN or is_error_value(text):
             return True
-        return SIGNS.fullmatch(text) is not None
+        return text[0] in BEGIN_OF_SIGNS and SIGNS.fullmatch(text) is not None

@@ -4,8 +4,7 @@ from __future__ import annotations
 import datetime
 
 from society.book.inferred import GIVEN_BIRTH, BirthBasis, BirthSource
-from society.pedigree_order import offspring
-from society.reading.animal import Animal, parents_of_all
+from society.reading.animal import Animal
 from society.reading.days import ANY_DAY, FIRST_DAY, Span
 from society.taking.animal_findings import BirthDayInferred
 from society.taking.cycles import cut_cycles
@@ -31,57 +30,57 @@ class Days:
 
     def __init__(self, animals: dict[str, Animal], order: list[str], kept: dict[str, tuple[int, BirthBasis]]) -> None:
         """`order` has parents before their offspring."""
-        self.animals, self.order = animals, order
+        self.animals = animals
+        # those without a day, and the offspring of each
+        self.undated = [id for id in order if not animals[id].has_day()]
+        self.calves = offspring_of(animals, self.undated)
         # no day that is inferred is after it
         self.today = datetime.date.today().toordinal()
         # the day that was inferred for an animal of the book, and from what
         self.kept = kept
-        self.calves = offspring(parents_of_all(animals))
+        # of each that has no day the first and the last day that are open, and a likely one, and from what
         self.low: dict[str, int] = {}
         self.high: dict[str, int] = {}
-        # a likely day, and from what
         self.likely: dict[str, tuple[int, BirthBasis]] = {}
 
     def infer(self, report: Report) -> None:
         """Sets `born` of all animals, which have no cycle, and tells each day that was inferred."""
-        for id in self.order:
-            self.set_low(id)
-        for id in reversed(self.order):
-            self.set_high(id)
-        for id in self.order:
-            animal = self.animals[id]
+        for animal in self.animals.values():
             if animal.has_day():
                 animal.born = animal.birth.first
-            else:
-                animal.born, animal.birth_basis = self.day_for(animal)
-                is_kept = self.stays(animal, animal.born.toordinal())
-                found = BirthDayInferred(animal.born, animal.birth_basis, is_kept, animal.named_in, animal.birth.text)
-                report.add(animal.line, id, found)
+        for id in self.undated:
+            self.set_low(id)
+        for id in reversed(self.undated):
+            self.set_high(id)
+        for id in self.undated:
+            animal = self.animals[id]
+            animal.born, animal.birth_basis = self.day_for(animal)
+            is_kept = self.stays(animal, animal.born.toordinal())
+            found = BirthDayInferred(animal.born, animal.birth_basis, is_kept, animal.named_in, animal.birth.text)
+            report.add(animal.line, id, found)
 
     def stays(self, animal: Animal, day: int) -> bool:
         """Is it the day that was inferred for the book, where the cell has neither month nor year?"""
         return animal.birth == ANY_DAY and animal.id in self.kept and self.kept[animal.id][0] == day
 
+    def day_of(self, id: str, open_days: dict[str, int]) -> int:
+        """The day of an animal, or of one that has none that which is found of it."""
+        return open_days[id] if id in open_days else self.animals[id].birth.first.toordinal()
+
     def set_low(self, id: str) -> None:
         animal = self.animals[id]
-        first = animal.birth.first.toordinal()
-        if not animal.has_day():
-            first = max([first, *(self.low[parent] + 1 for _, parent in animal.parents())])
-        self.low[id] = first
+        above = (self.day_of(parent, self.low) + 1 for parent in animal.parent_ids())
+        self.low[id] = max([animal.birth.first.toordinal(), *above])
 
     def set_high(self, id: str) -> None:
         """The last day that calves, its own exit and its dam's leave open, and a likely one."""
-        animal, calves = self.animals[id], self.calves.get(id, ())
-        if animal.has_day():
-            self.high[id] = animal.birth.first.toordinal()
-            self.likely[id] = self.high[id], GIVEN_BIRTH
-            return
+        animal, calves = self.animals[id], self.calves[id]
         last = animal.birth.last.toordinal()
         dam = self.animals.get(animal.dam) if not animal.embryo else None
         exits = [animal.left, dam.left if dam else None]
-        before = [self.high[calf] - 1 for calf in calves] + [left.toordinal() for left in exits if left]
+        before = [self.day_of(calf, self.high) - 1 for calf in calves] + [left.toordinal() for left in exits if left]
         self.high[id] = min([last, self.today, *before])
-        by_calves = [self.likely[calf][0] - GENERATION for calf in calves if calf in self.likely]
+        by_calves = [self.likely_day(calf) - GENERATION for calf in calves if self.has_likely_day(calf)]
         dated = [parent for _, parent in animal.parents() if self.animals[parent].birth != ANY_DAY]
         if animal.birth != ANY_DAY:
             self.likely[id] = middle(animal.birth), BirthBasis(BirthSource.PERIOD, animal.birth.period())
@@ -90,6 +89,12 @@ class Days:
         elif dated:
             youngest = max(middle(self.animals[parent].birth) for parent in dated)
             self.likely[id] = youngest + GENERATION, FROM_PARENTS
+
+    def has_likely_day(self, id: str) -> bool:
+        return id in self.likely or self.animals[id].has_day()
+
+    def likely_day(self, id: str) -> int:
+        return self.likely[id][0] if id in self.likely else self.animals[id].birth.first.toordinal()
 
     def day_for(self, animal: Animal) -> tuple[datetime.date, BirthBasis]:
         parents = [self.animals[parent].born.toordinal() for _, parent in animal.parents()]
@@ -111,6 +116,16 @@ class Days:
         if self.stays(animal, day):
             basis = basis_before
         return datetime.date.fromordinal(day), basis
+
+
+def offspring_of(animals: dict[str, Animal], some: list[str]) -> dict[str, list[str]]:
+    """The offspring of some animals."""
+    found: dict[str, list[str]] = {id: [] for id in some}
+    for id, animal in animals.items() if found else ():
+        for parent in animal.parent_ids():
+            if parent in found:
+                found[parent].append(id)
+    return found
 
 
 def middle(span: Span) -> int:

@@ -24,11 +24,13 @@ ROLES = {
 
 
 def leave_out_faulty_parents(next_book: NextBook, program: Herdbook) -> None:
-    """Files all animals without parents, and then asks for the parents of each, the oldest first, until none is
-    refused."""
+    """Files all animals with their parents, the oldest first. Where anything is refused it files them without, and then
+    asks for the parents of each until none is refused."""
     by_age = next_book.by_birth()
-    first = [birth(animal.number, animal.born, "", "", 1, animal.embryo) for animal in by_age]
-    first += [leave(animal.number, animal.left) for animal in by_age if animal.left]
+    exits = [leave(animal.number, animal.left) for animal in by_age if animal.left]
+    if not program.file([next_book.birth_of(animal, 1) for animal in by_age] + exits):
+        return
+    first = [birth(animal.number, animal.born, "", "", 1, animal.embryo) for animal in by_age] + exits
     while True:
         calves = [animal for animal in by_age if animal.sire or animal.dam]
         refused = program.file(first + [next_book.parents_of(animal) for animal in calves])

@@ -8,6 +8,9 @@ from society.book.role import Role
 from society.reading.animal import Animal
 from society.taking.next_book import NextBook
 
+# of an animal whose parents are written as they are
+NOTHING_WRITTEN = ("", "")
+
 
 def known_after(next_book: NextBook) -> dict[str, Known]:
     """What is known of the animals of the next book, and of those that are dropped."""
@@ -21,10 +24,11 @@ def dropped_animals(next_book: NextBook) -> dict[str, Known]:
 
 
 def known_animals(next_book: NextBook) -> dict[str, Known]:
-    kept, written = {}, written_parents(next_book)
+    kept, written, known = {}, written_parents(next_book), next_book.book.known
     for id, animal in next_book.animals.items():
-        before = next_book.book.known.get(id)
+        before = known.get(id)
         by_hand = before.by_hand - next_book.overridden.get(id, NO_FIELDS) if before else NO_FIELDS
+        sire, dam = written.get(id, NOTHING_WRITTEN)
         kept[id] = Known(
             animal.number,
             id,
@@ -34,8 +38,8 @@ def known_animals(next_book: NextBook) -> dict[str, Known]:
             animal.exit_basis,
             animal.sex_source,
             animal.castrated,
-            written.get((id, Role.SIRE), ""),
-            written.get((id, Role.DAM), ""),
+            sire,
+            dam,
             by_hand,
             owner_day_of(animal, before),
         )
@@ -54,11 +58,11 @@ def owner_day_of(animal: Animal, before: Known | None) -> OwnerDay:
     return animal.owner_day if animal.line or before is None else before.owner_day
 
 
-def written_parents(next_book: NextBook) -> dict[tuple[str, Role], str]:
-    """The texts of parents that were left out, or are written by their names; those of the book where the sheet doesn't
-    give the parent."""
+def written_parents(next_book: NextBook) -> dict[str, tuple[str, str]]:
+    """For each animal the texts of its sire and its dam where these were left out, or are written by their names; those
+    of the book where the sheet doesn't give the parent."""
     book, animals = next_book.book, next_book.animals
-    found = {}
+    found: dict[tuple[str, Role], str] = {}
     before = [(known, role) for known in book.known.values() for role in Role if known.written(role)]
     for known, role in before:
         animal, record = animals.get(known.id), book.records[known.number]
@@ -67,10 +71,10 @@ def written_parents(next_book: NextBook) -> dict[tuple[str, Role], str]:
                 found[known.id, role] = known.written(role)
     for id, (sire, dam) in next_book.texts.items():
         animal = animals.get(id)
-        if animal and (animal.sire, animal.dam) != (sire, dam):
+        if animal and (animal.sire != sire or animal.dam != dam):
             both = (Role.SIRE, sire), (Role.DAM, dam)
             found |= {(id, role): text for role, text in both if is_otherwise(next_book, animal, role, text)}
-    return found
+    return {id: (found.get((id, Role.SIRE), ""), found.get((id, Role.DAM), "")) for id, _ in found}
 
 
 def is_otherwise(next_book: NextBook, animal: Animal, role: Role, text: str) -> bool:

@@ -4,6 +4,7 @@ from __future__ import annotations
 
 import collections
 import datetime
+import operator
 import statistics
 from dataclasses import dataclass
 
@@ -44,6 +45,7 @@ class Looks:
 
     def __init__(self, animals: dict[str, Animal], limits: Limits, report: Report) -> None:
         self.animals, self.limits, self.report = animals, limits, report
+        self.youngest = datetime.timedelta(limits.youngest)
 
     def tell_births(self, book: Book) -> None:
         """Birth days that are years from those of the book."""
@@ -64,12 +66,12 @@ class Looks:
             self.look_at_living()
 
     def look_at_parents(self, calf: Animal) -> None:
+        if not calf.has_day():
+            return
         for role, id in calf.parents():
             parent = self.animals[id]
-            if not calf.has_day():
-                return
-            days = (calf.born - parent.born).days
-            if parent.has_day() and days < self.limits.youngest:
+            if calf.born - parent.born < self.youngest and parent.has_day():
+                days = (calf.born - parent.born).days
                 found = YoungParent(role, id, parent.line, days, self.limits.youngest)
                 self.report.add(calf.line, calf.id, found)
             if role is Role.SIRE and parent.left and calf.born > parent.left + datetime.timedelta(YEAR):
@@ -81,8 +83,9 @@ class Looks:
         for animal in self.animals.values():
             if animal.dam and animal.has_day() and not animal.embryo:
                 calves[animal.dam].append(animal)
+        by_age = operator.attrgetter("born", "line")
         for dam, its in calves.items():
-            its.sort(key=lambda one: (one.born, one.line))
+            its.sort(key=by_age)
             for before, calf in zip(its, its[1:]):
                 days = (calf.born - before.born).days
                 if LITTER < days < self.limits.apart and (calf.line or before.line):
@@ -90,9 +93,10 @@ class Looks:
                     self.report.add(calf.line, calf.id, found)
 
     def look_at_castrated(self) -> None:
+        castrated = {id for id, animal in self.animals.items() if animal.castrated}
         calves = collections.defaultdict(list)
         for animal in self.animals.values():
-            if animal.sire and self.animals[animal.sire].castrated:
+            if animal.sire in castrated:
                 calves[animal.sire].append(animal)
         for sire, its in calves.items():
             animal = self.animals[sire]

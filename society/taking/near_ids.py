@@ -20,7 +20,7 @@ class NearIds:
         self.rows, self.animals = rows, animals
         self.with_row = rows.keys() | {id for id, known in book.known.items() if known.standing.had_row()}
         self.near: collections.defaultdict[str, list[str]] = collections.defaultdict(list)
-        for id in sorted(self.with_row & animals.keys(), key=lambda one: (animals[one].line, one)):
+        for id in self.with_row & animals.keys():
             self.near[nearly(id)].append(id)
 
     def find_parents(self, report: Report) -> None:
@@ -34,8 +34,12 @@ class NearIds:
 
     def tell_alike(self, report: Report) -> None:
         """Rows whose ids differ only so."""
-        for ids in self.near.values():
-            for id in ids[1:]:
-                animal, first = self.animals[id], self.animals[ids[0]]
+        alike = [sorted(ids, key=self.line_and_id) for ids in self.near.values() if len(ids) > 1]
+        for first_id, *others in sorted(alike, key=lambda ids: self.line_and_id(ids[0])):
+            for id in others:
+                animal, first = self.animals[id], self.animals[first_id]
                 if animal.line or first.line:
                     report.add(animal.line, id, IdsAlike(first.id, first.line))
+
+    def line_and_id(self, id: str) -> tuple[int, str]:
+        return self.animals[id].line, id

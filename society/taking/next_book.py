@@ -1,8 +1,10 @@
 """The book that is to be: what the sheet says of its animals, and what the book has besides."""
 from __future__ import annotations
 
+import operator
+
 from society.book.book import Book
-from society.book.commands import Command, Record, parents
+from society.book.commands import Command, Record, birth, parents
 from society.book.kinds import Field
 from society.book.role import Role
 from society.reading.animal import Animal
@@ -43,6 +45,11 @@ class NextBook:
 
     # -- what commands name
 
+    def birth_of(self, animal: Animal, herd: int) -> Command:
+        """The birth in a herd, with the parents of today."""
+        sire, dam = self.number_of(animal.sire), self.number_of(animal.dam)
+        return birth(animal.number, animal.born, sire, dam, herd, animal.embryo)
+
     def parents_of(self, animal: Animal) -> Command:
         return parents(animal.number, self.number_of(animal.sire), self.number_of(animal.dam))
 
@@ -50,4 +57,4 @@ class NextBook:
         return self.animals[id].number if id else ""
 
     def by_birth(self) -> list[Animal]:
-        return sorted(self.animals.values(), key=lambda animal: (animal.born, animal.number))
+        return sorted(self.animals.values(), key=operator.attrgetter("born", "number"))

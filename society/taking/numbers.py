@@ -1,6 +1,8 @@
 """The numbers of animals: those of the book stay, and new ones go on from them."""
 from __future__ import annotations
 
+import operator
+
 from society.book.known import BREED, COUNTRY
 from society.taking.next_book import NextBook
 
@@ -18,6 +20,6 @@ def give_numbers(next_book: NextBook, breed: str, country: str) -> None:
             animal.number = (breed or number[:3]) + (country or number[3:6]) + animal.sex + number[7:]
     first = next(iter((numbers or former).values()), BREED + COUNTRY)
     new = [animal for animal in animals.values() if not animal.number]
-    new.sort(key=lambda one: (one.born, one.id))
+    new.sort(key=operator.attrgetter("born", "id"))
     for digits, animal in enumerate(new, book.greatest_digits() + 1):
         animal.number = f"{breed or first[:3]}{country or first[3:6]}{animal.sex}{digits:012}"

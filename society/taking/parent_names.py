@@ -23,10 +23,15 @@ class Names:
 
     def __init__(self, animals: dict[str, Animal], report: Report) -> None:
         self.animals, self.report = animals, report
-        self.named: collections.defaultdict[str, list[Animal]] = collections.defaultdict(list)
-        for animal in animals.values():
+
+    @functools.cached_property
+    def named(self) -> dict[str, list[Animal]]:
+        """The animals by their names in small letters."""
+        named: collections.defaultdict[str, list[Animal]] = collections.defaultdict(list)
+        for animal in self.animals.values():
             if animal.name:
-                self.named[animal.name.casefold()].append(animal)
+                named[animal.name.casefold()].append(animal)
+        return named
 
     def find_parents(self, rows: dict[str, Animal], book: Book) -> None:
         """A parent that is no row's id, but the name of one animal alone, is taken for that one where it can be it.
@@ -57,34 +62,38 @@ class Names:
 
     def add_parents(self) -> None:
         """A founder for each parent without a row."""
-        calves = collections.Counter(parent for animal in self.animals.values() for _, parent in animal.parents())
-        for animal in list(self.animals.values()):
-            for role, parent in animal.parents():
-                if parent not in self.animals:
-                    found = AddedAsParent(role, animal.id, calves[parent] - 1, *self.meant(animal, parent))
-                    self.report.add(animal.line, parent, found)
-                    self.animals[parent] = Animal(parent)
-                one = self.animals[parent]
-                one.named_in = one.named_in or (0 if one.line else animal.line)
+        links = self.links_without_row()
+        calves = collections.Counter(parent for _, _, parent in links)
+        for animal, role, parent in links:
+            if parent not in self.animals:
+                found = AddedAsParent(role, animal.id, calves[parent] - 1, *self.meant(animal, parent))
+                self.report.add(animal.line, parent, found)
+                self.animals[parent] = Animal(parent)
+            one = self.animals[parent]
+            one.named_in = one.named_in or animal.line
+
+    def links_without_row(self) -> list[tuple[Animal, Role, str]]:
+        """The parents without a row, each with its calf."""
+        with_row = {id for id, animal in self.animals.items() if animal.line}
+        calves = self.animals.values()
+        return [(calf, role, parent) for calf in calves for role, parent in calf.parents() if parent not in with_row]
 
     def advise_unknown(self, is_pedigree: bool) -> None:
         """A parent without a row that several animals have may be a word for an unknown one: one that is both a sire
         and a dam, or, in a sheet, a text without a digit."""
         calves = collections.defaultdict[str, dict[Role, int]](lambda: {Role.SIRE: 0, Role.DAM: 0})
         children = collections.defaultdict[str, set[str]](set)
-        for animal in self.animals.values():
-            for role, parent in animal.parents():
-                calves[parent][role] += 1
-                children[parent].add(animal.id)
+        for calf, role, parent in self.links_without_row():
+            calves[parent][role] += 1
+            children[parent].add(calf.id)
         told = []
         for parent, counts in calves.items():
-            has_row = parent in self.animals and self.animals[parent].line
             is_both = counts[Role.SIRE] and counts[Role.DAM]
             if is_pedigree:
                 may_be = is_both and sum(counts.values()) >= MANY
             else:
                 may_be = len(children[parent]) >= SEVERAL and (is_both or not any(map(str.isdigit, parent)))
-            if may_be and not has_row and "," not in parent:
+            if may_be and "," not in parent:
                 told.append((-sum(counts.values()), parent, counts))
         for _, parent, counts in sorted(told, key=lambda one: one[:2])[:MOST_WORDS]:
             self.report.add(0, "", MayBeUnknown(parent, counts[Role.SIRE], counts[Role.DAM]))

@@ -1,13 +1,15 @@
 """Saves the book that a taking makes, as a change."""
 from __future__ import annotations
 
+from collections.abc import Callable
+
 from society.book.book import Book
 from society.book.changes import Change, Made, Source
 from society.book.commands import Record, record_after, replay
 from society.book.journal import accepted_commands
 from society.book.kinds import ChangeKind
 from society.book.known import Known
-from society.book.state import CELL_NAMES, Values
+from society.book.state import CELL_FIELDS, Values
 from society.book.writing import Filed, Rows, State, animal_rows, write
 from society.herdbook import Herdbook
 from society.taking.known_after import known_after
@@ -15,6 +17,10 @@ from society.taking.next_book import NextBook
 from society.taking.report import What
 from society.taking.stored_findings import told_of
 from society.taking.wishes import Wishes
+
+
+# the cells of an animal that had none
+NOTHING = (None,) * len(CELL_FIELDS)
 
 
 def save(next_book: NextBook, filed: Filed, program: Herdbook, wishes: Wishes, source: Source, new: int) -> Change:
@@ -70,10 +76,9 @@ def records_after(book: Book, filed: Filed) -> dict[str, Record]:
 def cell_rows(next_book: NextBook) -> dict[Values, Values]:
     """The last cells of each animal; those of a column that the sheet doesn't have stay."""
     kept = dict(next_book.book.cells)
-    nothing = (None,) * (1 + len(CELL_NAMES))
     for id, animal in next_book.animals.items():
         if animal.line:
-            before = kept.get((id,), nothing)[1:]
-            cells = animal.cells
-            kept[id,] = (id, *[cells.get(name, cell) for name, cell in zip(CELL_NAMES, before)])
+            before = kept.get((id,))
+            said: Callable[[str, object], object] = animal.cells.get
+            kept[id,] = (id, *map(said, CELL_FIELDS, before[1:] if before else NOTHING))
     return kept

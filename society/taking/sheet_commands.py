@@ -3,7 +3,7 @@ from __future__ import annotations
 
 import datetime
 
-from society.book.commands import Command, Record, birth, leave, lines_of, text_of
+from society.book.commands import Command, Record, leave, lines_of, text_of
 from society.book.inferred import NO_DAY, ExitBasis
 from society.book.journal import Step, alike
 from society.book.kinds import CommandKind
@@ -77,7 +77,7 @@ class Filing:
         for animal in self.next_book.by_birth():
             record, owners = self.next_book.record(animal.id), self.owners.of(animal)
             if record is None:
-                births.append(self.birth_of(animal, owners.first_herd))
+                births.append(self.next_book.birth_of(animal, owners.first_herd))
                 transfers += owners.transfers
                 exits += [leave(animal.number, animal.left)] if animal.left else []
                 continue
@@ -98,14 +98,10 @@ class Filing:
         exits: list[Command] = []
         for animal in self.next_book.by_birth():
             owners = self.owners.of(animal)
-            births.append(self.birth_of(animal, owners.first_herd))
+            births.append(self.next_book.birth_of(animal, owners.first_herd))
             transfers += owners.transfers
             exits += [leave(animal.number, animal.left)] if animal.left else []
         return births + transfers + exits
-
-    def birth_of(self, animal: Animal, herd: int) -> Command:
-        sire, dam = (self.next_book.number_of(parent) for parent in (animal.sire, animal.dam))
-        return birth(animal.number, animal.born, sire, dam, herd, animal.embryo)
 
     # -- what is told
 

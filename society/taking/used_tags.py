@@ -15,12 +15,10 @@ YEARS_LATER = 700
 def leave_out_used_tags(animals: dict[str, Animal], book: Book, report: Report) -> set[str]:
     """Leaves out rows of animals that can't be those of the book which have their ids; answers these ids."""
     found = set()
-    calves = earliest_calves(book)
-    for id, animal in list(animals.items()):
-        known = book.known.get(id)
-        if not known or not are_years_apart(animal, known, book):
-            continue
-        born, calf = book.records[known.number].born, calves.get(known.number)
+    apart = [(animal, known) for animal, known in animals_of_book(animals, book) if are_years_apart(animal, known, book)]
+    calves = earliest_calves(book) if apart else {}
+    for animal, known in apart:
+        id, born, calf = animal.id, book.records[known.number].born, calves.get(known.number)
         if is_another(animal, known):
             lines = lines_that_name(animals, animal)
             report.add(animal.line, id, IdUsedAgain(born, known.name, animal.birth.first, animal.name, lines))
@@ -32,6 +30,12 @@ def leave_out_used_tags(animals: dict[str, Animal], book: Book, report: Report) 
         del animals[id]
         found.add(id)
     return found
+
+
+def animals_of_book(animals: dict[str, Animal], book: Book) -> list[tuple[Animal, Known]]:
+    """Those that the book has, each with what it knows of it."""
+    known = book.known
+    return [(animal, known[id]) for id, animal in animals.items() if id in known] if known else []
 
 
 def lines_that_name(animals: dict[str, Animal], another: Animal) -> tuple[int, ...]:
