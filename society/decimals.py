@@ -2,6 +2,7 @@
 program does it."""
 from __future__ import annotations
 
+import functools
 from fractions import Fraction
 
 # so many places a decimal has at most
@@ -16,7 +17,13 @@ def decimal(value: Fraction | float) -> str:
 def decimal_of_text(fraction: str) -> str:
     """The same of a fraction as the program writes it."""
     numerator, _, denominator = fraction.partition("/")
-    return decimal_of(int(numerator), int(denominator or 1))
+    return decimal_of(int(numerator), number_of(denominator))
+
+
+@functools.lru_cache(maxsize=1024)
+def number_of(denominator: str) -> int:
+    """A denominator as the program writes it, which writes none for 1. There are few of them."""
+    return int(denominator or 1)
 
 
 def decimal_of(numerator: int, denominator: int) -> str:
@@ -37,6 +44,9 @@ def percent(value: Fraction | float, places: int = 2) -> str:
 
 def rounded(numerator: int, denominator: int, places: int) -> str:
     unit = 10**places
-    scaled = (abs(numerator) * unit * 2 + denominator) // (2 * denominator)
+    twice = 2 * unit * abs(numerator) + denominator
+    # the program's denominators are powers of two, by which a shift divides in a fraction of the time
+    scaled = twice >> denominator.bit_length() if denominator.bit_count() == 1 else twice // (2 * denominator)
+    whole, part = divmod(scaled, unit)
     sign = "-" if numerator < 0 and scaled else ""
-    return f"{sign}{scaled // unit}.{scaled % unit:0{places}}"
+    return f"{sign}{whole}.{str(part).zfill(places)}"

@@ -35,10 +35,7 @@ def advise(book: Book, program: Herdbook, dam: Known, named: Sequence[Known], al
     """Advice on sires that are named, or else on all living males, or on those that left too."""
     sires = named_candidates(book, Role.SIRE, named) if named else all_candidates(book, Role.SIRE, also_left)
     sires.needed((Mating.NAME_ONE if also_left else Mating.NAME_ONE_OR_LEFT).said())
-    answers = (
-        by_mating(book, program, dam, sires) if named or dam.is_male else by_relationship(book, program, dam, sires)
-    )
-    return advice_of(dam, sires, answers)
+    return advice_of(dam, sires, by_mating(book, program, dam, sires))
 
 
 def advice_of(dam: Known, sires: Candidates, answers: Sequence[Answer]) -> Advice:
@@ -67,7 +64,8 @@ def by_mating(book: Book, program: Herdbook, dam: Known, sires: Candidates) -> l
 
 
 def by_relationship(book: Book, program: Herdbook, dam: Known, sires: Candidates) -> list[Answer]:
-    """The same of a female with males. Of many it is quicker, since the program goes through the pedigree once."""
+    """The same of a female with males, by a session that answers mating by mating: of many this is quicker, since the
+    program goes through the pedigree once."""
     pairs = pairs_of(book, program, [dam.number], sires.numbers)
     return [pairs.coefficients.get((dam.number, number), MatingFault.PATH_TOO_LONG) for number in sires.numbers]
 

@@ -9,6 +9,7 @@ from society.answers.facts import Facts
 from society.answers.made_columns import Made, as_it_is, each, made_table
 from society.answers.table import Kind, Table
 from society.book.book import Book
+from society.book.inferred import BirthSource
 from society.book.rows import SEX_SOURCES, birth_basis, exit_basis
 from society.book.selecting import FRACTION, PERCENT, PLACE
 from society.decimals import decimal, decimal_of_text
@@ -42,6 +43,8 @@ USUAL = (
 FOUND = (Column.ID, Column.NAME, Column.NUMBER, Column.SEX, Column.BIRTH, Column.OWNER, Column.EXIT)
 BIRTH_OF = ("born", "birth_source", "birth_period", "birth_no_such_day")
 EXIT_OF = ("departed", "exit_source", "exit_period", "exit_no_such_day", "exit_text")
+# what the source of a birth day is that the sheet gives
+GIVEN = BirthSource.GIVEN.value
 # how many offspring an animal has in the book
 OFFSPRING = " + ".join(
     f"(SELECT count(*) FROM animal AS calf WHERE calf.until IS NULL AND calf.{role} = animal.number)"
@@ -50,7 +53,9 @@ OFFSPRING = " + ".join(
 
 
 def birth_of(born: str | None, source: str, period: str | None, no_such_day: str | None) -> str:
-    """The birth day with its mark."""
+    """The birth day with its mark. Most have none."""
+    if source == GIVEN:
+        return born or ""
     return f"{born or ''}{birth_basis(source, period, no_such_day).mark()}"
 
 

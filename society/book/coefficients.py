@@ -1,6 +1,7 @@
 """The coefficients of inbreeding of a book's last state, which are computed once and kept with it."""
 from __future__ import annotations
 
+import functools
 import json
 import sqlite3
 from fractions import Fraction
@@ -9,7 +10,7 @@ from typing import Iterable, Mapping, NamedTuple
 from society.book.book import Book
 from society.book.lazy import Lazy
 from society.book.many_rows import insert_many
-from society.decimals import decimal_of_text, rounded
+from society.decimals import decimal_of_text, number_of, rounded
 
 UNIT_BITS = 120
 
@@ -32,20 +33,29 @@ class Coefficient(NamedTuple):
     def units(self) -> int:
         """In units of 2^-120, in which each coefficient is whole."""
         numerator, _, denominator = self.fraction.partition("/")
-        return (int(numerator) << UNIT_BITS) // int(denominator or 1)
+        return int(numerator) * units_in(denominator)
 
     def decimal(self) -> str:
         """Rounded to ten places."""
         return decimal_of_text(self.fraction)
 
 
+@functools.lru_cache(maxsize=1024)
+def units_in(denominator: str) -> int:
+    """How many units one part has of so many; the program writes no denominator for 1. There are few of them."""
+    return (1 << UNIT_BITS) // number_of(denominator)
+
+
 def of_calf(relationship: str) -> Coefficient:
-    """That of a calf of two animals: half of their relationship, of which the program prints the fraction."""
+    """That of a calf of two animals: half of their relationship, of which the program prints the fraction in lowest
+    terms."""
     numerator, _, denominator = relationship.partition("/")
-    above, below = int(numerator), 2 * int(denominator or 1)
-    if above % 2 == 0:
-        above, below = above // 2, below // 2
-    return Coefficient(f"{above}/{below}" if below > 1 else str(above), rounded(100 * above, below, 2))
+    above = int(numerator)
+    if above % 2:
+        below = 2 * number_of(denominator)
+        return Coefficient(f"{numerator}/{below}", rounded(100 * above, below, 2))
+    fraction = f"{above // 2}/{denominator}" if denominator else str(above // 2)
+    return Coefficient(fraction, rounded(50 * above, number_of(denominator), 2))
 
 
 def kept_coefficients(book: Book) -> Mapping[str, Coefficient]:

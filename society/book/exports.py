@@ -68,11 +68,14 @@ def ids_text(book: Book, change: Change) -> bytes:
     assert book.connection is not None
     order = "ORDER BY substr(number, 8), number"
     found = book.connection.execute(f"SELECT number, id, name, standing, {BASES} FROM animal WHERE {NOW} {order}")
-    rows = (
-        (number, id, name, STANDING_WORDS[standing], *words_of(*bases), change.number)
-        for number, id, name, standing, *bases in found
+    rows = found.fetchall()
+    if not rows:
+        return table(ID_TITLES, [])
+    numbers, ids, names, standings, *bases = zip(*rows)
+    words = zip(*map(words_of, *bases))
+    return table(
+        ID_TITLES, [numbers, ids, names, [STANDING_WORDS[one] for one in standings], *words, [change.number] * len(rows)]
     )
-    return table(ID_TITLES, rows)
 
 
 @functools.lru_cache(4096)
@@ -88,5 +91,5 @@ def report_text(book: Book, change: Change) -> bytes:
     assert book.connection is not None
     semicolons = any(option.option == SEMICOLONS for option in change.options)
     entries = map(entry_of, told_by(book.connection, change.number))
-    rows = ((entry.line or "", entry.id, entry.what, entry.why, change.number) for entry in entries)
-    return table(REPORT_TITLES, rows, semicolons)
+    rows = [(entry.line or "", entry.id, entry.what, entry.why, change.number) for entry in entries]
+    return table(REPORT_TITLES, zip(*rows), semicolons)

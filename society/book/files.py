@@ -16,12 +16,12 @@ from society.book.sentences import BookFault
 from society.mistake import Mistake
 
 
-def table(titles: list[str], rows: Iterable[Sequence[object]], semicolons: bool = False) -> bytes:
-    """A file of rows below their titles; spreadsheets that want semicolons tell UTF-8 by a byte-order mark."""
+def table(titles: list[str], columns: Iterable[Sequence[object]], semicolons: bool = False) -> bytes:
+    """A file of columns below their titles; spreadsheets that want semicolons tell UTF-8 by a byte-order mark."""
     text = io.StringIO()
     writer = csv.writer(text, delimiter=";" if semicolons else ",", lineterminator="\n")
     writer.writerow(titles)
-    writer.writerows(zip(*map(column_for_spreadsheets, zip(*rows))))
+    writer.writerows(zip(*map(column_for_spreadsheets, columns)))
     return text.getvalue().encode("utf-8-sig" if semicolons else "utf-8")
 
 

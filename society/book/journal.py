@@ -5,10 +5,12 @@ import operator
 import sqlite3
 from typing import Collection, Iterable, Iterator, NamedTuple
 
-from society.book.commands import COLUMNS, Command, known
+from society.book.commands import COLUMNS, Command
 from society.book.many_rows import insert_many
 from society.refusals import Refusal
 
+# how a command names no parent, or an unknown one
+UNKNOWN: dict[str, None] = {"": None, "0": None}
 # a command as the command file has it
 TEXT = """
     printf(
@@ -122,16 +124,15 @@ def begin_edition(connection: sqlite3.Connection, predecessor: Journal) -> Journ
 def append(connection: sqlite3.Connection, journal: Journal, steps: Collection[Step]) -> Journal:
     """Writes steps behind a journal that nothing stands behind."""
     rows = (
-        (journal.edition, place, *row_of(step.command), step.refusal)
-        for place, step in enumerate(steps, journal.length + 1)
+        (place, *row_of(command), refusal) for place, (command, refusal) in enumerate(steps, journal.length + 1)
     )
-    insert_many(connection, "command", rows)
+    insert_many(connection, "command", rows, [journal.edition])
     return Journal(journal.edition, journal.length + len(steps))
 
 
 def row_of(command: Command) -> tuple[str, str, str | None, str | None, str | None, int | None, int | None, int]:
     kind, animal, day, sire, dam, giver, taker, embryo = command
     return (
-        kind, animal, day or None, known(sire) or None, known(dam) or None, int(giver) if giver else None,
+        kind, animal, day or None, UNKNOWN.get(sire, sire), UNKNOWN.get(dam, dam), int(giver) if giver else None,
         int(taker) if taker else None, int(embryo == "1"),
     )  # fmt: skip

@@ -4,15 +4,18 @@ from __future__ import annotations
 import itertools
 from collections.abc import Iterator, Sequence
 from dataclasses import dataclass
+from typing import TYPE_CHECKING
 
 from society.book.asking_sentences import Mating
 from society.book.book import Book
 from society.book.coefficients import Coefficient, of_calf
 from society.book.selecting import selected
 from society.breed.pedigree import MOST_STEPS
-from society.breed.plan import Pair
 from society.herdbook import MOST_NUMBERS, Herdbook
 from society.mistake import Mistake
+
+if TYPE_CHECKING:
+    from society.breed.plan import Pair
 
 # so many pairs are asked for
 MOST_PAIRS = 2_000_000

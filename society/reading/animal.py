@@ -2,6 +2,7 @@
 from __future__ import annotations
 
 import datetime
+from collections.abc import Collection, Iterable
 from dataclasses import dataclass, field
 
 from society.book.inferred import GIVEN_BIRTH, GIVEN_EXIT, BirthBasis, ExitBasis, OwnerDay, SexSource
@@ -73,6 +74,21 @@ class Animal:
     def where(self) -> Said:
         """How a sentence about it begins."""
         return Where.LINE.said(line=self.line, id=self.id) if self.line else Where.ANIMAL.said(id=self.id)
+
+
+# a calf, the role of a parent of its, and that parent
+Link = tuple[Animal, Role, str]
+
+
+def links_outside(calves: Iterable[Animal], ids: Collection[str]) -> list[Link]:
+    """The known parents that aren't among some ids. Few are outside of most sheets."""
+    found: list[Link] = []
+    for calf in calves:
+        if calf.sire and calf.sire not in ids:
+            found.append((calf, SIRE, calf.sire))
+        if calf.dam and calf.dam not in ids:
+            found.append((calf, DAM, calf.dam))
+    return found
 
 
 def parents_of_all(animals: dict[str, Animal]) -> dict[str, list[str]]:

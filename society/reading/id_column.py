@@ -2,6 +2,8 @@
 ids of the book."""
 from __future__ import annotations
 
+import collections
+import functools
 from typing import TYPE_CHECKING, Collection, Container, NamedTuple
 
 from society.book.kinds import Field
@@ -28,6 +30,20 @@ class Fit(NamedTuple):
     likely: int
     at: int
     parents: dict[str, int]
+
+
+class Ids:
+    """The cells of a column, among which others are sought as ids are compared."""
+
+    def __init__(self, cells: list[str]) -> None:
+        self.cells = {cell for cell in cells if cell}
+
+    @functools.cached_property
+    def near(self) -> set[str]:
+        return {nearly(cell) for cell in self.cells}
+
+    def has(self, cell: str) -> bool:
+        return cell in self.cells or nearly(cell) in self.near
 
 
 class IdColumn:
@@ -101,7 +117,7 @@ class IdColumn:
         return best
 
     def fit(self, at: int, likely: int) -> Fit:
-        ids = {nearly(cell) for cell in self.columns.cells(at) if cell}
+        ids = Ids(self.columns.cells(at))
         parents, found = {}, 0
         for name in self.wanted:
             counts = {one: self.count(one, ids) for one in self.columns.titled(KNOWN_TITLES[name]) if one != at}
@@ -113,9 +129,11 @@ class IdColumn:
                 found += self.count(self.columns.found[name], ids)
         return Fit(found, not self.are_row_numbers(at), likely, at, parents)
 
-    def count(self, at: int, ids: set[str]) -> int:
+    def count(self, at: int, ids: Ids) -> int:
         """How many parents' cells of a column are ids."""
-        return sum(nearly(cell) in ids for cell in self.columns.cells(at) if cell not in self.unknown)
+        # most parents have several offspring
+        counts = collections.Counter(self.columns.cells(at))
+        return sum(count for cell, count in counts.items() if cell not in self.unknown and ids.has(cell))
 
     def links(self, fit: Fit) -> int:
         """How many cells name a parent."""

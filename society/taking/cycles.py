@@ -1,6 +1,7 @@
 """Animals that would be their own ancestors: of each cycle one parent is left out."""
 from __future__ import annotations
 
+import datetime
 from collections.abc import Callable
 
 from society.book.role import Role
@@ -22,6 +23,8 @@ def cut_cycles(animals: dict[str, Animal], report: Report, in_book: InBook = in_
     """Leaves out one parent of each animal that would be its own ancestor: of a cycle a link that the book doesn't
     have, one whose days can't be, or else that of the latest row. Answers all animals, parents before their
     offspring."""
+    if are_older(animals):
+        return by_age(animals)
     order = in_order(parents_of_all(animals))
     if len(order) == len(animals):
         return order
@@ -34,6 +37,20 @@ def cut_cycles(animals: dict[str, Animal], report: Report, in_book: InBook = in_
         report.add(animals[calf].line, calf, OwnAncestor(role, parent, path))
         left -= set(in_order(parents_of_all({id: animals[id] for id in left})))
     return in_order(parents_of_all(animals))
+
+
+def are_older(animals: dict[str, Animal]) -> bool:
+    """Is each parent older than its calf by the days of both? Then none is its own ancestor."""
+    last = {id: animal.birth.last for id, animal in animals.items()}
+    last[""] = datetime.date.min
+    return all(max(last[calf.sire], last[calf.dam]) < calf.birth.first for calf in animals.values())
+
+
+def by_age(animals: dict[str, Animal]) -> list[str]:
+    """Animals with parents that are older: the founders in their order, and behind them the others by age."""
+    founders = [id for id, animal in animals.items() if not animal.sire and not animal.dam]
+    born = {id: animal.birth.first for id, animal in animals.items() if animal.sire or animal.dam}
+    return founders + sorted(born, key=born.__getitem__)
 
 
 def find_cycle(animals: dict[str, Animal], left: set[str]) -> list[Link]:

@@ -14,18 +14,19 @@ def leave_out_unread_sexes(next_book: NextBook) -> None:
     animals, roles = next_book.animals, next_book.roles
     sires = collections.Counter(animal.sire for animal in animals.values() if animal.sire)
     dams = collections.Counter(animal.dam for animal in animals.values() if animal.dam)
-    for parent in sires.keys() | dams.keys():
-        roles[parent] = role_of(next_book, parent, sires[parent], dams[parent])
+    roles |= dict.fromkeys(sires, Role.SIRE) | dict.fromkeys(dams, Role.DAM)
+    for parent in sires.keys() & dams.keys():
+        roles[parent] = role_of_both(next_book, parent, sires[parent], dams[parent])
     for id, animal in list(animals.items()):
         if "sex" in animal.unread and not roles.get(id) and not next_book.book.known.get(id):
             next_book.report.add(animal.line, id, SexNotKnown())
             del animals[id]
 
 
-def role_of(next_book: NextBook, id: str, sires: int, dams: int) -> Role:
-    """Where an animal is both, what it is in the book is preferred, and then what it is more often."""
+def role_of_both(next_book: NextBook, id: str, sires: int, dams: int) -> Role:
+    """Of an animal that is both what it is in the book is preferred, and then what it is more often."""
     known = next_book.book.known.get(id)
-    if sires and dams and known:
+    if known:
         return Role.SIRE if known.is_male else Role.DAM
     return Role.SIRE if sires >= dams else Role.DAM
 

@@ -4,7 +4,7 @@ from __future__ import annotations
 import collections
 
 from society.book.book import Book
-from society.reading.animal import Animal
+from society.reading.animal import Animal, links_outside
 from society.reading.ids import nearly
 from society.taking.look_findings import IdsAlike
 from society.taking.parent_findings import FoundByNearId
@@ -25,12 +25,11 @@ class NearIds:
 
     def find_parents(self, report: Report) -> None:
         """A parent that is no id, but differs so from just one, is that animal where it can be it."""
-        for calf in self.rows.values():
-            for role, text in calf.parents():
-                near = [] if text in self.with_row else self.near.get(nearly(text), [])
-                if len(near) == 1 and near[0] != calf.id and can_be(self.animals[near[0]], role, calf):
-                    calf.set_parent(role, near[0])
-                    report.add(calf.line, calf.id, FoundByNearId(role, text, near[0]))
+        for calf, role, text in links_outside(self.rows.values(), self.with_row):
+            near = self.near.get(nearly(text), [])
+            if len(near) == 1 and near[0] != calf.id and can_be(self.animals[near[0]], role, calf):
+                calf.set_parent(role, near[0])
+                report.add(calf.line, calf.id, FoundByNearId(role, text, near[0]))
 
     def tell_alike(self, report: Report) -> None:
         """Rows whose ids differ only so."""

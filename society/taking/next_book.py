@@ -47,7 +47,9 @@ class NextBook:
 
     def birth_of(self, animal: Animal, herd: int) -> Command:
         """The birth in a herd, with the parents of today."""
-        sire, dam = self.number_of(animal.sire), self.number_of(animal.dam)
+        animals = self.animals
+        sire = animals[animal.sire].number if animal.sire else ""
+        dam = animals[animal.dam].number if animal.dam else ""
         return birth(animal.number, animal.born, sire, dam, herd, animal.embryo)
 
     def parents_of(self, animal: Animal) -> Command:

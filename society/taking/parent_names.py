@@ -7,7 +7,7 @@ import functools
 from society.alike import SameLetters
 from society.book.book import Book
 from society.book.role import Role
-from society.reading.animal import Animal
+from society.reading.animal import Animal, Link, links_outside
 from society.taking.look_findings import MayBeUnknown, MoreMayBeUnknown
 from society.taking.parent_findings import AddedAsParent, FoundByName
 from society.taking.report import Finding, Report
@@ -38,7 +38,7 @@ class Names:
         What is the parent in the book stays it, whatever other animals have its name."""
         with_row = rows.keys() | {id for id, known in book.known.items() if known.standing.had_row()}
         ids = {known.number: id for id, known in book.known.items()}
-        links = [(calf, role, text) for calf in rows.values() for role, text in calf.parents() if text not in with_row]
+        links = links_outside(rows.values(), with_row)
         links = [(calf, role, text) for calf, role, text in links if text.casefold() in self.named]
         others = {(role, text.casefold()) for calf, role, text in links if not self.possible(calf, role, text)}
         for calf, role, text in links:
@@ -72,11 +72,10 @@ class Names:
             one = self.animals[parent]
             one.named_in = one.named_in or animal.line
 
-    def links_without_row(self) -> list[tuple[Animal, Role, str]]:
+    def links_without_row(self) -> list[Link]:
         """The parents without a row, each with its calf."""
         with_row = {id for id, animal in self.animals.items() if animal.line}
-        calves = self.animals.values()
-        return [(calf, role, parent) for calf in calves for role, parent in calf.parents() if parent not in with_row]
+        return links_outside(self.animals.values(), with_row)
 
     def advise_unknown(self, is_pedigree: bool) -> None:
         """A parent without a row that several animals have may be a word for an unknown one: one that is both a sire

@@ -34,6 +34,8 @@ def add_gone(animals: dict[str, Animal], gone: dict[str, Animal], book: Book, dr
     def gone_parents(id: str) -> list[str]:
         return [parent for parent in (animals.get(id) or gone[id]).parent_ids() if parent in gone]
 
+    if not gone:
+        return
     # those that were filed by hand had no row in any sheet yet
     filed = {id for id in gone if book.known[id].standing is Standing.FILED}
     kept = filed | ancestors([*animals, *filed], gone_parents) if drop else set(gone)

@@ -3,6 +3,7 @@ from __future__ import annotations
 
 import argparse
 import datetime
+import gc
 import pathlib
 from typing import TYPE_CHECKING
 
@@ -116,6 +117,9 @@ def do_take(asked: argparse.Namespace) -> None:
     )  # fmt: skip
     if asked.sheet and is_workbook(asked.sheet):
         need(Group.WORKBOOKS, ": or save the sheet as CSV, and take that")
+    # what a taking makes of a large sheet is needed to its end, and nothing of it goes round: to look for what isn't
+    # needed any more would find nothing, again and again
+    gc.disable()
     for note in anew_where_a_book_came(lambda: taken(asked, wishes)):
         tell(note)
 
