@@ -19,11 +19,11 @@ def tell_odd_rows(animals: dict[str, Animal], rows: list[Row], report: Report) -
     sums = {one.id: one for one in animals.values() if is_sum(one, cells.get(one.line, []))}
     for animal in sums.values():
         report.add(animal.line, animal.id, LikeASum())
-    parents = {nearly(parent) for animal in animals.values() for parent in animal.parent_ids()}
-    alone = [one for one in animals.values() if not any(one.cells.get(name) for name in SAYS)]
+    alone = [one for one in animals.values() if not any(map(one.cells.get, SAYS))]
     # a list of ids is no sheet with odd rows
-    if 2 * len(alone) > len(animals):
+    if not alone or 2 * len(alone) > len(animals):
         return
+    parents = {nearly(parent) for animal in animals.values() for parent in animal.parent_ids()}
     for animal in alone:
         if animal.id not in sums and nearly(animal.id) not in parents:
             report.add(animal.line, animal.id, IdAlone())
@@ -31,4 +31,6 @@ def tell_odd_rows(animals: dict[str, Animal], rows: list[Row], report: Report) -
 
 def is_sum(animal: Animal, cells: list[str]) -> bool:
     """Does its id begin with a word such as `Summe`, or is a cell of a row without a birth day one?"""
-    return plain(animal.id.split()[0]) in KNOWN_SUMS or any(plain(cell) in KNOWN_SUMS for cell in cells)
+    word = animal.id.split()[0]
+    # no word that sums up ends with a digit, as most ids do
+    return (not word[-1].isdigit() and plain(word) in KNOWN_SUMS) or any(plain(cell) in KNOWN_SUMS for cell in cells)
