@@ -15,7 +15,7 @@ from society.book.history import told_by
 from society.book.inferred import SexSource
 from society.book.old_words import STANDINGS
 from society.book.rows import birth_basis, exit_basis
-from society.book.state import NOW
+from society.book.state import ALL_ROWS, NOW
 from society.taking.stored_findings import entry_of
 
 COMMANDS, IDS, REPORT = "commands.csv", "ids.csv", "report.csv"
@@ -66,9 +66,9 @@ def write_exports(book: Book) -> None:
 def ids_text(book: Book, change: Change) -> bytes:
     """Which number stands for which id, and what was inferred."""
     assert book.connection is not None
-    order = "ORDER BY substr(number, 8), number"
-    found = book.connection.execute(f"SELECT number, id, name, standing, {BASES} FROM animal WHERE {NOW} {order}")
-    rows = found.fetchall()
+    found = book.connection.execute(f"SELECT number, id, name, standing, {BASES} FROM {ALL_ROWS} WHERE {NOW}")
+    # by their digits; SQLite would put the whole rows in order
+    rows = sorted(found, key=lambda row: (row[0][7:], row[0]))
     if not rows:
         return table(ID_TITLES, [])
     numbers, ids, names, standings, *bases = zip(*rows)

@@ -2,6 +2,7 @@
 it has them."""
 from __future__ import annotations
 
+import operator
 import pathlib
 from dataclasses import dataclass
 from typing import Container, Mapping
@@ -46,8 +47,9 @@ def read_triples(path: pathlib.Path, given: Mapping[Field, str], unknown: Contai
         columns = find_pedigree_columns(titles.number, titles.cells, given)
         told = [columns_read(titles.cells, columns)]
     reader = Reader(columns, unknown, Sexes([], {}), report, family_column(titles.cells) if titles else None)
+    last = max(columns.values())
     for line in lines:
-        check_cells(line, titles, max(columns.values()))
+        check_cells(line, titles, last)
         reader.read(line)
     check_comments(reader.animals)
     if titles and Field.ID not in given:
@@ -63,15 +65,17 @@ class Reader:
         self, columns: Columns, unknown: Container[str], sexes: Sexes, report: Report, family: int | None
     ) -> None:
         self.columns, self.unknown, self.sexes, self.report, self.family = columns, unknown, sexes, report, family
+        self.cells_of = operator.itemgetter(*(columns[field] for field in (Field.ID, Field.SIRE, Field.DAM)))
         self.animals: dict[str, Animal] = {}
         self.families: dict[str, str] = {}
 
     def read(self, line: Line) -> None:
-        id, sire, dam = (line.cells[self.columns[field]] for field in (Field.ID, Field.SIRE, Field.DAM))
+        id, sire, dam = self.cells_of(line.cells)
         if id in self.unknown:
             where = f"line {line.number}: '{id}'"
             raise Mistake(f"{where} is a word for an unknown parent, and stands for an animal: give it another id")
-        sire, dam = ("" if parent in self.unknown else parent for parent in (sire, dam))
+        sire = "" if sire in self.unknown else sire
+        dam = "" if dam in self.unknown else dam
         first, family = self.animals.get(id), self.family_of(line)
         if first and family != self.families[id]:
             raise Mistake(

@@ -3,6 +3,7 @@ from __future__ import annotations
 
 import datetime
 import heapq
+import itertools
 
 from society.book.inferred import BirthBasis, BirthSource
 from society.pedigree_order import Waiting, offspring
@@ -19,13 +20,15 @@ def invent_days(animals: dict[str, Animal]) -> None:
     for parent, its in offspring(parents).items():
         if not animals[parent].line:
             key[parent] = (min(animals[calf].line for calf in its), 0)
+    by_line = sorted(animals, key=lambda id: (key[id], id))
+    place = {id: at for at, id in enumerate(by_line)}
     waiting = Waiting(parents)
-    ready = [(key[id], id) for id in waiting.free]
+    ready = [place[id] for id in waiting.free]
     heapq.heapify(ready)
-    day = FIRST_DAY
-    while ready:
-        _, id = heapq.heappop(ready)
-        animals[id].born, animals[id].birth_basis = day, INVENTED
-        day += datetime.timedelta(days=1)
-        for calf in waiting.place(id):
-            heapq.heappush(ready, (key[calf], calf))
+    for day in itertools.count(FIRST_DAY.toordinal()):
+        if not ready:
+            return
+        animal = animals[by_line[heapq.heappop(ready)]]
+        animal.born, animal.birth_basis = datetime.date.fromordinal(day), INVENTED
+        for calf in waiting.place(animal.id):
+            heapq.heappush(ready, place[calf])

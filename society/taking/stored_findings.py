@@ -8,7 +8,7 @@ import functools
 import importlib
 import pkgutil
 import typing
-from collections.abc import Iterator
+from collections.abc import Callable, Iterator
 from typing import Any
 
 import society.reading
@@ -16,6 +16,8 @@ import society.taking
 from society.book.changes import Told
 from society.taking.report import KINDS, Entry, Finding
 
+# the value of a name, from the texts of all names
+Reader = Callable[[str, dict[str, str]], Any]
 # how the names of modules end in which kinds of findings stand
 FINDINGS = "_findings"
 YES, NO = "yes", "no"
@@ -89,16 +91,27 @@ def kinds_of(kind: Any) -> dict[str, Any]:
 
 def value_of(kind: Any, name: str, texts: dict[str, str]) -> Any:
     """The value of a type from its texts."""
+    return reader_of(kind)(name, texts)
+
+
+@functools.cache
+def reader_of(kind: Any) -> Reader:
+    """Reads values of a type. What a type is made of is found once, and not for each value."""
     if dataclasses.is_dataclass(kind):
-        return kind(*(value_of(part_kind, within(name, part), texts) for part, part_kind in kinds_of(kind).items()))
+        parts = [(part, reader_of(part_kind)) for part, part_kind in kinds_of(kind).items()]
+        return lambda name, texts: kind(*[read(within(name, part), texts) for part, read in parts])
     parameters = typing.get_args(kind)
+    if not parameters:
+        return lambda name, texts: one_value(kind, texts[name])
+    read_one = reader_of(parameters[0])
     if typing.get_origin(kind) is tuple:
-        return tuple(value_of(parameters[0], within(name, place), texts) for place in places(name, texts))
-    if parameters:
-        # of a type, or none
-        is_there = any(f"{key}.".startswith(f"{name}.") for key in texts)
-        return value_of(parameters[0], name, texts) if is_there else None
-    return one_value(kind, texts[name])
+        return lambda name, texts: tuple(read_one(within(name, place), texts) for place in places(name, texts))
+    # of a type, or none
+    return lambda name, texts: read_one(name, texts) if has_texts(name, texts) else None
+
+
+def has_texts(name: str, texts: dict[str, str]) -> bool:
+    return any(f"{key}.".startswith(f"{name}.") for key in texts)
 
 
 def places(name: str, texts: dict[str, str]) -> list[str]:
