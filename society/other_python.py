@@ -1,6 +1,5 @@
 """Other Pythons than the one that runs: /usr/bin/python3 is asked first, then the path's."""
 import os
-import shutil
 import sys
 
 NEEDED = (3, 11)
@@ -15,6 +14,9 @@ def run_under_next() -> None:
     package stays with its Python."""
     if os.path.realpath(sys.argv[0]) != os.path.join(HERE, "society"):
         return
+    # what every call would wait for, and hardly one needs
+    import shutil
+
     for python in ("/usr/bin/python3", shutil.which("python3") or ""):
         if python not in ASKED and os.path.exists(python):
             os.environ[VARIABLE] = os.pathsep.join(ASKED + [python])

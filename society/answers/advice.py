@@ -44,12 +44,13 @@ def advice_of(dam: Known, sires: Candidates, answers: Sequence[Answer]) -> Advic
     if of_dam:
         raise Mistake(Mating.NOT_A_DAM.said(dam=dam.id, **why(of_dam[0])))
     both = list(zip(sires.animals, answers))
-    found = [(sire, answer) for sire, answer in both if isinstance(answer, Coefficient)]
-    found.sort(key=lambda pair: (pair[1].units, pair[0].id))
+    found = [(answer.units, sire.id, sire, answer) for sire, answer in both if isinstance(answer, Coefficient)]
+    # no two have the same id
+    found.sort()
     told = [
         Mating.REFUSED.said(sire=sire.id, **why(answer)) for sire, answer in both if isinstance(answer, MatingFault)
     ]
-    return Advice(advice_table(found), told, sires)
+    return Advice(advice_table([(sire, answer) for *_, sire, answer in found]), told, sires)
 
 
 def by_mating(book: Book, program: Herdbook, dam: Known, sires: Candidates) -> list[Answer]:

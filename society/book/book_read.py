@@ -3,9 +3,7 @@ from __future__ import annotations
 
 import contextlib
 import pathlib
-import shutil
 import sqlite3
-import tempfile
 import time
 from typing import Iterator
 
@@ -45,6 +43,9 @@ def opened_to_read(path: pathlib.Path) -> Iterator[sqlite3.Connection]:
         except sqlite3.OperationalError as error:
             if primary(error) not in CLOSED:
                 raise
+            # every call would wait for it, and hardly one needs it
+            import tempfile
+
             room = stack.enter_context(tempfile.TemporaryDirectory(prefix="society-"))
             connection = stack.enter_context(contextlib.closing(connect(copy_of(path, pathlib.Path(room)), "rw")))
             begin_to_read(connection)
@@ -58,6 +59,8 @@ def begin_to_read(connection: sqlite3.Connection) -> None:
 
 def copy_of(path: pathlib.Path, room: pathlib.Path) -> pathlib.Path:
     """A copy of a file and of what isn't in it yet, both of one moment, though others may be changing them."""
+    import shutil
+
     copy = room / path.name
     for _ in range(TRIES):
         before = marks(path)
