@@ -66,7 +66,7 @@ def test_faulty_rows(desk: Desk) -> None:
         """\
         id,name,sex,born,sire,dam,exit,embryo
         a,Anna,F,2001-01-01,,,,
-        a,Berta,F,2002-01-01,,,,
+        a,Berta,F,2002-01-01,NN,,,
         ,Clara,F,2002-01-01,,,,
         unknown,Dora,F,2002-01-01,,,,
         e,Emma,F,31.02.2002,,,,

@@ -93,6 +93,8 @@ def test_suggestions_for_titles_of_a_pedigree(desk: Desk) -> None:
     done = desk.run("take", "--pedigree", "linie 1.txt", *BOOK)
     assert "society:   if 'PARENT1' has the sires and 'PARENT2' has the dams:" in done.err
     assert desk.typed(done.commands()[0]).last.startswith("das Buch: 3 animals")
+    desk.wrong("no title for the sire and the dam", "take", "--pedigree", desk.write("kurz.txt", "ANIMAL PARENT1\na 0\n"))
+    assert not desk.run("take", "--pedigree", "kurz.txt").commands()
     done = desk.run("take", "--pedigree", "linie 1.txt", "--columns", "sire=PARENT,dam=PARENT2", "--book", "other")
     assert desk.typed(done.commands()[0]).last.startswith("other: 3 animals")
     desk.write(NAME, "id;birth;PARENT1;PARENT2\na;2001;;\nb;2001;;\nc;2004;a;b\n")

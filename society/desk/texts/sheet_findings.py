@@ -166,6 +166,18 @@ FINDINGS: dict[str, tuple[str, str]] = {
         "weiblich",
         "{animals} animaux sont père et mère : {told}. Rien n'est repris, car dans le livre chaque animal est mâle ou femelle",
     ),
+    "parents alike": (
+        "{parents} Eltern haben keine Zeile, und ein Tier mit einer Zeile unterscheidet sich nur in Großschreibung, Leerzeichen "
+        "oder Nullen: {told}",
+        "{parents} parents n'ont pas de ligne, et un animal qui en a une ne diffère que par les majuscules, espaces ou zéros : "
+        "{told}",
+    ),
+    "parents in column": (
+        "von {parents} Eltern stehen {found} in der Spalte „{title}“, und {found_in_ids} in „{ids}“, aus der die Ohrmarken "
+        "gelesen werden",
+        "de {parents} parents, {found} sont dans la colonne « {title} » et {found_in_ids} dans « {ids} », où les boucles sont "
+        "lues",
+    ),
     "no row taken": ("keine Zeile kann übernommen werden", "aucune ligne ne peut être reprise"),
 }  # fmt: skip
 # in English what the front desk says of it in a terminal, said for a page
