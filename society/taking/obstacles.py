@@ -44,7 +44,7 @@ LIKE_WORDS = {
     LooksLike.PART: "it looks like a part of the flock",
     LooksLike.PARENTS_BY_NAME: (
         "it looks like parents that are written by their names: name the column that has the animals' names by "
-        "--columns, with name= and its title"
+        "--columns, with name= and its title, or write the parents' ids"
     ),
     LooksLike.PARENTS_BY_ANOTHER_ID: (
         "it looks like another id than that of the column that is read: name the one in which the parents' cells are "
