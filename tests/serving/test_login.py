@@ -202,10 +202,7 @@ def test_log(served: Served) -> None:
     assert any("refused login of an unknown name" in line for line in lines)
     assert any("10.0.0.9 Carl (clerk) POST /login 302" in line for line in lines)
     assert any("Carl (clerk) GET /sheet/<token> 200" in line for line in lines)
-    assert any(
-        "Carl (clerk) GET /history/<number>/undo 403" in line and "refused role" in line
-        for line in lines
-    )
+    assert any("Carl (clerk) GET /history/<number>/undo 403" in line and "refused role" in line for line in lines)
     for secret in ("my secret", WORD, "looked-for", "forged", "no such animal", address.rpartition("/")[2], *tokens):
         assert secret == "True" or secret not in log, secret
 
