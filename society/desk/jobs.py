@@ -14,9 +14,9 @@ from collections.abc import Callable
 from society.desk.beside import Failed, Made, Told, messages_of, started
 from society.desk.sentences import DeskFault
 
-# so many results are kept, and so long a page waits for one that is there soon
+# so many results are kept, and so long a page waits for one that is there soon, in seconds
 MOST = 12
-SOON = 1.5
+SOON = 0.15
 # so many processes work at once
 AT_ONCE = 2
 Key = tuple[object, ...]
