@@ -90,10 +90,9 @@ def test_mistakes(site: Site, kind: str, fields: dict[str, str], told: str) -> N
         assert book and book.change and book.change.number == 1
 
 
-def test_sent_twice(session_site: Site) -> None:
+def test_sent_twice(site: Site) -> None:
     """A form that is sent again, also at once, is filed once, and shows what was answered; a form that the page shows
     anew is filed anew. One without a token isn't done."""
-    site = session_site
     fields = {"id": "NEW-1", "day": "2024-06-01", "form": form_in(site.page("/file/exit"))}
     site.post("/file/birth", **BIRTH)
     with concurrent.futures.ThreadPoolExecutor(4) as pool:
@@ -111,10 +110,10 @@ def test_sent_twice(session_site: Site) -> None:
         assert book and book.change and book.change.number == 5
 
 
-def test_by_the_session(session_site: Site, monkeypatch: pytest.MonkeyPatch) -> None:
+def test_by_the_session(site: Site, monkeypatch: pytest.MonkeyPatch) -> None:
     """Replies, and the answers of questions, come from the one session: the program isn't run for them."""
-    session_site.post("/file/exit", id=DAM, day="2024-05-01")
-    session = session_site.desk.program.session
+    site.post("/file/exit", id=DAM, day="2024-05-01")
+    session = site.desk.program.session
     assert session and not session.has_ended
 
     def run(*_: object) -> str:
@@ -128,52 +127,50 @@ def test_by_the_session(session_site: Site, monkeypatch: pytest.MonkeyPatch) -> 
             ("exit", {"id": "NEW-1", "day": "2024-06-02"}),
         )
     ):
-        assert session_site.post(f"/file/{kind}", **fields).headers["Location"] == f"/answer/{at + 3}"
-    assert "it has left already" in shown(session_site.page("/answer/5"))
-    assert "sires, the least related first" in shown(session_site.page(f"/matings?dam={DAM}"))
-    assert session_site.desk.program.session is session
+        assert site.post(f"/file/{kind}", **fields).headers["Location"] == f"/answer/{at + 3}"
+    assert "it has left already" in shown(site.page("/answer/5"))
+    assert "sires, the least related first" in shown(site.page(f"/matings?dam={DAM}"))
+    assert site.desk.program.session is session
 
 
-def test_session_killed(session_site: Site) -> None:
+def test_session_killed(site: Site) -> None:
     """A session that ends is started anew, and nothing is lost."""
-    session_site.post("/file/birth", **BIRTH)
-    session = session_site.desk.program.session
+    site.post("/file/birth", **BIRTH)
+    session = site.desk.program.session
     assert session
     session.process.kill()
     session.process.wait()
-    assert session_site.post("/file/exit", id="NEW-1", day="2024-06-01").headers["Location"] == "/answer/3"
-    assert session_site.desk.program.session is not session
-    Desk(session_site.desk.folder.parent, session_site.desk.program.path.as_posix()).good("verify")
+    assert site.post("/file/exit", id="NEW-1", day="2024-06-01").headers["Location"] == "/answer/3"
+    assert site.desk.program.session is not session
+    Desk(site.desk.folder.parent, site.desk.program.path.as_posix()).good("verify")
 
 
-def test_beside_a_terminal(session_site: Site, society_desk: Desk) -> None:
+def test_beside_a_terminal(site: Site, society_desk: Desk) -> None:
     """Commands of a terminal between those of a form: the session catches up, and an undo there begins a new one."""
-    session_site.post("/file/birth", **BIRTH)
+    site.post("/file/birth", **BIRTH)
     society_desk.good("exit", "NEW-1", "--day", "2024-06-01")
     assert "it has left already" in shown(
-        session_site.page(session_site.post("/file/exit", id="NEW-1", day="2024-07-01").headers["Location"])
+        site.page(site.post("/file/exit", id="NEW-1", day="2024-07-01").headers["Location"])
     )
     society_desk.good("undo", "--to", "1")
-    assert TEXTS["accepted"][0] in shown(
-        session_site.page(session_site.post("/file/birth", **BIRTH).headers["Location"])
-    )
+    assert TEXTS["accepted"][0] in shown(site.page(site.post("/file/birth", **BIRTH).headers["Location"]))
     society_desk.good("verify")
-    assert session_site.desk.program.journal.edition == 2
+    assert site.desk.program.journal.edition == 2
 
 
-def test_stored_reply_differs(session_site: Site, society_desk: Desk) -> None:
+def test_stored_reply_differs(site: Site, society_desk: Desk) -> None:
     """Where a stored reply isn't the session's, nothing goes on."""
     import contextlib
     import sqlite3
 
-    with contextlib.closing(sqlite3.connect(session_site.desk.folder / "book.sqlite")) as connection:
+    with contextlib.closing(sqlite3.connect(site.desk.folder / "book.sqlite")) as connection:
         connection.execute("UPDATE command SET refusal = 3 WHERE place = 400")
         connection.commit()
-    page = shown(session_site.page(f"/matings?dam={DAM}"))
+    page = shown(site.page(f"/matings?dam={DAM}"))
     assert "the program's reply to command 400 isn't the stored one: nothing goes on" in page
-    answer = session_site.post("/file/exit", id=DAM, day="2024-05-01")
+    answer = site.post("/file/exit", id=DAM, day="2024-05-01")
     assert answer.status_code == 400
-    with session_site.desk.opened() as book:
+    with site.desk.opened() as book:
         assert book and book.change and book.change.number == 1
 
 

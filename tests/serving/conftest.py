@@ -6,7 +6,6 @@ from collections.abc import Iterator
 
 import pytest
 
-from desk.conftest import program_with_sessions
 from desk.site import HOST
 from front_desk.conftest import desk, new_desk, society_desk, taken_society
 from front_desk.desk import Desk
@@ -14,7 +13,7 @@ from serving.visitor import Served, Visitor, served_of, with_accounts
 from society.serving import passwords
 from society.serving.way import Way
 
-__all__ = ["desk", "new_desk", "program_with_sessions", "society_desk", "taken_society"]
+__all__ = ["desk", "new_desk", "society_desk", "taken_society"]
 
 
 @pytest.fixture
@@ -24,11 +23,11 @@ def cheap(monkeypatch: pytest.MonkeyPatch) -> None:
 
 
 @pytest.fixture
-def served(cheap: None, society_desk: Desk, program_with_sessions: str, tmp_path: pathlib.Path) -> Iterator[Served]:
+def served(cheap: None, society_desk: Desk, program: str, tmp_path: pathlib.Path) -> Iterator[Served]:
     """The desk of the society's book, with accounts."""
     folder = society_desk.room / "book"
     with_accounts(folder)
-    with served_of(folder, program_with_sessions, tmp_path / "dropped", Way((HOST,))) as found:
+    with served_of(folder, program, tmp_path / "dropped", Way((HOST,))) as found:
         yield found
 
 
