@@ -27,7 +27,7 @@ def remember(book: Book) -> None:
     change = book.change.number if book.change else 0
     now = datetime.datetime.now(datetime.timezone.utc).isoformat(timespec="seconds")
     with contextlib.suppress(OSError):
-        put(book.folder / NAME, table(TITLES, [(now, change)]))
+        put(book.folder / NAME, table(TITLES, [[now], [change]]))
 
 
 def last_backup(folder: pathlib.Path) -> LastBackup | None:
