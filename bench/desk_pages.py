@@ -178,7 +178,9 @@ def measure(desk: Desk, dam: str, runs: int) -> None:
 def main() -> None:
     parser = argparse.ArgumentParser(description=__doc__, formatter_class=argparse.RawDescriptionHelpFormatter)
     parser.add_argument("program", metavar="PROGRAM", type=os.path.abspath)
-    parser.add_argument("society", metavar="SOCIETY", nargs="?", default=str(HERE.parent / "society/society"), type=os.path.abspath)
+    parser.add_argument(
+        "society", metavar="SOCIETY", nargs="?", default=str(HERE.parent / "society/society"), type=os.path.abspath
+    )
     parser.add_argument("--animals", type=int, default=60_000)
     parser.add_argument("--runs", type=int, default=5)
     parser.add_argument("--work", default=work_folder())

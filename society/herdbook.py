@@ -127,6 +127,10 @@ class Herdbook:
         """The lines that it writes of a book's journal."""
         return self.lines(words, book.command_file())
 
+    def coefficient(self, number: str, book: Book) -> str:
+        """The line of one animal among those of all coefficients; empty where it would be as much work as all of them."""
+        return ""
+
     def reply(self, command: Command, book: Book) -> Refusal | None:
         """Why it refuses a command behind a book's journal; none where it accepts it."""
         length = book.journal.length

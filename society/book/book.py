@@ -130,6 +130,17 @@ class Book:
         """
         return dict(self.connection.execute(former))
 
+    def number_before(self, id: str) -> str:
+        """The number of an animal that was dropped, or else its last one; empty where there was none."""
+        if self.connection is None:
+            return ""
+        before = f"""
+            SELECT number FROM animal WHERE id = ? AND (until IS NOT NULL OR standing = '{Standing.DROPPED.value}')
+            ORDER BY until IS NULL DESC, since DESC LIMIT 1
+        """
+        found = self.connection.execute(before, (id,)).fetchone()
+        return str(found[0]) if found else ""
+
     def greatest_digits(self) -> int:
         """The greatest twelve digits that an animal has or had as its number."""
         if self.connection is None:

@@ -73,8 +73,7 @@ def born(book: Book, calf: Calf) -> ByHand:
 
 def number_for(book: Book, calf: Calf) -> str:
     """The number that it had before, or else the next one."""
-    dropped = book.dropped.get(calf.id)
-    former = dropped.number if dropped else book.former_numbers().get(calf.id, "")
+    former = book.number_before(calf.id)
     if former:
         return former[:6] + calf.sex + former[7:]
     row = (
@@ -143,7 +142,8 @@ def file(book: Book, program: Herdbook, one: ByHand) -> tuple[Change, Refusal | 
     rows = Rows({}, {}) if refusal else rows_of(book, one)
     findings = (CommandRefused(one.kind, one.command.day, refusal),) if refusal else one.findings
     keeps = bool(refusal) or one.kind in (ChangeKind.TRANSFER, ChangeKind.EXIT)
-    state = State(rows, new_owners={} if refusal else one.new_owners, keeps_coefficients=keeps)
+    born = one.known.number if one.kind is ChangeKind.BIRTH else ""
+    state = State(rows, new_owners={} if refusal else one.new_owners, keeps_coefficients=keeps, born=born)
     made = Made(one.kind, options=one.options, told=told_by(one, findings), form=one.form)
     made = replace(made, counts=(("refused", 1),) if refusal else (("filed", 1),))
     return write(book, program, Filed([Step(one.command, refusal or 0)]), state, made), refusal

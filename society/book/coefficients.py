@@ -97,6 +97,20 @@ def kept_lines(connection: sqlite3.Connection) -> list[str]:
     return [line for (line,) in connection.execute(f"SELECT {line} FROM coefficient ORDER BY place")]
 
 
+def add_coefficient(connection: sqlite3.Connection, line: str) -> None:
+    """Keeps that of an animal that was born, as the program writes it, at its place in age order."""
+    number, fraction, percent = line.split(",")
+    elder = """
+        SELECT count(*) FROM animal, (SELECT born AS day FROM animal WHERE until IS NULL AND number = :number)
+        WHERE until IS NULL AND born IS NOT NULL AND (born, number) < (day, :number)
+    """
+    place = connection.execute(elder, {"number": number}).fetchone()[0] + 1
+    # those of younger animals move on by one, by way of places that nothing has
+    connection.execute("UPDATE coefficient SET place = -place WHERE place >= ?", (place,))
+    connection.execute("UPDATE coefficient SET place = 1 - place WHERE place < 0")
+    connection.execute("INSERT INTO coefficient VALUES (?, ?, ?, ?)", (place, number, fraction, percent))
+
+
 def write_coefficients(connection: sqlite3.Connection, lines: list[str]) -> None:
     """Keeps the coefficients that the program writes in place of those before."""
     kept = kept_lines(connection)

@@ -8,7 +8,7 @@ from dataclasses import dataclass, field
 
 from society.book.book import Book
 from society.book.changes import Change, Made
-from society.book.coefficients import write_coefficients
+from society.book.coefficients import add_coefficient, write_coefficients
 from society.book.commands import Record
 from society.book.book_changed import commit, creating
 from society.book.history import last_change, next_number, now, write_change
@@ -45,6 +45,8 @@ class State:
     new_owners: dict[str, int] = field(default_factory=dict)
     # no animal is born and no parent changed
     keeps_coefficients: bool = False
+    # the number of the only animal that is born, where nothing else changes: the other coefficients stay
+    born: str = ""
 
 
 def animal_rows(known: dict[str, Known], records: dict[str, Record]) -> dict[Values, Values]:
@@ -74,6 +76,10 @@ def write_within(
         before = rows_now(connection, REMEMBERED)
         write_rows(connection, REMEMBERED, number, before, remembered_rows(state.remembered))
     if state.keeps_coefficients:
+        return end(book, connection, number, moment)
+    line = program.coefficient(state.born, Book(book.folder, connection)) if state.born else ""
+    if line:
+        add_coefficient(connection, line)
         return end(book, connection, number, moment)
     return compute_and_end(book, connection, program, number, moment)
 

@@ -15,6 +15,7 @@ from society.answers.table import Table
 from society.book.asking_sentences import NotSuch
 from society.book.book import IN_BOOK, Book
 from society.book.rows import COLUMNS, Row
+from society.desk.paging import page_of
 from society.mistake import Mistake
 from society.reading.days import FIRST_DAY, LAST_DAY
 
@@ -69,7 +70,6 @@ class Found(NamedTuple):
 def asked_by(given: Mapping[str, str]) -> Asked:
     """That of the fields of a form; a mistake where one can't be read."""
     order = given.get("order", "")
-    page = given.get("page", "")
     return Asked(
         tuple(given.get("words", "").split()),
         Choice(
@@ -80,7 +80,7 @@ def asked_by(given: Mapping[str, str]) -> Asked:
         ),
         Order(order) if order in list(Order) else Order.BIRTH,
         given.get("down", "") == "1",
-        min(int(page), 1_000_000) if page.isdecimal() and len(page) < 9 and int(page) else 1,
+        page_of(given.get("page", "")),
     )
 
 
@@ -109,11 +109,14 @@ def found_by(book: Book, asked: Asked) -> Found:
     page = min(asked.page, pages)
     joined = " JOIN coefficient USING (number)" * (asked.order is Order.COEFFICIENT)
     by = SORTED_BY[asked.order].format(way="DESC" if asked.is_downwards else "ASC")
-    rows = book.connection.execute(
-        f"SELECT {COLUMNS} FROM animal{joined} WHERE {where} ORDER BY {by} LIMIT ? OFFSET ?",
+    # in order they are first alone, since whole rows take long to be sorted
+    in_order = book.connection.execute(
+        f"SELECT animal FROM animal{joined} WHERE {where} ORDER BY {by} LIMIT ? OFFSET ?",
         [*values, ON_A_PAGE, (page - 1) * ON_A_PAGE],
     )
-    return Found([Row(*row) for row in rows], total, page, pages)
+    one = f"SELECT {COLUMNS} FROM animal WHERE animal = ?"
+    rows = [Row(*book.connection.execute(one, place).fetchone()) for place in in_order.fetchall()]
+    return Found(rows, total, page, pages)
 
 
 def where_of(book: Book, asked: Asked) -> tuple[str, list[object]]:

@@ -1,16 +1,18 @@
-"""Writes the files beside the database after a change, while pages are answered."""
+"""Writes the files beside the database after a change, in a process beside, while pages are answered."""
 from __future__ import annotations
 
 import pathlib
 import threading
 
 from society.book.exports import refresh
+from society.desk.beside import Tell
+from society.desk.jobs import Job
 
-SECONDS = 60
+SECONDS, PAUSE = 60, 1
 
 
 class Exports:
-    """Writes them where somebody wishes it, by a thread of its own. Where they can't be written, a later call does."""
+    """Writes them where somebody wishes it. Where they can't be written, a later call does."""
 
     def __init__(self, folder: pathlib.Path) -> None:
         self.folder = folder
@@ -24,13 +26,20 @@ class Exports:
     def write(self) -> None:
         while True:
             self.wished.wait()
-            self.wished.clear()
+            # nobody changes the book while they are written, so that is begun when nobody files
+            while not self.is_over and self.wished.is_set():
+                self.wished.clear()
+                self.wished.wait(PAUSE)
             if self.is_over:
                 return
-            refresh(self.folder, SECONDS)
+            Job(("exports",)).do(refreshed, (self.folder,))
 
     def end(self) -> None:
         """Ends behind what is written now."""
         self.is_over = True
         self.wished.set()
         self.thread.join()
+
+
+def refreshed(folder: pathlib.Path, _: Tell) -> str:
+    return refresh(folder, SECONDS)

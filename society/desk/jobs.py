@@ -13,6 +13,7 @@ from collections.abc import Callable
 
 from society.desk.beside import Failed, Made, Told, messages_of, started
 from society.desk.sentences import DeskFault
+from society.mistake import Mistake
 
 # so many results are kept, and so long a page waits for one that is there soon, in seconds
 MOST = 12
@@ -20,8 +21,9 @@ SOON = 0.15
 # so many processes work at once
 AT_ONCE = 2
 Key = tuple[object, ...]
-# the kind of what changes the book
-TAKING = "taking"
+# the kind of what changes the book, and of advice on a dam, of which few are kept since each may be long
+TAKING, ADVICE = "taking", "advice"
+MOST_ADVICE = 3
 
 
 class Stage(enum.Enum):
@@ -55,6 +57,18 @@ class Job:
         finally:
             self.is_over.set()
 
+    def do_here(self, compute: Callable[[], object]) -> None:
+        """The same in this process."""
+        try:
+            self.take(Made(compute()))
+        except Mistake as mistake:
+            self.take(Failed(mistake.sentences))
+        except BaseException:
+            self.take(Failed((DeskFault.WORK_ENDED.said(),), True))
+            raise
+        finally:
+            self.is_over.set()
+
     def take(self, message: object) -> None:
         if isinstance(message, Told):
             self.told = message.what
@@ -75,12 +89,19 @@ class Jobs:
 
     def of(self, key: Key, work: Callable[..., object], values: tuple[object, ...]) -> Job:
         """The work of a key, which is begun where it wasn't; the page waits a moment for its end."""
+        return self.begun(key, lambda job: self.do(job, work, values))
+
+    def here(self, key: Key, compute: Callable[[], object]) -> Job:
+        """The same for work that is done in this process, as that of the session's answers."""
+        return self.begun(key, lambda job: job.do_here(compute))
+
+    def begun(self, key: Key, do: Callable[[Job], None]) -> Job:
         with self.lock:
             job = self.jobs.get(key)
             if job is None:
                 job = self.jobs[key] = Job(key)
                 # it is done for whoever asks
-                given = (self.do, job, work, values)
+                given = (do, job)
                 threading.Thread(target=contextvars.copy_context().run, args=given, daemon=True).start()
                 self.forget_old()
         job.is_over.wait(SOON)
@@ -110,7 +131,8 @@ class Jobs:
     def forget_old(self) -> None:
         """Of those that are over the oldest go first. The lock is held."""
         over = [key for key, job in self.jobs.items() if job.is_over.is_set()]
-        for key in over[: max(0, len(self.jobs) - MOST)]:
+        advice = [key for key in over if key[0] == ADVICE]
+        for key in {*over[: max(0, len(self.jobs) - MOST)], *advice[: max(0, len(advice) - MOST_ADVICE)]}:
             del self.jobs[key]
 
     def end(self) -> None:

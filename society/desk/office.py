@@ -41,9 +41,16 @@ class Office(Herdbook):
         self.has_sessions = True
 
     def ask(self, words: list[str], book: Book) -> list[str]:
-        if words[0] not in QUESTIONS or "--with" in words or not book.journal.length:
-            return super().ask(words, book)
-        question = [word for word in words if word != "--dam"]
+        lines = None
+        if words[0] in QUESTIONS and "--with" not in words and book.journal.length:
+            lines = self.asked([word for word in words if word != "--dam"], book)
+        return super().ask(words, book) if lines is None else lines
+
+    def coefficient(self, number: str, book: Book) -> str:
+        return "".join(self.asked(["coefficient", number], book) or ())
+
+    def asked(self, question: list[str], book: Book) -> list[str] | None:
+        """What an inspector of the session answers; none where none stands at the book."""
         for _ in range(2):
             session = self.at(book)
             if session is None:
@@ -59,7 +66,7 @@ class Office(Herdbook):
                 return answer.lines
             # somebody filed meanwhile
             break
-        return super().ask(words, book)
+        return None
 
     def reply(self, command: Command, book: Book) -> Refusal | None:
         """The reply of the session's desk. Nobody else changes the book, and whoever asks stores it, or forgets the

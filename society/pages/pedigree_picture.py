@@ -3,6 +3,7 @@ generations on several, each of which can be printed."""
 from __future__ import annotations
 
 import collections
+import functools
 import math
 from typing import Mapping
 
@@ -115,11 +116,12 @@ class Pedigree:
             f'<rect x="{MARGIN}" y="{y - 11:.1f}" width="20" height="14" rx="3" fill="{INBRED}" stroke="{INBRED_INK}" '
             'stroke-width="2"/>',
             text_at(MARGIN + 28, y, texts["tree key"], GREY, 13),
-            text_at(MARGIN, y + 18, self.note() + ".", GREY, 13),
+            text_at(MARGIN, y + 18, self.note + ".", GREY, 13),
             text_at(MARGIN, y + 31, first, GREY, 10),
             text_at(MARGIN, y + 42, second, GREY, 10),
         ]
 
+    @functools.cached_property
     def note(self) -> str:
         """How many ancestors are drawn, and how many aren't."""
         hidden = len(ancestors_of(self.book, self.known.number) - set(self.times))

@@ -19,6 +19,8 @@ INBRED, INBRED_INK = "#fff3cf", "#b4560c"
 
 def printable(text: str) -> str:
     """The text without the characters that no page may have."""
+    if text.isprintable():
+        return text
     return "".join(one for one in text if one >= " " and not 0xD800 <= ord(one) < 0xE000 and one not in "\ufffe\uffff")
 
 

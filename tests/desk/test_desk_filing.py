@@ -133,6 +133,19 @@ def test_by_the_session(site: Site, monkeypatch: pytest.MonkeyPatch) -> None:
     assert site.desk.program.session is session
 
 
+def test_coefficients(site: Site, society_desk: Desk) -> None:
+    """What is kept of a birth's coefficient is the program's, at its place in age order, also of an animal that is older
+    than others."""
+    calves: list[tuple[str, dict[str, str]]] = [
+        ("2024-03-01", {"sire": SIRE, "dam": DAM}), ("1999-01-01", {}), ("2012-06-01", {"dam": "GK-05/192c"}),
+    ]  # fmt: skip
+    for at, (day, parents) in enumerate(calves):
+        site.post("/file/birth", id=f"NEW-{at}", sex="F", day=day, **parents)
+        assert TEXTS["accepted"][0] in shown(site.page(f"/answer/{at + 2}"))
+    society_desk.good("verify")
+    assert "17/512" in society_desk.good("show", "NEW-0").out
+
+
 def test_session_killed(site: Site) -> None:
     """A session that ends is started anew, and nothing is lost."""
     site.post("/file/birth", **BIRTH)

@@ -7,18 +7,15 @@ from typing import NamedTuple
 from flask import Blueprint, abort, render_template, request
 from werkzeug.wrappers import Response
 
-from society.answers.candidates import all_candidates
-from society.answers.advice import Advice, advice_of, by_mating, by_relationship
+from society.answers.advice import Advice
 from society.answers.table import Cell
-from society.book.asking_sentences import Mating
 from society.book.book import Book
-from society.book.known import Known
-from society.book.role import Role
 from society.book.search import find
+from society.desk.advice_here import advice_for
 from society.command_line.arguments import coefficient, days, positive
 from society.desk.desk import Answer, the_desk, with_book
-from society.desk.finding_words import Sentence
 from society.desk.jobs import Stage
+from society.desk.paging import part_of
 from society.desk.plan_beside import PlanMade, Rules, plan_for
 from society.desk.shown_mistakes import on_page
 from society.desk.taking_beside import read
@@ -26,8 +23,6 @@ from society.desk.words import the_words
 from society.mistake import Mistake
 
 page = Blueprint("matings", __name__)
-# of so many sires each is asked by itself
-MOST_ONE_BY_ONE = 500
 # how related a pair is, by the coefficient of its calves: below each of these one kind
 LEVELS = (Fraction(1, 32), Fraction(1, 16), Fraction(1, 8), Fraction(1, 4))
 
@@ -52,39 +47,25 @@ def level_of(value: Fraction) -> int:
 @page.get("/matings", endpoint="page")
 @with_book
 def matings(book: Book) -> Answer:
-    word, faults = " ".join(request.args.get("dam", "").split()), list[Sentence]()
-    advice: Advice | None = None
-    dam = None
-    if word:
-        try:
-            dam = find(book, word)
-            advice = advice_for(book, dam, request.args.get("left") == "1")
-        except Mistake as mistake:
-            faults = on_page(mistake.sentences)
+    word = " ".join(request.args.get("dam", "").split())
+    if not word:
+        return render_template("matings.html", given=request.args)
+    try:
+        dam = find(book, word)
+    except Mistake as mistake:
+        return render_template("matings.html", given=request.args, faults=on_page(mistake.sentences))
+    job = advice_for(the_desk(), book, dam, request.args.get("left") == "1")
+    if job.stage is Stage.UNDER_WAY:
+        return render_template("waiting.html", what="mating", told=job.told, seconds=job.seconds)
+    if job.stage is Stage.FAILED:
+        the_desk().jobs.forget(job.key)
+        return render_template("matings.html", given=request.args, dam=dam, faults=on_page(job.failed.sentences))
+    assert isinstance(job.value, Advice)
+    advice, part = job.value, part_of(job.value.table.rows)
     return render_template(
-        "matings.html",
-        given=request.args,
-        dam=dam,
-        advice=advice,
-        faults=faults,
-        rows=rows_of(advice) if advice else [],
-        refused=on_page(advice.refused) if advice else [],
-    )
-
-
-def advice_for(book: Book, dam: Known, also_left: bool) -> Advice:
-    """What the program's session says of a mating with each of the sires, which are those of the word `mating`. Of very
-    many the program is run once, which goes through the pedigree once for all of them."""
-    sires = all_candidates(book, Role.SIRE, also_left)
-    if not also_left:
-        sires.needed(Mating.ASK_FOR_LEFT.said())
-    ask = by_relationship if len(sires.animals) > MOST_ONE_BY_ONE and not dam.is_male else by_mating
-    return advice_of(dam, sires.needed(Mating.NAME_OTHERS.said()), ask(book, the_desk().program, dam, sires))
-
-
-def rows_of(advice: Advice) -> list[Sire]:
-    """The sires of the table that the word `mating` writes."""
-    return [sire_of(*row) for row in advice.table.rows]
+        "matings.html", given=request.args, dam=dam, advice=advice, refused=on_page(advice.refused),
+        part=part._replace(rows=[sire_of(*row) for row in part.rows]),
+    )  # fmt: skip
 
 
 def sire_of(id: Cell, name: Cell, number: Cell, birth: Cell, fraction: Cell, _: Cell, percent: Cell) -> Sire:
@@ -98,9 +79,12 @@ def sire_of(id: Cell, name: Cell, number: Cell, birth: Cell, fraction: Cell, _: 
 @with_book
 def file(book: Book) -> Answer:
     dam = find(book, request.args.get("dam", ""))
-    advice = advice_for(book, dam, request.args.get("left") == "1")
+    job = advice_for(the_desk(), book, dam, request.args.get("left") == "1")
+    job.is_over.wait()
+    if not isinstance(job.value, Advice):
+        raise Mistake(*job.failed.sentences)
     semicolons = the_words().language.name != "en"
-    return csv_of(advice.table.text(semicolons), semicolons, "matings.csv")
+    return csv_of(job.value.table.text(semicolons), semicolons, "matings.csv")
 
 
 def csv_of(text: str, semicolons: bool, name: str) -> Response:
@@ -133,7 +117,9 @@ def plan(book: Book) -> Answer:
         faults = on_page(job.failed.sentences)
         the_desk().jobs.forget(job.key)
         return render_template("plan.html", given=request.args, plan=None, faults=faults, level=level_of), 400
-    return render_template("plan.html", given=request.args, plan=job.value, faults=[], level=level_of)
+    assert isinstance(job.value, PlanMade)
+    part = part_of(job.value.pairs)
+    return render_template("plan.html", given=request.args, plan=job.value, faults=[], level=level_of, part=part)
 
 
 @page.get("/matings/plan.csv")

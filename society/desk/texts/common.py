@@ -73,6 +73,10 @@ TEXTS = {
     "look again": ("Look again now", "Jetzt nachsehen", "Regarder maintenant"),
     "wait looking": ("The sheet is looked at", "Die Tabelle wird angesehen", "Le tableau est examiné"),
     "wait taking": ("The sheet is taken", "Die Tabelle wird übernommen", "Le tableau est repris"),
+    "wait mating": (
+        "The register is asked for each sire", "Das Register wird nach jedem Vater gefragt",
+        "Le registre est interrogé pour chaque père",
+    ),
     "wait planning": ("The plan is made", "Der Plan wird gemacht", "Le plan est établi"),
     "on certificates": ("On certificates", "Auf Abstammungsnachweisen", "Sur les certificats"),
     "society name": ("Name of the society", "Name des Verbands", "Nom de l'association"),

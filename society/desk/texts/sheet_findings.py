@@ -167,16 +167,16 @@ FINDINGS: dict[str, tuple[str, str]] = {
         "{animals} animaux sont père et mère : {told}. Rien n'est repris, car dans le livre chaque animal est mâle ou femelle",
     ),
     "parents alike": (
-        "{parents} Eltern haben keine Zeile, und ein Tier mit einer Zeile unterscheidet sich nur in Großschreibung, Leerzeichen "
-        "oder Nullen: {told}",
+        "{parents} Eltern haben keine Zeile, und ein Tier mit Zeile unterscheidet sich nur in Großschreibung, Leerzeichen oder "
+        "Nullen: {told}. Schreiben Sie sie gleich, denn Gründer an ihrer Stelle ändern Koeffizienten",
         "{parents} parents n'ont pas de ligne, et un animal qui en a une ne diffère que par les majuscules, espaces ou zéros : "
-        "{told}",
+        "{told}. Écrivez-les pareil, car des fondateurs à leur place changent des coefficients",
     ),
     "parents in column": (
-        "von {parents} Eltern stehen {found} in der Spalte „{title}“, und {found_in_ids} in „{ids}“, aus der die Ohrmarken "
-        "gelesen werden",
-        "de {parents} parents, {found} sont dans la colonne « {title} » et {found_in_ids} dans « {ids} », où les boucles sont "
-        "lues",
+        "von {parents} Eltern stehen {found} in der Spalte „{title}“, und {found_in_ids} in „{ids}“, woraus die Kennungen gelesen "
+        "werden: Gründer an ihrer Stelle ändern Koeffizienten",
+        "des {parents} parents {found} sont dans la colonne « {title} », et {found_in_ids} dans « {ids} », où sont lus les "
+        "numéros : des fondateurs à leur place changent des coefficients",
     ),
     "no row taken": ("keine Zeile kann übernommen werden", "aucune ligne ne peut être reprise"),
 }  # fmt: skip
