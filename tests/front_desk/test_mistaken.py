@@ -21,6 +21,7 @@ SHEETS: list[tuple[str | bytes, str]] = [
         ),
     ),
     ("ab,cd\n1,2\n", "line 1: no column for id or birth or sire or dam is found"),
+    ("id,born,dog\na,2001,Rex\n", "line 1: no column for sire or dam is found"),
     ("ab,cd\n1,dog\n", "line 1: no column for id or birth or sire or dam is found. The titles are 'ab', 'cd'"),
     ("id,born,sire,dam\n", "has no row that can be taken"),
     ("id,born,sire,dam\n,2001,,\n", "line 2: the row is left out: it has no id"),
