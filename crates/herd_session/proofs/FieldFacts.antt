@@ -1,5 +1,5 @@
 -- The fields of a record from a place on.
-use Rattle.std.proofs.Common.{◌≡◌, ℕ, zero, suc, ◌<◌, ◌≤◌, [], ◌∷◌, length, drop, refl, arith}
+use Rattle.std.proofs.Common.{◌≡◌, ℕ, zero, suc, ◌<◌, [], ◌∷◌, length, drop, refl, arith}
 use Rattle.csv.specs.Records.{field_at}
 use Rattle.herd_report.specs.reading.Grammar.{Fields, field}
 
@@ -10,10 +10,3 @@ unfolding field_at
 drop_field place [] within = absurd (omega arith)
 drop_field zero (first ∷ others) within = refl
 drop_field (suc place) (first ∷ others) within = drop_field place others (omega arith)
-
--- no field is behind the last
-pub drop_all : (place : ℕ) (fields : Fields) → length fields ≤ place → drop place fields ≡ []
-drop_all zero [] within = refl
-drop_all (suc place) [] within = refl
-drop_all zero (first ∷ others) within = absurd (omega arith)
-drop_all (suc place) (first ∷ others) within = drop_all place others (omega arith)

@@ -40,8 +40,3 @@ pub taken_if_known : (known : Option (List Fields)) (before : ℕ) (fields : Fie
     → IsRecordAt known before fields × IfSomeIs known (before + 1) new
 taken_if_known None before fields found old new were takes is = (tt, tt)
 taken_if_known (Some all) before fields found old new were takes is = taken all before fields found old new were takes is
-
--- nothing was read yet
-pub none_taken : (known left : Option (List Fields)) → left ≡ known → IfSomeIs known 0 left
-none_taken None left is = tt
-none_taken (Some all) left is = is

@@ -5,4 +5,3 @@ pub mod FieldFacts
 pub mod FiledFacts
 pub mod IntakeFacts
 pub mod PieceFacts
-pub mod QuestionFacts

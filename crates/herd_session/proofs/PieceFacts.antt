@@ -1,57 +1,12 @@
 -- Texts of several pieces.
-use Rattle.std.proofs.Common.{◌≡◌, ◌∙◌, ℕ, zero, suc, ◌<◌, List, [], ◌∷◌, ◌++◌, Bool, drop, ap, sym, refl, arith, append_assoc, get_or, length, take, Bor, ◌+◌, Option, Result, Ok, Err, subst}
+use Rattle.std.proofs.Common.{◌≡◌, ◌∙◌, ℕ, zero, suc, ◌<◌, List, [], ◌∷◌, ◌++◌, drop, ap, sym, refl, arith, append_assoc, get_or, length, take, Bor, Option, Result, Ok, Err, subst}
 use Rattle.std.proofs.KnownBytes.{Appends-trans}
-use Rattle.std.proofs.lemmas.List.{append-nil, take_more}
-use Rattle.std.proofs.lemmas.List.Concat.{flat_map-append}
+use Rattle.std.proofs.lemmas.List.{append-nil}
 use Rattle.std.specs.List.{flat_map}
-use Rattle.std.specs.Prelude.{OnOk, codes, ◌==◌, if◌then◌else◌}
+use Rattle.std.specs.Prelude.{OnOk}
 use Rattle.std.specs.Io.KnownBytes.{Appends}
 use Rattle.herd_report.proofs.lemmas.writing.TextFacts.{passes_before}
 use Rattle.herd_report.specs.writing.Text.{AppendsFront, PassesOn}
-use Rattle.herd_session.specs.Answers.{behind_from}
-
--- the character at a place, and those behind it
-pub behind_next : (tag text : List ℕ) (starts : Bool) (place : ℕ) → place < length text
-    → behind_from tag starts (drop place text)
-    ≡ (if starts then tag ++ codes "," else []) ++ get_or text place 0 ∷ behind_from tag (get_or text place 0 == 10) (drop (suc place) text)
-behind_next tag [] starts place within = absurd (omega arith)
-behind_next tag (character ∷ rest) starts zero within = refl
-behind_next tag (character ∷ rest) starts (suc place) within = behind_next tag rest starts place (omega arith)
-
--- what stands before the first character of a line
-abbrev pub line_start : List ℕ → Bool → List ℕ
-line_start tag starts = if starts then tag ++ codes "," else []
-
--- a character more stands behind the tag
-pub behind_more : (tag text out new whole : List ℕ) (starts : Bool) (place : ℕ) → place < length text
-    → out ++ behind_from tag starts (drop place text) ≡ whole
-    → new ≡ out ++ line_start tag starts ++ get_or text place 0 ∷ []
-    → new ++ behind_from tag (get_or text place 0 == 10) (drop (place + 1) text) ≡ whole
-behind_more tag text out new whole starts place within was joined =
-    let character = get_or text place 0 in
-    let later = behind_from tag (character == 10) (drop (suc place) text) in
-    let one : suc place ≡ place + 1 = omega arith in
-    ap (λ n. new ++ behind_from tag (character == 10) (drop n text)) (sym one)
-    ∙ ap (λ l. l ++ later) joined
-    ∙ append_assoc (out ++ line_start tag starts) (character ∷ []) later
-    ∙ append_assoc out (line_start tag starts) (character ∷ later)
-    ∙ ap (λ l. out ++ l) (sym (behind_next tag text starts place within))
-    ∙ was
-
--- one piece more
-pub pieces_more : (pieces : List (Bor (List ℕ))) (place : ℕ) (other : Bor (List ℕ)) → place < length pieces
-    → flat_map (λ piece. piece.now) (take (place + 1) pieces)
-    ≡ flat_map (λ piece. piece.now) (take place pieces) ++ (get_or pieces place other).now
-pieces_more pieces place other within =
-    let text : Bor (List ℕ) → List ℕ = λ piece. piece.now in
-    ap (flat_map text) (take_more pieces place other within)
-    ∙ flat_map-append text (take place pieces) (get_or pieces place other ∷ [])
-    ∙ ap (λ l. flat_map text (take place pieces) ++ l) (append-nil (get_or pieces place other).now)
-
--- what was there before is left
-pub front_left : (xs ys : List ℕ) → take (length xs) (xs ++ ys) ≡ xs
-front_left [] ys = refl
-front_left (x ∷ xs) ys = ap (λ l. x ∷ l) (front_left xs ys)
 
 -- pieces before a place, the one there, and those behind it are all
 pieces_split : (pieces : List (Bor (List ℕ))) (place : ℕ) (other : Bor (List ℕ)) → place < length pieces
@@ -68,11 +23,6 @@ pieces_split (piece ∷ more) (suc place) other within =
 -- a text that was written was passed on
 pub passed_whole : (old new : Option (List ℕ)) (text : List ℕ) → Appends old new text → PassesOn old new text []
 passed_whole old new text written = record { front = text; split = append-nil text; written = written }
-
--- so was a front of it
-pub passed_front : (old new : Option (List ℕ)) (text : List ℕ) → AppendsFront old new text
-    → (rest : List ℕ) × PassesOn old new text rest
-passed_front old new text front = (front.rest, front.passed)
 
 -- what is passed on behind a text that was written
 pub passed_behind : (old now new : Option (List ℕ)) (one other rest : List ℕ) → Appends old now one

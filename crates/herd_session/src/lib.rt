@@ -24,7 +24,7 @@
 //!
 //! | | definition (`specs/`) | code (`src/`) | proof (`proofs/`) |
 //! |---|---|---|---|
-//! | requests | `Requests`, `Addressees`, `Tag` | `request`, `tag` | `FieldFacts` |
+//! | requests | `Requests`, `Addressees`, `Tag` | `request`, `tag` | |
 //! | questions, the texts that answer them | `Questions` | `question`, `word`, `reading` | `FieldFacts` |
 //! | faults | `Faults` | `fault`, `session_fault` | |
 //! | reading requests, queues | `Requests` | `intake`, `tasks`, `staff` | `IntakeFacts` |
