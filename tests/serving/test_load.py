@@ -4,9 +4,10 @@ from __future__ import annotations
 
 import contextlib
 import pathlib
+import random
 import sqlite3
 import time
-from collections.abc import Iterator
+from collections.abc import Callable, Iterator
 
 import pytest
 
@@ -19,6 +20,8 @@ from society.serving.accounts import Accounts
 
 SMALL = Plan(clerks=4, commands=6, inspectors=6, seconds=2, pause=0.1)
 LARGE = Plan(clerks=8, commands=100, inspectors=15, seconds=60, pause=0.5)
+FEW_FILE = Plan(clerks=1, commands=15, inspectors=15, seconds=30, pause=1)
+LARGE_BOOK, SECONDS_TO_BEGIN = 59_000, 15
 # the first change took the sheet
 CHANGES = "SELECT change, login, kind, length FROM change WHERE change > 1"
 
@@ -26,13 +29,17 @@ CHANGES = "SELECT change, login, kind, length FROM change WHERE change > 1"
 @pytest.fixture
 def room(society_desk: Desk, cheap: None) -> Desk:
     """The society's book, with an account for each who works at it."""
-    accounts = Accounts(society_desk.room / "book")
+    with_people(society_desk)
+    return society_desk
+
+
+def with_people(desk: Desk) -> None:
+    accounts = Accounts(desk.room / "book")
     accounts.add("keeper", AccountRole.KEEPER, WORD, WORD)
     for at in range(LARGE.clerks):
         accounts.add(f"clerk {at}", AccountRole.CLERK, WORD, WORD)
     for at in range(LARGE.inspectors):
         accounts.add(f"inspector {at}", AccountRole.INSPECTOR, WORD, WORD)
-    return society_desk
 
 
 @contextlib.contextmanager
@@ -108,6 +115,36 @@ def test_load(room: Desk) -> None:
 
 def test_killed(room: Desk) -> None:
     killed_at_work(room, SMALL)
+
+
+def large_sheet() -> str:
+    """A sheet of many animals, of parents that live not long before."""
+    chosen, females, males = random.Random(7), list[str](), list[str]()
+    rows = ["id,sex,birth,sire,dam,owner"]
+    for at in range(LARGE_BOOK):
+        year, sex = 1985 + at * 39 // LARGE_BOOK, "M" if chosen.random() < 0.12 else "F"
+        older = [of[-most // 2 - 1] if len(of) > most else "" for of, most in ((males, 400), (females, 6000))]
+        sire, dam = (one if one[1:5] != str(year) else "" for one in older)
+        rows.append(f"B{year}-{at},{sex},{year}-{chosen.randrange(1, 13):02}-15,{sire},{dam},Owner {at % 300}")
+        (males if sex == "M" else females).append(f"B{year}-{at}")
+    return "\n".join(rows) + "\n"
+
+
+@pytest.mark.slow
+def test_large_book(new_desk: Callable[[], Desk], cheap: None) -> None:
+    """How long readers wait for a page of a large book, and a clerk for an answer, with all readers at work."""
+    desk = new_desk()
+    desk.take(large_sheet(), "--anyway")
+    with_people(desk)
+    server = Server(desk.room, desk.program)
+    # the server sees first that the book is whole
+    time.sleep(SECONDS_TO_BEGIN)
+    work = at_work(server, FEW_FILE, *animals_of(desk.room))
+    with open(f"/proc/{server.process.pid}/status", encoding="ascii") as status:
+        memory = next(line.split()[1] for line in status if line.startswith("VmHWM"))
+    server.end()
+    print(f"\n{LARGE_BOOK} animals: {work.told()}; {int(memory) // 1024} MB")
+    stands_once(desk, work, all_are_answered=True)
 
 
 @pytest.mark.slow
