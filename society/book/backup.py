@@ -8,6 +8,7 @@ import sqlite3
 import tempfile
 import time
 
+from society.book.backup_sentences import BackupFault
 from society.book.book import Book
 from society.book.changes import Change, Made
 from society.book.book_read import opened_to_read
@@ -92,12 +93,14 @@ def prepare(path: pathlib.Path, copy: pathlib.Path, program: Herdbook) -> Change
         with opened_to_read(path) as connection:
             version = version_of(connection, path)
             if not version:
-                raise Mistake(f"{path} has no book: name a backup, as the word backup writes them")
+                raise Mistake(BackupFault.NO_BOOK.said(path=path))
+            if connection.execute("SELECT 1 FROM sqlite_schema WHERE type IN ('trigger', 'view')").fetchone():
+                raise Mistake(BackupFault.ACTS.said(path=path))
             copy.write_bytes(bytes_of(connection))
     except OSError as error:
-        raise Mistake(f"{path} can't be read: {error.strerror or error}. Is the name right?") from None
+        raise Mistake(BackupFault.NOT_READ.said(path=path, error=error.strerror or str(error))) from None
     except sqlite3.Error as error:
-        raise Mistake(f"{path} is damaged, or isn't a backup ({error}): nothing is changed") from None
+        raise Mistake(BackupFault.DAMAGED.said(path=path, error=str(error))) from None
     try:
         with contextlib.closing(connect(copy, "rw")) as connection:
             connection.execute("BEGIN IMMEDIATE")
@@ -111,7 +114,7 @@ def prepare(path: pathlib.Path, copy: pathlib.Path, program: Herdbook) -> Change
             connection.execute("COMMIT")
             return change
     except sqlite3.Error as error:
-        raise Mistake(f"{path} can't be restored ({error}): nothing is changed") from None
+        raise Mistake(BackupFault.NOT_RESTORED.said(path=path, error=str(error))) from None
 
 
 def put_in_place(folder: pathlib.Path, copy: pathlib.Path) -> None:

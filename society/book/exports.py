@@ -74,7 +74,8 @@ def ids_text(book: Book, change: Change) -> bytes:
     numbers, ids, names, standings, *bases = zip(*rows)
     words = zip(*map(words_of, *bases))
     return table(
-        ID_TITLES, [numbers, ids, names, [STANDING_WORDS[one] for one in standings], *words, [change.number] * len(rows)]
+        ID_TITLES,
+        [numbers, ids, names, [STANDING_WORDS[one] for one in standings], *words, [change.number] * len(rows)],
     )
 
 

@@ -123,9 +123,7 @@ def begin_edition(connection: sqlite3.Connection, predecessor: Journal) -> Journ
 
 def append(connection: sqlite3.Connection, journal: Journal, steps: Collection[Step]) -> Journal:
     """Writes steps behind a journal that nothing stands behind."""
-    rows = (
-        (place, *row_of(command), refusal) for place, (command, refusal) in enumerate(steps, journal.length + 1)
-    )
+    rows = ((place, *row_of(command), refusal) for place, (command, refusal) in enumerate(steps, journal.length + 1))
     insert_many(connection, "command", rows, [journal.edition])
     return Journal(journal.edition, journal.length + len(steps))
 

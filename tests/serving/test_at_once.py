@@ -1,9 +1,12 @@
 """Several people at one book: each sees what the others did, nothing is filed twice, and the history names who did what."""
 from __future__ import annotations
 
+import contextlib
 import html
 import io
+import pathlib
 import re
+import sqlite3
 import threading
 
 import pytest
@@ -12,7 +15,8 @@ from desk.site import HOST, shown
 from front_desk.desk import Desk
 from serving.visitor import Served, Visitor
 from society.desk.forms import new_form
-from society.desk.texts import TEXTS
+from society.book.backup_sentences import BackupFault
+from society.desk.texts import SENTENCES, TEXTS
 from society.serving.accounts import A_DAY
 
 DAM = "GK-17/472c"
@@ -164,3 +168,29 @@ def test_backup(served: Served, society_desk: Desk) -> None:
     copy = carl.get("/book.sqlite").get_data()
     assert "after change 2." in shown(ines.page("/history"))
     assert b"scrypt" not in copy and b"account" not in copy and b"Ines" not in copy
+
+
+def acting(copy: bytes, room: pathlib.Path) -> bytes:
+    """A backup that would do something where it is written to."""
+    path = room / "acting.sqlite"
+    path.write_bytes(copy)
+    with contextlib.closing(sqlite3.connect(path)) as connection:
+        connection.execute("CREATE TRIGGER own AFTER INSERT ON change BEGIN DELETE FROM animal; END")
+        connection.commit()
+    return path.read_bytes()
+
+
+@pytest.mark.parametrize("kind, told", [("text", BackupFault.DAMAGED), ("torn", BackupFault.DAMAGED), ("empty", BackupFault.NO_BOOK),
+                                        ("acting", BackupFault.ACTS)])  # fmt: skip
+def test_hostile_backups(served: Served, tmp_path: pathlib.Path, kind: str, told: BackupFault) -> None:
+    """A file that is no backup, or one that does something, is refused; nothing is changed, and no path is told."""
+    kim = Visitor(served, "Kim")
+    copy = kim.get("/book.sqlite").get_data()
+    file = {"text": b"no database", "torn": copy[: len(copy) // 2], "empty": b"", "acting": acting(copy, tmp_path)}[
+        kind
+    ]
+    kim.get("/language/de")
+    data = {"csrf_token": kim.token(), "backup": (io.BytesIO(file), "../../x.sqlite")}
+    page = kim.page(kim.client.post("/restore", data=data, headers={"Host": HOST}).headers["Location"])
+    assert SENTENCES[told][1].replace("{path}", "x.sqlite") in shown(page)
+    assert str(served.desk.uploads.room) not in page and names(kim) == names(kim)[:1]

@@ -2,7 +2,7 @@
 from __future__ import annotations
 
 from society.desk.texts import (
-    account_sentences, animals, asking_sentences, book_sentences, common, filing, history, mistakes, refusals, serving, sheet,
+    account_sentences, animals, asking_sentences, backup_sentences, book_sentences, common, filing, history, mistakes, refusals, serving, sheet,
     taking_sentences,
 )  # fmt: skip
 
@@ -13,5 +13,9 @@ PARTS = (
 TEXTS: dict[str, tuple[str, str, str]] = {what: text for part in PARTS for what, text in part.items()}
 # the sentences of mistakes; in English where a page says it otherwise than a terminal
 SENTENCES = (
-    book_sentences.SENTENCES | asking_sentences.SENTENCES | taking_sentences.SENTENCES | account_sentences.SENTENCES
+    book_sentences.SENTENCES
+    | backup_sentences.SENTENCES
+    | asking_sentences.SENTENCES
+    | taking_sentences.SENTENCES
+    | account_sentences.SENTENCES
 )
