@@ -105,7 +105,7 @@ class Shower:
             (words("number"), row.number),
             (words("sex"), line.sex + castrated * known.castrated),
             (words("born"), line.born + embryo * bool(row.embryo)),
-            (words("exit"), line.exit or words("none")),
+            (words("exit"), line.exit or words("no exit")),
             (words("owner"), f"{line.owner}{since}" if line.owner else words("not known")),
         ]
         if known.standing is not Standing.ROW:

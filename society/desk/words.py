@@ -31,6 +31,11 @@ class Words:
         is_one = count == 1 or count == 0 and self.language.name == "fr"
         return self(f"{what} (one)" if is_one else what, self.language.count(count))
 
+    @property
+    def colon(self) -> str:
+        """With the blank before it that French has."""
+        return "\u00a0:" if self.language.name == "fr" else ":"
+
     def day(self, day: object) -> str:
         return self.language.day(day) if day else ""
 

@@ -16,6 +16,7 @@ TEXTS = {
     "born to": ("to year", "bis Jahr", "jusqu'à"),
     "from embryo": ("from a stored embryo", "aus einem gelagerten Embryo", "d'un embryon conservé"),
     "exit": ("Exit", "Abgang", "Sortie"),
+    "no exit": ("none", "keiner", "aucune"),
     "exit unknown": (
         "has left, day unknown ({})", "abgegangen, Tag unbekannt ({})", "sortie, jour inconnu ({})",
     ),
