@@ -2,6 +2,7 @@
 from __future__ import annotations
 
 import itertools
+import re
 import xml.etree.ElementTree as xml
 
 from front_desk.desk import Desk
@@ -53,6 +54,9 @@ def test_society(society_desk: Desk) -> None:
         assert words(classed(page, "letterhead")[0]) == "Goats <of> the Vale Church Lane 1"
         assert "Ausgestellt am 01.03.2026" in words(page)
         assert "Für den Zuchtverband: Goats <of> the Vale" in words(page)
+        assert not re.search(r"\d{4}-\d\d-\d\d", words(page))
+    shown = words(pages(society_desk, "book/certificates.html")[0])
+    assert "1/32 = 0,03125" in shown and "21.11.2017" in shown
     assert society_desk.good("settings", "--name", "", "--address", "").out.startswith(
         "name: not said\naddress: not said\n"
     )
@@ -93,6 +97,20 @@ def test_common_ancestors(desk: Desk) -> None:
     assert lettered["d"] == []
     desk.good("certificate", "calf", "--force", "--out", "page.html")
     assert "is further back on the other side" in words(pages(desk)[0])
+
+
+def test_places(desk: Desk) -> None:
+    """Each ancestor stands in its place: those of the sire above those of the dam."""
+    ancestors = ["".join(one) for count in (1, 2, 3) for one in itertools.product("SD", repeat=count)]
+    rows = "".join(
+        f"{id},{'m' if id[-1] == 'S' else 'f'},{2005 - 5 * len(id)}-01-01,{f'{id}S,{id}D' if len(id) < 3 else ','}\n"
+        for id in ancestors
+    )
+    desk.take(f"id,sex,birth,sire,dam\n{rows}own,f,2005-01-01,S,D\n")
+    desk.good("certificate", "own", "--out", "page.html")
+    drawn = [words(one) for one in pages(desk)[0].iter(f"{XHTML}b")]
+    wanted = "S SS SSS SSD SD SDS SDD D DS DSS DSD DD DDS DDD".split()
+    assert [id for id in drawn if id in ancestors] == wanted
 
 
 def test_letters() -> None:
