@@ -113,6 +113,13 @@ def test_places(desk: Desk) -> None:
     assert [id for id in drawn if id in ancestors] == wanted
 
 
+def test_text_of_a_grandsire(desk: Desk) -> None:
+    """What the sheet writes for a parent that is left out stands in that parent's place."""
+    desk.take("id,sex,birth,sire,dam\nx,f,1990-01-01,,\nd,f,1995-01-01,x,\nown,f,2000-01-01,,d\n")
+    desk.good("certificate", "own", "--out", "page.html")
+    assert words(pages(desk)[0]).count("(in the sheet: x)") == 1
+
+
 def test_letters() -> None:
     """After Z there are two, and many are told by the first and the last."""
     assert list(itertools.islice(letters(), 25, 29)) == ["Z", "AA", "AB", "AC"]
