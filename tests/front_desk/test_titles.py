@@ -146,14 +146,14 @@ def test_columns_of_parents(desk: Desk) -> None:
 
 def test_columns_that_may_be_meant(desk: Desk) -> None:
     """Of an unknown sheet the ids are all different, parents are ids, and most cells of birth days are days."""
-    rows = "a;a;x;2001;;\na;b;2004;2002;;\nb;c;y;2004-05-06;a;b\n"
+    rows = "b;a;x;2001;;\na;b;2004;2002;;\nd;c;y;2004-05-06;a;b\nd;d;z;2005;a;b\n"
     sheet = desk.write("sheet.csv", f"Gruppe;Marke;Note;gz, neu;V1;M1\n{rows}")
     done = desk.wrong("no column for id or birth or sire or dam is found", "take", sheet)
     assert len(done.commands()) == 1
     read = "columns: id from 'Marke', birth from 'gz, neu', sire from 'V1', dam from 'M1'; not read: 'Gruppe', 'Note'"
     assert read in desk.typed(done.commands()[0]).out
     # one day of three cells is that of a note
-    without = rows.replace("2001", "u").replace("2002", "v").replace("2004-05-06", "w")
+    without = rows.replace("2001", "u").replace("2002", "v").replace("2004-05-06", "w").replace("2005", "z")
     other = desk.write("other.csv", "Gruppe;id;Note;g;sire;dam\n" + without)
     done = desk.wrong("no column for birth", "take", other, "--book", "other")
     assert [one.partition("--columns ")[2] for one in done.commands()] == ["birth="]
