@@ -131,3 +131,6 @@ def test_large_percentage(mrode_desk: Desk) -> None:
     (coefficient,) = classed(pages(mrode_desk)[0], "coefficient")
     assert words(next(coefficient.iter(f"{XHTML}b"))) == "12.50%"
     assert words(next(coefficient.iter(f"{XHTML}small"))) == "1/8 = 0.125"
+    # its sire's, in its sire's place
+    mrode_desk.good("certificate", "6", "--force", "--out", "page.html")
+    assert words(pages(mrode_desk)[0]).count("F 12.50%") == 1
