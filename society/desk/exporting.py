@@ -14,8 +14,8 @@ SECONDS, PAUSE = 60, 1
 class Exports:
     """Writes them where somebody wishes it. Where they can't be written, a later call does."""
 
-    def __init__(self, folder: pathlib.Path) -> None:
-        self.folder = folder
+    def __init__(self, folder: pathlib.Path, pause: float = PAUSE) -> None:
+        self.folder, self.pause = folder, pause
         self.wished, self.is_over = threading.Event(), False
         self.thread = threading.Thread(target=self.write, daemon=True)
         self.thread.start()
@@ -26,10 +26,10 @@ class Exports:
     def write(self) -> None:
         while True:
             self.wished.wait()
-            # nobody changes the book while they are written, so that is begun when nobody files
+            # nobody changes the book while they are written, so that is begun when nobody filed for a while
             while not self.is_over and self.wished.is_set():
                 self.wished.clear()
-                self.wished.wait(PAUSE)
+                self.wished.wait(self.pause)
             if self.is_over:
                 return
             Job(("exports",)).do(refreshed, (self.folder,))

@@ -21,7 +21,7 @@ from society.book.old_folder import take_over
 from society.desk.app import desk_app
 from society.desk.changing import end_changes, see_whole
 from society.desk.desk import Desk
-from society.desk.exporting import Exports
+from society.desk.exporting import PAUSE, Exports
 from society.desk.jobs import Jobs
 from society.desk.link import LinkGate
 from society.desk.office import Office
@@ -54,10 +54,10 @@ def open_desk(folder: pathlib.Path, program: Office, port: int, read_only: bool,
 
 
 @contextlib.contextmanager
-def desk_of(folder: pathlib.Path, program: Office, read_only: bool) -> Iterator[Desk]:
+def desk_of(folder: pathlib.Path, program: Office, read_only: bool, pause: float = PAUSE) -> Iterator[Desk]:
     """The desk of a folder, whose book is brought up to date."""
     with room() as path:
-        desk = Desk(folder, program, read_only, Uploads(path), Jobs(), Exports(folder))
+        desk = Desk(folder, program, read_only, Uploads(path), Jobs(), Exports(folder, pause))
         if not read_only:
             take_over(folder, program)
             up_to_date(folder)

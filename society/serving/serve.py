@@ -18,6 +18,8 @@ from society.serving.way import Place, way_of
 
 # clerks who wait for each other leave threads for readers
 THREADS = 40
+# so long nobody filed before the files beside the database are written, in seconds
+PAUSE = 20
 
 
 def serve(folder: pathlib.Path, program: Office, place: Place, names: list[str], proxy: str) -> None:
@@ -30,7 +32,7 @@ def serve(folder: pathlib.Path, program: Office, place: Place, names: list[str],
     logging.getLogger("waitress").addHandler(logging.NullHandler())
     logging.getLogger("waitress").propagate = False
     with bound(place.address, place.port, "name another one by --listen") as listening:
-        with desk_of(folder, program, read_only=False) as desk:
+        with desk_of(folder, program, read_only=False, pause=PAUSE) as desk:
             way = way_of(replace(place, port=listening.getsockname()[1]), names, proxy)
             gate = AccountGate(accounts, way, Throttle(), AccessLog(sys.stderr))
             told = f"The desk answers at {way.scheme}://{way.hosts[0]}/; Ctrl-C or SIGTERM ends it."
