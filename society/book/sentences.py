@@ -73,6 +73,7 @@ class ProgramFault(Sentence):
     )
     CANT_DO = "the program `herdbook {word}` can't do it: {told}{hint}"
     REPLIES_LACK = "the program answered {replies} of {commands}: is {path} the right one?"
+    SESSION_ENDS = "the program's session ended, also where it was begun anew: nothing is changed. Open the desk anew"
     SESSION_CANT_DO = "the program can't do it: {fault}"
     SESSION_CANT_FILE = "the program can't file it: {fault}. Nothing is changed"
     JOURNAL_CANT_BE_FILED = "the program can't file the stored journal: {fault}"

@@ -1,6 +1,8 @@
 """Advice on the matings of a dam, which the program's session gives; it is kept with the state of the book."""
 from __future__ import annotations
 
+import contextlib
+
 from society.answers.advice import Advice, advice_of, by_mating
 from society.answers.candidates import all_candidates
 from society.book.asking_sentences import Mating
@@ -11,13 +13,25 @@ from society.book.sentences import BookFault
 from society.desk.desk import Desk
 from society.desk.jobs import ADVICE, Job
 from society.desk.kept import mark_of
+from society.desk.office import BookMoved
 from society.mistake import Mistake
+
+# so often it is asked of a book that somebody changes
+TRIES = 20
 
 
 def advice_for(desk: Desk, book: Book, dam: Known, also_left: bool) -> Job:
     """The work on it for the book as it is now, which is begun where it wasn't."""
     key = (ADVICE, mark_of(book), dam.number, also_left)
-    return desk.jobs.here(key, lambda: advice_now(desk, dam, also_left))
+    return desk.jobs.here(key, lambda: advice_of_now(desk, dam, also_left))
+
+
+def advice_of_now(desk: Desk, dam: Known, also_left: bool) -> Advice:
+    """That of the book as it is, also where somebody changes it meanwhile."""
+    for _ in range(TRIES):
+        with contextlib.suppress(BookMoved):
+            return advice_now(desk, dam, also_left)
+    raise Mistake(BookFault.ALWAYS_CHANGED.said(path=desk.folder))
 
 
 def advice_now(desk: Desk, dam: Known, also_left: bool) -> Advice:

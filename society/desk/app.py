@@ -4,7 +4,7 @@ from __future__ import annotations
 import pathlib
 import traceback
 
-from flask import Flask, current_app, g, render_template, request
+from flask import Flask, current_app, g, redirect, render_template, request
 from flask.typing import ResponseReturnValue
 from flask_wtf.csrf import CSRFError
 from werkzeug.exceptions import HTTPException, RequestEntityTooLarge
@@ -14,6 +14,7 @@ from society.desk.desk import EXTENSION, Desk, the_desk
 from society.desk.finding_words import Sentence
 from society.desk.forms import new_form
 from society.desk.routes import PAGES
+from society.desk.office import BookMoved
 from society.desk.people import the_person
 from society.desk.rules import may
 from society.desk.security import Gate, guard
@@ -48,6 +49,7 @@ def desk_app(desk: Desk, gate: Gate) -> Flask:
     app.add_template_global(new_form)
     app.register_error_handler(Mistake, show_mistake)
     app.register_error_handler(HTTPException, show_refused)
+    app.register_error_handler(BookMoved, look_anew)
     app.register_error_handler(Exception, show_fault)
     return app
 
@@ -71,6 +73,11 @@ def said() -> dict[str, object]:
 def show_mistake(mistake: Mistake) -> ResponseReturnValue:
     sentences = on_page(mistake.sentences)
     return render_template("mistake.html", title="mistake", sentences=sentences), 400
+
+
+def look_anew(_: BookMoved) -> ResponseReturnValue:
+    """The same page of the book as it is now."""
+    return redirect(request.full_path)
 
 
 def show_refused(error: HTTPException) -> ResponseReturnValue:

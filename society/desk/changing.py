@@ -11,7 +11,9 @@ from society.book.opening import no_book
 from society.book.verify import verify
 from society.desk.desk import Desk
 from society.desk.kept import mark_of
+from society.desk.office import BookMoved
 from society.desk.sentences import DeskFault
+from society.desk.session import SessionEnded
 from society.mistake import Mistake
 
 
@@ -44,7 +46,7 @@ def whole(desk: Desk, connection: sqlite3.Connection | None) -> Iterator[Book]:
 def see_whole(desk: Desk) -> None:
     """Sees whether the book is whole, and begins the session, before somebody waits for it. What is wrong is told where
     the book is changed."""
-    with contextlib.suppress(Mistake), desk.opened() as book:
+    with contextlib.suppress(Mistake, BookMoved, SessionEnded), desk.opened() as book:
         if book is not None and book.change is not None:
             desk.program.at(book)
             if not desk.read_only:

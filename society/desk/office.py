@@ -1,6 +1,7 @@
 """The office of a book: a session of the program that has filed the book's journal, and is asked in its place."""
 from __future__ import annotations
 
+import contextlib
 import threading
 
 from society.book.book import Book
@@ -8,25 +9,26 @@ from society.book.commands import Command
 from society.book.history import login
 from society.book.journal import NO_JOURNAL, Journal, Part, lines_with_refusals, parts_of
 from society.book.sentences import ProgramFault
-from society.desk.session import Places, Session, SessionEnded, SessionFault
+from society.desk.session import Answer, Places, Session, SessionEnded, SessionFault
 from society.herdbook import Herdbook
 from society.mistake import Mistake
 from society.refusals import Refusal
 
-# so long a question waits for somebody else's, in seconds, and whoever files
-SOON, FOREVER = 0.2, -1
+# so often a session that ends is begun anew
+TRIES = 2
 # so many commands are filed at once
 AT_ONCE = 20_000
-# the status with which the program ends where it doesn't know a word
-NO_SUCH_WORD = 2
 # the words that an inspector answers, which has no way to ask for two lists of animals
 QUESTIONS = ("inbreeding", "inverse", "certificate", "mating", "relationships")
 
 
+class BookMoved(Exception):
+    """The book was changed since it was opened, and the session stands at what it is now."""
+
+
 class Office(Herdbook):
-    """The program, whose session answers wherever it stands at the journal of the book that is asked of; for a book of
-    an earlier moment, and where no session can be kept, the program is run once. Each stored reply is compared with the
-    session's."""
+    """The program, whose one session answers, at the journal of the book that is asked of; where that is of an earlier
+    moment the book is to be opened anew. Each stored reply is compared with the session's."""
 
     def __init__(self, places: Places = Places()) -> None:
         super().__init__()
@@ -37,92 +39,84 @@ class Office(Herdbook):
         self.session: Session | None = None
         # the journal that the session has filed, and the moment of the change after which it is that
         self.journal, self.moment = NO_JOURNAL, 0
-        # an earlier program has no sessions, and is run for each question
-        self.has_sessions = True
 
     def ask(self, words: list[str], book: Book) -> list[str]:
-        lines = None
         if words[0] in QUESTIONS and "--with" not in words and book.journal.length:
-            lines = self.asked([word for word in words if word != "--dam"], book)
-        return super().ask(words, book) if lines is None else lines
+            return self.asked([word for word in words if word != "--dam"], book)
+        return super().ask(words, book)
 
     def coefficient(self, number: str, book: Book) -> str:
-        return "".join(self.asked(["coefficient", number], book) or ())
+        return "".join(self.asked(["coefficient", number], book))
 
-    def asked(self, question: list[str], book: Book) -> list[str] | None:
-        """What an inspector of the session answers; none where none stands at the book."""
-        for _ in range(2):
-            session = self.at(book)
-            if session is None:
-                break
-            try:
-                answer = session.ask(question)
-            except SessionEnded:
-                self.forget(session)
-                continue
-            if answer.fault:
-                raise Mistake(ProgramFault.SESSION_CANT_DO.said(fault=answer.fault))
-            if answer.steps == book.journal.length:
+    def asked(self, question: list[str], book: Book) -> list[str]:
+        """What an inspector of the session answers."""
+        for _ in range(TRIES):
+            with contextlib.suppress(SessionEnded):
+                answer = self.answer_of(question, book)
+                if answer.fault:
+                    raise Mistake(ProgramFault.SESSION_CANT_DO.said(fault=answer.fault))
+                if answer.steps != book.journal.length:
+                    raise BookMoved
                 return answer.lines
-            # somebody filed meanwhile
-            break
-        return None
+        raise Mistake(ProgramFault.SESSION_ENDS.said())
+
+    def answer_of(self, question: list[str], book: Book) -> Answer:
+        session = self.at(book)
+        try:
+            return session.ask(question)
+        except SessionEnded:
+            self.forget(session)
+            raise
 
     def reply(self, command: Command, book: Book) -> Refusal | None:
         """The reply of the session's desk. Nobody else changes the book, and whoever asks stores it, or forgets the
         session."""
         with self.lock:
-            for _ in range(2):
-                session = self.at(book, to_file=True)
-                if session is None:
-                    continue
-                try:
-                    refusal = session.file([",".join(command)], self.desk_of(login()))[0]
-                except SessionEnded:
-                    self.forget(session)
-                    continue
-                except SessionFault as fault:
-                    raise Mistake(ProgramFault.SESSION_CANT_FILE.said(fault=str(fault))) from None
-                self.journal = Journal(self.journal.edition, self.journal.length + 1)
-                return refusal
-        return super().reply(command, book)
+            for _ in range(TRIES):
+                with contextlib.suppress(SessionEnded):
+                    return self.reply_of(command, book)
+        raise Mistake(ProgramFault.SESSION_ENDS.said())
+
+    def reply_of(self, command: Command, book: Book) -> Refusal | None:
+        session = self.at(book, to_file=True)
+        try:
+            refusal = session.file([",".join(command)], self.desk_of(login()))[0]
+        except SessionEnded:
+            self.forget(session)
+            raise
+        except SessionFault as fault:
+            raise Mistake(ProgramFault.SESSION_CANT_FILE.said(fault=str(fault))) from None
+        self.journal = Journal(self.journal.edition, self.journal.length + 1)
+        return refusal
 
     def desk_of(self, name: str) -> int:
         """Everybody has a desk; where there are more people than desks some share one."""
         return self.desks.setdefault(name, len(self.desks) % self.places.desks + 1)
 
-    def at(self, book: Book, to_file: bool = False) -> Session | None:
-        """The session where it stands at a book's journal, or can be brought there; none for an earlier moment, nor
-        for a question while it is being brought to another one."""
-        if not self.has_sessions or not self.lock.acquire(timeout=FOREVER if to_file else SOON):
-            return None
-        try:
-            return self.brought_to(book, to_file)
-        finally:
-            self.lock.release()
-
-    def brought_to(self, book: Book, to_file: bool) -> Session | None:
-        """The same; the lock is held."""
-        journal, moment = book.journal, book.change.moment if book.change else 0
-        is_of_it = journal.edition == self.journal.edition and self.is_known_to(book)
-        goes_on = is_of_it and journal.length >= self.journal.length
-        if self.session and not self.session.has_ended and not goes_on and moment <= self.moment and not to_file:
-            return None
-        if not self.session or self.session.has_ended or not goes_on:
-            self.forget(self.session)
-            self.session = Session(self, self.places)
-            self.journal = Journal(journal.edition, 0)
-        try:
-            self.catch_up(self.session, book)
-        except SessionEnded:
-            self.has_sessions = self.session.status() != NO_SUCH_WORD
-            self.forget(self.session)
-            return None
-        except SessionFault as fault:
-            self.forget(self.session)
-            raise Mistake(ProgramFault.JOURNAL_CANT_BE_FILED.said(fault=str(fault))) from None
-        self.moment = max(self.moment, moment)
-        return self.session
+    def at(self, book: Book, to_file: bool = False) -> Session:
+        """The session, brought to a book's journal."""
+        with self.lock:
+            journal, moment = book.journal, book.change.moment if book.change else 0
+            is_of_it = journal.edition == self.journal.edition and self.is_known_to(book)
+            goes_on = is_of_it and journal.length >= self.journal.length
+            is_there = self.session is not None and not self.session.has_ended
+            if is_there and not goes_on and moment <= self.moment and not to_file:
+                raise BookMoved
+            if not is_there or not goes_on:
+                self.forget(self.session)
+                self.session = Session(self, self.places)
+                self.journal = Journal(journal.edition, 0)
+            assert self.session
+            try:
+                self.catch_up(self.session, book)
+            except SessionEnded:
+                self.forget(self.session)
+                raise
+            except SessionFault as fault:
+                self.forget(self.session)
+                raise Mistake(ProgramFault.JOURNAL_CANT_BE_FILED.said(fault=str(fault))) from None
+            self.moment = max(self.moment, moment)
+            return self.session
 
     def is_known_to(self, book: Book) -> bool:
         """Is the change after which the session stands one of this book? It isn't where another book was restored."""

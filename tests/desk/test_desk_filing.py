@@ -5,11 +5,10 @@ from __future__ import annotations
 import concurrent.futures
 import pathlib
 import re
-import shlex
 
 import pytest
 
-from desk.site import Site, form_in, shown, site_of
+from desk.site import Site, form_in, shown
 from front_desk.desk import Desk
 from society.desk.texts import TEXTS
 from society.refusals import Refusal
@@ -110,94 +109,6 @@ def test_sent_twice(site: Site) -> None:
         assert book and book.change and book.change.number == 5
 
 
-def test_by_the_session(site: Site, monkeypatch: pytest.MonkeyPatch) -> None:
-    """Replies, and the answers of questions, come from the one session: the program isn't run for them."""
-    site.post("/file/exit", id=DAM, day="2024-05-01")
-    session = site.desk.program.session
-    assert session and not session.has_ended
-
-    def run(*_: object) -> str:
-        raise AssertionError("the program is run")
-
-    monkeypatch.setattr("society.herdbook.Herdbook.run", run)
-    for at, (kind, fields) in enumerate(
-        (
-            ("birth", BIRTH),
-            ("exit", {"id": "NEW-1", "day": "2024-06-01"}),
-            ("exit", {"id": "NEW-1", "day": "2024-06-02"}),
-        )
-    ):
-        assert site.post(f"/file/{kind}", **fields).headers["Location"] == f"/answer/{at + 3}"
-    assert "it has left already" in shown(site.page("/answer/5"))
-    assert "sires, the least related first" in shown(site.page(f"/matings?dam={DAM}"))
-    assert site.desk.program.session is session
-
-
-def test_coefficients(site: Site, society_desk: Desk) -> None:
-    """What is kept of a birth's coefficient is the program's, at its place in age order, also of an animal that is older
-    than others."""
-    calves: list[tuple[str, dict[str, str]]] = [
-        ("2024-03-01", {"sire": SIRE, "dam": DAM}), ("1999-01-01", {}), ("2012-06-01", {"dam": "GK-05/192c"}),
-    ]  # fmt: skip
-    for at, (day, parents) in enumerate(calves):
-        site.post("/file/birth", id=f"NEW-{at}", sex="F", day=day, **parents)
-        assert TEXTS["accepted"][0] in shown(site.page(f"/answer/{at + 2}"))
-    society_desk.good("verify")
-    assert "17/512" in society_desk.good("show", "NEW-0").out
-
-
-def test_session_killed(site: Site) -> None:
-    """A session that ends is started anew, and nothing is lost."""
-    site.post("/file/birth", **BIRTH)
-    session = site.desk.program.session
-    assert session
-    session.process.kill()
-    session.process.wait()
-    assert site.post("/file/exit", id="NEW-1", day="2024-06-01").headers["Location"] == "/answer/3"
-    assert site.desk.program.session is not session
-    Desk(site.desk.folder.parent, site.desk.program.path.as_posix()).good("verify")
-
-
-def test_beside_a_terminal(site: Site, society_desk: Desk) -> None:
-    """Commands of a terminal between those of a form: the session catches up, and an undo there begins a new one."""
-    site.post("/file/birth", **BIRTH)
-    society_desk.good("exit", "NEW-1", "--day", "2024-06-01")
-    assert "it has left already" in shown(
-        site.page(site.post("/file/exit", id="NEW-1", day="2024-07-01").headers["Location"])
-    )
-    society_desk.good("undo", "--to", "1")
-    assert TEXTS["accepted"][0] in shown(site.page(site.post("/file/birth", **BIRTH).headers["Location"]))
-    society_desk.good("verify")
-    assert site.desk.program.journal.edition == 2
-
-
-def test_stored_reply_differs(site: Site, society_desk: Desk) -> None:
-    """Where a stored reply isn't the session's, nothing goes on."""
-    import contextlib
-    import sqlite3
-
-    with contextlib.closing(sqlite3.connect(site.desk.folder / "book.sqlite")) as connection:
-        connection.execute("UPDATE command SET refusal = 3 WHERE place = 400")
-        connection.commit()
-    page = shown(site.page(f"/matings?dam={DAM}"))
-    assert "the program's reply to command 400 isn't the stored one: nothing goes on" in page
-    answer = site.post("/file/exit", id=DAM, day="2024-05-01")
-    assert answer.status_code == 400
-    with site.desk.opened() as book:
-        assert book and book.change and book.change.number == 1
-
-
-def test_not_stored(site: Site, monkeypatch: pytest.MonkeyPatch) -> None:
-    """A reply that can't be stored isn't shown, and the next one is of a session that doesn't have it."""
-    site.post("/file/birth", **BIRTH)
-    with monkeypatch.context() as patched:
-        patched.setattr("society.book.writing.commit", lambda *_: 1 / 0)
-        assert site.post("/file/exit", id="NEW-1", day="2024-06-01").status_code == 500
-    page = shown(site.page(site.post("/file/exit", id="NEW-1", day="2024-06-02").headers["Location"]))
-    assert TEXTS["accepted"][0] in page and "Change 3" in page
-    Desk(site.desk.folder.parent, site.desk.program.path.as_posix()).good("verify")
-
-
 @pytest.mark.parametrize("language, at", [("de", 1), ("fr", 2)])
 def test_languages(site: Site, language: str, at: int) -> None:
     """The answer is in the language that was chosen."""
@@ -206,15 +117,3 @@ def test_languages(site: Site, language: str, at: int) -> None:
     page = site.page(site.post("/file/exit", id=DAM, day="2024-05-02").headers["Location"])
     assert f'<html lang="{language}">' in page
     assert TEXTS["refused"][at] in shown(page) and TEXTS["refusal 12"][at] in shown(page)
-
-
-def test_without_sessions(society_desk: Desk, program: str, tmp_path: pathlib.Path) -> None:
-    """A program of before there were sessions is run for each question, and gives the same."""
-    script = tmp_path / "herdbook"
-    script.write_text(f'#!/bin/sh\n[ "$1" = session ] && exit 2\nexec {shlex.quote(program)} "$@"\n', encoding="utf-8")
-    script.chmod(0o755)
-    with site_of(society_desk.room / "book", str(script), tmp_path / "dropped") as site:
-        assert TEXTS["accepted"][0] in shown(site.page(site.post("/file/birth", **BIRTH).headers["Location"]))
-        assert "sires, the least related first" in shown(site.page(f"/matings?dam={DAM}"))
-        assert not site.desk.program.has_sessions
-    society_desk.good("verify")

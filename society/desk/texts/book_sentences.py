@@ -181,6 +181,11 @@ SENTENCES: dict[Sentence, tuple[str, str, str]] = {
         "Das Programm herdbook hat {replies} von {commands} Vorgängen beantwortet: nichts ist geändert.",
         "Le programme herdbook a répondu à {replies} des {commands} commandes : rien n'est modifié.",
     ),
+    ProgramFault.SESSION_ENDS: (
+        "",
+        "Das Programm herdbook endet immer wieder: nichts ist geändert. Starten Sie neu.",
+        "Le programme herdbook s'arrête sans cesse : rien n'est modifié. Rouvrez.",
+    ),
     ProgramFault.SESSION_CANT_DO: (
         "",
         "Das Programm herdbook kann es nicht ({fault}).",
