@@ -2,6 +2,8 @@
 from __future__ import annotations
 
 import contextlib
+import fcntl
+import os
 import pathlib
 import secrets
 import shutil
@@ -96,11 +98,29 @@ def bound(address: str, port: int, otherwise: str) -> socket.socket:
         raise Mistake(DeskFault.NO_PORT.said(port=str(port), told=told, otherwise=otherwise)) from None
 
 
+PREFIX, LOCK = "society-desk-", "open"
+
+
 @contextlib.contextmanager
 def room() -> Iterator[pathlib.Path]:
-    """A folder for what was dropped, which nobody else reads, as long as the desk is open."""
-    path = pathlib.Path(tempfile.mkdtemp(prefix="society-desk-"))
+    """A folder for what was dropped, which nobody else reads, as long as the desk is open. Those that desks left which
+    were killed go."""
+    drop_left(pathlib.Path(tempfile.gettempdir()))
+    path = pathlib.Path(tempfile.mkdtemp(prefix=PREFIX))
     try:
-        yield path
+        with open(path / LOCK, "w", encoding="ascii") as lock:
+            fcntl.flock(lock, fcntl.LOCK_EX)
+            yield path
     finally:
         shutil.rmtree(path, ignore_errors=True)
+
+
+def drop_left(place: pathlib.Path) -> None:
+    """Removes one's own folders of desks that aren't open any more."""
+    for path in place.glob(f"{PREFIX}*"):
+        with contextlib.suppress(OSError):
+            if path.is_symlink() or path.stat().st_uid != os.getuid():
+                continue
+            with open(path / LOCK, "rb") as lock:
+                fcntl.flock(lock, fcntl.LOCK_EX | fcntl.LOCK_NB)
+                shutil.rmtree(path)

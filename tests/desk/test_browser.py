@@ -49,7 +49,7 @@ class Server:
     """The word `open` in a folder, until it is ended from the keyboard."""
 
     def __init__(self, room: pathlib.Path, program: str, *words: str) -> None:
-        known = {"PATH": os.environ["PATH"], "HERDBOOK": program, "LANG": "C"}
+        known = {"PATH": os.environ["PATH"], "HERDBOOK": program, "LANG": "C", "TMPDIR": str(room)}
         command = [str(TOP / "society/society"), "open", "--no-browser", *words]
         self.process = subprocess.Popen(command, cwd=room, env=known, stdout=subprocess.PIPE, text=True)
         assert self.process.stdout
