@@ -1,6 +1,6 @@
 -- The calves of some sires and of known dams, each by its rank with a numerator, and what is kept from one sire to the
 -- next while they are listed.
-use Rattle.std.specs.Prelude.{◌≡◌, ◌≢◌, ℕ, ◌*◌, ◌/◌, ◌≤◌, ◌⊎◌, ◌++◌, All, AllPairs, Any, List, length, slice_index}
+use Rattle.std.specs.Prelude.{◌≡◌, ◌≢◌, ℕ, ◌*◌, ◌/◌, ◌≤◌, ◌⊎◌, ◌++◌, All, AllPairs, Any, List, length, slice_index, vec_capacity}
 use Rattle.herd_frozen.specs.declared.freezing.frozen.Row.{Row}
 use Rattle.herd_kinship.specs.CalfLinks.{IsCalf}
 use Rattle.herd_kinship.specs.Columns.{at_parent}
@@ -56,4 +56,5 @@ pub record IsReady {A : Type 0} (animals : ℕ) (mates : Mates A) : Type 0 where
   pub room : animals ≤ 64 * length mates.marked.chunks.items
   pub unmarked : (distance : ℕ) → mark mates.marked.chunks.items distance ≡ 0
   pub idle : IsIdle animals mates.tracing
+  pub space : animals ≤ vec_capacity mates.collected
   pub each : length mates.column.items ≡ animals

@@ -27,11 +27,8 @@ pub struct Mates<A: Allocator> {
 }
 
 impl<A: Allocator + Clone> Mates<A> {
-    /// Of no sire yet, with room for so many animals: 24 bytes and two bits for each, the bits in words of 64. The only
+    /// Of no sire yet, with room for so many animals: 28 bytes and two bits for each, the bits in words of 64. The only
     /// error is a growth of memory that is refused.
-    ///
-    /// What is collected for a sire stands in a list of its own, four bytes for each animal in it, which grows as it is
-    /// needed.
     pub fn with_room(alloc: A, animals: u32) -> Result<Mates<A>, AllocError>
         ensures { IfOk result (IsReady animals) }
     {
@@ -39,33 +36,39 @@ impl<A: Allocator + Clone> Mates<A> {
             marked: Pending::with_room(alloc.clone()?, animals)?,
             tracing: Tracing::with_room(alloc.clone()?, animals)?,
             column: vec![in alloc.clone()?; 0u128; animals as usize]?,
-            collected: Vec::new(alloc),
+            collected: Vec::with_capacity(alloc, animals as usize)?,
         })
     }
 }
 
 impl<A: Allocator> Mates<A> {
     // Makes the relationships of a sire with its mates, by the coefficients of its ancestors. Half of that with its
-    // dam is a calf's coefficient. After refused memory the scratch is ready all the same.
+    // dam is a calf's coefficient.
     fn relate_to<F: Allocator>(
         &mut self,
         frozen: &Frozen<F>,
         calves: SireCalves<'_>,
         known: &[u128],
         sire: u32,
-    ) -> Result<(), AllocError>
+    )
         requires ready { IsReady (length frozen.now) self.old }
         requires calves { calves ≡ calves_of_sire frozen.now sire }
         requires known { KnowsAncestors DEPTH_LIMIT frozen.now known.now sire }
         requires sire { sire < length frozen.now }
         ensures ready { IsReady (length frozen.now) self.new }
-        ensures halves { IfOk result (λ _. (calf : ℕ) → IsCalf frozen.now sire calf
+        ensures halves { (calf : ℕ) → IsCalf frozen.now sire calf
             → at_parent self.new.column.items (dam_rank frozen.now calf) / 2
-            ≡ coefficient_at DEPTH_LIMIT frozen.now calf) }
+            ≡ coefficient_at DEPTH_LIMIT frozen.now calf }
     {
         let last = frozen.len() - 1;
         mark_mates(frozen, calves, last, &mut self.marked);
-        collect(frozen, last, &mut self.marked, &mut self.collected)?;
+        collect(
+            frozen,
+            last,
+            &mut self.marked,
+            &mut self.collected,
+            &mut self.column,
+        );
         relate(
             &mut self.tracing,
             frozen,
@@ -74,7 +77,6 @@ impl<A: Allocator> Mates<A> {
             &self.collected,
             &mut self.column,
         );
-        Ok(())
     }
 
     /// Appends the coefficients of a sire's calves by known dams to a list, in no promised order, if it has any.
@@ -103,7 +105,7 @@ impl<A: Allocator> Mates<A> {
         if its_calves.is_empty() {
             return Ok(());
         }
-        self.relate_to(frozen, its_calves, known, sire)?;
+        self.relate_to(frozen, its_calves, known, sire);
         append_halves(frozen, calves.of_sire(frozen, sire), &self.column, list)
     }
 }

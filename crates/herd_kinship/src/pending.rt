@@ -28,17 +28,18 @@ impl<A: Allocator> Pending<A> {
         requires { distance < 64 * length self.old.chunks.items }
         ensures { Marks self.old.chunks.items self.new.chunks.items distance 1 }
     {
-        let chunk = distance / 64;
-        self.chunks[chunk] |= 1 << (distance % 64);
-        self.first = self.first.min(chunk);
+        self.first = self.first.min(distance / 64);
+        self.insert_ahead(distance);
     }
 
-    /// Takes all distances out.
-    pub fn clear(&mut self)
-        ensures room { length self.new.chunks.items ≡ length self.old.chunks.items }
-        ensures empty { (distance : ℕ) → mark self.new.chunks.items distance ≡ 0 }
+    /// Puts a distance in, which isn't before the first chunk.
+    pub fn insert_ahead(&mut self, distance: usize)
+        requires room { distance < 64 * length self.old.chunks.items }
+        requires ahead { 64 * self.old.first ≤ distance }
+        ensures first { self.new.first ≡ self.old.first }
+        ensures put { Marks self.old.chunks.items self.new.chunks.items distance 1 }
     {
-        self.chunks.fill(0);
+        self.chunks[distance / 64] |= 1 << (distance % 64);
     }
 
     /// Takes the nearest distance out.
@@ -47,6 +48,7 @@ impl<A: Allocator> Pending<A> {
         ensures nearest { IfSome result
             (λ distance. (nearer : ℕ) → nearer < distance → mark self.old.chunks.items nearer ≡ 0) }
         ensures taken { IfSome result (λ distance. Marks self.old.chunks.items self.new.chunks.items distance 0) }
+        ensures behind { IfSome result (λ distance. 64 * self.new.first ≤ distance) }
         ensures empty { IfNone result ((distance : ℕ) → mark self.old.chunks.items distance ≡ 0) }
         ensures same { IfNone result (self.new.chunks.items ≡ self.old.chunks.items) }
     {

@@ -117,6 +117,8 @@ impl<A: Allocator> Tracing<A> {
         requires room { ForSome parent
             (HasRoom DEPTH_LIMIT frozen.now self.old.rank self.old.shares.items met.rank met.share) }
         requires marks { self.old.rank < 64 * length self.old.pending.chunks.items }
+        requires ahead { 64 * self.old.pending.first ≤ self.old.rank - met.rank }
+        ensures first { self.new.pending.first ≡ self.old.pending.first }
         ensures rank { self.new.rank ≡ self.old.rank }
         ensures depth { self.new.depth ≡ self.old.depth }
         ensures border { self.new.border ≡ self.old.border }
@@ -129,7 +131,7 @@ impl<A: Allocator> Tracing<A> {
             let distance = (self.rank - rank) as usize;
             let gift = met.share << (steps - 1);
             self.shares[distance] += gift;
-            self.pending.insert(distance);
+            self.pending.insert_ahead(distance);
         }
     }
 }

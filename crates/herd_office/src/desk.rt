@@ -1,5 +1,6 @@
 //! The desks, and what they hold.
 ghost use Rattle.std.specs.Prelude.{◌≡◌, ◌+◌, ◌<◌, ◌≤◌, length, IfOk, OnErr};
+ghost use Rattle.std.specs.Prelude.{if◌then◌else◌, nat_lt};
 ghost use mathlib.Core.List.{IsPrefix};
 ghost use Rattle.herd_register.specs.Run.{IsLegal};
 ghost use Rattle.herd_office.specs.Filing.{EndsWith};
@@ -40,12 +41,12 @@ impl<N: OfficeName> Slip<N> {
 
     /// Takes over the history of another slip, where it is longer.
     pub fn learn(&mut self, other: &Slip<N>)
+        ensures longer { self.new.history ≡ (if nat_lt (length self.old.history)
+            (length other.now.history) then other.now.history else self.old.history) }
         ensures this { IsPrefix self.old.history self.new.history }
         ensures that { IsPrefix other.now.history self.new.history }
     {
-        if !other.history.begins(&self.history) {
-            self.history = other.history.again();
-        }
+        self.history.learn(&other.history);
     }
 }
 

@@ -8,11 +8,12 @@ ghost use Rattle.herd_session.specs.Filed.{HasFiledBelow};
 use crate::fault::Fault;
 use crate::hall::Hall;
 use crate::name::SessionName;
+use crate::queue::Outlet;
 use crate::tasks::{DeskTask, Task};
-use crossbeam_channel::Receiver;
 use herd_office::{Desk, Filed};
 use herd_register::Command;
 use herd_report::ReportFault;
+use std::alloc::Global;
 use std::io::Write;
 use std::sync::Wait;
 
@@ -27,18 +28,20 @@ pub(crate) struct Clerk<N: SessionName> {
 /// Answers what a desk is asked, until nobody can ask it any more or a write fails.
 pub(crate) fn work_at_desk<N: SessionName, H: Wait, R: Wait + Drop, W: Write>(
     rt: &H,
+    alloc: Global,
     hall: &Hall<N, R, W>,
     desk: Desk<N>,
-    queue: Receiver<DeskTask<N>>,
+    queue: Outlet<DeskTask<N>>,
 ) -> Result<Clerk<N>, ReportFault>
     requires { (desk.answered ≡ 0) × (desk.history ≡ []) }
 {
     let mut clerk = Clerk::new(desk);
+    let mut tasks = Vec::new(alloc);
     for _ in rt.forever() {
-        let Ok(task) = queue.recv(rt) else {
+        if !queue.take(rt, &mut tasks) {
             break;
-        };
-        clerk.answer(rt, hall, &task, !queue.is_empty())?;
+        }
+        clerk.answer_each(rt, hall, tasks.as_slice(), &queue)?;
     }
     Ok(clerk)
 }
@@ -49,6 +52,21 @@ impl<N: SessionName> Clerk<N> {
         requires { (desk.answered ≡ 0) × (desk.history ≡ []) }
     {
         Clerk { desk, next: 0 }
+    }
+
+    // Answers tasks that were taken from a queue.
+    fn answer_each<H: Wait, R: Wait + Drop, W: Write>(
+        &mut self,
+        rt: &H,
+        hall: &Hall<N, R, W>,
+        tasks: &[DeskTask<N>],
+        queue: &Outlet<DeskTask<N>>,
+    ) -> Result<(), ReportFault> {
+        for place in 0..tasks.len() {
+            let goes_on = place + 1 < tasks.len() || !queue.is_empty();
+            self.answer(rt, hall, &tasks[place], goes_on)?;
+        }
+        Ok(())
     }
 
     // Files what the desk is asked, and writes the reply, or why there is none. A reply may wait where the clerk goes on

@@ -4,8 +4,8 @@ use crate::fault::Fault;
 use crate::hall::Hall;
 use crate::name::SessionName;
 use crate::observer::{Answer, Observer};
+use crate::queue::Outlet;
 use crate::tasks::{InspectorTask, Task};
-use crossbeam_channel::Receiver;
 use herd_office::Inspector;
 use herd_report::ReportFault;
 use std::alloc::Global;
@@ -18,19 +18,34 @@ pub(crate) fn work_as_inspector<N: SessionName, H: Wait, R: Wait + Drop, W: Writ
     alloc: Global,
     hall: &Hall<N, R, W>,
     inspector: Inspector<N>,
-    queue: Receiver<InspectorTask<N>>,
+    queue: Outlet<InspectorTask<N>>,
 ) -> Result<Inspector<N>, ReportFault> {
     let mut observer = Observer {
         inspector,
         kept: None,
     };
+    let mut tasks = Vec::new(alloc);
     for _ in rt.forever() {
-        let Ok(task) = queue.recv(rt) else {
+        if !queue.take(rt, &mut tasks) {
             break;
-        };
-        answer_question(rt, alloc, hall, &mut observer, &task)?;
+        }
+        answer_each(rt, alloc, hall, &mut observer, tasks.as_slice())?;
     }
     Ok(observer.inspector)
+}
+
+// Answers tasks that were taken from a queue.
+fn answer_each<N: SessionName, H: Wait, R: Wait + Drop, W: Write>(
+    rt: &H,
+    alloc: Global,
+    hall: &Hall<N, R, W>,
+    observer: &mut Observer<N>,
+    tasks: &[InspectorTask<N>],
+) -> Result<(), ReportFault> {
+    for task in tasks {
+        answer_question(rt, alloc, hall, observer, task)?;
+    }
+    Ok(())
 }
 
 // Writes the answer to what an inspector is asked, or why there is none.

@@ -6,11 +6,11 @@ ghost use Rattle.herd_session.specs.Requests.{IsRecordAt, records_in};
 use crate::fault::Fault;
 use crate::hall::Hall;
 use crate::name::SessionName;
+use crate::queue::{Inlet, Unsent};
 use crate::request::{Asked, Request, request_in};
 use crate::session_fault::SessionFault;
 use crate::staff::Queues;
 use crate::tasks::{DeskTask, InspectorTask, Task};
-use crossbeam_channel::{SendError, Sender};
 use csv::ByteRecord;
 use herd_report::{LineCause, LineFault, ReportFault, open_records, read_record};
 use std::alloc::Global;
@@ -93,14 +93,12 @@ fn hand_on<N: SessionName, H: Wait, R: Wait + Drop, W: Write>(
 fn send<N: SessionName, H: Wait, R: Wait + Drop, W: Write, T: Task<N>>(
     rt: &H,
     hall: &Hall<N, R, W>,
-    queue: &Sender<T>,
+    queue: &Inlet<T>,
     task: T,
 ) -> Result<(), ReportFault> {
-    match queue.send(rt, task) {
+    match queue.add(rt, task) {
         Ok(()) => Ok(()),
-        Err(SendError::Disconnected(_)) => Err(ReportFault::Write),
-        Err(SendError::OutOfMemory(task)) => {
-            hall.output.lock(rt).fault(task.tag(), Fault::Memory)
-        }
+        Err(Unsent::Left) => Err(ReportFault::Write),
+        Err(Unsent::Memory(task)) => hall.output.lock(rt).fault(task.tag(), Fault::Memory),
     }
 }

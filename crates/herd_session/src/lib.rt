@@ -14,8 +14,9 @@
 //!
 //! # Who waits for whom
 //!
-//! - The reading thread waits for its input, and for the writer's lock where it tells a fault.
-//! - A clerk waits for its queue, in the office for other clerks, and for the writer. Where another task waits already,
+//! - The reading thread waits for its input, and for the writer's lock where it tells a fault. Where many tasks wait in
+//!   a queue it gives the thread that works them off a little time.
+//! - A clerk waits for its queue, from which it takes all that wait, in the office for other clerks, and for the writer. Where another task waits already,
 //!   its reply is written with the next one's.
 //! - An inspector waits for its queue, for the lock of the longest history told, under which histories are only compared,
 //!   and for the writer's lock.
@@ -27,7 +28,7 @@
 //! | requests | `Requests`, `Addressees`, `Tag` | `request`, `tag` | |
 //! | questions, the texts that answer them | `Questions` | `question`, `word`, `reading` | `FieldFacts` |
 //! | faults | `Faults` | `fault`, `session_fault` | |
-//! | reading requests, queues | `Requests` | `intake`, `tasks`, `staff` | `IntakeFacts` |
+//! | reading requests, queues | `Requests` | `intake`, `queue`, `tasks`, `staff` | `IntakeFacts` |
 //! | clerks | `Filed` | `desk_work` | `FiledFacts` |
 //! | inspectors | `Answers` | `inspector_work`, `observer` | `AskedFacts` |
 //! | answers, the writer | `Answers`, `Output` | `answers`, `pieces`, `output` | `AnswerFacts`, `PieceFacts` |
@@ -48,6 +49,7 @@ mod output;
 mod pieces;
 mod plan;
 mod question;
+mod queue;
 mod reading;
 mod request;
 mod session_fault;

@@ -11,7 +11,7 @@ ghost use Rattle.herd_session.specs.Requests.{IsTagThere};
 use crate::fault::Fault;
 use crate::name::SessionName;
 use crate::observer::Answer;
-use crate::pieces::{write_pieces, write_text};
+use crate::pieces::write_pieces;
 use crate::tasks::DeskTask;
 use herd_office::{Filed, Slip};
 use herd_register::Reply;
@@ -82,19 +82,7 @@ impl<N: SessionName, W: Write> Output<N, W> {
         ensures { OnOk result (PassesOn (W.contents self.old.writer) (W.contents self.new.writer)
             (self.old.waiting.items ++ answer.now.text.items) self.new.waiting.items) }
     {
-        let Output {
-            writer,
-            waiting,
-            told,
-            has_failed,
-        } = self;
-        told.learn(&answer.of);
-        if *has_failed {
-            return Err(ReportFault::Write);
-        }
-        let written = write_text(writer, waiting, answer.text.as_slice());
-        *has_failed = written.is_err();
-        written
+        self.write(&answer.of, &[answer.text.as_slice()], false)
     }
 
     /// Tells why a request isn't answered.

@@ -11,7 +11,8 @@ use std::io::Write;
 const PART: usize = 8_192;
 
 /// Adds the pieces of an answer to what waits, and writes all and flushes, unless the caller goes on at once with
-/// another answer. Where there is no memory to let them wait they are written too.
+/// another answer. A piece alone isn't copied, and where there is no memory to let pieces wait they are written by
+/// themselves.
 pub(crate) fn write_pieces<W: Write>(
     writer: &mut W,
     waiting: &mut Vec<u8>,
@@ -24,6 +25,9 @@ pub(crate) fn write_pieces<W: Write>(
     ensures err { OnErr result ((rest : List ℕ) × PassesOn (W.contents writer.old) (W.contents writer.new)
         (waiting.old.items ++ flat_map (λ piece. piece.now) pieces.now) rest) }
 {
+    if pieces.len() == 1 && !goes_on {
+        return write_apart(writer, waiting, pieces);
+    }
     match push_pieces(waiting, pieces) {
         Ok(()) => {
             if goes_on && waiting.len() < PART {
@@ -31,27 +35,24 @@ pub(crate) fn write_pieces<W: Write>(
             }
             write_waiting(writer, waiting)
         }
-        Err(AllocError) => {
-            write_waiting(writer, waiting)?;
-            write_each(writer, pieces)?;
-            flush(writer)
-        }
+        Err(AllocError) => write_apart(writer, waiting, pieces),
     }
 }
 
-/// Writes what waits and then a text, and flushes.
-pub(crate) fn write_text<W: Write>(
+// Writes what waits and then pieces, each by itself, and flushes.
+fn write_apart<W: Write>(
     writer: &mut W,
     waiting: &mut Vec<u8>,
-    text: &[u8],
+    pieces: &[&[u8]],
 ) -> Result<(), ReportFault>
     ensures ok { OnOk result (PassesOn (W.contents writer.old) (W.contents writer.new)
-        (waiting.old.items ++ text.now) waiting.new.items) }
+        (waiting.old.items ++ flat_map (λ piece. piece.now) pieces.now) waiting.new.items) }
+    ensures none_waits { OnOk result (waiting.new.items ≡ []) }
     ensures err { OnErr result ((rest : List ℕ) × PassesOn (W.contents writer.old) (W.contents writer.new)
-        (waiting.old.items ++ text.now) rest) }
+        (waiting.old.items ++ flat_map (λ piece. piece.now) pieces.now) rest) }
 {
     write_waiting(writer, waiting)?;
-    write_all(writer, text)?;
+    write_each(writer, pieces)?;
     flush(writer)
 }
 

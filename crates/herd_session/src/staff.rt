@@ -6,9 +6,9 @@ use crate::desk_work::{Clerk, work_at_desk};
 use crate::hall::Hall;
 use crate::inspector_work::work_as_inspector;
 use crate::name::SessionName;
+use crate::queue::{Inlet, Outlet, queue};
 use crate::session_fault::SessionFault;
 use crate::tasks::{DeskTask, InspectorTask};
-use crossbeam_channel::{Receiver, Sender, unbounded};
 use herd_office::{Desk, Inspector};
 use herd_report::ReportFault;
 use std::alloc::Global;
@@ -26,8 +26,8 @@ pub(crate) struct Staff<N: SessionName> {
 /// The queues of a session, by the places of desks and inspectors.
 #[derive(Drop)]
 pub(crate) struct Queues<N: SessionName> {
-    pub(crate) desks: Vec<Sender<DeskTask<N>>>,
-    pub(crate) inspectors: Vec<Sender<InspectorTask<N>>>,
+    pub(crate) desks: Vec<Inlet<DeskTask<N>>>,
+    pub(crate) inspectors: Vec<Inlet<InspectorTask<N>>>,
 }
 
 type DeskThread<N> = JoinHandle<Result<Clerk<N>, ReportFault>>;
@@ -54,9 +54,9 @@ pub(crate) fn start_desks<
 {
     let mut started = Vec::new(alloc);
     for desk in desks {
-        let (sender, queue) = unbounded(alloc)?;
-        started.push(start_desk(scope, rt, hall, desk, queue)?)?;
-        queues.desks.push(sender)?;
+        let (inlet, outlet) = queue(alloc)?;
+        started.push(start_desk(scope, rt, alloc, hall, desk, outlet)?)?;
+        queues.desks.push(inlet)?;
     }
     Ok(started)
 }
@@ -72,16 +72,17 @@ fn start_desk<
 >(
     scope: &'s Scope<'s, E>,
     rt: &'s H,
+    alloc: Global,
     hall: &'s Hall<N, R, W>,
     desk: Desk<N>,
-    queue: Receiver<DeskTask<N>>,
+    tasks: Outlet<DeskTask<N>>,
 ) -> Result<DeskThread<N>, SessionFault>
     requires { (desk.answered ≡ 0) × (desk.history ≡ []) }
 {
     let started = scope.spawn(
         move || -> Result<Clerk<N>, ReportFault>
             requires { (desk.answered ≡ 0) × (desk.history ≡ []) }
-        { work_at_desk(rt, hall, desk, queue) },
+        { work_at_desk(rt, alloc, hall, desk, tasks) },
     );
     started.or(Err(SessionFault::NoThread))
 }
@@ -104,12 +105,12 @@ pub(crate) fn start_inspectors<
 ) -> Result<Vec<InspectorThread<N>>, SessionFault> {
     let mut started = Vec::new(alloc);
     for inspector in inspectors {
-        let (sender, queue) = unbounded(alloc)?;
+        let (inlet, outlet) = queue(alloc)?;
         let thread = scope
-            .spawn(move || work_as_inspector(rt, alloc, hall, inspector, queue))
+            .spawn(move || work_as_inspector(rt, alloc, hall, inspector, outlet))
             .or(Err(SessionFault::NoThread))?;
         started.push(thread)?;
-        queues.inspectors.push(sender)?;
+        queues.inspectors.push(inlet)?;
     }
     Ok(started)
 }

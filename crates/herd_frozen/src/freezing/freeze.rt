@@ -44,6 +44,9 @@ pub fn frozen_from<A: Allocator + Clone, S: Registered>(
     let keys = by_age(alloc.clone()?, records)?;
     let ranks = ranks_of(alloc.clone()?, &keys)?;
     let rows = rows_of(alloc.clone()?, records, &keys, &ranks)?;
+    // Their memory is given back before the levels and the index take theirs.
+    drop(keys);
+    drop(ranks);
     Frozen::from_rows(alloc, rows)
 }
 

@@ -1,13 +1,13 @@
 -- Collecting marked animals and their ancestors, from the youngest to the oldest.
-use Rattle.std.proofs.Common.{ℕ, ◌+◌, ◌-◌, ◌*◌, ◌<◌, ◌≤◌, ◌≡◌, ◌⊎◌, ◌++◌, inl, inr, ⊎_elim, List, [], ◌∷◌, length, get_or, Option, Some, None, Contains, lit<, arith, refl, sym, ◌∙◌, ap, subst}
+use Rattle.std.proofs.Common.{ℕ, ◌+◌, ◌-◌, ◌*◌, ◌<◌, ◌≤◌, ◌≡◌, ◌⊎◌, ◌++◌, inl, inr, ⊎_elim, List, [], ◌∷◌, length, get_or, set, Option, Some, None, Contains, lit<, arith, refl, sym, ◌∙◌, ap, subst}
 use Rattle.std.proofs.Math.Seq.{get_or-append_seam}
 use Rattle.std.proofs.lemmas.Bool.{cases_lt, cases_eq}
-use Rattle.std.proofs.lemmas.List.{get_or_append_left, length_push}
+use Rattle.std.proofs.lemmas.List.{get_or_append_left, get_or-set_same, get_or-set_other, length_push}
 use Rattle.std.proofs.lemmas.List.Elements.{Contains-append_left, Contains-append_right}
 use Rattle.herd_frozen.specs.declared.freezing.frozen.Row.{Row}
 use Rattle.herd_frozen.specs.freezing.Frozen.{IsFrozen}
 use Rattle.herd_kinship.specs.Ancestry.{IsParentIn}
-use Rattle.herd_kinship.specs.Columns.{IsCollection}
+use Rattle.herd_kinship.specs.Columns.{IsCollection, HasAll}
 use Rattle.herd_kinship.specs.Pending.{mark, Marks}
 use Rattle.herd_kinship.specs.Ranks.{sire_rank, dam_rank, ranked}
 use Rattle.herd_kinship.specs.Tracing.{GivesMark}
@@ -31,6 +31,7 @@ pub record IsCollecting (rows : List Row) (last : ℕ) (start : List ℕ) (borde
   pub room : last < 64 * length chunks
   pub near : (e : ℕ) → mark chunks e ≡ 1 → (e ≤ last) × (last - e < border)
   pub within : (k : ℕ) → k < length collected → (border ≤ get_or collected k 0) × (get_or collected k 0 ≤ last)
+  pub few : length collected + border ≤ last + 1
   pub descending : (k m : ℕ) → k < m → m < length collected → get_or collected m 0 < get_or collected k 0
   pub closed : (k p : ℕ) → k < length collected → IsParentIn (ranked rows) p (get_or collected k 0) → IsHeld last chunks collected p
   pub all : (p : ℕ) → p ≤ last → mark start (last - p) ≡ 1 → IsHeld last chunks collected p
@@ -58,6 +59,24 @@ gives-room last old new (Some p) is = is.room
 -- a parent of a rank up to the last is one too
 pub parent-older : (l most : ℕ) (rows : List Row) → IsFrozen l most rows → (last y p : ℕ) → last < length rows → y ≤ last → IsParentIn (ranked rows) p y → p ≤ last
 parent-older l most rows f last y p ll ly parent = let lower : p < y = (frozen-ranked l most rows f).below y p (omega arith) parent in omega arith
+
+-- 0 at each rank of a list, once it is written for one rank more
+pub zero-next : (column xs : List ℕ) (y : ℕ) → y < length column → HasAll column xs (λ _. 0) → HasAll (set column y 0) (xs ++ y ∷ []) (λ _. 0)
+zero-next column xs y within so_far = λ k lk.
+    let ys : List ℕ = xs ++ y ∷ [] in
+    let long = length_push xs y in
+    let at : ℕ = get_or ys k 0 in
+    ⊎_elim
+    (λ (same : at ≡ y). ap (λ n. get_or (set column y 0) n 0) same ∙ get_or-set_same column y 0 0 within)
+    (λ (other : at ≡ y → ⊥).
+    get_or-set_other column y at 0 0 other
+    ∙ ⊎_elim
+    (λ (before : k < length xs). ap (λ n. get_or column n 0) (get_or_append_left xs (y ∷ []) 0 k before) ∙ so_far k before)
+    (λ (end : length xs ≤ k).
+    let is : k ≡ length xs = omega (arith, long, lk) in
+    absurd (other (ap (λ n. get_or ys n 0) is ∙ get_or-append_seam xs y [] 0)))
+    (cases_lt k (length xs)))
+    (cases_eq at y)
 
 module _ (l most : ℕ) (rows : List Row) (f : IsFrozen l most rows) (last : ℕ) (ll : last < length rows) (start : List ℕ) where
   -- One animal more is collected: y, at the nearest mark d. Its mark is taken away and those of its parents are set,
@@ -124,6 +143,7 @@ module _ (l most : ℕ) (rows : List Row) (f : IsFrozen l most rows) (last : ℕ
             let is : get_or ys k 0 ≡ y = ap (λ v. get_or ys v 0) same ∙ end in
             rw is (omega arith, omega arith))
             (cases_lt k (length xs));
+        few = let was = so_far.few in omega (arith, was, long, yb);
         descending = λ k m km lm.
             let a : k < length xs = omega (arith, long, lm, km) in
             let is = low k a in

@@ -22,7 +22,7 @@ returns-clause-calves g c =
     let make = with_half rows c.deref.result.now in
     let old = c.args.list.now.items in
     let new = c.append_halves.new.list.items in
-    let values = c.in_ok-relate_to.ensures.halves in
+    let values = c.relate_to.ensures.halves in
     IfOk-weaker c.append_halves.result (λ _. new ≡ old ++ map make c.of_sire.result) (λ _. GoesOnWith rows (λ s. s ≡ c.args.sire) (coefficient_at DEPTH_LIMIT rows) old new)
     (λ _ push. goes-on rows c.args.sire (coefficient_at DEPTH_LIMIT rows) make old new (λ x. refl) (λ x calf. rw c.deref.ensures.value (values x calf)) (push ∙ ap (λ xs. old ++ map make xs) c.of_sire.ensures))
     c.append_halves.ensures.calves

@@ -33,12 +33,18 @@ returns-clause-halves g c =
     let near : dam ≤ c.len-last.result - 1 = omega arith in
     let mine : Contains c.args.calves calf = subst (λ xs. Contains xs calf) (sym c.requires.calves) (below-all rows c.args.sire (length rows) calf within is) in
     let there : Contains c.collect.new.collected.items dam =
-    c.in_ok-collect.ensures.all dam near (All-contains IsMated c.args.calves calf c.mark_mates.ensures.mates mine dam is.2) in
+    c.collect.ensures.all dam near (All-contains IsMated c.args.calves calf c.mark_mates.ensures.mates mine dam is.2) in
     let all : HasAll column c.collect.new.collected.items f = subst (λ xs. HasAll column xs f) c.deref.ensures.value c.relate.ensures.related in
-    let each : length column ≡ length c.deref_mut.result.now = c.relate.ensures.long in
-    let value = ap length c.deref_mut.ensures.value in
+    let len : ℕ = c.args.self.now.column.len in
+    let items = c.args.self.now.column.items in
+    let zero : List ℕ = c.collect.new.column in
     let ok = c.args.self.now.column.ok in
+    let value = ap length c.deref_mut.ensures.value in
+    let long : length zero ≡ length c.deref_mut.result.now = c.collect.ensures.long in
+    let written = take-written len zero items (omega arith) in
+    let value-2 = ap length (c.deref_mut-2.ensures.value ∙ written) in
+    let each : length column ≡ length c.deref_mut-2.result.now = c.relate.ensures.long in
     rw is.2
-    (ap (λ xs. get_or xs dam 0 / 2) (take-written c.args.self.now.column.len column c.args.self.now.column.items (omega arith))
+    (ap (λ xs. get_or xs dam 0 / 2) (take-written len column _ (omega arith))
     ∙ ap (λ v. v / 2) (has-all column c.collect.new.collected.items f dam all there)
     ∙ coefficient-related DEPTH_LIMIT MOST_ANIMALS rows frozen c.args.sire c.requires.sire dam calf within is.0 is.2)

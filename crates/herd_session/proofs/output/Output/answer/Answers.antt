@@ -1,42 +1,10 @@
--- An answer more was written or waits, or its writing failed.
-use Rattle.std.proofs.Common.{◌≡◌, Bool, List, ℕ, false, rules, subst, sym}
-use Rattle.std.proofs.Math.Logic.{∥∥₁_elim, ∥∥₁_map, ∥∥₁_prop}
-use Rattle.herd_session.proofs.AnswerFacts.{has_later, has_written}
+-- The answer's text is its one piece.
+use Rattle.std.proofs.Common.{◌∙◌, List, ℕ, subst, sym}
+use Rattle.std.proofs.lemmas.List.{append-nil}
 use Rattle.herd_session.specs.Answers.{IsAnswer}
-use Rattle.herd_session.specs.Output.{HasAnswers}
 use Rattle.herd_session.proofs.output.Output.answer.Goals as goal
 
-pub invariant_of-self : goal.invariant_of-self
-invariant_of-self g c =
-    let self = c.args.self.now in
-    record {
-      answers =
-          ∥∥₁_map self.answers
-          (λ has.
-          has_later g.N.OfficeName.limits g.N.SessionName.records self.told.history c.learn.new.self.history self.has_failed
-          g.N.SessionName.before (g.W.Write.contents self.writer) self.waiting.items c.learn.ensures.this has);
-    }
-
-pub invariant_of-self-2 : goal.invariant_of-self-2
-invariant_of-self-2 g c =
-    let self = c.args.self.now in
-    let limits = g.N.OfficeName.limits in
-    let records = g.N.SessionName.records in
-    let text = c.as_slice.result.now in
-    let before = g.N.SessionName.before in
-    let now = g.W.Write.contents self.writer in
-    let sound : self.has_failed ≡ false = search rules in
-    record {
-      answers =
-          subst (λ (failed : Bool). ∥ HasAnswers limits records c.learn.new.self.history failed before (g.W.Write.contents c.write_text-written.new.writer) c.write_text-written.new.waiting.items ∥₁)
-          (sym c.is_err.ensures.value)
-          (∥∥₁_elim self.answers ∥∥₁_prop
-          (λ has.
-          ∥∥₁_map
-          (subst (λ (t : List ℕ). ∥ IsAnswer limits records c.args.answer.now.of.history t ∥₁) (sym c.as_slice.ensures.value) c.args.answer.now.told)
-          (λ told.
-          has_written c.write_text-written.result limits records self.told.history c.args.answer.now.of.history c.learn.new.self.history before now
-          (g.W.Write.contents c.write_text-written.new.writer) self.waiting.items text c.write_text-written.new.waiting.items
-          (subst (λ (f : Bool). HasAnswers limits records self.told.history f before now self.waiting.items) sound has)
-          c.learn.ensures.this told c.learn.ensures.that c.write_text-written.ensures.ok c.write_text-written.ensures.err)));
-    }
+pub write-requires : goal.write-requires
+write-requires g c =
+    subst (λ (t : List ℕ). ∥ IsAnswer g.N.OfficeName.limits g.N.SessionName.records c.args.answer.now.of.history t ∥₁)
+    (sym (append-nil c.as_slice.result.now ∙ c.as_slice.ensures.value)) c.args.answer.now.told

@@ -1,4 +1,4 @@
--- `Pending::insert`: its result.
+-- `Pending::insert_ahead`: its clause `put`.
 use Rattle.std.proofs.Common.{ℕ, ◌+◌, ◌*◌, ◌/◌, ◌%◌, ◌^◌, ◌≡◌, ◌<◌, length, set, arith, subst}
 use Rattle.std.specs.Int.{w64}
 use Rattle.std.proofs.lemmas.List.{get_or_read}
@@ -6,10 +6,10 @@ use Rattle.std.proofs.lemmas.Nat.Bits.{bit_at_set_same, bit_at_set_other}
 use Rattle.std.specs.Prelude.{bit_or}
 use Rattle.herd_kinship.specs.Pending.{Marks}
 use Rattle.herd_kinship.proofs.lemmas.numbers.PendingFacts.{marks-chunk}
-use Rattle.herd_kinship.proofs.pending.Pending.insert.Goals as goal
+use Rattle.herd_kinship.proofs.pending.Pending.insert_ahead.Goals as goal
 
-pub returns : goal.returns
-returns g c =
+pub returns-clause-put : goal.returns-clause-put
+returns-clause-put g c =
     let chunks = c.args.self.now.chunks.items in
     let chunk : ℕ = c.args.distance / 64 in
     let k : ℕ = c.args.distance % 64 in

@@ -1,0 +1,129 @@
+//! A queue of tasks, from which all that wait are taken at once.
+
+use core::mem;
+use crossbeam_channel::{Receiver, Sender, bounded};
+use std::alloc::{AllocError, Global};
+use std::sync::atomic::{AtomicBool, AtomicU64, Ordering};
+use std::sync::{Arc, Mutex, Wait};
+use std::time::Duration;
+
+// Who adds tasks waits for their being taken whenever so many more wait.
+const MANY: usize = 1_024;
+
+// But no longer than so many milliseconds: the other end may itself wait for a client who writes all before it reads.
+const PATIENCE: u64 = 2;
+
+/// The end of a queue to which tasks are added.
+#[derive(Drop)]
+pub(crate) struct Inlet<T: Drop> {
+    shared: Arc<Shared<T>, Global>,
+    // The other end is told of each task that finds the queue empty.
+    begun: Sender<()>,
+}
+
+/// The end of a queue at which tasks are taken.
+pub(crate) struct Outlet<T: Drop> {
+    shared: Arc<Shared<T>, Global>,
+    begun: Receiver<()>,
+}
+
+// What both ends share.
+#[derive(Drop)]
+struct Shared<T> {
+    waiting: Mutex<Vec<T>>,
+    // how often all that waited was taken
+    taken: AtomicU64,
+    // whether nobody takes any more
+    is_left: AtomicBool,
+}
+
+/// Why a task isn't added.
+#[derive(Drop)]
+pub(crate) enum Unsent<T> {
+    /// Nobody takes any more.
+    Left,
+    /// A growth of memory was refused.
+    Memory(T),
+}
+
+/// An empty queue.
+pub(crate) fn queue<T: Drop>(alloc: Global) -> Result<(Inlet<T>, Outlet<T>), AllocError> {
+    // A queue begins anew once it was emptied, so that one word at most is on its way.
+    let (tell, begun) = bounded(alloc, 2)?;
+    let shared = Shared {
+        waiting: Mutex::new(Vec::new(alloc)),
+        taken: AtomicU64::new(0),
+        is_left: AtomicBool::new(false),
+    };
+    let Ok(one) = Arc::new(alloc, shared) else {
+        return Err(AllocError);
+    };
+    let other = Arc::try_clone(&one)?;
+    Ok((
+        Inlet {
+            shared: one,
+            begun: tell,
+        },
+        Outlet {
+            shared: other,
+            begun,
+        },
+    ))
+}
+
+impl<T: Drop> Inlet<T> {
+    /// Adds a task. Where many wait it gives the other end a little time.
+    pub(crate) fn add<H: Wait>(&self, rt: &H, task: T) -> Result<(), Unsent<T>> {
+        if self.shared.is_left.load(Ordering::SeqCst) {
+            return Err(Unsent::Left);
+        }
+        let mut waiting = self.shared.waiting.lock(rt);
+        if let Err(refused) = waiting.push(task) {
+            return Err(Unsent::Memory(refused.value));
+        }
+        let count = waiting.len();
+        let taken = self.shared.taken.load(Ordering::SeqCst);
+        drop(waiting);
+        if count == 1 && self.begun.send(rt, ()).is_err() {
+            return Err(Unsent::Left);
+        }
+        if count % MANY == 0 {
+            let low = (taken & 0xffff_ffff) as u32;
+            self.shared
+                .taken
+                .park_timeout(rt, low, Duration::from_millis(PATIENCE));
+        }
+        Ok(())
+    }
+}
+
+impl<T: Drop> Outlet<T> {
+    /// Waits for tasks and takes all that wait, in place of those that a list has. False where none can be added.
+    pub(crate) fn take<H: Wait>(&self, rt: &H, tasks: &mut Vec<T>) -> bool {
+        tasks.clear();
+        if self.begun.recv(rt).is_err() {
+            return false;
+        }
+        mem::swap(&mut *self.shared.waiting.lock(rt), tasks);
+        self.shared.taken.fetch_add(1, Ordering::SeqCst);
+        if tasks.len() >= MANY {
+            self.shared.taken.wake_one();
+        }
+        true
+    }
+
+    /// Whether no task is known to wait.
+    pub(crate) fn is_empty(&self) -> bool {
+        self.begun.is_empty()
+    }
+}
+
+impl<T: Drop> Drop for Outlet<T> {
+    fn drop(self) {
+        let Self {
+            shared,
+            begun: _begun,
+        } = self;
+        shared.is_left.store(true, Ordering::SeqCst);
+    }
+}
